@@ -1,2 +1,3 @@
 pub mod Identity
 pub mod Inquiries
+pub mod Names

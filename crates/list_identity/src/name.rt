@@ -1,6 +1,7 @@
 //! The product name of a device.
 
 ghost use Rattle.std.specs.Prelude.{◌≡◌, ◌<◌, length, IfOk, IfErr};
+ghost use Rattle.list_identity.specs.Names.{name_front};
 ghost use Rattle.list_identity.specs.declared.name.NameFault.TheVariants.{TooLong};
 
 use cip_types::{Items, OutOfMemory};
@@ -66,6 +67,15 @@ impl ProductName {
         })
     }
 
+    /// The name of at most 32 bytes of a text, from its front. The only fault is a refused allocation.
+    pub fn front_of(alloc: Global, text: &[u8]) -> Result<ProductName, OutOfMemory>
+        ensures { IfOk result (λ name. name ≡ name_front text.now) }
+    {
+        Ok(ProductName {
+            bytes: Items::copy_of(alloc, front(text))?,
+        })
+    }
+
     /// The bytes of the name: at most 32.
     pub fn as_slice(&self) -> &[u8]
         ensures same { result.now ≡ self.now }
@@ -73,4 +83,15 @@ impl ProductName {
     {
         self.bytes.as_slice()
     }
+}
+
+/// At most 32 bytes, from the front.
+fn front(text: &[u8]) -> &[u8]
+    ensures same { result.now ≡ name_front text.now }
+    ensures few { length result.now < 33 }
+{
+    if text.len() < LONGEST_NAME {
+        return text;
+    }
+    &text[..LONGEST_NAME]
 }

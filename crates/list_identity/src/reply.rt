@@ -1,6 +1,6 @@
 //! The replies to inquiries.
 
-ghost use Rattle.std.specs.Prelude.{◌≡◌, ◌<◌, ◌+◌, ◌≤◌, length, IfOk, IfSome};
+ghost use Rattle.std.specs.Prelude.{◌≡◌, ◌<◌, ◌≤◌, length, IfOk, IfSome};
 ghost use Rattle.std.specs.Option.{option_map};
 ghost use Rattle.list_identity.specs.Inquiries.{inquiry_answer, inquiry_data, identity_answer, longest_reply, reply_message};
 ghost use Rattle.cip_encap.specs.Message.{message_text, view_message};

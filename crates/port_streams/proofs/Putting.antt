@@ -2,7 +2,7 @@
 use Rattle.std.proofs.Common.{◌≡◌, ℕ, List, Option, Some, None, Result, Ok, Err, OnOk, OnErr, slice_set, refl, ap, ◌∙◌}
 use Rattle.std.proofs.lemmas.List.{set-set}
 use Rattle.port_streams.specs.declared.port_stream.PortStream.{PortStream}
-use Rattle.port_streams.specs.StreamInputs.{ReceivesBytes, Sends, takes_bytes}
+use Rattle.port_streams.specs.StreamArrivals.{ReceivesBytes, Sends, takes_bytes}
 use Rattle.port_streams.specs.Slots.{Receives, ReceivesAt, SendsAt, SendsOver, slot_at}
 
 -- what is put under a number last stands there

@@ -1,5 +1,5 @@
 pub mod Nil
-pub mod StreamInputs
+pub mod StreamArrivals
 pub mod Slots
 pub mod Routing
 pub mod Polling

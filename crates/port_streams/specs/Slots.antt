@@ -1,9 +1,9 @@
 -- The streams of a port by their numbers: sixteen slots, each free or with a stream.
 use Rattle.std.specs.Prelude.{◌≡◌, ℕ, Bool, true, false, List, slice_index_or, slice_set, Option, Some, None}
 use Rattle.std.specs.Option.{is_none}
-use Rattle.udp_runner.specs.declared.input.Input.{Input}
+use Rattle.cip_events.specs.declared.arrival.Arrival.{Arrival}
 use Rattle.port_streams.specs.declared.port_stream.PortStream.{PortStream}
-use Rattle.port_streams.specs.StreamInputs.{ReceivesBytes, Sends, ended, given_of, left_of, takes_bytes}
+use Rattle.port_streams.specs.StreamArrivals.{ReceivesBytes, Sends, ended, given_of, left_of, takes_bytes}
 
 -- no stream has the number of the slot
 abbrev pub is_free : {S : Type 0} → Option (PortStream S) → Bool
@@ -13,8 +13,8 @@ is_free slot = is_none slot
 abbrev pub slot_at : {S : Type 0} → List (Option (PortStream S)) → ℕ → Option (PortStream S)
 slot_at slots number = slice_index_or slots number None
 
--- the next input of a slot, and the slot after it: a number is free again once the end of its stream was taken
-abbrev pub given_at : {S : Type 0} → ℕ → Option (PortStream S) → Option Input
+-- the next arrival of a slot, and the slot after it: a number is free again once the end of its stream was taken
+abbrev pub given_at : {S : Type 0} → ℕ → Option (PortStream S) → Option Arrival
 given_at number None = None
 given_at number (Some port_stream) = given_of number port_stream
 

@@ -81,14 +81,14 @@ impl PollOrder {
         (self.first % STREAM_NUMBERS + place % STREAM_NUMBERS) % STREAM_NUMBERS
     }
 
-    /// The stream of this number had an input, so the next one is asked first.
+    /// The stream of this number had an arrival, so the next one is asked first.
     pub fn serve(&mut self, number: u16)
         ensures { self.new ≡ record self.old { first = stream_behind number 1 } }
     {
         self.first = (number % STREAM_NUMBERS + 1) % STREAM_NUMBERS;
     }
 
-    /// The poll ends: it found an input, or nothing.
+    /// The poll ends: it found an arrival, or nothing.
     pub fn end_poll(&mut self, found: bool)
         ensures { self.new ≡ record self.old { idle = not found; since_accept = weight_after self.old.since_accept found } }
     {

@@ -1,15 +1,15 @@
 //! One stream of a port.
 
 ghost use Rattle.std.specs.Prelude.{◌≡◌, OnOk, OnErr};
-ghost use Rattle.port_streams.specs.StreamInputs.{ReceivesBytes, Sends, begun, ended, given_of, left_of, takes_bytes};
+ghost use Rattle.port_streams.specs.StreamArrivals.{ReceivesBytes, Sends, begun, ended, given_of, left_of, takes_bytes};
 
 use crate::sending::write_message;
 use crate::waiting::MessageQueue;
 use cip_encap::{SplitFault, Splitter};
+use cip_events::Arrival;
 use cip_types::{Node, OutOfMemory};
 use std::alloc::Global;
 use std::io::Write;
-use udp_runner::Input;
 
 /// One stream of a port: its peer, its socket, whether its opening was reported, whether it has ended, the bytes behind
 /// its last whole message, and the messages that wait to be taken.
@@ -84,30 +84,30 @@ impl<S: Drop> PortStream<S> {
         self.ended = true;
     }
 
-    /// The next input of the stream of this number, and the stream after it: first its opening, then its messages, last
+    /// The next arrival of the stream of this number, and the stream after it: first its opening, then its messages, last
     /// its end. Takes no memory.
-    pub fn next(mut self, number: u16) -> (Option<Input>, Option<Self>)
+    pub fn next(mut self, number: u16) -> (Option<Arrival>, Option<Self>)
         ensures given { result.0 ≡ given_of number self }
         ensures left { result.1 ≡ left_of self }
     {
         if !self.reported {
             let peer = self.peer;
             self.reported = true;
-            let opened = Input::Opened {
+            let opened = Arrival::Opened {
                 stream: number,
                 peer,
             };
             return (Some(opened), Some(self));
         }
         if let Some(bytes) = self.waiting.pop() {
-            let frame = Input::Frame {
+            let frame = Arrival::Frame {
                 stream: number,
                 bytes,
             };
             return (Some(frame), Some(self));
         }
         if self.ended {
-            return (Some(Input::Cut { stream: number }), None);
+            return (Some(Arrival::Cut { stream: number }), None);
         }
         (None, Some(self))
     }

@@ -2,7 +2,7 @@
 
 ghost use Rattle.std.specs.Prelude.{◌≡◌, true, false};
 ghost use Rattle.std.specs.Io.KnownBytes.{Appends};
-ghost use Rattle.port_streams.specs.StreamInputs.{IsCutShort};
+ghost use Rattle.port_streams.specs.StreamArrivals.{IsCutShort};
 
 use std::io::Write;
 

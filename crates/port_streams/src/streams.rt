@@ -2,15 +2,15 @@
 
 ghost use Rattle.std.specs.Prelude.{◌≡◌, ◌<◌, replicate, position, slice_set, vec_len, Some, None, IfOk, IfErr, OnOk, OnErr};
 ghost use Rattle.std.specs.Option.{option_map};
-ghost use Rattle.port_streams.specs.StreamInputs.{begun};
+ghost use Rattle.port_streams.specs.StreamArrivals.{begun};
 ghost use Rattle.port_streams.specs.Slots.{Receives, SendsOver, ended_at, given_at, is_free, left_at, slot_at, socket_at, read_at};
 
 use crate::port_stream::PortStream;
+use cip_events::Arrival;
 use cip_types::limits::MOST_STREAMS;
 use cip_types::{Node, OutOfMemory};
 use std::alloc::Global;
 use std::io::Write;
-use udp_runner::Input;
 
 /// The streams of a port by their numbers, each with its socket.
 ///
@@ -38,7 +38,8 @@ impl<S: Drop> PortStreams<S> {
     /// socket is returned. Takes no memory.
     pub fn accept(&mut self, peer: Node, socket: S) -> Result<u16, S>
         ensures least { IfOk result (λ number. position is_free self.old.slots.items ≡ Some number) }
-        ensures begins { IfOk result (λ number. self.new.slots.items ≡ slice_set self.old.slots.items number (Some (begun peer socket))) }
+        ensures begins { IfOk result
+            (λ number. self.new.slots.items ≡ slice_set self.old.slots.items number (Some (begun peer socket))) }
         ensures full { IfErr result (λ back. (back ≡ socket)
             × (position is_free self.old.slots.items ≡ None)
             × (self.new.slots.items ≡ self.old.slots.items)) }
@@ -105,7 +106,9 @@ impl<S: Drop> PortStreams<S> {
     /// the bytes are lost, so the stream ends.
     pub fn receive(&mut self, number: u16, piece: &[u8]) -> Result<(), OutOfMemory>
         ensures received { OnOk result (Receives self.old.slots.items number piece.now self.new.slots.items) }
-        ensures err { OnErr result (self.new.slots.items ≡ slice_set self.old.slots.items number (ended_at (slot_at self.old.slots.items number))) }
+        ensures err { OnErr result
+            (self.new.slots.items
+            ≡ slice_set self.old.slots.items number (ended_at (slot_at self.old.slots.items number))) }
     {
         let Some(mut port_stream) = self.take(number) else {
             return Ok(());
@@ -117,7 +120,8 @@ impl<S: Drop> PortStreams<S> {
 
     /// Marks the stream of this number as ended. Its messages can still be taken. Takes no memory.
     pub fn end(&mut self, number: u16)
-        ensures { self.new.slots.items ≡ slice_set self.old.slots.items number (ended_at (slot_at self.old.slots.items number)) }
+        ensures { self.new.slots.items
+            ≡ slice_set self.old.slots.items number (ended_at (slot_at self.old.slots.items number)) }
     {
         let Some(mut port_stream) = self.take(number) else {
             return;
@@ -126,11 +130,12 @@ impl<S: Drop> PortStreams<S> {
         self.put(number, Some(port_stream));
     }
 
-    /// Takes the next input of the stream of this number: first its opening, then its messages, last its end, which
+    /// Takes the next arrival of the stream of this number: first its opening, then its messages, last its end, which
     /// frees the number. Takes no memory.
-    pub fn next(&mut self, number: u16) -> Option<Input>
+    pub fn next(&mut self, number: u16) -> Option<Arrival>
         ensures given { result ≡ given_at number (slot_at self.old.slots.items number) }
-        ensures left { self.new.slots.items ≡ slice_set self.old.slots.items number (left_at (slot_at self.old.slots.items number)) }
+        ensures left { self.new.slots.items
+            ≡ slice_set self.old.slots.items number (left_at (slot_at self.old.slots.items number)) }
     {
         let port_stream = self.take(number)?;
         let (given, left) = port_stream.next(number);
@@ -138,7 +143,7 @@ impl<S: Drop> PortStreams<S> {
         given
     }
 
-    /// Closes the stream of this number: it has no further input, and its number is free. Takes no memory.
+    /// Closes the stream of this number: it has no further arrival, and its number is free. Takes no memory.
     pub fn close(&mut self, number: u16)
         ensures { self.new.slots.items ≡ slice_set self.old.slots.items number None }
     {

@@ -5,7 +5,8 @@ ghost use Rattle.std.specs.Prelude.{◌≡◌, IfOk};
 use crate::addresses::{LOOPBACK, loopback, node_of};
 use crate::calls;
 use crate::sockets::PortSockets;
-use cip_types::OutOfMemory;
+use cip_events::Arrival;
+use cip_types::{Items, OutOfMemory};
 use port_streams::{DatagramRoutes, Destination};
 use std::alloc::Global;
 use std::io::ErrorKind;
@@ -14,7 +15,7 @@ use std::rt::Clock as System;
 use std::time::Duration;
 use std::{io, thread};
 use thiserror::Error;
-use udp_runner::{Input, Output, Port, PortFault};
+use udp_runner::{Output, Port, PortFault};
 
 /// Why a port cannot be opened.
 #[derive(Clone, Copy, Debug, PartialEq, Eq, Error)]
@@ -71,7 +72,7 @@ impl<R: System + Drop> SocketPort<R> {
         })
     }
 
-    /// A scanner's port, whose stream 0 is this connection. Its opening is the first input.
+    /// A scanner's port, whose stream 0 is this connection. Its opening is the first arrival.
     pub fn connected(
         alloc: Global,
         rt: R,
@@ -102,12 +103,12 @@ impl<R: System + Drop> SocketPort<R> {
         Ok(())
     }
 
-    /// The input that was received within a millisecond.
-    fn next_input(&mut self) -> Result<Option<Input>, PortFault>
+    /// The arrival that was received within a millisecond.
+    fn next_arrival(&mut self) -> Result<Option<Arrival>, PortFault>
         ensures { self.new.failures ≡ self.old.failures }
     {
-        if let Some(input) = self.sockets.poll_again()? {
-            return Ok(Some(input));
+        if let Some(arrival) = self.sockets.poll_again()? {
+            return Ok(Some(arrival));
         }
         thread::sleep(&self.rt, Duration::from_millis(1));
         self.sockets.poll()
@@ -157,12 +158,16 @@ impl<R: System + Drop> Port for SocketPort<R> {
         self.failures
     }
 
-    fn receive(&mut self) -> Result<Option<Input>, PortFault> {
-        let came = self.next_input();
+    fn receive(&mut self) -> Result<Option<Arrival>, PortFault> {
+        let came = self.next_arrival();
         if came.is_err() {
             self.failures += 1;
         }
         came
+    }
+
+    fn recycle(&mut self, bytes: Items<u8>) {
+        self.sockets.recycle(bytes);
     }
 
     fn send(&mut self, output: &Output<'_>) -> Result<(), PortFault> {

@@ -6,13 +6,14 @@ ghost use Rattle.socket_port.specs.Outcomes.{Fits};
 use crate::addresses::{address_of, node_of};
 use crate::calls;
 use crate::outcomes::ReadOutcome;
+use cip_events::Arrival;
 use cip_types::limits::MOST_STREAMS;
 use cip_types::{Items, Node, OutOfMemory};
-use port_streams::{DatagramRoutes, PollOrder, PortStreams};
+use port_streams::{DatagramRoutes, PollOrder, PortStreams, SpareBytes};
 use std::alloc::Global;
 use std::io;
-use std::net::{SocketAddr, TcpListener, TcpStream, UdpSocket};
-use udp_runner::{Input, Output, PortFault};
+use std::net::{TcpListener, TcpStream, UdpSocket};
+use udp_runner::{Output, PortFault};
 
 /// The numbers of streams are below this one.
 const STREAM_NUMBERS: u16 = MOST_STREAMS as u16;
@@ -31,6 +32,7 @@ pub struct PortSockets {
     /// Whether the UDP socket is connected to the one destination of all datagrams.
     joined: bool,
     buffer: Vec<u8>,
+    spare: SpareBytes,
     order: PollOrder,
 }
 
@@ -50,6 +52,7 @@ impl PortSockets {
             routes,
             joined: false,
             buffer: vec![in alloc; 0; BUFFER_BYTES]?,
+            spare: SpareBytes::none(),
             order: PollOrder::begin(),
         })
     }
@@ -72,61 +75,66 @@ impl PortSockets {
         Ok(())
     }
 
-    /// The input that is there before the port waits. If the last poll found nothing, that was a moment ago, and no
-    /// socket is read again: a port without inputs polls once a millisecond, and a port with many does not wait.
-    pub fn poll_again(&mut self) -> Result<Option<Input>, PortFault> {
+    /// The arrival that is there before the port waits. If the last poll found nothing, that was a moment ago, and no
+    /// socket is read again: a port without arrivals polls once a millisecond, and a port with many does not wait.
+    pub fn poll_again(&mut self) -> Result<Option<Arrival>, PortFault> {
         if self.order.is_idle() {
             return Ok(None);
         }
         self.poll()
     }
 
-    /// The input that is there now.
-    pub fn poll(&mut self) -> Result<Option<Input>, PortFault> {
+    /// The arrival that is there now.
+    pub fn poll(&mut self) -> Result<Option<Arrival>, PortFault> {
         if self.order.asks_listener() {
             self.accept()?;
         }
-        let input = self.poll_all()?;
-        self.order.end_poll(input.is_some());
-        Ok(input)
+        let arrival = self.poll_all()?;
+        self.order.end_poll(arrival.is_some());
+        Ok(arrival)
     }
 
-    /// The datagram or stream input that is there now. In most polls the datagrams are asked first, and in some the
+    /// The datagram or stream arrival that is there now. In most polls the datagrams are asked first, and in some the
     /// streams, so that neither delays the other for long.
-    fn poll_all(&mut self) -> Result<Option<Input>, PortFault> {
+    fn poll_all(&mut self) -> Result<Option<Arrival>, PortFault> {
         if self.order.asks_streams_first() {
-            if let Some(input) = self.poll_streams()? {
-                return Ok(Some(input));
+            if let Some(arrival) = self.poll_streams()? {
+                return Ok(Some(arrival));
             }
             return self.poll_datagrams();
         }
-        if let Some(input) = self.poll_datagrams()? {
-            return Ok(Some(input));
+        if let Some(arrival) = self.poll_datagrams()? {
+            return Ok(Some(arrival));
         }
         self.poll_streams()
     }
 
     /// The datagram that is there now.
-    fn poll_datagrams(&mut self) -> Result<Option<Input>, PortFault> {
+    fn poll_datagrams(&mut self) -> Result<Option<Arrival>, PortFault> {
         let Some((count, from)) = calls::receive(&self.udp, &mut self.buffer)? else {
             return Ok(None);
         };
         let Some(peer) = node_of(from) else {
             return Ok(None);
         };
-        match Items::copy_of(self.alloc, &self.buffer[..count]) {
-            Ok(bytes) => Ok(Some(Input::Datagram { peer, bytes })),
+        match self.spare.copy(self.alloc, &self.buffer[..count]) {
+            Ok(bytes) => Ok(Some(Arrival::Datagram { peer, bytes })),
             Err(OutOfMemory) => Err(PortFault::Memory),
         }
     }
 
-    /// The input of a stream that is there now. The streams take turns.
-    fn poll_streams(&mut self) -> Result<Option<Input>, PortFault> {
+    /// Takes back the bytes of a datagram.
+    pub fn recycle(&mut self, bytes: Items<u8>) {
+        self.spare.keep(bytes);
+    }
+
+    /// The arrival of a stream that is there now. The streams take turns.
+    fn poll_streams(&mut self) -> Result<Option<Arrival>, PortFault> {
         for place in 0..STREAM_NUMBERS {
             let number = self.order.stream_at(place);
-            if let Some(input) = self.poll_stream(number)? {
+            if let Some(arrival) = self.poll_stream(number)? {
                 self.order.serve(number);
-                return Ok(Some(input));
+                return Ok(Some(arrival));
             }
         }
         Ok(None)
@@ -146,8 +154,8 @@ impl PortSockets {
         Ok(())
     }
 
-    /// The input of one stream that is there now.
-    fn poll_stream(&mut self, number: u16) -> Result<Option<Input>, PortFault> {
+    /// The arrival of one stream that is there now.
+    fn poll_stream(&mut self, number: u16) -> Result<Option<Arrival>, PortFault> {
         match read(&self.streams, number, &mut self.buffer) {
             ReadOutcome::Nothing => {}
             ReadOutcome::End => self.streams.end(number),

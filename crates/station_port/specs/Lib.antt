@@ -1,3 +1,4 @@
 pub mod Causes
-pub mod Sessions
-pub mod Ends
+pub mod Closes
+pub mod Reaching
+pub mod Waits

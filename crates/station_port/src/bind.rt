@@ -1,5 +1,8 @@
 //! Sockets that are bound to a station's address. None of their calls waits.
 
+ghost use Rattle.std.specs.Prelude.{◌≡◌};
+ghost use Rattle.station_port.specs.Reaching.{group_hops};
+
 use crate::fault::{StationFault, StationSocket, cause_of};
 use mio::net::{TcpListener, UdpSocket};
 use std::io;
@@ -24,6 +27,13 @@ pub(crate) fn listen<R: Net>(rt: &R, at: SocketAddr) -> Result<TcpListener, Stat
 /// Receives class 1 datagrams. What is sent to a group leaves no network.
 pub(crate) fn datagrams<R: Net>(rt: &R, at: SocketAddr) -> Result<UdpSocket, StationFault> {
     let udp = made(StationSocket::Udp, UdpSocket::bind(rt, at))?;
-    made(StationSocket::Udp, udp.set_multicast_ttl_v4(1))?;
+    made(StationSocket::Udp, udp.set_multicast_ttl_v4(group_hops()))?;
     Ok(udp)
+}
+
+/// A datagram to a group passes so many networks: only the station's own.
+fn group_hops() -> u32
+    ensures { result ≡ group_hops }
+{
+    1
 }

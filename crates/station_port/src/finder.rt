@@ -1,9 +1,11 @@
 //! Answers to inquiries over UDP: ListServices, ListIdentity and ListInterfaces, by which the field's tools find a station.
 
+ghost use Rattle.std.specs.Prelude.{◌≡◌};
+ghost use Rattle.station_port.specs.Reaching.{known_or_any, reached_at};
+
 use crate::bind::made;
 use crate::fault::{StationFault, StationSocket};
-use crate::place::{StationPlace, address_of};
-use crate::ready::FINDER;
+use crate::place::StationPlace;
 use cip_encap::SocketAddress;
 use cip_types::{Node, OutOfMemory};
 use libc::net as c;
@@ -12,6 +14,7 @@ use mio::net::UdpSocket;
 use mio::{Interest, Registry};
 use os::FromRawFd;
 use socket_port::{node_of, received};
+use station_streams::{FINDER, address_of};
 use std::alloc::Global;
 use std::net::{Net, SocketAddr};
 use std::os::fd::OwnedFd;
@@ -83,7 +86,7 @@ impl Finder {
         message: &[u8],
         own: Option<SocketAddr>,
     ) -> Result<Option<Vec<u8>>, OutOfMemory> {
-        let at = self.place_at(own);
+        let at = self.address_at(own);
         identity_reply(self.alloc, message, &self.identity, at)
     }
 
@@ -115,7 +118,7 @@ impl Finder {
         let Some(datagram) = buffer.get(..count) else {
             return Ok(());
         };
-        let at = self.place_for(from);
+        let at = self.address_for(from);
         match inquiry_reply(self.alloc, datagram, &self.identity, at) {
             Ok(Some(reply)) => {
                 // (a reply that the socket does not take is lost, as it may be on the network)
@@ -128,28 +131,45 @@ impl Finder {
     }
 
     /// Where a sender of a datagram reaches the station.
-    fn place_for(&self, sender: SocketAddr) -> SocketAddress {
+    fn address_for(&self, sender: SocketAddr) -> SocketAddress {
         if self.address == ANY {
-            self.place_at(own_address(sender))
+            self.address_at(own_address(sender))
         } else {
-            self.place_at(None)
+            self.address_at(None)
         }
     }
 
     /// The station's place, at its address; or, if that is each address of the host, at this one.
-    fn place_at(&self, own: Option<SocketAddr>) -> SocketAddress {
+    fn address_at(&self, own: Option<SocketAddr>) -> SocketAddress {
         let other = match own {
             Some(own) => node_of(own),
             None => None,
         };
+        reached_at(self.address, self.port, other)
+    }
+}
+
+/// A station at its address and port; or, if that is each address of the host, at this one.
+fn reached_at(address: Node, port: u16, other: Option<Node>) -> SocketAddress
+    ensures { result ≡ reached_at address port other }
+{
+    if address.0 == ANY.0 {
         SocketAddress {
-            port: self.port,
-            address: if self.address == ANY {
-                other.unwrap_or(ANY)
-            } else {
-                self.address
-            },
+            port,
+            address: known_or_any(other),
         }
+    } else {
+        SocketAddress { port, address }
+    }
+}
+
+/// The address, or 0.0.0.0 where none is known.
+fn known_or_any(node: Option<Node>) -> Node
+    ensures { result ≡ known_or_any node }
+{
+    match node {
+        Some(node) => node,
+        None => ANY,
     }
 }
 

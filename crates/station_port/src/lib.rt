@@ -5,20 +5,12 @@
 #![tactic(auto)]
 
 mod bind;
-mod causes;
-mod dial;
 mod fault;
 mod finder;
-mod kept_streams;
-mod nop;
 mod place;
-mod ready;
-mod reports;
-mod sessions;
 mod sockets;
 mod station;
-mod stream_options;
-mod targets;
+mod waits;
 
 pub use fault::{SocketCause, StationFault, StationSocket};
 pub use place::StationPlace;

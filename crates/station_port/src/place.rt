@@ -4,7 +4,6 @@ ghost use Rattle.std.specs.Prelude.{◌≡◌, false};
 
 use cip_types::Node;
 use cip_types::limits::{TCP_PORT, UDP_PORT};
-use std::net::{IpAddr, Ipv4Addr, SocketAddr};
 
 /// The encapsulation inactivity time-out, in seconds.
 ///
@@ -47,9 +46,4 @@ impl StationPlace {
             inactivity_s: INACTIVITY_S,
         }
     }
-}
-
-/// The address of a node's port.
-pub(crate) fn address_of(node: Node, port: u16) -> SocketAddr {
-    SocketAddr::new(IpAddr::V4(Ipv4Addr::from_bits(node.0)), port)
 }

@@ -1,24 +1,27 @@
 //! The sockets of a station, over which it receives and sends.
 
+ghost use Rattle.std.specs.Prelude.{◌≡◌};
+ghost use Rattle.station_port.specs.Closes.{links_after};
+ghost use Rattle.station_streams.specs.Waits.{streams_wait};
+
 use crate::bind::made;
 use crate::fault::{StationFault, StationSocket};
 use crate::finder::Finder;
-use crate::kept_streams::{KeptStreams, Welcome};
-use crate::nop::NopTimer;
-use crate::place::address_of;
-use crate::ready::{DATAGRAMS, LISTENER, Ready, STREAMS};
-use crate::sessions::{SessionAnswer, session_answer};
-use crate::targets::Targets;
+use cip_events::Arrival;
 use cip_types::limits::MOST_STREAMS;
 use cip_types::{Items, Node, OutOfMemory};
 use kept_port::EndCause;
 use mio::net::{TcpListener, TcpStream, UdpSocket};
 use mio::{Interest, Registry};
-use port_streams::PollOrder;
+use port_streams::{PollOrder, SpareBytes};
 use socket_port::{ReadOutcome, accepted, node_of, received};
+use station_streams::{
+    DATAGRAMS, KeptStreams, LISTENER, NopTimer, Ready, STREAMS, SessionAnswer, Targets, Welcome,
+    address_of, session_answer, wait_for_streams,
+};
 use std::alloc::Global;
 use std::net::{Net, SocketAddr};
-use udp_runner::{Input, Output, PortFault};
+use udp_runner::{Output, PortFault};
 
 /// The numbers of streams are below this one.
 const STREAM_NUMBERS: u16 = MOST_STREAMS as u16;
@@ -46,6 +49,7 @@ pub(crate) struct StationSockets {
     targets: Targets,
     peer_udp: u16,
     buffer: Vec<u8>,
+    spare: SpareBytes,
     order: PollOrder,
     nop: NopTimer,
     pub(crate) ready: Ready,
@@ -72,6 +76,7 @@ impl StationSockets {
             targets,
             peer_udp,
             buffer: vec![in alloc; 0; BUFFER_BYTES]?,
+            spare: SpareBytes::none(),
             order: PollOrder::begin(),
             nop: NopTimer::begin(),
             ready: Ready::all(),
@@ -118,12 +123,13 @@ impl StationSockets {
     }
 
     /// The milliseconds until a stream is to be opened or ended, at most so many.
-    pub(crate) fn wait(&self, now_ms: u64, most_ms: u64) -> u64 {
-        let links_ms = self.targets.wait(now_ms, most_ms);
-        self.streams.wait(now_ms, links_ms)
+    pub(crate) fn wait(&self, now_ms: u64, most_ms: u64) -> u64
+        ensures { result ≡ streams_wait self.now.streams.keeper self.now.targets.links now_ms most_ms }
+    {
+        wait_for_streams(&self.streams, &self.targets, now_ms, most_ms)
     }
 
-    /// Breaks a stream at once. Its end is its last input.
+    /// Breaks a stream at once. Its end is its last arrival.
     fn abort(&mut self, stream: u16, cause: EndCause) {
         self.streams.abort(stream, cause);
         self.ready.streams = true;
@@ -141,43 +147,43 @@ impl StationSockets {
         self.targets.succeed(target);
     }
 
-    /// The input that is there now. A poll that asks all asks the streams before the datagrams, and each socket.
+    /// The arrival that is there now. A poll that asks all asks the streams before the datagrams, and each socket.
     pub(crate) fn poll(
         &mut self,
         registry: &Registry,
         all: bool,
         now_ms: u64,
-    ) -> Result<Option<Input>, PortFault> {
-        let input = if all {
-            self.serve(registry, now_ms)?;
-            self.first_stream_input(now_ms)?
+    ) -> Result<Option<Arrival>, PortFault> {
+        let arrival = if all {
+            self.admit(registry, now_ms)?;
+            self.first_stream_arrival(now_ms)?
         } else {
             self.first_datagram(now_ms)?
         };
-        if input.is_none() && !all {
-            self.serve(registry, now_ms)?;
+        if arrival.is_none() && !all {
+            self.admit(registry, now_ms)?;
         }
-        Ok(input)
+        Ok(arrival)
     }
 
-    /// The input of a stream, or else a datagram.
-    fn first_stream_input(&mut self, now_ms: u64) -> Result<Option<Input>, PortFault> {
-        if let Some(input) = self.poll_streams(now_ms)? {
-            return Ok(Some(input));
+    /// The arrival of a stream, or else a datagram.
+    fn first_stream_arrival(&mut self, now_ms: u64) -> Result<Option<Arrival>, PortFault> {
+        if let Some(arrival) = self.poll_streams(now_ms)? {
+            return Ok(Some(arrival));
         }
         self.poll_datagrams()
     }
 
-    /// A datagram, or else the input of a stream.
-    fn first_datagram(&mut self, now_ms: u64) -> Result<Option<Input>, PortFault> {
-        if let Some(input) = self.poll_datagrams()? {
-            return Ok(Some(input));
+    /// A datagram, or else the arrival of a stream.
+    fn first_datagram(&mut self, now_ms: u64) -> Result<Option<Arrival>, PortFault> {
+        if let Some(arrival) = self.poll_datagrams()? {
+            return Ok(Some(arrival));
         }
         self.poll_streams(now_ms)
     }
 
     /// Accepts a connection, adds the streams that have opened, and answers a ListIdentity request.
-    fn serve(&mut self, registry: &Registry, now_ms: u64) -> Result<(), PortFault> {
+    fn admit(&mut self, registry: &Registry, now_ms: u64) -> Result<(), PortFault> {
         if self.ready.listener {
             self.ready.listener = self.accept(registry, now_ms)?;
         }
@@ -227,7 +233,7 @@ impl StationSockets {
     }
 
     /// The datagram that is there now.
-    fn poll_datagrams(&mut self) -> Result<Option<Input>, PortFault> {
+    fn poll_datagrams(&mut self) -> Result<Option<Arrival>, PortFault> {
         if !self.ready.datagrams {
             return Ok(None);
         }
@@ -241,8 +247,8 @@ impl StationSockets {
         let Some(datagram) = self.buffer.get(..count) else {
             return Ok(None);
         };
-        match Items::copy_of(self.alloc, datagram) {
-            Ok(bytes) => Ok(Some(Input::Datagram { peer, bytes })),
+        match self.spare.copy(self.alloc, datagram) {
+            Ok(bytes) => Ok(Some(Arrival::Datagram { peer, bytes })),
             Err(OutOfMemory) => Err(PortFault::Memory),
         }
     }
@@ -252,8 +258,13 @@ impl StationSockets {
         received(self.udp.recv_from(&mut self.buffer))
     }
 
-    /// The input of a stream that is there now. The streams take turns.
-    fn poll_streams(&mut self, now_ms: u64) -> Result<Option<Input>, PortFault> {
+    /// Takes back the bytes of a datagram.
+    pub(crate) fn recycle(&mut self, bytes: Items<u8>) {
+        self.spare.keep(bytes);
+    }
+
+    /// The arrival of a stream that is there now. The streams take turns.
+    fn poll_streams(&mut self, now_ms: u64) -> Result<Option<Arrival>, PortFault> {
         if !self.ready.streams {
             return Ok(None);
         }
@@ -261,9 +272,9 @@ impl StationSockets {
         for place in 0..STREAM_NUMBERS {
             let number = self.order.stream_at(place);
             found |= self.read(number)?;
-            if let Some(input) = self.streams.next(number, now_ms) {
+            if let Some(arrival) = self.streams.next(number, now_ms) {
                 self.order.serve(number);
-                return self.take(input, now_ms);
+                return self.pass_on(arrival, now_ms);
             }
         }
         self.ready.streams = found;
@@ -278,12 +289,12 @@ impl StationSockets {
                 self.streams.end(number, EndCause::Cut);
                 Ok(true)
             }
-            ReadOutcome::Bytes(count) => self.receive(number, count),
+            ReadOutcome::Bytes(count) => self.keep_bytes(number, count),
         }
     }
 
     /// Takes the bytes of a stream out of the buffer. If there is no memory for them, the stream ends.
-    fn receive(&mut self, number: u16, count: usize) -> Result<bool, PortFault> {
+    fn keep_bytes(&mut self, number: u16, count: usize) -> Result<bool, PortFault> {
         let Some(piece) = self.buffer.get(..count) else {
             return Ok(false);
         };
@@ -293,31 +304,34 @@ impl StationSockets {
         }
     }
 
-    /// An input of a stream on its way to the device. A ListIdentity request is answered here; the reply of a target that
+    /// An arrival of a stream on its way to the device. A ListIdentity request is answered here; the reply of a target that
     /// registers a session, or refuses it, is noted; after a cut the stream to its target is opened again later.
-    fn take(&mut self, input: Input, now_ms: u64) -> Result<Option<Input>, PortFault> {
-        match &input {
-            Input::Frame { stream, bytes } => {
+    fn pass_on(&mut self, arrival: Arrival, now_ms: u64) -> Result<Option<Arrival>, PortFault> {
+        match &arrival {
+            Arrival::Frame { stream, bytes } => {
                 if self.finds(*stream, bytes.as_slice())? {
                     return Ok(None);
                 }
-                self.note_session(*stream, bytes.as_slice(), now_ms);
+                // (a message is read only where its stream has no session yet, and then the device reads it too)
+                if self.targets.is_registering(*stream) {
+                    self.note_session(*stream, bytes.as_slice(), now_ms);
+                }
             }
-            Input::Cut { stream } => self.targets.lose(*stream, now_ms),
+            Arrival::Cut { stream } => self.targets.lose(*stream, now_ms),
             _ => {}
         }
-        Ok(Some(input))
+        Ok(Some(arrival))
     }
 
-    /// Notes what the message of a target says of its session: a stream whose session is refused ends.
+    /// Notes what a message says of the session that is being registered on its stream: a stream whose session is refused
+    /// ends.
     fn note_session(&mut self, stream: u16, message: &[u8], now_ms: u64) {
         match session_answer(message) {
             SessionAnswer::Registered => self.targets.register(stream),
             SessionAnswer::Refused => {
-                if self.targets.refuse(stream, now_ms) {
-                    self.streams.end(stream, EndCause::SessionRefused);
-                    self.ready.streams = true;
-                }
+                self.targets.refuse(stream, now_ms);
+                self.streams.end(stream, EndCause::SessionRefused);
+                self.ready.streams = true;
             }
             SessionAnswer::None => {}
         }
@@ -338,9 +352,11 @@ impl StationSockets {
         }
     }
 
-    /// Sends an output. A message that its stream does not take whole ends the stream, whose end is the next input. A
+    /// Sends an output. A message that its stream does not take whole ends the stream, whose end is the next arrival. A
     /// datagram that the system does not take is lost, as it may be on the network.
-    pub(crate) fn send(&mut self, output: &Output<'_>, now_ms: u64) {
+    pub(crate) fn send(&mut self, output: &Output<'_>, now_ms: u64)
+        ensures { self.new.targets.links ≡ links_after output.now now_ms self.old.targets.links }
+    {
         match output {
             Output::Frame { stream, bytes } => {
                 self.streams.send(*stream, bytes);

@@ -5,22 +5,22 @@ ghost use Rattle.std.specs.Prelude.{◌≡◌, IfOk};
 use crate::bind::{datagrams, listen, made};
 use crate::fault::{StationFault, StationSocket};
 use crate::finder::Finder;
-use crate::kept_streams::KeptStreams;
-use crate::place::{StationPlace, address_of};
-use crate::ready::WAKER;
+use crate::place::StationPlace;
 use crate::sockets::StationSockets;
-use crate::targets::Targets;
-use cip_types::Node;
+use crate::waits::{poll_length, sleep_length, time_left, wait_length, whole_ms};
+use cip_events::Arrival;
+use cip_types::{Items, Node};
 use kept_port::{KeptPort, PortReport};
 use list_identity::StationIdentity;
 use mio::{Events, Poll, Waker};
 use port_streams::Destination;
+use station_streams::{KeptStreams, Targets, WAKER, address_of};
 use std::alloc::Global;
 use std::net::Net;
 use std::rt::Clock as System;
 use std::thread;
 use std::time::{Duration, Instant};
-use udp_runner::{Input, Output, Port, PortFault};
+use udp_runner::{Output, Port, PortFault};
 
 /// A wait reports at most so many sockets at once; others are reported by the next one.
 const MOST_EVENTS: usize = 64;
@@ -126,15 +126,15 @@ impl<R: System + Net + Drop> StationPort<R> {
         made(StationSocket::Wait, Waker::new(self.poll.registry(), WAKER))
     }
 
-    /// The input that is there now.
-    fn next_input(&mut self) -> Result<Option<Input>, PortFault>
+    /// The arrival that is there now.
+    fn next_arrival(&mut self) -> Result<Option<Arrival>, PortFault>
         ensures { self.new.failures ≡ self.old.failures }
     {
         let now_ms = self.now_ms();
         self.sockets.advance(&self.rt, self.poll.registry(), now_ms);
         let all = self.sockets.asks_all();
         if all || !self.sockets.ready.any() {
-            self.look(Duration::ZERO);
+            self.mark_reported(Duration::ZERO);
         }
         self.sockets.poll(self.poll.registry(), all, now_ms)
     }
@@ -155,7 +155,7 @@ impl<R: System + Drop> StationPort<R> {
     }
 
     /// Waits until a socket is reported, at most so long, and marks what is reported. Whether something was.
-    fn look(&mut self, most: Duration) -> bool
+    fn mark_reported(&mut self, most: Duration) -> bool
         ensures { self.new.failures ≡ self.old.failures }
     {
         if self.poll.poll(&mut self.events, Some(most)).is_err() {
@@ -172,22 +172,18 @@ impl<R: System + Drop> StationPort<R> {
     fn wait_until(&mut self, end: Instant)
         ensures { self.new.failures ≡ self.old.failures }
     {
-        let whole_ms = u64::try_from(self.left(end).as_millis()).unwrap_or(0);
-        if self.look(Duration::from_millis(whole_ms)) {
+        if self.mark_reported(poll_length(self.left(end))) {
             return;
         }
         let rest = self.left(end);
         if !rest.is_zero() {
-            thread::sleep(&self.rt, rest.min(Duration::from_millis(1)));
+            thread::sleep(&self.rt, sleep_length(rest));
         }
     }
 
     /// The time until a moment.
     fn left(&self, end: Instant) -> Duration {
-        match Instant::now(&self.rt) {
-            Ok(now) => end.checked_duration_since(now).unwrap_or(Duration::ZERO),
-            Err(_) => Duration::ZERO,
-        }
+        time_left(Instant::now(&self.rt), end)
     }
 
     /// The end of a wait of this length, or of a shorter one if a stream is to be opened or ended before.
@@ -195,10 +191,10 @@ impl<R: System + Drop> StationPort<R> {
         ensures { self.new.failures ≡ self.old.failures }
     {
         let now = Instant::now(&self.rt).ok()?;
-        let most_ms = u64::try_from(most.as_millis()).ok()?;
         let now_ms = self.now_ms();
-        let streams_ms = self.sockets.wait(now_ms, most_ms.saturating_add(1));
-        now.checked_add(most.min(Duration::from_millis(streams_ms)))
+        let most_ms = whole_ms(most).saturating_add(1);
+        let streams_ms = self.sockets.wait(now_ms, most_ms);
+        now.checked_add(wait_length(most, streams_ms))
     }
 }
 
@@ -224,12 +220,16 @@ impl<R: System + Net + Drop> Port for StationPort<R> {
         }
     }
 
-    fn receive(&mut self) -> Result<Option<Input>, PortFault> {
-        let came = self.next_input();
+    fn receive(&mut self) -> Result<Option<Arrival>, PortFault> {
+        let came = self.next_arrival();
         if came.is_err() {
             self.failures += 1;
         }
         came
+    }
+
+    fn recycle(&mut self, bytes: Items<u8>) {
+        self.sockets.recycle(bytes);
     }
 
     fn sends_to_groups(&self) -> bool {

@@ -5,8 +5,8 @@ use Rattle.cip_types.specs.declared.names.Node.{Node}
 use Rattle.stream_keeper.specs.declared.keeper.KeptStream.{KeptStream}
 use Rattle.stream_keeper.specs.declared.keeper.Place.{Place}
 use Rattle.stream_keeper.specs.declared.keeper.Place.TheVariants.{Free, Instead, Refused}
-use Rattle.stream_keeper.specs.declared.choice.Group.{Group}
-use Rattle.stream_keeper.specs.declared.choice.Group.TheVariants.{OwnWithoutSession, Own, WithoutSession, WithoutConnection}
+use Rattle.stream_keeper.specs.declared.choice.Candidates.{Candidates}
+use Rattle.stream_keeper.specs.declared.choice.Candidates.TheVariants.{OwnWithoutSession, Own, WithoutSession, WithoutConnection}
 use Rattle.stream_keeper.specs.Keeping.{earliest, first_at, last_in, instead_of, is_among, is_at, is_in, is_of, longest_silent, place_among}
 use Rattle.stream_keeper.specs.Laws.{OwnersStay, may_make_room}
 
@@ -30,7 +30,7 @@ no_connection false true false is = refl
 no_connection false true true is = absurd (let e = is in cc)
 
 -- a stream of each group may make room
-may_in : (group : Group) (peer : Node) (connected : List Node) (stream : KeptStream) → is_in group peer connected stream ≡ true → may_make_room peer connected stream ≡ true
+may_in : (group : Candidates) (peer : Node) (connected : List Node) (stream : KeptStream) → is_in group peer connected stream ≡ true → may_make_room peer connected stream ≡ true
 may_in OwnWithoutSession peer connected stream is = own_first (is_of peer stream) stream.registered (is_among connected stream) is
 may_in Own peer connected stream is = own_all (is_of peer stream) stream.registered (is_among connected stream) is
 may_in WithoutSession peer connected stream is = no_session (is_of peer stream) stream.registered (is_among connected stream) is
@@ -40,14 +40,14 @@ last_if : (b : Bool) (ms last : ℕ) → is_at ms (cond b (Some last) None) ≡ 
 last_if true ms last is = refl
 last_if false ms last is = absurd (let e = is in cc)
 
-first_in : (group : Group) (peer : Node) (connected : List Node) (streams : List (Option KeptStream)) (number : ℕ) (stream : KeptStream) (best : Option ℕ) → first_at (last_in group peer connected) best streams ≡ Some number → slice_index_or streams number None ≡ Some stream → is_in group peer connected stream ≡ true
+first_in : (group : Candidates) (peer : Node) (connected : List Node) (streams : List (Option KeptStream)) (number : ℕ) (stream : KeptStream) (best : Option ℕ) → first_at (last_in group peer connected) best streams ≡ Some number → slice_index_or streams number None ≡ Some stream → is_in group peer connected stream ≡ true
 first_in group peer connected streams number stream None found is = absurd (let e = found in cc)
 first_in group peer connected streams number stream (Some ms) found is =
     let there = position-Some (λ slot. is_at ms (last_in group peer connected slot)) streams number None found in
     last_if (is_in group peer connected stream) ms stream.last_ms (subst (λ slot. is_at ms (last_in group peer connected slot) ≡ true) is there.1)
 
 -- the stream that was chosen of a group is one of it
-chosen_in : (group : Group) (peer : Node) (connected : List Node) (streams : List (Option KeptStream)) (number : ℕ) (stream : KeptStream) → slice_index_or streams number None ≡ Some stream → longest_silent group peer connected streams ≡ Some number → may_make_room peer connected stream ≡ true
+chosen_in : (group : Candidates) (peer : Node) (connected : List Node) (streams : List (Option KeptStream)) (number : ℕ) (stream : KeptStream) → slice_index_or streams number None ≡ Some stream → longest_silent group peer connected streams ≡ Some number → may_make_room peer connected stream ≡ true
 chosen_in group peer connected streams number stream is found =
     may_in group peer connected stream (first_in group peer connected streams number stream (earliest (last_in group peer connected) None streams) found is)
 
@@ -61,7 +61,7 @@ place_in P true free own others number f g is = f is
 place_in P false true own others number f g is = absurd (let e = is in cc)
 place_in P false false own others number f g is = g is
 
-among_may : (first second : Group) (peer : Node) (connected : List Node) (streams : List (Option KeptStream)) (number : ℕ) (stream : KeptStream) → slice_index_or streams number None ≡ Some stream → place_among first second peer connected streams ≡ Instead number → may_make_room peer connected stream ≡ true
+among_may : (first second : Candidates) (peer : Node) (connected : List Node) (streams : List (Option KeptStream)) (number : ℕ) (stream : KeptStream) → slice_index_or streams number None ≡ Some stream → place_among first second peer connected streams ≡ Instead number → may_make_room peer connected stream ≡ true
 among_may first second peer connected streams number stream is placed =
     either (may_make_room peer connected stream ≡ true) (longest_silent first peer connected streams) (longest_silent second peer connected streams) number
     (chosen_in first peer connected streams number stream is)

@@ -16,8 +16,8 @@ use Rattle.cip_types.specs.declared.names.Node.{Node}
 use Rattle.stream_keeper.specs.declared.keeper.KeptStream.{KeptStream}
 use Rattle.stream_keeper.specs.declared.keeper.Place.{Place}
 use Rattle.stream_keeper.specs.declared.keeper.Place.TheVariants.{Free, Instead, Refused}
-use Rattle.stream_keeper.specs.declared.choice.Group.{Group}
-use Rattle.stream_keeper.specs.declared.choice.Group.TheVariants.{OwnWithoutSession, Own, WithoutSession, WithoutConnection}
+use Rattle.stream_keeper.specs.declared.choice.Candidates.{Candidates}
+use Rattle.stream_keeper.specs.declared.choice.Candidates.TheVariants.{OwnWithoutSession, Own, WithoutSession, WithoutConnection}
 
 -- a keeper: the time-out in milliseconds (0: none), and the stream of each number from 0 on
 pub record Keeper : Type 0 where
@@ -72,14 +72,14 @@ abbrev pub is_among : List Node → KeptStream → Bool
 is_among nodes stream = list_any (λ node. nat_eq node.0 stream.peer.0) nodes
 
 -- it is one of the group, for a new stream of this peer, while these nodes have connections
-abbrev pub is_in : Group → Node → List Node → KeptStream → Bool
+abbrev pub is_in : Candidates → Node → List Node → KeptStream → Bool
 is_in OwnWithoutSession peer connected stream = is_of peer stream && not stream.registered
 is_in Own peer connected stream = is_of peer stream
 is_in WithoutSession peer connected stream = not stream.registered
 is_in WithoutConnection peer connected stream = not (is_among connected stream)
 
 -- when the last message of the stream came, if it is one of the group
-abbrev pub last_in : Group → Node → List Node → Option KeptStream → Option ℕ
+abbrev pub last_in : Candidates → Node → List Node → Option KeptStream → Option ℕ
 last_in group peer connected None = None
 last_in group peer connected (Some stream) = if is_in group peer connected stream then Some stream.last_ms else None
 
@@ -103,7 +103,7 @@ first_at last None streams = None
 first_at last (Some ms) streams = position (λ stream. is_at ms (last stream)) streams
 
 -- the first stream of the group whose last message came at the earliest time of the group
-abbrev pub longest_silent : Group → Node → List Node → List (Option KeptStream) → Option ℕ
+abbrev pub longest_silent : Candidates → Node → List Node → List (Option KeptStream) → Option ℕ
 longest_silent group peer connected streams =
     first_at (last_in group peer connected) (earliest (last_in group peer connected) None streams) streams
 
@@ -126,7 +126,7 @@ instead_of None place = place
 instead_of (Some number) place = Instead number
 
 -- the place of one of the first group, or else of one of the second
-abbrev pub place_among : Group → Group → Node → List Node → List (Option KeptStream) → Place
+abbrev pub place_among : Candidates → Candidates → Node → List Node → List (Option KeptStream) → Place
 place_among first second peer connected streams =
     instead_of (longest_silent first peer connected streams) (instead_of (longest_silent second peer connected streams) Refused)
 

@@ -8,7 +8,7 @@ use cip_types::Node;
 
 /// Streams of which one makes room for a new stream.
 #[derive(Clone, Copy)]
-pub enum Group {
+pub enum Candidates {
     /// Those of the new stream's address without a session.
     OwnWithoutSession,
     /// Those of the new stream's address.
@@ -34,19 +34,24 @@ fn is_among(stream: &KeptStream, nodes: &[Node]) -> bool
 }
 
 /// Whether it is one of the group, for a new stream of this peer, while these nodes have connections.
-fn is_in(stream: &KeptStream, group: Group, peer: Node, connected: &[Node]) -> bool
+fn is_in(stream: &KeptStream, group: Candidates, peer: Node, connected: &[Node]) -> bool
     ensures { result ≡ is_in group peer connected.now stream.now }
 {
     match group {
-        Group::OwnWithoutSession => is_of(stream, peer) && !stream.registered,
-        Group::Own => is_of(stream, peer),
-        Group::WithoutSession => !stream.registered,
-        Group::WithoutConnection => !is_among(stream, connected),
+        Candidates::OwnWithoutSession => is_of(stream, peer) && !stream.registered,
+        Candidates::Own => is_of(stream, peer),
+        Candidates::WithoutSession => !stream.registered,
+        Candidates::WithoutConnection => !is_among(stream, connected),
     }
 }
 
 /// When the last message of the stream came, if it is one of the group.
-fn last_in(stream: &Option<KeptStream>, group: Group, peer: Node, connected: &[Node]) -> Option<u64>
+fn last_in(
+    stream: &Option<KeptStream>,
+    group: Candidates,
+    peer: Node,
+    connected: &[Node],
+) -> Option<u64>
     ensures { result ≡ last_in group peer connected.now stream.now }
 {
     let Some(stream) = stream else {
@@ -75,7 +80,7 @@ fn earlier(time: Option<u64>, other: Option<u64>) -> Option<u64>
 /// The earliest time at which the last message of one of the group came.
 fn earliest(
     streams: &[Option<KeptStream>],
-    group: Group,
+    group: Candidates,
     peer: Node,
     connected: &[Node],
 ) -> Option<u64>
@@ -101,7 +106,7 @@ fn is_at(time: Option<u64>, ms: u64) -> bool
 /// The first stream of the group whose last message came at the earliest time of the group.
 pub(crate) fn longest_silent(
     streams: &[Option<KeptStream>],
-    group: Group,
+    group: Candidates,
     peer: Node,
     connected: &[Node],
 ) -> Option<usize>
@@ -116,7 +121,7 @@ pub(crate) fn longest_silent(
 /// The first stream of the group whose last message came at this time.
 fn first_at(
     streams: &[Option<KeptStream>],
-    group: Group,
+    group: Candidates,
     peer: Node,
     connected: &[Node],
     ms: u64,

@@ -4,7 +4,7 @@ ghost use Rattle.std.specs.Prelude.{◌≡◌, ◌*◌, replicate, slice_index_o
 ghost use Rattle.std.specs.List.{list_any};
 ghost use Rattle.stream_keeper.specs.Keeping.{begun, received_at, is_free, is_silent, least_wait, place_of, place_among, registered, silent_of, wait_for, wait_of};
 
-use crate::choice::{Group, count_of, longest_silent};
+use crate::choice::{Candidates, count_of, longest_silent};
 use cip_types::limits::MOST_STREAMS;
 use cip_types::{Node, OutOfMemory};
 use std::alloc::Global;
@@ -57,7 +57,8 @@ impl Model for StreamKeeper {
 impl StreamKeeper {
     /// No streams, with a time-out of so many seconds; 0: none. The only fault is a refused allocation.
     pub fn new(alloc: Global, inactivity_s: u16) -> Result<StreamKeeper, OutOfMemory>
-        ensures { IfOk result (λ keeper. keeper ≡ record { limit_ms = inactivity_s * 1000; streams = replicate 16 None }) }
+        ensures { IfOk result
+            (λ keeper. keeper ≡ record { limit_ms = inactivity_s * 1000; streams = replicate 16 None }) }
     {
         Ok(StreamKeeper {
             limit_ms: u64::from(inactivity_s) * 1_000,
@@ -67,7 +68,10 @@ impl StreamKeeper {
 
     /// A peer opened the stream of this number. Takes no memory.
     pub fn begin(&mut self, number: u16, peer: Node, now_ms: u64)
-        ensures { self.new ≡ record self.old { streams = slice_set self.old.streams number (Some (begun peer now_ms)) } }
+        ensures { self.new ≡ record self.old {
+          streams = slice_set self.old.streams number
+              (Some (begun peer now_ms));
+        } }
     {
         self.put(
             number,
@@ -80,8 +84,11 @@ impl StreamKeeper {
     }
 
     /// A whole message came over the stream of this number. Takes no memory.
-    pub fn receive(&mut self, number: u16, now_ms: u64)
-        ensures { self.new ≡ record self.old { streams = slice_set self.old.streams number (received_at now_ms (slice_index_or self.old.streams number None)) } }
+    pub fn note_message(&mut self, number: u16, now_ms: u64)
+        ensures { self.new ≡ record self.old {
+          streams = slice_set self.old.streams number
+              (received_at now_ms (slice_index_or self.old.streams number None));
+        } }
     {
         let stream = received_at(self.stream(number), now_ms);
         self.put(number, stream);
@@ -89,7 +96,10 @@ impl StreamKeeper {
 
     /// A session is registered on the stream of this number. Takes no memory.
     pub fn register(&mut self, number: u16)
-        ensures { self.new ≡ record self.old { streams = slice_set self.old.streams number (registered (slice_index_or self.old.streams number None)) } }
+        ensures { self.new ≡ record self.old {
+          streams = slice_set self.old.streams number
+              (registered (slice_index_or self.old.streams number None));
+        } }
     {
         let stream = registered(self.stream(number));
         self.put(number, stream);
@@ -151,21 +161,32 @@ impl StreamKeeper {
         ensures { result ≡ place_of peer connected.now self.now.streams }
     {
         if count_of(self.streams.as_slice(), peer) >= MOST_OF_ONE {
-            return self.place_among(Group::OwnWithoutSession, Group::Own, peer, connected);
+            return self.place_among(
+                Candidates::OwnWithoutSession,
+                Candidates::Own,
+                peer,
+                connected,
+            );
         }
         if has_free(self.streams.as_slice()) {
             return Place::Free;
         }
         self.place_among(
-            Group::WithoutSession,
-            Group::WithoutConnection,
+            Candidates::WithoutSession,
+            Candidates::WithoutConnection,
             peer,
             connected,
         )
     }
 
     /// The place of one of the first group, or else of one of the second.
-    fn place_among(&self, first: Group, second: Group, peer: Node, connected: &[Node]) -> Place
+    fn place_among(
+        &self,
+        first: Candidates,
+        second: Candidates,
+        peer: Node,
+        connected: &[Node],
+    ) -> Place
         ensures { result ≡ place_among first second peer connected.now self.now.streams }
     {
         let streams = self.streams.as_slice();

@@ -7,7 +7,7 @@
 -- that cannot serve is not asked every second for good. A connection that is established begins the count anew. A try at
 -- which nothing answered does not count, and neither does a stream with a session that ended: the next try is after a
 -- second, so a target that comes back is found within the 3 seconds of an opening and that second.
-use Rattle.std.specs.Prelude.{ℕ, ◌+◌, ◌-◌, ◌^◌, min, nat_le, nat_eq, if◌then◌else◌, Bool, false, List, [], ◌∷◌, slice_index_or, slice_set}
+use Rattle.std.specs.Prelude.{ℕ, ◌+◌, ◌-◌, ◌^◌, min, nat_le, nat_eq, if◌then◌else◌, Bool, true, false, List, [], ◌∷◌, slice_index_or, slice_set, position, Option, Some, None}
 use Rattle.target_links.specs.declared.links.LinkState.{LinkState}
 use Rattle.target_links.specs.declared.links.LinkState.TheVariants.{Down, Opening, Registering, Open}
 use Rattle.target_links.specs.declared.links.TargetLink.{TargetLink}
@@ -86,6 +86,40 @@ lost_link now link = ended_in now link link.state
 abbrev pub succeeded_link : TargetLink → TargetLink
 succeeded_link link = record link { tries = 0 }
 
+-- a link whose session was refused: its target failed if the session was being registered
+abbrev pub refused_in : ℕ → TargetLink → LinkState → TargetLink
+refused_in now link (Registering stream until) = failed_link now link
+refused_in now link state = link
+
+abbrev pub refused_link : ℕ → TargetLink → TargetLink
+refused_link now link = refused_in now link link.state
+
+-- a link whose open stream was dropped: its target failed
+abbrev pub dropped_in : ℕ → TargetLink → LinkState → TargetLink
+dropped_in now link (Registering stream until) = failed_link now link
+dropped_in now link (Open stream) = failed_link now link
+dropped_in now link state = link
+
+abbrev pub dropped_link : ℕ → TargetLink → TargetLink
+dropped_link now link = dropped_in now link link.state
+
+-- the number of the open stream of the link
+abbrev pub stream_in : LinkState → Option ℕ
+stream_in (Registering stream until) = Some stream
+stream_in (Open stream) = Some stream
+stream_in state = None
+
+abbrev pub stream_of : TargetLink → Option ℕ
+stream_of link = stream_in link.state
+
+-- a session is being registered on the stream of the link
+abbrev pub registers_in : LinkState → Bool
+registers_in (Registering stream until) = true
+registers_in state = false
+
+abbrev pub is_registering : TargetLink → Bool
+is_registering link = registers_in link.state
+
 -- the stream of the link is to be opened at this time
 abbrev pub due_in : ℕ → LinkState → Bool
 due_in now (Down retry) = nat_le retry now
@@ -118,6 +152,22 @@ of_in number state = false
 
 abbrev pub is_of : ℕ → TargetLink → Bool
 is_of number link = of_in number link.state
+
+-- the links after a change of the one whose stream has this number: a number that no stream has changes none
+abbrev pub at_found : Links → Option ℕ → (TargetLink → TargetLink) → Links
+at_found links None change = links
+at_found links (Some target) change = at_target links target change
+
+abbrev pub at_stream : Links → ℕ → (TargetLink → TargetLink) → Links
+at_stream links number change = at_found links (position (is_of number) links.links) change
+
+-- a session is being registered on the stream of this number
+abbrev pub registers_at : List TargetLink → Option ℕ → Bool
+registers_at links None = false
+registers_at links (Some target) = is_registering (link_at links target)
+
+abbrev pub registers_on : List TargetLink → ℕ → Bool
+registers_on links number = registers_at links (position (is_of number) links)
 
 -- the time until the stream of the link is to be opened or given up
 abbrev pub retry_in : ℕ → ℕ → LinkState → ℕ

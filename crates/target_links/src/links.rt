@@ -1,8 +1,8 @@
 //! The links of a scanner to its targets: which one is to be opened now, which is given up, and when a closed one is
 //! tried again.
 
-ghost use Rattle.std.specs.Prelude.{◌≡◌, ◌<◌, length, replicate, position, slice_index_or, slice_set, map, IfOk, List};
-ghost use Rattle.target_links.specs.Links.{at_target, opening_link, failed_link, given_up_link, is_due, is_late, is_of, is_unregistered, link_at, lost_link, new_link, next_tries, registering_link, registered_link, retry_at, succeeded_link, wait_after, wait_of};
+ghost use Rattle.std.specs.Prelude.{◌≡◌, ◌<◌, replicate, position, slice_set, IfOk};
+ghost use Rattle.target_links.specs.Links.{at_stream, at_target, dropped_link, opening_link, failed_link, given_up_link, is_due, is_late, is_of, is_registering, is_unregistered, link_at, lost_link, new_link, refused_link, registering_link, registered_link, registers_on, retry_at, stream_of, succeeded_link, wait_after, wait_of};
 
 use cip_types::OutOfMemory;
 use std::alloc::Global;
@@ -157,6 +157,55 @@ impl TargetLinks {
         self.put(target, link);
     }
 
+    /// Whether a session is being registered on the stream of this number. Takes no memory.
+    pub fn is_registering(&self, stream: u16) -> bool
+        ensures { result ≡ registers_on self.now.links stream }
+    {
+        match self.target_of(stream) {
+            Some(target) => self.link(target).is_registering(),
+            None => false,
+        }
+    }
+
+    /// A session is registered on the stream of this number. Takes no memory.
+    pub fn register_stream(&mut self, stream: u16)
+        ensures { self.new ≡ at_stream self.old stream registered_link }
+    {
+        if let Some(target) = self.target_of(stream) {
+            self.register(target);
+        }
+    }
+
+    /// The session of the stream of this number is refused: if it was being registered, its target failed. Takes no
+    /// memory.
+    pub fn refuse_stream(&mut self, stream: u16, now_ms: u64)
+        ensures { self.new ≡ at_stream self.old stream (refused_link now_ms) }
+    {
+        if let Some(target) = self.target_of(stream) {
+            let link = self.link(target).refused(now_ms);
+            self.put(target, link);
+        }
+    }
+
+    /// The stream of this number ended: its target's is opened again later. Takes no memory.
+    pub fn lose_stream(&mut self, stream: u16, now_ms: u64)
+        ensures { self.new ≡ at_stream self.old stream (lost_link now_ms) }
+    {
+        if let Some(target) = self.target_of(stream) {
+            self.lose(target, now_ms);
+        }
+    }
+
+    /// Drops the stream to this target, which failed if it has one: the number of that stream. Takes no memory.
+    pub fn drop_stream(&mut self, target: usize, now_ms: u64) -> Option<u16>
+        ensures stream { result ≡ stream_of (link_at self.old.links target) }
+        ensures links { self.new ≡ at_target self.old target (dropped_link now_ms) }
+    {
+        let link = self.link(target);
+        self.put(target, link.dropped(now_ms));
+        link.stream()
+    }
+
     /// Puts a link, if there is such a target.
     fn put(&mut self, target: usize, link: TargetLink)
         ensures { self.new ≡ record self.old { links = slice_set self.old.links target link } }
@@ -217,6 +266,33 @@ impl TargetLink {
             } => stream == number,
             LinkState::Open { stream } => stream == number,
             _ => false,
+        }
+    }
+
+    /// Whether a session is being registered on its stream.
+    fn is_registering(&self) -> bool
+        ensures { result ≡ is_registering self.now }
+    {
+        matches!(
+            self.state,
+            LinkState::Registering {
+                stream: _,
+                until_ms: _,
+            }
+        )
+    }
+
+    /// The number of its stream, if it is open.
+    fn stream(self) -> Option<u16>
+        ensures { result ≡ stream_of self }
+    {
+        match self.state {
+            LinkState::Registering {
+                stream,
+                until_ms: _,
+            } => Some(stream),
+            LinkState::Open { stream } => Some(stream),
+            _ => None,
         }
     }
 
@@ -283,6 +359,33 @@ impl TargetLink {
                 retry_ms: now_ms.saturating_add(wait_after(tries)),
             },
             tries,
+        }
+    }
+
+    /// The link after its session was refused.
+    fn refused(self, now_ms: u64) -> TargetLink
+        ensures { result ≡ refused_link now_ms self }
+    {
+        match self.state {
+            LinkState::Registering {
+                stream: _,
+                until_ms: _,
+            } => self.failed(now_ms),
+            _ => self,
+        }
+    }
+
+    /// The link after its stream was dropped.
+    fn dropped(self, now_ms: u64) -> TargetLink
+        ensures { result ≡ dropped_link now_ms self }
+    {
+        match self.state {
+            LinkState::Registering {
+                stream: _,
+                until_ms: _,
+            } => self.failed(now_ms),
+            LinkState::Open { stream: _ } => self.failed(now_ms),
+            _ => self,
         }
     }
 

@@ -1,5 +1,5 @@
 -- Runs, one after another.
-use Rattle.std.proofs.Common.{◌≡◌, inl, inr, ℕ, zero, suc, ◌+◌, List, [], ◌∷◌, ◌++◌, length, drop, add-one, Ok, Err, Option, refl, ap, ◌∙◌, sym, append_assoc, append-nil, length-append}
+use Rattle.std.proofs.Common.{◌≡◌, inl, inr, ℕ, ◌+◌, List, [], ◌∷◌, ◌++◌, length, Ok, Err, refl, ap, ◌∙◌, sym, append_assoc, append-nil, length-append}
 use Rattle.cip_events.specs.declared.event.Answer.{Answer}
 use Rattle.cip_events.specs.declared.event.Event.{Event}
 use Rattle.cip_events.specs.declared.event.StepFault.{StepFault}
@@ -10,10 +10,9 @@ use Rattle.cip_tables.specs.Step.{step}
 use Rattle.udp_runner.specs.declared.fault.PortFault.{PortFault}
 use Rattle.udp_runner.specs.declared.fault.RunFault.{RunFault}
 use Rattle.udp_runner.specs.declared.fault.RunFault.TheVariants as run
-use Rattle.udp_runner.specs.declared.input.Input.{Input}
 use Rattle.udp_runner.specs.Outputs.{answer_sent, SendsSome}
-use Rattle.udp_runner.specs.Tape.{Tape, rest_of, with_sent}
-use Rattle.udp_runner.specs.Turns.{Drives, Halts, Stops, all_sent, events_of, step_sent, turn_of}
+use Rattle.udp_runner.specs.Tape.{Tape, with_sent}
+use Rattle.udp_runner.specs.Turns.{Drives, Halts, Stops, all_sent, step_sent}
 
 pub table_after-append : (t : DeviceTable) (xs ys : List Event) → table_after t (xs ++ ys) ≡ table_after (table_after t xs) ys
 table_after-append t [] ys = refl
@@ -27,20 +26,6 @@ all_sent-append t (x ∷ xs) ys =
 
 pub drives_none : (tape : Tape) (t : DeviceTable) → Drives [] 0 tape tape t t
 drives_none tape t = record { sends = sym (append-nil tape.sent); table = refl; counts = refl }
-
--- one more is taken off the front
-rest_of_drop : {X : Type 0} (xs : List X) (n : ℕ) → rest_of (drop n xs) ≡ drop (suc n) xs
-rest_of_drop [] zero = refl
-rest_of_drop (x ∷ xs) zero = refl
-rest_of_drop [] (suc n) = refl
-rest_of_drop (x ∷ xs) (suc n) = rest_of_drop xs n
-
-pub rest_of-drop : {X : Type 0} (xs : List X) (n : ℕ) → rest_of (drop n xs) ≡ drop (n + 1) xs
-rest_of-drop xs n = rw add-one (rest_of_drop xs n)
-
--- no turn is left
-pub drives_end : (left : ℕ) (ts : List ℕ) (is : List (Option Input)) (tape : Tape) (t : DeviceTable) → left ≡ 0 → Drives (events_of left ts is) 0 tape tape t t
-drives_end left ts is tape t none = rw none (drives_none tape t)
 
 -- one event whose answer was sent
 pub drives_one : (e : Event) (a : Answer) (old new : Tape) (t t' : DeviceTable) → step t e ≡ Ok (a, t') → new ≡ with_sent old (answer_sent a) → Drives (e ∷ []) 1 old new t t'
@@ -61,12 +46,6 @@ drives_more es fs n m s s' s'' t t' t'' a b = record {
   table = b.table ∙ ap (λ x. table_after x fs) a.table ∙ sym (table_after-append t es fs);
   counts = ap (λ x. x + m) a.counts ∙ ap (λ x. length es + x) b.counts ∙ sym (length-append es fs);
 }
-
--- one turn, and the turns that are left after it
-pub drives_turn : (left left' n m : ℕ) (ts ts' : List ℕ) (is is' : List (Option Input)) (s s' s'' : Tape) (t t' t'' : DeviceTable)
-    → left ≡ suc left' → ts' ≡ rest_of ts → is' ≡ rest_of is → Drives (turn_of ts is) n s s' t t' → Drives (events_of left' ts' is') m s' s'' t' t'' → Drives (events_of left ts is) (n + m) s s'' t t''
-drives_turn left left' n m ts ts' is is' s s' s'' t t' t'' more times_ms inputs a b =
-    rw more (drives_more (turn_of ts is) (events_of left' (rest_of ts) (rest_of is)) n m s s' s'' t t' t'' a (rw (times_ms, inputs) at b))
 
 -- what a fault leaves undone, with events behind it that do not come any more
 pub halts_before : (fault : RunFault) (es fs : List Event) (s s' : Tape) (t t' : DeviceTable) → Halts fault es s s' t t' → Halts fault (es ++ fs) s s' t t'
@@ -118,11 +97,3 @@ stops_after fault es fs n s s' s'' t t' t'' a b = record {
       ∙ ap (λ x. s.sent ++ x) (sym (all_sent-append t es b.done));
   halts = rw (table_after-append t es b.done, ← a.table) b.halts;
 }
-
-pub stops_turn : (fault : RunFault) (left left' n : ℕ) (ts ts' : List ℕ) (is is' : List (Option Input)) (s s' s'' : Tape) (t t' t'' : DeviceTable)
-    → left ≡ suc left' → ts' ≡ rest_of ts → is' ≡ rest_of is → Drives (turn_of ts is) n s s' t t' → Stops fault (events_of left' ts' is') s' s'' t' t'' → Stops fault (events_of left ts is) s s'' t t''
-stops_turn fault left left' n ts ts' is is' s s' s'' t t' t'' more times_ms inputs a b =
-    rw more (stops_after fault (turn_of ts is) (events_of left' (rest_of ts) (rest_of is)) n s s' s'' t t' t'' a (rw (times_ms, inputs) at b))
-
-pub stops_in_turn : (fault : RunFault) (left left' : ℕ) (ts : List ℕ) (is : List (Option Input)) (s s' : Tape) (t t' : DeviceTable) → left ≡ suc left' → Stops fault (turn_of ts is) s s' t t' → Stops fault (events_of left ts is) s s' t t'
-stops_in_turn fault left left' ts is s s' t t' more a = rw more (stops_before fault (turn_of ts is) (events_of left' (rest_of ts) (rest_of is)) s s' t t' a)

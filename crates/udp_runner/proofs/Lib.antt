@@ -1,3 +1,5 @@
 mod Joining
 mod SentOutputs
 mod Handed
+mod Driven
+mod AtPorts

@@ -2,3 +2,4 @@ pub mod Tape
 pub mod Outputs
 pub mod Turns
 pub mod Handing
+pub mod Driving

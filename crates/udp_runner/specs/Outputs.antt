@@ -1,15 +1,10 @@
--- The outputs of an answer: its frames, then its datagrams, each once to each of its nodes, then the ends of the
--- streams that it closes.
-use Rattle.std.specs.Prelude.{ℕ, ◌≡◌, List, [], ◌∷◌, ◌++◌}
+-- What the outputs of an answer send over a port.
+use Rattle.std.specs.Prelude.{ℕ, ◌≡◌, ◌+◌, ◌&&◌, nat_le, nat_lt, Bool, true, List, [], ◌∷◌, ◌++◌}
 use Rattle.std.specs.List.{flat_map}
 use Rattle.cip_types.specs.declared.names.Node.{Node}
 use Rattle.cip_events.specs.declared.event.Answer.{Answer}
-use Rattle.cip_events.specs.declared.event.Frame.{Frame}
-use Rattle.cip_events.specs.declared.event.Notice.{Notice}
-use Rattle.cip_events.specs.declared.event.Notice.TheVariants.{StreamClosed}
-use Rattle.cip_events.specs.declared.event.Recipient.{Recipient}
-use Rattle.cip_events.specs.declared.event.Recipient.TheVariants.{Stream, Peer}
-use Rattle.cip_events.specs.declared.event.OutgoingDatagram.{OutgoingDatagram}
+use Rattle.answer_outlet.specs.Outputs.{AnswerOutput, answer_outputs}
+use Rattle.answer_outlet.specs.Outputs.AnswerOutput.{Message, Datagram, End}
 use Rattle.udp_runner.specs.declared.output.Output.{Output}
 use Rattle.udp_runner.specs.declared.output.Output.TheVariants as output
 use Rattle.udp_runner.specs.declared.output.SentOutput.{SentOutput}
@@ -22,31 +17,23 @@ view_output (output.Frame stream bytes) = sent.Frame stream bytes.now
 view_output (output.Datagram node bytes) = sent.Datagram node bytes.now
 view_output (output.Close stream) = sent.Close stream
 
--- A frame is sent over its stream. The reply to a request that came over no stream is for a peer, and is sent over
--- none.
-abbrev pub carried : Recipient → List ℕ → List SentOutput
-carried (Stream stream) bytes = sent.Frame stream bytes ∷ []
-carried (Peer node) bytes = []
-
-abbrev pub frame_sent : Frame → List SentOutput
-frame_sent frame = carried frame.to frame.bytes
+-- the address is that of a multicast group, 224.0.0.0 to 239.255.255.255
+abbrev pub is_group : Node → Bool
+is_group address = nat_le 0xE0000000 address.0 && nat_lt address.0 0xF0000000
 
 -- one copy of a datagram
 abbrev pub copy_to : List ℕ → Node → List SentOutput
 copy_to bytes node = sent.Datagram node bytes ∷ []
 
--- a datagram goes once to each of its nodes
-abbrev pub datagram_sent : OutgoingDatagram → List SentOutput
-datagram_sent datagram = flat_map (copy_to datagram.bytes) datagram.nodes
+-- what an output of an answer sends: a datagram goes once to each of its nodes
+abbrev pub output_sent : AnswerOutput → List SentOutput
+output_sent (Message stream bytes) = sent.Frame stream bytes ∷ []
+output_sent (Datagram datagram) = flat_map (copy_to datagram.bytes) datagram.nodes
+output_sent (End stream) = sent.Close stream ∷ []
 
--- a stream that ended is closed
-abbrev pub notice_sent : Notice → List SentOutput
-notice_sent (StreamClosed stream) = sent.Close stream ∷ []
-notice_sent _ = []
-
--- all outputs of an answer, in order
+-- all that an answer sends, in order
 abbrev pub answer_sent : Answer → List SentOutput
-answer_sent answer = flat_map frame_sent answer.frames ++ (flat_map datagram_sent answer.datagrams ++ flat_map notice_sent answer.notices)
+answer_sent answer = flat_map output_sent (answer_outputs answer)
 
 -- the first of these outputs were sent, and the next one was not
 pub record SendsSome (old new : Tape) (all : List SentOutput) : Type 0 where
@@ -55,3 +42,13 @@ pub record SendsSome (old new : Tape) (all : List SentOutput) : Type 0 where
   pub unsent : List SentOutput
   pub parts : all ≡ done ++ failed ∷ unsent
   pub sends : new ≡ with_sent old done
+
+-- An output of an answer went over a port.
+pub record PortSends (scripted : Bool) (old new : Tape) (failed failed_new : ℕ) (output : AnswerOutput) : Type 0 where
+  pub sent : scripted ≡ true → new ≡ with_sent old (output_sent output)
+  pub worked : failed_new ≡ failed
+
+-- An output of an answer did not go over a port, or went in part.
+pub record PortFails (scripted : Bool) (old new : Tape) (failed failed_new : ℕ) (output : AnswerOutput) : Type 0 where
+  pub some : scripted ≡ true → SendsSome old new (output_sent output)
+  pub counted : failed_new ≡ failed + 1

@@ -1,11 +1,11 @@
--- The inputs and outputs of a scripted port.
+-- What arrives at a scripted port, and its outputs.
 use Rattle.std.specs.Prelude.{List, [], ◌∷◌, ◌++◌, Option}
-use Rattle.udp_runner.specs.declared.input.Input.{Input}
+use Rattle.cip_events.specs.declared.arrival.Arrival.{Arrival}
 use Rattle.udp_runner.specs.declared.output.SentOutput.{SentOutput}
 
--- the inputs of the next receives, and all outputs that were sent
+-- the arrivals of the next receives, and all outputs that were sent
 pub record Tape : Type 0 where
-  pub coming : List (Option Input)
+  pub coming : List (Option Arrival)
   pub sent : List SentOutput
 
 -- the first element; a default where the list is empty

@@ -1,10 +1,12 @@
 -- Runs of a device over a port and a clock: the events of the turns, the outputs of their answers, and the state after
 -- a fault.
 use Rattle.std.specs.Prelude.{◌≡◌, ◌⊎◌, ℕ, zero, suc, ◌+◌, nat_lt, min, List, [], ◌∷◌, ◌++◌, length, Option, Some, None, Result, Ok, Err, if◌then◌else◌}
+use Rattle.cip_events.specs.declared.arrival.Arrival.{Arrival}
 use Rattle.cip_events.specs.declared.event.Answer.{Answer}
 use Rattle.cip_events.specs.declared.event.Event.{Event}
 use Rattle.cip_events.specs.declared.event.Event.TheVariants as event
 use Rattle.cip_events.specs.declared.event.StepFault.{StepFault}
+use Rattle.cip_events.specs.Arrivals.{arrival_event}
 use Rattle.cip_events.specs.Clock.{longest_tick}
 use Rattle.cip_events.specs.Outcomes.{Follows}
 use Rattle.cip_tables.specs.declared.table.DeviceTable.{DeviceTable}
@@ -12,8 +14,6 @@ use Rattle.cip_tables.specs.Run.{table_of, table_after}
 use Rattle.cip_tables.specs.Step.{step}
 use Rattle.udp_runner.specs.declared.fault.RunFault.{RunFault}
 use Rattle.udp_runner.specs.declared.fault.RunFault.TheVariants as run
-use Rattle.udp_runner.specs.declared.input.Input.{Input}
-use Rattle.udp_runner.specs.declared.input.Input.TheVariants as input
 use Rattle.udp_runner.specs.declared.output.SentOutput.{SentOutput}
 use Rattle.udp_runner.specs.Outputs.{answer_sent, SendsSome}
 use Rattle.udp_runner.specs.Tape.{Tape, first_or, rest_of}
@@ -24,24 +24,17 @@ use Rattle.udp_runner.specs.Tape.{Tape, first_or, rest_of}
 abbrev pub ticks_of : ℕ → List Event
 ticks_of ms = if nat_lt 0 ms then event.Tick (min ms longest_tick) ∷ [] else []
 
--- the event of a device that receives an input
-abbrev pub event_of : Input → Event
-event_of (input.Opened stream peer) = event.StreamOpened stream peer
-event_of (input.Frame stream bytes) = event.Frame stream bytes
-event_of (input.Cut stream) = event.StreamCut stream
-event_of (input.Datagram peer bytes) = event.Datagram peer bytes
+-- the event of a receive, if something arrived
+abbrev pub arrivals_of : Option Arrival → List Event
+arrivals_of None = []
+arrivals_of (Some arrival) = arrival_event arrival ∷ []
 
--- the event of a receive, if an input was received
-abbrev pub inputs_of : Option Input → List Event
-inputs_of None = []
-inputs_of (Some given) = event_of given ∷ []
+-- the events of one turn: the tick, then what arrived
+abbrev pub turn_of : List ℕ → List (Option Arrival) → List Event
+turn_of times_ms coming = ticks_of (first_or 0 times_ms) ++ arrivals_of (first_or None coming)
 
--- the events of one turn: the tick, then the input
-abbrev pub turn_of : List ℕ → List (Option Input) → List Event
-turn_of times_ms coming = ticks_of (first_or 0 times_ms) ++ inputs_of (first_or None coming)
-
--- turn by turn, the tick and the input that the clock and the port give
-abbrev pub events_of : ℕ → List ℕ → List (Option Input) → List Event
+-- turn by turn, the tick and the arrival that the clock and the port give
+abbrev pub events_of : ℕ → List ℕ → List (Option Arrival) → List Event
 events_of zero times_ms coming = []
 events_of (suc turns) times_ms coming = turn_of times_ms coming ++ events_of turns (rest_of times_ms) (rest_of coming)
 

@@ -3,19 +3,17 @@
 #![tactic(auto)]
 
 mod fault;
-mod input;
 mod memory;
 mod observer;
-mod outgoing;
+mod outlet;
 mod output;
 mod port;
 mod runner;
 
 pub use fault::{PortFault, RunFault};
-pub use input::Input;
 pub use memory::{MemoryPort, SteppedClock};
 pub use observer::{Observer, Unobserved};
-pub use outgoing::send_answer;
+pub use outlet::AtPort;
 pub use output::{Output, SentOutput};
 pub use port::{Clock, Port};
-pub use runner::{drive, drive_watched, turn_waiting};
+pub use runner::{act, drive, drive_watched, turn_waiting};

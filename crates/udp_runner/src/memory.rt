@@ -1,24 +1,24 @@
-//! A port over memory, whose inputs and outputs contracts know, and a clock that is stepped.
+//! A port over memory, whose arrivals and outputs contracts know, and a clock that is stepped.
 
 ghost use Rattle.std.specs.Prelude.{◌≡◌, ◌∷◌, ◌++◌, [], true, nat_eq, OnOk, OnErr};
 ghost use Rattle.udp_runner.specs.Outputs.{view_output};
 
 use crate::fault::PortFault;
-use crate::input::Input;
 use crate::output::{Output, SentOutput};
 use crate::port::{Clock, Port};
+use cip_events::Arrival;
 use cip_types::OutOfMemory;
 use std::alloc::Global;
 use std::collections::VecDeque;
 
-/// Receives the inputs of a list, and then nothing; keeps the outputs that it sends. One of its calls can be made to
+/// Receives the arrivals of a list, and then nothing; keeps the outputs that it sends. One of its calls can be made to
 /// fail: receives and sends are counted together from 1.
 ///
 /// It keeps the allocator that it was made with.
 #[derive(Drop)]
 pub struct MemoryPort {
     alloc: Global,
-    inputs: VecDeque<Option<Input>>,
+    arrivals: VecDeque<Option<Arrival>>,
     sent: Vec<SentOutput>,
     failures: u64,
     calls: u64,
@@ -26,16 +26,16 @@ pub struct MemoryPort {
 }
 
 impl MemoryPort {
-    /// A port with these inputs that fails at the call of this number. With 0 it never fails.
-    pub fn new(alloc: Global, inputs: VecDeque<Option<Input>>, fails_at: u64) -> MemoryPort
-        ensures tape { ⟦<MemoryPort as Port>⟧.tape result ≡ record { coming = inputs.items; sent = [] } }
+    /// A port with these arrivals that fails at the call of this number. With 0 it never fails.
+    pub fn new(alloc: Global, arrivals: VecDeque<Option<Arrival>>, fails_at: u64) -> MemoryPort
+        ensures tape { ⟦<MemoryPort as Port>⟧.tape result ≡ record { coming = arrivals.items; sent = [] } }
         ensures failed { ⟦<MemoryPort as Port>⟧.failed result ≡ 0 }
         ensures uncalled { result.calls ≡ 0 }
         ensures failing { result.fails_at ≡ fails_at }
     {
         MemoryPort {
             alloc,
-            inputs,
+            arrivals,
             sent: Vec::new(alloc),
             failures: 0,
             calls: 0,
@@ -70,7 +70,7 @@ impl MemoryPort {
 impl Port for MemoryPort {
     ghost is_scripted = { true };
 
-    ghost tape = { λ port. record { coming = port.inputs.items; sent = port.sent.items } };
+    ghost tape = { λ port. record { coming = port.arrivals.items; sent = port.sent.items } };
 
     ghost failed = { λ port. port.failures };
 
@@ -78,14 +78,14 @@ impl Port for MemoryPort {
         self.failures
     }
 
-    fn receive(&mut self) -> Result<Option<Input>, PortFault> {
+    fn receive(&mut self) -> Result<Option<Arrival>, PortFault> {
         if self.is_failing() {
             self.failures += 1;
             return Err(PortFault::Receive);
         }
-        match self.inputs.pop_front() {
+        match self.arrivals.pop_front() {
             None => Ok(None),
-            Some(input) => Ok(input),
+            Some(arrival) => Ok(arrival),
         }
     }
 

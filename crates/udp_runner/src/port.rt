@@ -5,15 +5,15 @@ ghost use Rattle.udp_runner.specs.Tape.{first_or, rest_of, Tape, with_sent, with
 ghost use Rattle.udp_runner.specs.Outputs.{view_output};
 
 use crate::fault::PortFault;
-use crate::input::Input;
 use crate::output::Output;
-use cip_types::Ms;
+use cip_events::Arrival;
+use cip_types::{Items, Ms};
 use std::time::Duration;
 
-/// A port of a device, which receives inputs, sends outputs and counts its failures.
+/// A port of a device, which receives what arrives, sends outputs and counts its failures.
 ///
-/// A scripted port has a tape: the inputs of the next receives, and all outputs that were sent. Contracts speak only of
-/// the failures of a port over sockets, since its inputs are not known in advance.
+/// A scripted port has a tape: the arrivals of the next receives, and all outputs that were sent. Contracts speak only
+/// of the failures of a port over sockets, since what arrives there is not known in advance.
 pub trait Port {
     ghost is_scripted: { Bool };
 
@@ -25,18 +25,24 @@ pub trait Port {
     fn failures(&self) -> u64
         ensures { result ≡ failed self.now };
 
-    /// The next input; None if nothing was received for a while. The faults: `Receive`, `Memory`.
-    fn receive(&mut self) -> Result<Option<Input>, PortFault>
+    /// The next arrival; None if nothing was received for a while. The faults: `Receive`, `Memory`.
+    fn receive(&mut self) -> Result<Option<Arrival>, PortFault>
         requires { failed self.old < 2 ^ 64 - 1 }
-        ensures given { IfOk result (λ input. is_scripted ≡ true → input ≡ first_or None (tape self.old).coming) }
+        ensures given { IfOk result (λ arrival. is_scripted ≡ true → arrival ≡ first_or None (tape self.old).coming) }
         ensures taken { OnOk result (is_scripted ≡ true → tape self.new ≡ with_taken (tape self.old)) }
         ensures kept { OnErr result (is_scripted ≡ true → tape self.new ≡ tape self.old) }
         ensures worked { OnOk result (failed self.new ≡ failed self.old) }
         ensures counted { OnErr result (failed self.new ≡ failed self.old + 1) };
 
-    /// Waits until an input may be there, at most for this long. It may end at once: a scripted port, and one whose
+    /// Waits until something may have arrived, at most for this long. It may end at once: a scripted port, and one whose
     /// `receive` waits by itself, do not wait.
     fn wait(&mut self, _most: Duration)
+        ensures kept { is_scripted ≡ true → tape self.new ≡ tape self.old }
+        ensures worked { failed self.new ≡ failed self.old }
+    {}
+
+    /// Takes back the bytes of a datagram that `receive` gave. A later receive can use their memory.
+    fn recycle(&mut self, _bytes: Items<u8>)
         ensures kept { is_scripted ≡ true → tape self.new ≡ tape self.old }
         ensures worked { failed self.new ≡ failed self.old }
     {}
@@ -52,7 +58,8 @@ pub trait Port {
     /// Sends an output. The faults: `Send`, `Memory`.
     fn send(&mut self, output: &Output<'_>) -> Result<(), PortFault>
         requires { failed self.old < 2 ^ 64 - 1 }
-        ensures sent { OnOk result (is_scripted ≡ true → tape self.new ≡ with_sent (tape self.old) (view_output output.now ∷ [])) }
+        ensures sent { OnOk result
+            (is_scripted ≡ true → tape self.new ≡ with_sent (tape self.old) (view_output output.now ∷ [])) }
         ensures kept { OnErr result (is_scripted ≡ true → tape self.new ≡ tape self.old) }
         ensures worked { OnOk result (failed self.new ≡ failed self.old) }
         ensures counted { OnErr result (failed self.new ≡ failed self.old + 1) };

@@ -1,26 +1,28 @@
 //! Turns of a device.
 
-ghost use Rattle.std.specs.Prelude.{◌≡◌, ◌<◌, ◌+◌, ◌-◌, ◌^◌, ◌∷◌, [], ℕ, true, None, drop, length, IfOk, IfErr, OnOk, OnErr};
-ghost use Rattle.udp_runner.specs.Turns.{Blames, Drives, Stops, event_of, events_of, inputs_of, ticks_of, turn_of};
-ghost use Rattle.udp_runner.specs.Tape.{first_or, rest_of};
-ghost use Rattle.udp_runner.specs.Handing.{HandsOut, HandsSome};
+ghost use Rattle.std.specs.Prelude.{◌≡◌, ◌<◌, ◌-◌, ◌^◌, ◌*◌, ◌∷◌, [], true, min, None, Ok, drop, OnOk};
+ghost use Rattle.cip_events.specs.Arrivals.{arrival_event};
 ghost use Rattle.cip_events.specs.Outcomes.{Follows};
 ghost use Rattle.cip_tables.specs.Step.{step};
+ghost use Rattle.cip_tables.specs.Wakes.{due_in};
+ghost use Rattle.udp_runner.specs.Driving.{Drove, Stepped, once, seen};
+ghost use Rattle.udp_runner.specs.Tape.{first_or};
+ghost use Rattle.udp_runner.specs.Turns.{arrivals_of, events_of, ticks_of, turn_of};
 
 use crate::fault::RunFault;
-use crate::input::Input;
 use crate::observer::{Observer, Unobserved};
-use crate::outgoing::send_answer;
+use crate::outlet::AtPort;
 use crate::port::{Clock, Port};
-use cip_events::{Event, Outcome};
+use answer_outlet::send_answer;
+use cip_events::{Arrival, Event, Outcome};
 use cip_tables::Device;
-use cip_types::Ms;
 use cip_types::limits::LONGEST_TICK_MS;
+use cip_types::{Items, Ms, Node};
 
 /// Drives the device for some turns, and answers the number of its events.
 ///
 /// A turn reads the clock once. If time passed, it steps the device by a tick of at most 60,000 ms, drops the time
-/// above that, and sends the answer. Then it receives at most one input, steps the device by it, and sends the answer:
+/// above that, and sends the answer. Then it receives at most one arrival, steps the device by it, and sends the answer:
 /// the frames, the datagrams, each once to each of its nodes, and the ends of the streams that closed.
 ///
 /// The fault is `Port` only if the port's count of failures rose. The device is then in the state after the event whose
@@ -33,14 +35,11 @@ pub fn drive<P: Port, D: Device, C: Clock>(
     turns: u32,
 ) -> Result<u64, RunFault>
     requires { P.failed port.old < 2 ^ 64 - 1 }
-    ensures run { IfOk result (λ count. P.is_scripted ≡ true → C.is_scripted ≡ true
-        → Drives (events_of turns (C.coming clock.old) (P.tape port.old).coming) count (P.tape port.old) (P.tape port.new) (D.table device.old) (D.table device.new)) }
-    ensures inputs { OnOk result (P.is_scripted ≡ true → (P.tape port.new).coming ≡ drop turns (P.tape port.old).coming) }
+    ensures run { Drove ⟦<Unobserved as Observer>⟧.notes P.is_scripted C.is_scripted
+        (events_of turns (C.coming clock.old) (P.tape port.old).coming) turns (2 * turns)
+        (seen P.tape P.failed D.table port.old device.old (record {}))
+        (seen P.tape P.failed D.table port.new device.new (record {})) result }
     ensures times_ms { OnOk result (C.is_scripted ≡ true → C.coming clock.new ≡ drop turns (C.coming clock.old)) }
-    ensures stopped { IfErr result (λ fault. P.is_scripted ≡ true → C.is_scripted ≡ true
-        → Stops fault (events_of turns (C.coming clock.old) (P.tape port.old).coming) (P.tape port.old) (P.tape port.new) (D.table device.old) (D.table device.new)) }
-    ensures worked { OnOk result (P.failed port.new ≡ P.failed port.old) }
-    ensures blamed { IfErr result (Blames (P.failed port.old) (P.failed port.new)) }
 {
     drive_watched(port, device, clock, &mut Unobserved, turns)
 }
@@ -55,18 +54,11 @@ pub fn drive_watched<P: Port, D: Device, C: Clock, O: Observer>(
     turns: u32,
 ) -> Result<u64, RunFault>
     requires { P.failed port.old < 2 ^ 64 - 1 }
-    ensures run { IfOk result (λ count. P.is_scripted ≡ true → C.is_scripted ≡ true
-        → Drives (events_of turns (C.coming clock.old) (P.tape port.old).coming) count (P.tape port.old) (P.tape port.new) (D.table device.old) (D.table device.new)) }
-    ensures inputs { OnOk result (P.is_scripted ≡ true → (P.tape port.new).coming ≡ drop turns (P.tape port.old).coming) }
+    ensures run { Drove O.notes P.is_scripted C.is_scripted
+        (events_of turns (C.coming clock.old) (P.tape port.old).coming) turns (2 * turns)
+        (seen P.tape P.failed D.table port.old device.old observer.old)
+        (seen P.tape P.failed D.table port.new device.new observer.new) result }
     ensures times_ms { OnOk result (C.is_scripted ≡ true → C.coming clock.new ≡ drop turns (C.coming clock.old)) }
-    ensures stopped { IfErr result (λ fault. P.is_scripted ≡ true → C.is_scripted ≡ true
-        → Stops fault (events_of turns (C.coming clock.old) (P.tape port.old).coming) (P.tape port.old) (P.tape port.new) (D.table device.old) (D.table device.new)) }
-    ensures worked { OnOk result (P.failed port.new ≡ P.failed port.old) }
-    ensures blamed { IfErr result (Blames (P.failed port.old) (P.failed port.new)) }
-    ensures handed { IfOk result (λ count. HandsOut O.notes
-        (λ events. P.is_scripted ≡ true → C.is_scripted ≡ true → events ≡ events_of turns (C.coming clock.old) (P.tape port.old).coming)
-        count observer.old observer.new (D.table device.old) (D.table device.new)) }
-    ensures handed_some { OnErr result (HandsSome O.notes observer.old observer.new (D.table device.old) (D.table device.new)) }
 {
     let mut count = 0;
     for _ in 0..turns {
@@ -75,7 +67,7 @@ pub fn drive_watched<P: Port, D: Device, C: Clock, O: Observer>(
     Ok(count)
 }
 
-/// Makes one turn that waits: until the port may have an input, and at most until the device needs time or so many
+/// Makes one turn that waits: until something may have arrived, and at most until the device needs time or so many
 /// milliseconds have passed. Then it makes a turn as `drive` does, and hands each event and its outcome to the observer,
 /// in order: a refused event too, and each before its answer is sent. Answers the number of events.
 pub fn turn_waiting<P: Port, D: Device, C: Clock, O: Observer>(
@@ -86,26 +78,24 @@ pub fn turn_waiting<P: Port, D: Device, C: Clock, O: Observer>(
     most: Ms,
 ) -> Result<u64, RunFault>
     requires { P.failed port.old < 2 ^ 64 - 1 }
-    ensures run { IfOk result (λ count. P.is_scripted ≡ true → C.is_scripted ≡ true
-        → Drives (turn_of (C.coming clock.old) (P.tape port.old).coming) count (P.tape port.old) (P.tape port.new) (D.table device.old) (D.table device.new)) }
-    ensures times_ms { OnOk result (C.is_scripted ≡ true → C.coming clock.new ≡ rest_of (C.coming clock.old)) }
-    ensures inputs { OnOk result (P.is_scripted ≡ true → (P.tape port.new).coming ≡ rest_of (P.tape port.old).coming) }
-    ensures few { IfOk result (λ count. count < 3) }
-    ensures stopped { IfErr result (λ fault. P.is_scripted ≡ true → C.is_scripted ≡ true
-        → Stops fault (turn_of (C.coming clock.old) (P.tape port.old).coming) (P.tape port.old) (P.tape port.new) (D.table device.old) (D.table device.new)) }
-    ensures worked { OnOk result (P.failed port.new ≡ P.failed port.old) }
-    ensures blamed { IfErr result (Blames (P.failed port.old) (P.failed port.new)) }
-    ensures handed { IfOk result (λ count. HandsOut O.notes
-        (λ events. P.is_scripted ≡ true → C.is_scripted ≡ true → events ≡ turn_of (C.coming clock.old) (P.tape port.old).coming)
-        count observer.old observer.new (D.table device.old) (D.table device.new)) }
-    ensures handed_some { OnErr result (HandsSome O.notes observer.old observer.new (D.table device.old) (D.table device.new)) }
+    ensures run { Drove O.notes P.is_scripted C.is_scripted
+        (turn_of (C.coming clock.old) (P.tape port.old).coming) 1 2
+        (seen P.tape P.failed D.table port.old device.old observer.old)
+        (seen P.tape P.failed D.table port.new device.new observer.new) result }
+    ensures times_ms { OnOk result (C.is_scripted ≡ true → C.coming clock.new ≡ drop 1 (C.coming clock.old)) }
 {
-    let quiet = device.next_wake().min(most);
-    port.wait(clock.time_to(quiet));
+    port.wait(clock.time_to(longest_wait(device, most)));
     turn(port, device, clock, observer)
 }
 
-/// One turn: the tick first, then an input.
+/// The time that a turn waits at most: until something is due at the device, and no longer than this. Takes no memory.
+fn longest_wait<D: Device>(device: &D, most: Ms) -> Ms
+    ensures { result.0 ≡ min (due_in (D.table device.now)) most.0 }
+{
+    Ms(device.next_wake().0.min(most.0))
+}
+
+/// One turn: the tick first, then an arrival.
 fn turn<P: Port, D: Device, C: Clock, O: Observer>(
     port: &mut P,
     device: &mut D,
@@ -113,23 +103,15 @@ fn turn<P: Port, D: Device, C: Clock, O: Observer>(
     observer: &mut O,
 ) -> Result<u64, RunFault>
     requires { P.failed port.old < 2 ^ 64 - 1 }
-    ensures run { IfOk result (λ count. P.is_scripted ≡ true → C.is_scripted ≡ true
-        → Drives (turn_of (C.coming clock.old) (P.tape port.old).coming) count (P.tape port.old) (P.tape port.new) (D.table device.old) (D.table device.new)) }
-    ensures times_ms { OnOk result (C.is_scripted ≡ true → C.coming clock.new ≡ rest_of (C.coming clock.old)) }
-    ensures inputs { OnOk result (P.is_scripted ≡ true → (P.tape port.new).coming ≡ rest_of (P.tape port.old).coming) }
-    ensures few { IfOk result (λ count. count < 3) }
-    ensures stopped { IfErr result (λ fault. P.is_scripted ≡ true → C.is_scripted ≡ true
-        → Stops fault (turn_of (C.coming clock.old) (P.tape port.old).coming) (P.tape port.old) (P.tape port.new) (D.table device.old) (D.table device.new)) }
-    ensures worked { OnOk result (P.failed port.new ≡ P.failed port.old) }
-    ensures blamed { IfErr result (Blames (P.failed port.old) (P.failed port.new)) }
-    ensures handed { IfOk result (λ count. HandsOut O.notes
-        (λ events. P.is_scripted ≡ true → C.is_scripted ≡ true → events ≡ turn_of (C.coming clock.old) (P.tape port.old).coming)
-        count observer.old observer.new (D.table device.old) (D.table device.new)) }
-    ensures handed_some { OnErr result (HandsSome O.notes observer.old observer.new (D.table device.old) (D.table device.new)) }
+    ensures run { Drove O.notes P.is_scripted C.is_scripted
+        (turn_of (C.coming clock.old) (P.tape port.old).coming) 1 2
+        (seen P.tape P.failed D.table port.old device.old observer.old)
+        (seen P.tape P.failed D.table port.new device.new observer.new) result }
+    ensures times_ms { OnOk result (C.is_scripted ≡ true → C.coming clock.new ≡ drop 1 (C.coming clock.old)) }
 {
     let ms = clock.passed();
     let ticked = tick(port, device, observer, ms)?;
-    let taken = take_input(port, device, observer)?;
+    let taken = receive(port, device, observer)?;
     Ok(ticked + taken)
 }
 
@@ -141,18 +123,9 @@ fn tick<P: Port, D: Device, O: Observer>(
     ms: u64,
 ) -> Result<u64, RunFault>
     requires { P.failed port.old < 2 ^ 64 - 1 }
-    ensures run { IfOk result (λ count. P.is_scripted ≡ true
-        → Drives (ticks_of ms) count (P.tape port.old) (P.tape port.new) (D.table device.old) (D.table device.new)) }
-    ensures inputs { OnOk result (P.is_scripted ≡ true → (P.tape port.new).coming ≡ (P.tape port.old).coming) }
-    ensures few { IfOk result (λ count. count < 2) }
-    ensures stopped { IfErr result (λ fault. P.is_scripted ≡ true
-        → Stops fault (ticks_of ms) (P.tape port.old) (P.tape port.new) (D.table device.old) (D.table device.new)) }
-    ensures worked { OnOk result (P.failed port.new ≡ P.failed port.old) }
-    ensures blamed { IfErr result (Blames (P.failed port.old) (P.failed port.new)) }
-    ensures handed { IfOk result (λ count. HandsOut O.notes
-        (λ events. events ≡ ticks_of ms)
-        count observer.old observer.new (D.table device.old) (D.table device.new)) }
-    ensures handed_some { OnErr result (HandsSome O.notes observer.old observer.new (D.table device.old) (D.table device.new)) }
+    ensures { Drove O.notes P.is_scripted true (ticks_of ms) 0 1
+        (seen P.tape P.failed D.table port.old device.old observer.old)
+        (seen P.tape P.failed D.table port.new device.new observer.new) result }
 {
     if ms == 0 {
         return Ok(0);
@@ -162,60 +135,100 @@ fn tick<P: Port, D: Device, O: Observer>(
     Ok(1)
 }
 
-/// Steps the device by the input of a turn, if one was received.
-fn take_input<P: Port, D: Device, O: Observer>(
+/// Steps the device by the arrival of a turn, if something was received.
+fn receive<P: Port, D: Device, O: Observer>(
     port: &mut P,
     device: &mut D,
     observer: &mut O,
 ) -> Result<u64, RunFault>
     requires { P.failed port.old < 2 ^ 64 - 1 }
-    ensures run { IfOk result (λ count. P.is_scripted ≡ true
-        → Drives (inputs_of (first_or None (P.tape port.old).coming)) count (P.tape port.old) (P.tape port.new) (D.table device.old) (D.table device.new)) }
-    ensures inputs { OnOk result (P.is_scripted ≡ true → (P.tape port.new).coming ≡ rest_of (P.tape port.old).coming) }
-    ensures few { IfOk result (λ count. count < 2) }
-    ensures stopped { IfErr result (λ fault. P.is_scripted ≡ true
-        → Stops fault (inputs_of (first_or None (P.tape port.old).coming)) (P.tape port.old) (P.tape port.new) (D.table device.old) (D.table device.new)) }
-    ensures worked { OnOk result (P.failed port.new ≡ P.failed port.old) }
-    ensures blamed { IfErr result (Blames (P.failed port.old) (P.failed port.new)) }
-    ensures handed { IfOk result (λ count. HandsOut O.notes
-        (λ events. P.is_scripted ≡ true → events ≡ inputs_of (first_or None (P.tape port.old).coming))
-        count observer.old observer.new (D.table device.old) (D.table device.new)) }
-    ensures handed_some { OnErr result (HandsSome O.notes observer.old observer.new (D.table device.old) (D.table device.new)) }
+    ensures { Drove O.notes P.is_scripted true (arrivals_of (first_or None (P.tape port.old).coming)) 1 1
+        (seen P.tape P.failed D.table port.old device.old observer.old)
+        (seen P.tape P.failed D.table port.new device.new observer.new) result }
 {
     let came = port.receive()?;
     match came {
         None => Ok(0),
-        Some(input) => {
-            act(port, device, observer, &input.into_event())?;
+        Some(arrival) => {
+            take(port, device, observer, arrival)?;
             Ok(1)
         }
     }
 }
 
+/// Steps the device by an arrival. A datagram takes no memory.
+fn take<P: Port, D: Device, O: Observer>(
+    port: &mut P,
+    device: &mut D,
+    observer: &mut O,
+    arrival: Arrival,
+) -> Result<(), RunFault>
+    requires { P.failed port.old < 2 ^ 64 - 1 }
+    ensures { Drove O.notes P.is_scripted true (arrival_event arrival ∷ []) 0 1
+        (seen P.tape P.failed D.table port.old device.old observer.old)
+        (seen P.tape P.failed D.table port.new device.new observer.new) (once result) }
+{
+    match arrival {
+        Arrival::Datagram { peer, bytes } => {
+            deliver(port, device, observer, peer, bytes);
+            Ok(())
+        }
+        other => act(port, device, observer, &other.into_event()),
+    }
+}
+
+/// Delivers a datagram to the device, hands it to the observer, and gives its bytes back to the port. Takes no memory.
+fn deliver<P: Port, D: Device, O: Observer>(
+    port: &mut P,
+    device: &mut D,
+    observer: &mut O,
+    peer: Node,
+    bytes: Items<u8>,
+)
+    ensures { Drove O.notes P.is_scripted true (Event.Datagram peer bytes ∷ []) 0 1
+        (seen P.tape P.failed D.table port.old device.old observer.old)
+        (seen P.tape P.failed D.table port.new device.new observer.new) (Ok 1) }
+{
+    let delivery = device.deliver(peer, bytes.as_slice());
+    // (no byte is copied: the event has them until the observer has seen it)
+    let event = Event::Datagram { peer, bytes };
+    observer.delivered(&event, delivery);
+    give_back(port, event);
+}
+
+/// Gives the bytes of a datagram's event back to the port.
+fn give_back<P: Port>(port: &mut P, event: Event)
+    ensures kept { P.is_scripted ≡ true → P.tape port.new ≡ P.tape port.old }
+    ensures worked { P.failed port.new ≡ P.failed port.old }
+{
+    if let Event::Datagram { peer: _, bytes } = event {
+        port.recycle(bytes);
+    }
+}
+
 /// Steps the device by one event, hands both to the observer, and sends the answer.
-fn act<P: Port, D: Device, O: Observer>(
+///
+/// The fault is `Port` only if the port's count of failures rose: the device is then in the state after the event. With
+/// the fault `Step` it is unchanged.
+pub fn act<P: Port, D: Device, O: Observer>(
     port: &mut P,
     device: &mut D,
     observer: &mut O,
     event: &Event,
 ) -> Result<(), RunFault>
     requires { P.failed port.old < 2 ^ 64 - 1 }
-    ensures run { OnOk result (P.is_scripted ≡ true → Drives (event.now ∷ []) 1 (P.tape port.old) (P.tape port.new) (D.table device.old) (D.table device.new)) }
-    ensures inputs { OnOk result (P.is_scripted ≡ true → (P.tape port.new).coming ≡ (P.tape port.old).coming) }
-    ensures stopped { IfErr result (λ fault. P.is_scripted ≡ true
-        → Stops fault (event.now ∷ []) (P.tape port.old) (P.tape port.new) (D.table device.old) (D.table device.new)) }
-    ensures worked { OnOk result (P.failed port.new ≡ P.failed port.old) }
-    ensures blamed { IfErr result (Blames (P.failed port.old) (P.failed port.new)) }
-    ensures handed { OnOk result (HandsOut O.notes (λ events. events ≡ event.now ∷ []) 1 observer.old observer.new (D.table device.old) (D.table device.new)) }
-    ensures handed_some { OnErr result (HandsSome O.notes observer.old observer.new (D.table device.old) (D.table device.new)) }
+    ensures run { Drove O.notes P.is_scripted true (event.now ∷ []) 0 1
+        (seen P.tape P.failed D.table port.old device.old observer.old)
+        (seen P.tape P.failed D.table port.new device.new observer.new) (once result) }
+    ensures stepped { Stepped O.notes event.now observer.old observer.new (D.table device.old) (D.table device.new) }
 {
-    let answer = step_watched(device, observer, event)?;
-    send_answer(port, &answer)?;
+    let answer = step(device, observer, event)?;
+    send_answer(&AtPort, port, &answer)?;
     Ok(())
 }
 
 /// Steps the device by one event, and hands both to the observer.
-fn step_watched<D: Device, O: Observer>(device: &mut D, observer: &mut O, event: &Event) -> Outcome
+fn step<D: Device, O: Observer>(device: &mut D, observer: &mut O, event: &Event) -> Outcome
     ensures step { Follows (step (D.table device.old) event.now) (D.table device.old) result (D.table device.new) }
     ensures noted { O.notes observer.old event.now result observer.new }
 {

@@ -1,26 +1,24 @@
 use Rattle.std.proofs.Common.{refl}
 use Rattle.std.proofs.lemmas.Result.{err_from_is_err_and}
-use Rattle.udp_runner.proofs.Handed.{hands_one, some_one}
-use Rattle.udp_runner.proofs.Joining.{stops_output, stops_stepping}
-use Rattle.udp_runner.proofs.SentOutputs.{on_err_is}
+use Rattle.udp_runner.proofs.AtPorts.{broke_counted, broke_some, went_sent, went_worked}
+use Rattle.udp_runner.proofs.Driven.{drove_one, drove_refused, drove_unsent}
 use Rattle.udp_runner.proofs.runner.act.Goals as goal
 
-pub returns-in_err-answer-clause-stopped : goal.returns-in_err-answer-clause-stopped
-returns-in_err-answer-clause-stopped g c =
+pub returns-in_err-answer-clause-run : goal.returns-in_err-answer-clause-run
+returns-in_err-answer-clause-run g c =
     let p = err_from_is_err_and c.from_residual.result c.from_residual.ensures.1 in
-    rw (p.1, p.2) (λ is_scripted. stops_stepping _ _ _ _ _ _ c.in_err-answer.ensures.step refl)
+    rw (p.1, p.2) (drove_refused (g.O.Observer.notes) _ _ _ _ _ _ c.in_err-answer.ensures.step c.in_err-answer.ensures.noted refl refl)
 
-pub returns-in_err-send_answer-clause-stopped : goal.returns-in_err-send_answer-clause-stopped
-returns-in_err-send_answer-clause-stopped g c =
+pub returns-in_err-send_answer-clause-run : goal.returns-in_err-send_answer-clause-run
+returns-in_err-send_answer-clause-run g c =
     let p = err_from_is_err_and c.from_residual-in_err-send_answer.result c.from_residual-in_err-send_answer.ensures.1 in
-    rw (p.1, p.2) (λ is_scripted. stops_output _ _ _ _ _ _ _ c.in_ok-answer.ensures.step (c.in_err-send_answer.ensures.some is_scripted))
+    rw (p.1, p.2)
+    (drove_unsent (g.O.Observer.notes) _ _ _ _ _ _ _ c.in_ok-answer.ensures.step c.in_ok-answer.ensures.noted
+    (broke_some (g.P.Port.is_scripted) (g.P.Port.tape) (g.P.Port.failed) _ _ _ c.in_err-send_answer.ensures)
+    (broke_counted (g.P.Port.is_scripted) (g.P.Port.tape) (g.P.Port.failed) _ _ _ c.in_err-send_answer.ensures))
 
-pub returns-in_err-answer-clause-handed_some : goal.returns-in_err-answer-clause-handed_some
-returns-in_err-answer-clause-handed_some g c = on_err_is c.from_residual.result _ (some_one (g.O.Observer.notes) _ _ _ _ _ _ c.in_err-answer.ensures.noted c.in_err-answer.ensures.step)
-
-pub returns-in_err-send_answer-clause-handed_some : goal.returns-in_err-send_answer-clause-handed_some
-returns-in_err-send_answer-clause-handed_some g c =
-    on_err_is c.from_residual-in_err-send_answer.result _ (some_one (g.O.Observer.notes) _ _ _ _ _ _ c.in_ok-answer.ensures.noted c.in_ok-answer.ensures.step)
-
-pub returns-clause-handed : goal.returns-clause-handed
-returns-clause-handed g c = hands_one (g.O.Observer.notes) _ _ _ _ _ _ _ c.in_ok-answer.ensures.noted c.in_ok-answer.ensures.step refl
+pub returns-clause-run : goal.returns-clause-run
+returns-clause-run g c =
+    drove_one (g.O.Observer.notes) _ _ _ _ _ _ c.in_ok-answer.ensures.step c.in_ok-answer.ensures.noted
+    (went_sent (g.P.Port.is_scripted) (g.P.Port.tape) (g.P.Port.failed) _ _ _ c.in_ok-send_answer.ensures.0)
+    (went_worked (g.P.Port.is_scripted) (g.P.Port.tape) (g.P.Port.failed) _ _ _ c.in_ok-send_answer.ensures.0)

@@ -1,0 +1,4 @@
+pub mod Ends
+pub mod Refusals
+pub mod Sessions
+pub mod Waits

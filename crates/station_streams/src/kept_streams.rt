@@ -1,0 +1,214 @@
+//! The streams of a station, with the rules by which they end and make room.
+
+ghost use Rattle.std.specs.Prelude.{◌≡◌};
+ghost use Rattle.station_streams.specs.Waits.{streams_wait};
+ghost use Rattle.stream_keeper.specs.Keeping.{wait_of};
+
+use crate::causes::EndCauses;
+use crate::reports::Reports;
+use crate::sessions::{SessionAnswer, session_answer};
+use crate::stream_options::{abort, watch_peer};
+use crate::targets::Targets;
+use cip_events::Arrival;
+use cip_types::limits::MOST_CONNECTIONS;
+use cip_types::{Node, OutOfMemory};
+use kept_port::{EndCause, PortReport, RefusalCause};
+use mio::net::TcpStream;
+use port_streams::PortStreams;
+use socket_port::{ReadOutcome, read_outcome};
+use std::alloc::Global;
+use std::io::Read;
+use std::net::SocketAddr;
+use stream_keeper::{Place, StreamKeeper};
+
+/// The streams of a station, why those end that it ends, and what it reports of them.
+#[derive(Drop)]
+pub struct KeptStreams {
+    streams: PortStreams<TcpStream>,
+    keeper: StreamKeeper,
+    causes: EndCauses,
+    reports: Reports,
+    /// The peers that have connections.
+    connected: Vec<Node>,
+}
+
+/// What becomes of a new connection.
+pub enum Welcome {
+    /// It is a stream now, or is closed.
+    Done,
+    /// It has to wait until another stream has ended.
+    Waits(TcpStream),
+}
+
+impl KeptStreams {
+    /// No streams. A silent one ends after so many seconds; 0: never.
+    pub fn new(alloc: Global, inactivity_s: u16) -> Result<KeptStreams, OutOfMemory> {
+        Ok(KeptStreams {
+            streams: PortStreams::new(alloc)?,
+            keeper: StreamKeeper::new(alloc, inactivity_s)?,
+            causes: EndCauses::new(alloc)?,
+            reports: Reports::new(alloc)?,
+            connected: Vec::with_capacity(alloc, MOST_CONNECTIONS)?,
+        })
+    }
+
+    /// Adds a stream over a prepared socket. None if no number is free: the socket is closed.
+    pub fn add(&mut self, peer: Node, socket: TcpStream, now_ms: u64) -> Option<u16> {
+        watch_peer(&socket);
+        let Ok(number) = self.streams.accept(peer, socket) else {
+            return None;
+        };
+        self.keeper.begin(number, peer, now_ms);
+        self.reports.push(PortReport::Opened {
+            stream: number,
+            peer,
+        });
+        Some(number)
+    }
+
+    /// Adds a stream that a peer opened over a prepared socket, if there is a place for it. It waits if a stream makes
+    /// room for it, or one is being ended already, and is closed if there is no place.
+    pub fn welcome(&mut self, peer: Node, socket: TcpStream, now_ms: u64) -> Welcome {
+        let place = self.keeper.place_for(peer, self.connected.as_slice());
+        if place == Place::Free {
+            let _ = self.add(peer, socket, now_ms);
+            return Welcome::Done;
+        }
+        if self.causes.any() {
+            return Welcome::Waits(socket);
+        }
+        let Place::Instead(number) = place else {
+            self.report(PortReport::NotOpened {
+                peer,
+                cause: RefusalCause::Full,
+            });
+            return Welcome::Done;
+        };
+        self.abort(number, EndCause::Displaced);
+        Welcome::Waits(socket)
+    }
+
+    /// Breaks the stream of this number at once: nothing that waits in it is delivered. Its end is its last arrival.
+    pub fn abort(&mut self, number: u16, cause: EndCause) {
+        if let Some(socket) = self.streams.socket(number) {
+            abort(socket);
+        }
+        self.end(number, cause);
+    }
+
+    /// Ends the stream of this number for this cause. Its end is its last arrival.
+    pub fn end(&mut self, number: u16, cause: EndCause) {
+        if self.streams.socket(number).is_some() {
+            self.causes.mark(number, cause);
+            self.streams.end(number);
+        }
+    }
+
+    /// Breaks the first stream that has been silent for the time-out. Whether there was one.
+    pub fn end_silent(&mut self, now_ms: u64) -> bool {
+        let Some(number) = self.keeper.silent(now_ms) else {
+            return false;
+        };
+        self.abort(number, EndCause::Silent);
+        true
+    }
+
+    /// The milliseconds until a stream has been silent for the time-out, at most so many.
+    pub fn wait(&self, now_ms: u64, most_ms: u64) -> u64
+        ensures { result ≡ wait_of self.now.keeper now_ms most_ms }
+    {
+        self.keeper.wait(now_ms, most_ms)
+    }
+
+    /// Reads the bytes that a stream has received, if it is to be read. What a peer sent on a stream that it has reset is not
+    /// read: a request that its sender has given up makes no connection.
+    pub fn read(&self, number: u16, buffer: &mut [u8]) -> ReadOutcome {
+        let Some(mut socket) = self.streams.to_read(number) else {
+            return ReadOutcome::Nothing;
+        };
+        match socket.take_error() {
+            Ok(None) => read_outcome(socket.read(buffer)),
+            _ => ReadOutcome::End,
+        }
+    }
+
+    /// The address of this host that the peer of a stream reaches.
+    pub fn own_address(&self, number: u16) -> Option<SocketAddr> {
+        self.streams.to_read(number)?.local_addr().ok()
+    }
+
+    /// Receives bytes of a stream. If there is no memory for them, the stream ends.
+    pub fn receive(&mut self, number: u16, piece: &[u8]) -> Result<(), OutOfMemory> {
+        self.streams.receive(number, piece)
+    }
+
+    /// The next arrival of a stream. A message counts as a sign of life, and after the end the number is free.
+    pub fn next(&mut self, number: u16, now_ms: u64) -> Option<Arrival> {
+        let arrival = self.streams.next(number)?;
+        match &arrival {
+            Arrival::Frame { .. } => self.keeper.note_message(number, now_ms),
+            Arrival::Cut { .. } => self.forget(number),
+            _ => {}
+        }
+        Some(arrival)
+    }
+
+    /// The stream of this number has ended.
+    fn forget(&mut self, number: u16) {
+        let cause = self.causes.take_cause(number);
+        if let Some(stream) = self.keeper.stream(number) {
+            self.reports.push(PortReport::Ended {
+                stream: number,
+                peer: stream.peer,
+                cause,
+            });
+        }
+        self.keeper.end(number);
+    }
+
+    /// Sends a message over a stream. The reply that registers a session is noted: a stream that has one is not read.
+    pub fn send(&mut self, number: u16, message: &[u8]) {
+        if self.is_unregistered(number) && session_answer(message) == SessionAnswer::Registered {
+            self.keeper.register(number);
+        }
+        self.streams.send(number, message);
+    }
+
+    /// Whether the stream of this number is open, and has no session.
+    fn is_unregistered(&self, number: u16) -> bool {
+        matches!(self.keeper.stream(number), Some(stream) if !stream.registered)
+    }
+
+    /// Closes the stream of this number in order: what waits in it is delivered.
+    pub fn close(&mut self, number: u16) {
+        self.streams.close(number);
+        self.forget(number);
+    }
+
+    /// From now on these peers have connections, as far as there is room for them.
+    pub fn keep(&mut self, peers: &[Node]) {
+        self.connected.clear();
+        for peer in peers {
+            if self.connected.len() < MOST_CONNECTIONS {
+                let _ = self.connected.push(*peer);
+            }
+        }
+    }
+
+    /// Adds a report.
+    pub fn report(&mut self, report: PortReport) {
+        self.reports.push(report);
+    }
+
+    /// Takes the oldest report.
+    pub fn next_report(&mut self) -> Option<PortReport> {
+        self.reports.next()
+    }
+}
+
+/// The milliseconds until a stream is to be opened or ended, at most so many: none if one is now.
+pub fn wait_for_streams(streams: &KeptStreams, targets: &Targets, now_ms: u64, most_ms: u64) -> u64
+    ensures { result ≡ streams_wait streams.now.keeper targets.now.links now_ms most_ms }
+{
+    streams.wait(now_ms, targets.wait(now_ms, most_ms))
+}
