@@ -2,14 +2,14 @@
 use Rattle.std.proofs.Common.{◌≡◌, true, false, Some, None, refl}
 use Rattle.std.specs.Fmt.{digits}
 use Rattle.std.specs.Prelude.{codes}
-use Rattle.line_queue.specs.Outlets.{Outlet, lines_of, new_outlet, notice_text, offered_text, outlet_after, taken_text, with_lost, with_text}
+use Rattle.line_queue.specs.Outlets.{QueueOutlet, lines_of, new_outlet, notice_text, offered_text, outlet_after, taken_text, with_lost, with_text}
 use Rattle.line_queue.specs.Queues.{has_room}
 use Rattle.line_queue.specs.declared.outlet.NoticeForm.TheVariants.{Comment, Report}
 
-abbrev fresh : Outlet
+abbrev fresh : QueueOutlet
 fresh = new_outlet Comment 8 2
 
-abbrev one : Outlet
+abbrev one : QueueOutlet
 one = with_text fresh (codes "1 done\n")
 
 room_for_one : has_room fresh.queue (codes "1 done\n") ≡ true

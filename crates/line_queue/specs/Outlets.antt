@@ -7,16 +7,16 @@ use Rattle.line_queue.specs.declared.outlet.Offer.{Offer}
 use Rattle.line_queue.specs.declared.outlet.Offer.TheVariants as offer
 
 -- the texts on their way, and the number of lines that were lost behind them
-pub record Outlet : Type 0 where
+pub record QueueOutlet : Type 0 where
   pub form : NoticeForm
   pub queue : Queue
   pub lost : ℕ
 
-abbrev pub new_outlet : NoticeForm → ℕ → ℕ → Outlet
+abbrev pub new_outlet : NoticeForm → ℕ → ℕ → QueueOutlet
 new_outlet form most_bytes most_pieces = record { form = form; queue = empty_queue most_bytes most_pieces; lost = 0 }
 
 -- nothing is on its way, and no line is lost that was not told
-abbrev pub is_idle : Outlet → Bool
+abbrev pub is_idle : QueueOutlet → Bool
 is_idle outlet = is_empty outlet.queue && (outlet.lost == 0)
 
 -- the number of lines of a text, from a number on
@@ -44,20 +44,20 @@ notice_of form lost = if lost == 0 then [] else notice_text form lost
 -- OFFERING
 
 -- a text that is offered, behind the notice of the lines that were lost before it
-abbrev pub offered_text : Outlet → List ℕ → List ℕ
+abbrev pub offered_text : QueueOutlet → List ℕ → List ℕ
 offered_text outlet text = notice_of outlet.form outlet.lost ++ text
 
 -- it is taken whole
-abbrev pub with_text : Outlet → List ℕ → Outlet
+abbrev pub with_text : QueueOutlet → List ℕ → QueueOutlet
 with_text outlet text = record outlet { queue = with_pushed outlet.queue (offered_text outlet text); lost = 0 }
 
 -- its lines are lost
-abbrev pub with_lost : Outlet → List ℕ → Outlet
+abbrev pub with_lost : QueueOutlet → List ℕ → QueueOutlet
 with_lost outlet text = record outlet { lost = up_to_end (outlet.lost + lines_of text) }
 
 -- What became of a text that was offered: it is taken only if it fits with its notice, and for want of room it is lost only
 -- if it does not.
-abbrev pub Dealt : Outlet → List ℕ → Offer → Outlet → Type 0
+abbrev pub Dealt : QueueOutlet → List ℕ → Offer → QueueOutlet → Type 0
 Dealt old text offer.Taken new = (has_room old.queue (offered_text old text) ≡ true) × (new ≡ with_text old text)
 Dealt old text offer.Full new = (has_room old.queue (offered_text old text) ≡ false) × (new ≡ with_lost old text)
 Dealt old text offer.OutOfMemory new = new ≡ with_lost old text
@@ -72,12 +72,12 @@ abbrev pub taken_of : NoticeForm → ℕ → List (List ℕ) → Option (List �
 taken_of form lost [] = notice_only form lost
 taken_of form lost (piece ∷ pieces) = Some piece
 
-abbrev pub taken_text : Outlet → Option (List ℕ)
+abbrev pub taken_text : QueueOutlet → Option (List ℕ)
 taken_text outlet = taken_of outlet.form outlet.lost outlet.queue.pieces
 
-abbrev pub after_of : Outlet → List (List ℕ) → Outlet
+abbrev pub after_of : QueueOutlet → List (List ℕ) → QueueOutlet
 after_of outlet [] = record outlet { lost = 0 }
 after_of outlet (piece ∷ pieces) = record outlet { queue = without_first outlet.queue }
 
-abbrev pub outlet_after : Outlet → Outlet
+abbrev pub outlet_after : QueueOutlet → QueueOutlet
 outlet_after outlet = after_of outlet outlet.queue.pieces

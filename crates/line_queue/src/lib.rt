@@ -5,5 +5,5 @@
 mod outlet;
 mod queue;
 
-pub use outlet::{NoticeForm, Offer, Outlet};
+pub use outlet::{NoticeForm, Offer, QueueOutlet};
 pub use queue::{LineQueue, PushFault};

@@ -3,7 +3,7 @@
 ghost use Rattle.std.specs.Prelude.{◌≡◌, ◌++◌, false, true, IfOk, IfErr, OnOk, OnErr};
 ghost use Rattle.line_queue.specs.Queues.{has_room, with_pushed};
 ghost use Rattle.line_queue.specs.declared.queue.PushFault.TheVariants as PushFault;
-ghost use Rattle.line_queue.specs.Outlets.{Dealt, Outlet, is_idle, lines_of, new_outlet, notice_front, notice_text, offered_text, outlet_after, taken_text};
+ghost use Rattle.line_queue.specs.Outlets.{Dealt, QueueOutlet, is_idle, lines_of, new_outlet, notice_front, notice_text, offered_text, outlet_after, taken_text};
 
 use crate::queue::{LineQueue, PushFault};
 use cip_types::{Items, OutOfMemory};
@@ -33,27 +33,32 @@ pub enum Offer {
 /// Lines on their way to an output. Those that do not fit are lost and counted, and the next ones that fit have a line in
 /// front of them that tells how many.
 #[derive(Drop)]
-pub struct Outlet {
+pub struct QueueOutlet {
     alloc: Global,
     form: NoticeForm,
     queue: LineQueue,
     lost: u64,
 }
 
-impl Model for Outlet {
-    ghost use Rattle.line_queue.specs.Outlets.{Outlet};
+impl Model for QueueOutlet {
+    ghost use Rattle.line_queue.specs.Outlets.{QueueOutlet};
 
-    ghost Value = { Outlet };
+    ghost Value = { QueueOutlet };
 
     ghost view = { λ o. record { form = o.form; queue = o.queue; lost = o.lost } };
 }
 
-impl Outlet {
+impl QueueOutlet {
     /// An output with nothing on its way, and room for so many bytes and so many texts. Takes no memory.
-    pub fn new(alloc: Global, form: NoticeForm, most_bytes: usize, most_pieces: usize) -> Outlet
+    pub fn new(
+        alloc: Global,
+        form: NoticeForm,
+        most_bytes: usize,
+        most_pieces: usize,
+    ) -> QueueOutlet
         ensures { result ≡ new_outlet form most_bytes most_pieces }
     {
-        Outlet {
+        QueueOutlet {
             alloc,
             form,
             queue: LineQueue::new(alloc, most_bytes, most_pieces),
@@ -90,9 +95,11 @@ impl Outlet {
     /// Pushes a text, behind the notice of the lines that are lost.
     fn push(&mut self, text: &[u8]) -> Result<(), PushFault>
         ensures fitted { OnOk result (has_room self.old.queue (offered_text self.old text.now) ≡ true) }
-        ensures pushed { OnOk result (self.new ≡ record self.old { queue = with_pushed self.old.queue (offered_text self.old text.now) }) }
+        ensures pushed { OnOk result
+            (self.new ≡ record self.old { queue = with_pushed self.old.queue (offered_text self.old text.now) }) }
         ensures kept { OnErr result (self.new ≡ self.old) }
-        ensures full { IfErr result (λ fault. fault ≡ PushFault.Full → has_room self.old.queue (offered_text self.old text.now) ≡ false) }
+        ensures full { IfErr result
+            (λ fault. fault ≡ PushFault.Full → has_room self.old.queue (offered_text self.old text.now) ≡ false) }
     {
         if self.lost == 0 {
             return self.queue.push(text);

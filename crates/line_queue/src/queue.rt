@@ -1,6 +1,6 @@
 //! A queue of pieces of text with a bound.
 
-ghost use Rattle.std.specs.Prelude.{◌≡◌, ◌↔◌, ◌≤◌, false, true, IfErr, OnOk, OnErr};
+ghost use Rattle.std.specs.Prelude.{◌≡◌, ◌↔◌, false, true, IfErr, OnOk, OnErr};
 ghost use Rattle.line_queue.specs.Queues.{Queue, empty_queue, first_piece, has_room, is_empty, with_pushed, without_first};
 ghost use Rattle.line_queue.specs.declared.queue.PushFault.TheVariants.{Full};
 

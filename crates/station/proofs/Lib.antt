@@ -1,3 +1,3 @@
-mod Appended
 mod Noting
+mod SessionEnds
 mod Turning

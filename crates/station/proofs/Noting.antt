@@ -1,16 +1,19 @@
 -- Runs whose events a recorder notes, one behind another.
-use Rattle.std.proofs.Common.{◌≡◌, ℕ, List, [], ◌∷◌, ◌++◌, Option, Result, Ok, Err, IfOk, OnErr, refl, sym, ap, subst}
+use Rattle.std.proofs.Common.{◌≡◌, ℕ, List, [], ◌∷◌, ◌++◌, Bool, Option, Result, Ok, Err, OnOk, refl, ap, subst}
 use Rattle.cip_events.specs.declared.event.Event.{Event}
-use Rattle.cip_events.specs.Outcomes.{Outcome, Follows}
+use Rattle.cip_events.specs.Outcomes.{Outcome}
 use Rattle.cip_tables.specs.declared.table.DeviceTable.{DeviceTable}
-use Rattle.cip_tables.specs.Step.{step}
 use Rattle.cip_tables.specs.Run.{Runs}
 use Rattle.station_record.specs.Records.{Notes}
-use Rattle.station_record.specs.declared.recorder.Recorder.{Recorder}
-use Rattle.station.specs.declared.witness.Witness.{Witness}
-use Rattle.station.specs.Recorded.{Recorded}
-use Rattle.udp_runner.specs.declared.fault.RunFault.{RunFault}
-use Rattle.udp_runner.specs.Handing.{HandsOut, HandsSome, Watches}
+use Rattle.station.specs.declared.observer.StationObserver.{StationObserver}
+use Rattle.station.specs.declared.serving.Station.{Station}
+use Rattle.station.specs.declared.fault.EarlyEnd.{EarlyEnd}
+use Rattle.station.specs.Ended.{Ended}
+use Rattle.station.specs.Recorded.{Deed, Does, Recorded}
+use Rattle.station.specs.Recorded.Deed.{End, BrokenEnd, Rest}
+use Rattle.station.specs.Rests.{Rests, Unstepped}
+use Rattle.udp_runner.specs.Handing.{Watches}
+use Rattle.udp_runner.specs.Tape.{Tape}
 
 -- two runs, one behind the other
 runs_on : (first second third : DeviceTable) (events more : List Event) (outcomes others : List Outcome) → Runs first events outcomes second → Runs second more others third → Runs first (events ++ more) (outcomes ++ others) third
@@ -25,53 +28,47 @@ watches_on notes first second third [] more (outcome ∷ outcomes) others one tw
 watches_on notes first second third (event ∷ events) more [] others one two = absurd one
 watches_on notes first second third (event ∷ events) more (outcome ∷ outcomes) others (mid, noted, rest) two = (mid, noted, watches_on notes mid second third events more outcomes others rest two)
 
--- nothing has happened
-pub at_rest : {W : Type 0} (contents : W → Option (List ℕ)) (recorder : Recorder W) (table : DeviceTable) → Recorded contents recorder recorder table table
-at_rest contents recorder table = record { events = []; outcomes = []; runs = refl; notes = refl }
+-- two lists of things that a station did, one behind the other
+does_on : {P C D W O E : Type 0} (contents : W → Option (List ℕ)) (s t : Bool) (coming : C → List ℕ) (tape : P → Tape) (failed : P → ℕ) (table : D → DeviceTable) (first second third : Station P C D W O E) (deeds more : List Deed) → Does contents s t coming tape failed table deeds first second → Does contents s t coming tape failed table more second third → Does contents s t coming tape failed table (deeds ++ more) first third
+does_on {P} {C} {D} {W} {O} {E} contents s t coming tape failed table first second third [] more one two = let At : Station P C D W O E → Type 0 = λ x. Does contents s t coming tape failed table more x third in subst At one two
+does_on contents s t coming tape failed table first second third (deed ∷ deeds) more (mid, did, rest) two = (mid, did, does_on contents s t coming tape failed table mid second third deeds more rest two)
+
+-- nothing
+pub at_rest : {P C D W O E : Type 0} (contents : W → Option (List ℕ)) (s t : Bool) (coming : C → List ℕ) (tape : P → Tape) (failed : P → ℕ) (table : D → DeviceTable) (old new : Station P C D W O E) → Rests s tape failed old new → Recorded contents s t coming tape failed table old new
+at_rest contents s t coming tape failed table old new rests = record { deeds = Rest ∷ []; does = (new, rests, refl); events = []; outcomes = []; runs = ap table rests.device; notes = rests.recorder }
+
+pub unmoved : {P C D W O E : Type 0} (contents : W → Option (List ℕ)) (s t : Bool) (coming : C → List ℕ) (tape : P → Tape) (failed : P → ℕ) (table : D → DeviceTable) (old new : Station P C D W O E) → new.observer.recorder ≡ old.observer.recorder → new.device ≡ old.device → new.clock ≡ old.clock → new.port ≡ old.port → Recorded contents s t coming tape failed table old new
+unmoved contents s t coming tape failed table old new recorder device clock port = at_rest contents s t coming tape failed table old new (record { recorder = recorder; device = device; clock = clock; kept = λ sc. ap tape port; worked = ap failed port })
+
+-- the end of the sessions
+pub ended : {P C D W O E : Type 0} (contents : W → Option (List ℕ)) (s t : Bool) (coming : C → List ℕ) (tape : P → Tape) (failed : P → ℕ) (table : D → DeviceTable) (old new : Station P C D W O E) → Unstepped old new → Ended s tape failed table old new → Recorded contents s t coming tape failed table old new
+ended contents s t coming tape failed table old new rests ends = record { deeds = End ∷ []; does = (new, ends, refl); events = []; outcomes = []; runs = ap table rests.device; notes = rests.recorder }
+
+pub broken : {P C D W O E : Type 0} (contents : W → Option (List ℕ)) (s t : Bool) (coming : C → List ℕ) (tape : P → Tape) (failed : P → ℕ) (table : D → DeviceTable) (old new : Station P C D W O E) → Unstepped old new → Recorded contents s t coming tape failed table old new
+broken contents s t coming tape failed table old new rests = record { deeds = BrokenEnd ∷ []; does = (new, rests, refl); events = []; outcomes = []; runs = ap table rests.device; notes = rests.recorder }
+
+pub ended_or_broken : {P C D W O E : Type 0} (contents : W → Option (List ℕ)) (s t : Bool) (coming : C → List ℕ) (tape : P → Tape) (failed : P → ℕ) (table : D → DeviceTable) (old new : Station P C D W O E) (result : Result Unit EarlyEnd) → Unstepped old new → OnOk result (Ended s tape failed table old new) → Recorded contents s t coming tape failed table old new
+ended_or_broken contents s t coming tape failed table old new (Ok done) rests ends = ended contents s t coming tape failed table old new rests ends
+ended_or_broken contents s t coming tape failed table old new (Err fault) rests ends = broken contents s t coming tape failed table old new rests
 
 -- one run behind another
-pub recorded_on : {W : Type 0} (contents : W → Option (List ℕ)) (first second third : Recorder W) (before between after : DeviceTable) → Recorded contents first second before between → Recorded contents second third between after → Recorded contents first third before after
-recorded_on contents first second third before between after one two = record {
+pub recorded_on : {P C D W O E : Type 0} (contents : W → Option (List ℕ)) (s t : Bool) (coming : C → List ℕ) (tape : P → Tape) (failed : P → ℕ) (table : D → DeviceTable) (old middle new : Station P C D W O E) → Recorded contents s t coming tape failed table old middle → Recorded contents s t coming tape failed table middle new → Recorded contents s t coming tape failed table old new
+recorded_on contents s t coming tape failed table old middle new one two = record {
+  deeds = one.deeds ++ two.deeds;
+  does = does_on contents s t coming tape failed table old middle new one.deeds two.deeds one.does two.does;
   events = one.events ++ two.events;
   outcomes = one.outcomes ++ two.outcomes;
-  runs = runs_on before between after one.events two.events one.outcomes two.outcomes one.runs two.runs;
-  notes = watches_on (Notes contents) first second third one.events two.events one.outcomes two.outcomes one.notes two.notes;
+  runs = runs_on _ _ _ one.events two.events one.outcomes two.outcomes one.runs two.runs;
+  notes = watches_on (Notes contents) _ _ _ one.events two.events one.outcomes two.outcomes one.notes two.notes;
 }
 
--- nothing more has happened
-pub kept_after : {W D : Type 0} (contents : W → Option (List ℕ)) (table : D → DeviceTable) (old first second : Recorder W) (before : DeviceTable) (one two : D) → Recorded contents old first before (table one) → second ≡ first → two ≡ one → Recorded contents old second before (table two)
-kept_after {W} {D} contents table old first second before one two ran recorder device =
-    let P : Recorder W → Type 0 = λ r. Recorded contents old r before (table one) in
-    let Q : D → Type 0 = λ d. Recorded contents old second before (table d) in
-    subst Q (sym device) (subst P (sym recorder) ran)
+-- nothing more behind a run
+pub recorded_then : {P C D W O E : Type 0} (contents : W → Option (List ℕ)) (s t : Bool) (coming : C → List ℕ) (tape : P → Tape) (failed : P → ℕ) (table : D → DeviceTable) (old middle new : Station P C D W O E) → Recorded contents s t coming tape failed table old middle → Rests s tape failed middle new → Recorded contents s t coming tape failed table old new
+recorded_then contents s t coming tape failed table old middle new one rests = recorded_on contents s t coming tape failed table old middle new one (at_rest contents s t coming tape failed table middle new rests)
 
--- both are kept
-pub kept : {W D : Type 0} (contents : W → Option (List ℕ)) (table : D → DeviceTable) (old new : Recorder W) (one two : D) → new ≡ old → two ≡ one → Recorded contents old new (table one) (table two)
-kept contents table old new one two recorder device = kept_after contents table old old new (table one) one two (at_rest contents old (table one)) recorder device
-
--- one event
-pub stepped : {W : Type 0} (contents : W → Option (List ℕ)) (old new : Recorder W) (before after : DeviceTable) (event : Event) (outcome : Outcome) → Follows (step before event) before outcome after → Notes contents old event outcome new → Recorded contents old new before after
-stepped contents old new before after event outcome follows noted = record {
-  events = event ∷ [];
-  outcomes = outcome ∷ [];
-  runs = (after, follows, refl);
-  notes = (new, noted, refl);
-}
-
--- what a witness is handed, its recorder notes
-watched : {W O E : Type 0} (contents : W → Option (List ℕ)) (old new : Witness W O E) (events : List Event) (outcomes : List Outcome) → Watches (λ one event outcome other. Notes contents one.recorder event outcome other.recorder) old events outcomes new → Watches (Notes contents) old.recorder events outcomes new.recorder
+-- what a station's observer is handed, its recorder notes
+pub watched : {W O E : Type 0} (contents : W → Option (List ℕ)) (old new : StationObserver W O E) (events : List Event) (outcomes : List Outcome) → Watches (λ one event outcome other. Notes contents one.recorder event outcome other.recorder) old events outcomes new → Watches (Notes contents) old.recorder events outcomes new.recorder
 watched contents old new [] [] is = ap (λ w. w.recorder) is
 watched contents old new [] (outcome ∷ outcomes) is = absurd is
 watched contents old new (event ∷ events) [] is = absurd is
 watched contents old new (event ∷ events) (outcome ∷ outcomes) (mid, noted, rest) = (mid.recorder, noted, watched contents mid new events outcomes rest)
-
-handed : {W O E : Type 0} (contents : W → Option (List ℕ)) (Expected : List Event → Type 0) (count : ℕ) (old new : Witness W O E) (before after : DeviceTable) → HandsOut (λ one event outcome other. Notes contents one.recorder event outcome other.recorder) Expected count old new before after → Recorded contents old.recorder new.recorder before after
-handed contents Expected count old new before after hands = record { events = hands.events; outcomes = hands.outcomes; runs = hands.runs; notes = watched contents old new hands.events hands.outcomes hands.watches }
-
-handed_some : {W O E : Type 0} (contents : W → Option (List ℕ)) (old new : Witness W O E) (before after : DeviceTable) → HandsSome (λ one event outcome other. Notes contents one.recorder event outcome other.recorder) old new before after → Recorded contents old.recorder new.recorder before after
-handed_some contents old new before after hands = record { events = hands.events; outcomes = hands.outcomes; runs = hands.runs; notes = watched contents old new hands.events hands.outcomes hands.watches }
-
--- a turn that was made, or ended early
-pub turned : {W O E : Type 0} (contents : W → Option (List ℕ)) (Expected : List Event → Type 0) (made : Result ℕ RunFault) (old new : Witness W O E) (before after : DeviceTable) → IfOk made (λ count. HandsOut (λ one event outcome other. Notes contents one.recorder event outcome other.recorder) Expected count old new before after) → OnErr made (HandsSome (λ one event outcome other. Notes contents one.recorder event outcome other.recorder) old new before after) → Recorded contents old.recorder new.recorder before after
-turned contents Expected (Ok count) old new before after whole some = handed contents Expected count old new before after whole
-turned contents Expected (Err fault) old new before after whole some = handed_some contents old new before after some

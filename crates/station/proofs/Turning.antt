@@ -1,48 +1,173 @@
 -- What a turn did, and what is done behind it, which changes neither the device nor what is known of the port.
-use Rattle.std.proofs.Common.{◌≡◌, ℕ, ◌-◌, ◌^◌, Bool, true, List, Option, Some, None, Result, Ok, Err, refl, sym, ap, subst, ◌∙◌}
+use Rattle.std.proofs.Common.{◌≡◌, ℕ, ◌-◌, ◌^◌, Bool, true, List, [], ◌∷◌, drop, Option, Some, None, Result, Ok, Err, OnOk, refl, sym, ap, subst, ◌∙◌}
+use Rattle.cip_events.specs.declared.event.Event.{Event}
+use Rattle.cip_events.specs.Outcomes.{Outcome}
 use Rattle.cip_tables.specs.declared.table.DeviceTable.{DeviceTable}
+use Rattle.cip_tables.specs.Run.{Runs}
+use Rattle.station_record.specs.Records.{Notes}
+use Rattle.station_record.specs.declared.recorder.Recorder.{Recorder}
+use Rattle.station.specs.declared.observer.StationObserver.{StationObserver}
+use Rattle.station.specs.declared.serving.Station.{Station}
+use Rattle.station.specs.Recorded.{Called, Recorded}
+use Rattle.station.specs.Recorded.Deed.{Call, Turn}
+use Rattle.station.specs.Rests.{Rests}
+use Rattle.station.specs.Turned.{MadeOrNot, Turned, station_seen}
+use Rattle.station.proofs.Noting.{watched}
 use Rattle.udp_runner.specs.declared.fault.RunFault.{RunFault}
+use Rattle.udp_runner.specs.Driving.{Drove, Seen, once, seen}
+use Rattle.udp_runner.specs.Handing.{Watches}
 use Rattle.udp_runner.specs.Tape.{Tape}
 use Rattle.udp_runner.specs.Turns.{Blames, Drives, Stops, turn_of}
-use Rattle.station.specs.Turned.{Made, MadeOrNot, Turned}
 
-made_on : (ps cs : Bool) (times later : List ℕ) (old mid new : Tape) (failed between now : ℕ) (before after : DeviceTable) (made : Result ℕ RunFault) → Made ps cs times later old mid failed between before after made → (ps ≡ true → new ≡ mid) → now ≡ between → Made ps cs times later old new failed now before after made
-made_on ps cs times later old mid new failed between now before after (Ok count) did tape worked = record {
-  run = λ p c. subst (λ t. Drives (turn_of times old.coming) count old t before after) (sym (tape p)) (did.run p c);
-  times_ms = did.times_ms;
-  inputs = λ p. ap (λ t. t.coming) (tape p) ∙ did.inputs p;
-  stopped = did.stopped;
-  worked = worked ∙ did.worked;
-  blamed = did.blamed;
+-- what was driven before an observer, seen at its recorder
+abbrev at_recorder : {W O E : Type 0} → Seen (StationObserver W O E) → Seen (Recorder W)
+at_recorder seen = record { tape = seen.tape; failed = seen.failed; table = seen.table; observer = seen.observer.recorder }
+
+drove_recorded : {W O E : Type 0} (contents : W → Option (List ℕ)) (s t : Bool) (events : List Event) (receives most : ℕ) (old new : Seen (StationObserver W O E)) (made : Result ℕ RunFault)
+    → Drove (λ one event outcome other. Notes contents one.recorder event outcome other.recorder) s t events receives most old new made
+    → Drove (Notes contents) s t events receives most (at_recorder old) (at_recorder new) made
+drove_recorded contents s t events receives most old new (Ok count) drove = record {
+  run = drove.run;
+  received = drove.received;
+  few = drove.few;
+  stopped = tt;
+  worked = drove.worked;
+  blamed = tt;
+  handed = let hands = drove.handed in
+      record { events = hands.events; outcomes = hands.outcomes; required = hands.required; counts = hands.counts; runs = hands.runs; watches = watched contents old.observer new.observer hands.events hands.outcomes hands.watches };
+  handed_some = tt;
 }
-made_on ps cs times later old mid new failed between now before after (Err fault) did tape worked = record {
-  run = did.run;
-  times_ms = did.times_ms;
-  inputs = did.inputs;
-  stopped = λ p c. subst (λ t. Stops fault (turn_of times old.coming) old t before after) (sym (tape p)) (did.stopped p c);
-  worked = did.worked;
-  blamed = subst (λ n. Blames failed n fault) (sym worked) did.blamed;
+drove_recorded contents s t events receives most old new (Err fault) drove = record {
+  run = tt;
+  received = tt;
+  few = tt;
+  stopped = drove.stopped;
+  worked = tt;
+  blamed = drove.blamed;
+  handed = tt;
+  handed_some = let hands = drove.handed_some in
+      record { events = hands.events; outcomes = hands.outcomes; runs = hands.runs; watches = watched contents old.observer new.observer hands.events hands.outcomes hands.watches };
 }
 
-did_on : (ps cs : Bool) (times later : List ℕ) (old mid new : Tape) (failed between now : ℕ) (before after : DeviceTable) (made : Option (Result ℕ RunFault)) → MadeOrNot ps cs times later old mid failed between before after made → (ps ≡ true → new ≡ mid) → now ≡ between → MadeOrNot ps cs times later old new failed now before after made
-did_on ps cs times later old mid new failed between now before after None did tape worked = record {
+-- nothing more behind it
+drove_then : {O : Type 0} (notes : O → Event → Outcome → O → Type 0) (s t : Bool) (events : List Event) (receives most : ℕ) (old middle new : Seen O) (made : Result ℕ RunFault)
+    → Drove notes s t events receives most old middle made → (s ≡ true → new.tape ≡ middle.tape) → new.failed ≡ middle.failed → new.table ≡ middle.table → new.observer ≡ middle.observer
+    → Drove notes s t events receives most old new made
+drove_then {O} notes s t events receives most old middle new (Ok count) drove tape failed table observer = record {
+  run = λ sc ti.
+      subst (λ x. Drives events count old.tape new.tape old.table x) (sym table)
+      (subst (λ x. Drives events count old.tape x old.table middle.table) (sym (tape sc)) (drove.run sc ti));
+  received = λ sc. ap (λ x. x.coming) (tape sc) ∙ drove.received sc;
+  few = drove.few;
+  stopped = tt;
+  worked = failed ∙ drove.worked;
+  blamed = tt;
+  handed = let hands = drove.handed in record {
+    events = hands.events;
+    outcomes = hands.outcomes;
+    required = hands.required;
+    counts = hands.counts;
+    runs = subst (λ x. Runs old.table hands.events hands.outcomes x) (sym table) hands.runs;
+    watches = let At : O → Type 0 = λ x. Watches notes old.observer hands.events hands.outcomes x in subst At (sym observer) hands.watches;
+  };
+  handed_some = tt;
+}
+drove_then {O} notes s t events receives most old middle new (Err fault) drove tape failed table observer = record {
+  run = tt;
+  received = tt;
+  few = tt;
+  stopped = λ sc ti.
+      subst (λ x. Stops fault events old.tape new.tape old.table x) (sym table)
+      (subst (λ x. Stops fault events old.tape x old.table middle.table) (sym (tape sc)) (drove.stopped sc ti));
+  worked = tt;
+  blamed = subst (λ x. Blames old.failed x fault) (sym failed) drove.blamed;
+  handed = tt;
+  handed_some = let hands = drove.handed_some in record {
+    events = hands.events;
+    outcomes = hands.outcomes;
+    runs = subst (λ x. Runs old.table hands.events hands.outcomes x) (sym table) hands.runs;
+    watches = let At : O → Type 0 = λ x. Watches notes old.observer hands.events hands.outcomes x in subst At (sym observer) hands.watches;
+  };
+}
+
+later_then : (t : Bool) (made : Result ℕ RunFault) (later last times : List ℕ) → last ≡ later → OnOk made (t ≡ true → later ≡ times) → OnOk made (t ≡ true → last ≡ times)
+later_then t (Ok count) later last times same is = λ ti. same ∙ is ti
+later_then t (Err fault) later last times same is = tt
+
+did_then : {W : Type 0} (contents : W → Option (List ℕ)) (s t : Bool) (times later last : List ℕ) (old middle new : Seen (Recorder W)) (made : Option (Result ℕ RunFault))
+    → MadeOrNot contents s t times later old middle made → last ≡ later → (s ≡ true → new.tape ≡ middle.tape) → new.failed ≡ middle.failed → new.table ≡ middle.table → new.observer ≡ middle.observer
+    → MadeOrNot contents s t times last old new made
+did_then contents s t times later last old middle new None did clock tape failed table recorder = record {
   full = did.full;
-  times_ms = did.times_ms;
-  tape = λ p. tape p ∙ did.tape p;
-  worked = worked ∙ did.worked;
-  table = did.table;
+  times_ms = λ ti. clock ∙ did.times_ms ti;
+  tape = λ sc. tape sc ∙ did.tape sc;
+  worked = failed ∙ did.worked;
+  table = table ∙ did.table;
+  recorder = recorder ∙ did.recorder;
 }
-did_on ps cs times later old mid new failed between now before after (Some made) did tape worked = made_on ps cs times later old mid new failed between now before after made did tape worked
+did_then contents s t times later last old middle new (Some made) did clock tape failed table recorder = record {
+  drove = drove_then (Notes contents) s t _ 1 2 old middle new made did.drove tape failed table recorder;
+  times_ms = later_then t made later last _ clock did.times_ms;
+}
 
-pub turned_after : {P C D : Type 0} (ps cs : Bool) (coming : C → List ℕ) (tape : P → Tape) (failed : P → ℕ) (table : D → DeviceTable) (clock_old clock_mid clock_new : C) (port_old port_mid port_new : P) (device_old device_mid device_new : D) → Turned ps cs (coming clock_old) (coming clock_mid) (tape port_old) (tape port_mid) (failed port_old) (failed port_mid) (table device_old) (table device_mid) → clock_new ≡ clock_mid → device_new ≡ device_mid → (ps ≡ true → tape port_new ≡ tape port_mid) → failed port_new ≡ failed port_mid → Turned ps cs (coming clock_old) (coming clock_new) (tape port_old) (tape port_new) (failed port_old) (failed port_new) (table device_old) (table device_new)
-turned_after ps cs coming tape failed table clock_old clock_mid clock_new port_old port_mid port_new device_old device_mid device_new did clock device kept worked =
-    let behind : Turned ps cs (coming clock_old) (coming clock_mid) (tape port_old) (tape port_new) (failed port_old) (failed port_new) (table device_old) (table device_mid) = record {
-      made = did.made;
-      did = did_on ps cs _ _ _ _ _ _ _ _ _ _ did.made did.did kept worked;
-    } in
-    let with_device : Turned ps cs (coming clock_old) (coming clock_mid) (tape port_old) (tape port_new) (failed port_old) (failed port_new) (table device_old) (table device_new) = subst (λ d. Turned ps cs (coming clock_old) (coming clock_mid) (tape port_old) (tape port_new) (failed port_old) (failed port_new) (table device_old) (table d)) (sym device) behind in
-    subst (λ k. Turned ps cs (coming clock_old) (coming k) (tape port_old) (tape port_new) (failed port_old) (failed port_new) (table device_old) (table device_new)) (sym clock) with_device
+-- a turn, and what is done behind it
+pub turned_then : {P C D W O E : Type 0} (contents : W → Option (List ℕ)) (s t : Bool) (coming : C → List ℕ) (tape : P → Tape) (failed : P → ℕ) (table : D → DeviceTable) (old middle new : Station P C D W O E)
+    → Turned contents s t coming tape failed table old middle → Rests s tape failed middle new → Turned contents s t coming tape failed table old new
+turned_then contents s t coming tape failed table old middle new turn rests = record {
+  made = turn.made;
+  did =
+      did_then contents s t (coming old.clock) (coming middle.clock) (coming new.clock) (station_seen tape failed table old) (station_seen tape failed table middle) (station_seen tape failed table new)
+      turn.made turn.did (ap coming rests.clock) rests.kept rests.worked (ap table rests.device) rests.recorder;
+}
+
+-- a turn that was made, and what is done behind it
+pub turn_made : {P C D W O E : Type 0} (contents : W → Option (List ℕ)) (s t : Bool) (coming : C → List ℕ) (tape : P → Tape) (failed : P → ℕ) (table : D → DeviceTable) (old middle new : Station P C D W O E) (made : Result ℕ RunFault)
+    → Rests s tape failed middle new
+    → Drove (λ one event outcome other. Notes contents one.recorder event outcome other.recorder) s t (turn_of (coming old.clock) (tape old.port).coming) 1 2 (seen tape failed table old.port old.device old.observer) (seen tape failed table middle.port middle.device middle.observer) made
+    → OnOk made (t ≡ true → coming middle.clock ≡ drop 1 (coming old.clock))
+    → Turned contents s t coming tape failed table old new
+turn_made contents s t coming tape failed table old middle new made rests drove times =
+    turned_then contents s t coming tape failed table old middle new
+    (record { made = Some made; did = record { drove = drove_recorded contents s t _ 1 2 _ _ made drove; times_ms = times } })
+    rests
 
 -- no turn was made
-pub not_turned : (ps cs : Bool) (times : List ℕ) (tape : Tape) (failed : ℕ) (table : DeviceTable) → failed ≡ 2 ^ 64 - 1 → Turned ps cs times times tape tape failed failed table table
-not_turned ps cs times tape failed table full = record { made = None; did = record { full = full; times_ms = λ c. refl; tape = λ p. refl; worked = refl; table = refl } }
+pub not_turned : {P C D W O E : Type 0} (contents : W → Option (List ℕ)) (s t : Bool) (coming : C → List ℕ) (tape : P → Tape) (failed : P → ℕ) (table : D → DeviceTable) (station : Station P C D W O E)
+    → failed station.port ≡ 2 ^ 64 - 1 → Turned contents s t coming tape failed table station station
+not_turned contents s t coming tape failed table station full = record { made = None; did = record { full = full; times_ms = λ ti. refl; tape = λ sc. refl; worked = refl; table = refl; recorder = refl } }
+
+-- what a turn did, the recorder noted
+did_record : {P C D W O E : Type 0} (contents : W → Option (List ℕ)) (s t : Bool) (coming : C → List ℕ) (tape : P → Tape) (failed : P → ℕ) (table : D → DeviceTable) (old new : Station P C D W O E) (made : Option (Result ℕ RunFault))
+    → Turned contents s t coming tape failed table old new
+    → MadeOrNot contents s t (coming old.clock) (coming new.clock) (station_seen tape failed table old) (station_seen tape failed table new) made → Recorded contents s t coming tape failed table old new
+did_record contents s t coming tape failed table old new None turn did = record { deeds = Turn ∷ []; does = (new, turn, refl); events = []; outcomes = []; runs = did.table; notes = did.recorder }
+did_record contents s t coming tape failed table old new (Some (Ok count)) turn did =
+    let hands = did.drove.handed in record { deeds = Turn ∷ []; does = (new, turn, refl); events = hands.events; outcomes = hands.outcomes; runs = hands.runs; notes = hands.watches }
+did_record contents s t coming tape failed table old new (Some (Err fault)) turn did =
+    let hands = did.drove.handed_some in record { deeds = Turn ∷ []; does = (new, turn, refl); events = hands.events; outcomes = hands.outcomes; runs = hands.runs; notes = hands.watches }
+
+pub turn_records : {P C D W O E : Type 0} (contents : W → Option (List ℕ)) (s t : Bool) (coming : C → List ℕ) (tape : P → Tape) (failed : P → ℕ) (table : D → DeviceTable) (old new : Station P C D W O E)
+    → Turned contents s t coming tape failed table old new → Recorded contents s t coming tape failed table old new
+turn_records contents s t coming tape failed table old new turn = did_record contents s t coming tape failed table old new turn.made turn turn.did
+
+-- what a call did, the recorder noted
+called_record : {P C D W O E : Type 0} (contents : W → Option (List ℕ)) (s t : Bool) (coming : C → List ℕ) (tape : P → Tape) (failed : P → ℕ) (table : D → DeviceTable) (event : Event) (old new : Station P C D W O E) (made : Result Unit RunFault)
+    → Called contents s tape failed table event old new
+    → Drove (Notes contents) s true (event ∷ []) 0 1 (station_seen tape failed table old) (station_seen tape failed table new) (once made) → Recorded contents s t coming tape failed table old new
+called_record contents s t coming tape failed table event old new (Ok done) call drove =
+    let hands = drove.handed in record { deeds = Call event ∷ []; does = (new, call, refl); events = hands.events; outcomes = hands.outcomes; runs = hands.runs; notes = hands.watches }
+called_record contents s t coming tape failed table event old new (Err fault) call drove =
+    let hands = drove.handed_some in record { deeds = Call event ∷ []; does = (new, call, refl); events = hands.events; outcomes = hands.outcomes; runs = hands.runs; notes = hands.watches }
+
+-- a call, and what is done behind it
+pub call_records : {P C D W O E : Type 0} (contents : W → Option (List ℕ)) (s t : Bool) (coming : C → List ℕ) (tape : P → Tape) (failed : P → ℕ) (table : D → DeviceTable) (event : Event) (old middle new : Station P C D W O E) (made : Result Unit RunFault)
+    → Rests s tape failed middle new
+    → Drove (λ one given outcome other. Notes contents one.recorder given outcome other.recorder) s true (event ∷ []) 0 1 (seen tape failed table old.port old.device old.observer) (seen tape failed table middle.port middle.device middle.observer) (once made)
+    → middle.clock ≡ old.clock
+    → Recorded contents s t coming tape failed table old new
+call_records contents s t coming tape failed table event old middle new made rests drove clock =
+    let both : Drove (Notes contents) s true (event ∷ []) 0 1 (station_seen tape failed table old) (station_seen tape failed table new) (once made) =
+    drove_then (Notes contents) s true (event ∷ []) 0 1 (station_seen tape failed table old) (station_seen tape failed table middle) (station_seen tape failed table new) (once made)
+    (drove_recorded contents s true (event ∷ []) 0 1 _ _ (once made) drove)
+    rests.kept rests.worked (ap table rests.device) rests.recorder
+    in called_record contents s t coming tape failed table event old new made (record { made = made; drove = both; clock = rests.clock ∙ clock }) both

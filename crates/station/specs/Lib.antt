@@ -1,10 +1,7 @@
+pub mod Ended
 pub mod Faults
-pub mod Calls
-pub mod Lines
-pub mod Peers
-pub mod Points
-pub mod Reports
-pub mod Slots
-pub mod Times
 pub mod Recorded
+pub mod Rests
+pub mod Sessions
+pub mod Times
 pub mod Turned

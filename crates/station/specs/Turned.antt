@@ -1,34 +1,38 @@
 -- What a turn of a station did to its device and its port, whatever became of its outputs.
-use Rattle.std.specs.Prelude.{◌≡◌, ℕ, ◌-◌, ◌^◌, Bool, true, List, Option, Some, None, Result, IfOk, IfErr, OnOk}
+use Rattle.std.specs.Prelude.{◌≡◌, ℕ, ◌-◌, ◌^◌, Bool, true, List, drop, Option, Some, None, Result, OnOk}
 use Rattle.cip_tables.specs.declared.table.DeviceTable.{DeviceTable}
+use Rattle.station_record.specs.Records.{Notes}
+use Rattle.station_record.specs.declared.recorder.Recorder.{Recorder}
+use Rattle.station.specs.declared.serving.Station.{Station}
 use Rattle.udp_runner.specs.declared.fault.RunFault.{RunFault}
-use Rattle.udp_runner.specs.Tape.{Tape, rest_of}
-use Rattle.udp_runner.specs.Turns.{Blames, Drives, Stops, turn_of}
+use Rattle.udp_runner.specs.Driving.{Drove, Seen}
+use Rattle.udp_runner.specs.Tape.{Tape}
+use Rattle.udp_runner.specs.Turns.{turn_of}
 
--- A turn was made with this outcome: the device took the tick and the input that the clock and the port gave, and all outputs
--- of its answers were sent; or a fault stopped it, and the device took what came before, as `Stops` says. Where the clock and
--- the port are scripted, their lists say what they gave.
-pub record Made (port_scripted clock_scripted : Bool) (times later : List ℕ) (old new : Tape) (failed failed_new : ℕ) (before after : DeviceTable) (made : Result ℕ RunFault) : Type 0 where
-  pub run : IfOk made (λ count. port_scripted ≡ true → clock_scripted ≡ true → Drives (turn_of times old.coming) count old new before after)
-  pub times_ms : OnOk made (clock_scripted ≡ true → later ≡ rest_of times)
-  pub inputs : OnOk made (port_scripted ≡ true → new.coming ≡ rest_of old.coming)
-  pub stopped : IfErr made (λ fault. port_scripted ≡ true → clock_scripted ≡ true → Stops fault (turn_of times old.coming) old new before after)
-  pub worked : OnOk made (failed_new ≡ failed)
-  pub blamed : IfErr made (Blames failed failed_new)
+-- A turn was made with this result: the device was driven by what the clock and the port gave, as `Drove` says, and the
+-- recorder noted each step.
+pub record Made {W : Type 0} (contents : W → Option (List ℕ)) (scripted timed : Bool) (times later : List ℕ) (old new : Seen (Recorder W)) (made : Result ℕ RunFault) : Type 0 where
+  pub drove : Drove (Notes contents) scripted timed (turn_of times old.tape.coming) 1 2 old new made
+  pub times_ms : OnOk made (timed ≡ true → later ≡ drop 1 times)
 
 -- No turn was made: the count of the port's failures is at its end.
-pub record NotMade (port_scripted clock_scripted : Bool) (times later : List ℕ) (old new : Tape) (failed failed_new : ℕ) (before after : DeviceTable) : Type 0 where
-  pub full : failed ≡ 2 ^ 64 - 1
-  pub times_ms : clock_scripted ≡ true → later ≡ times
-  pub tape : port_scripted ≡ true → new ≡ old
-  pub worked : failed_new ≡ failed
-  pub table : after ≡ before
+pub record NotMade {W : Type 0} (scripted timed : Bool) (times later : List ℕ) (old new : Seen (Recorder W)) : Type 0 where
+  pub full : old.failed ≡ 2 ^ 64 - 1
+  pub times_ms : timed ≡ true → later ≡ times
+  pub tape : scripted ≡ true → new.tape ≡ old.tape
+  pub worked : new.failed ≡ old.failed
+  pub table : new.table ≡ old.table
+  pub recorder : new.observer ≡ old.observer
 
-abbrev pub MadeOrNot : (port_scripted clock_scripted : Bool) (times later : List ℕ) (old new : Tape) (failed failed_new : ℕ) (before after : DeviceTable) → Option (Result ℕ RunFault) → Type 0
-MadeOrNot port_scripted clock_scripted times later old new failed failed_new before after None = NotMade port_scripted clock_scripted times later old new failed failed_new before after
-MadeOrNot port_scripted clock_scripted times later old new failed failed_new before after (Some made) = Made port_scripted clock_scripted times later old new failed failed_new before after made
+abbrev pub MadeOrNot : {W : Type 0} (contents : W → Option (List ℕ)) (scripted timed : Bool) (times later : List ℕ) (old new : Seen (Recorder W)) → Option (Result ℕ RunFault) → Type 0
+MadeOrNot contents scripted timed times later old new None = NotMade scripted timed times later old new
+MadeOrNot contents scripted timed times later old new (Some made) = Made contents scripted timed times later old new made
+
+-- a station, as the contracts of turns see it
+abbrev pub station_seen : {P C D W O E : Type 0} → (P → Tape) → (P → ℕ) → (D → DeviceTable) → Station P C D W O E → Seen (Recorder W)
+station_seen tape failed table station = record { tape = tape station.port; failed = failed station.port; table = table station.device; observer = station.observer.recorder }
 
 -- What a turn did.
-pub record Turned (port_scripted clock_scripted : Bool) (times later : List ℕ) (old new : Tape) (failed failed_new : ℕ) (before after : DeviceTable) : Type 0 where
+pub record Turned {P C D W O E : Type 0} (contents : W → Option (List ℕ)) (scripted timed : Bool) (coming : C → List ℕ) (tape : P → Tape) (failed : P → ℕ) (table : D → DeviceTable) (old new : Station P C D W O E) : Type 0 where
   pub made : Option (Result ℕ RunFault)
-  pub did : MadeOrNot port_scripted clock_scripted times later old new failed failed_new before after made
+  pub did : MadeOrNot contents scripted timed (coming old.clock) (coming new.clock) (station_seen tape failed table old) (station_seen tape failed table new) made

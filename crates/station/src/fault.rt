@@ -1,12 +1,15 @@
 //! Why a station ends before its time.
 
 ghost use Rattle.std.specs.Prelude.{◌≡◌};
-ghost use Rattle.station.specs.Faults.{end_after};
+ghost use Rattle.station.specs.Faults.{counted, end_after, failures_after_call, failures_after_turn};
 
 use cip_events::StepFault;
 use cip_types::OutOfMemory;
 use thiserror::Error;
 use udp_runner::{PortFault, RunFault};
+
+/// After so many turns in a row that failed at the port a station ends.
+const MOST_FAILURES: u32 = 1_000;
 
 /// Why a station ends before its time.
 #[derive(Clone, Copy, Debug, PartialEq, Eq, Error)]
@@ -39,4 +42,46 @@ pub fn end_after(fault: RunFault) -> Option<EarlyEnd>
         RunFault::Step(StepFault::OutOfMemory) => Some(EarlyEnd::OutOfMemory),
         RunFault::Step(_) => Some(EarlyEnd::Clock),
     }
+}
+
+/// The failures of the port in a row after a turn, with so many before it. The fault: the station ends with the turn.
+pub(crate) fn failures_after_turn(
+    failures: u32,
+    made: Result<u64, RunFault>,
+) -> Result<u32, EarlyEnd>
+    ensures { result ≡ failures_after_turn failures made }
+{
+    match made {
+        Ok(_) => Ok(0),
+        Err(fault) => match end_after(fault) {
+            Some(end) => Err(end),
+            None => counted(failures),
+        },
+    }
+}
+
+/// The failures of the port in a row after a call, with so many before it. The fault: the station ends with the call. A call
+/// that the device refuses ends no station.
+pub(crate) fn failures_after_call(
+    failures: u32,
+    made: Result<(), RunFault>,
+) -> Result<u32, EarlyEnd>
+    ensures { result ≡ failures_after_call failures made }
+{
+    match made {
+        Ok(()) => Ok(failures),
+        Err(RunFault::Port(_)) => counted(failures),
+        Err(RunFault::Step(StepFault::OutOfMemory)) => Err(EarlyEnd::OutOfMemory),
+        Err(RunFault::Step(_)) => Ok(failures),
+    }
+}
+
+/// One failure more. The fault: `Port` after 1,000.
+fn counted(failures: u32) -> Result<u32, EarlyEnd>
+    ensures { result ≡ counted failures }
+{
+    if failures >= MOST_FAILURES {
+        return Err(EarlyEnd::Port);
+    }
+    Ok(failures + 1)
 }

@@ -1,24 +1,14 @@
 //! A station: a device at a port with a clock, which takes the calls of its application as lines, records what its device
-//! takes, and says what happens.
+//! takes, and prints what changes.
 #![tactic(auto)]
 
-mod calls;
 mod fault;
-mod groups;
-mod lines;
-mod peers;
-mod points;
-mod reports;
+mod observer;
 mod run;
 mod serving;
 mod sessions;
-mod sink;
-mod slots;
-mod witness;
 
 pub use fault::EarlyEnd;
-pub use lines::{CallBuffer, CallLines, NextLine, NoLines};
-pub use run::{Ending, run_station};
+pub use observer::StationObserver;
+pub use run::Ending;
 pub use serving::{Station, Voice};
-pub use sink::LineSink;
-pub use witness::Witness;

@@ -1,15 +1,16 @@
 //! A station from its beginning to its end.
 
-ghost use Rattle.std.specs.Prelude.{◌≡◌};
+ghost use Rattle.std.specs.Prelude.{◌≡◌, false, OnOk};
+ghost use Rattle.std.specs.List.{list_any};
 ghost use Rattle.station.specs.Recorded.{Recorded};
-ghost use Rattle.station.specs.Times.{is_over, pause_ms};
+ghost use Rattle.station.specs.Times.{close_end, is_over, pause_ms, waits_on};
+ghost use Rattle.station_watch.specs.Closing.{is_marked};
 
 use crate::fault::EarlyEnd;
-use crate::lines::{CallLines, NextLine};
 use crate::serving::Station;
-use crate::sink::LineSink;
 use cip_tables::Device;
 use kept_port::KeptPort;
+use station_lines::{CallLines, LineSink, NextLine};
 use station_record::RecordSink;
 use udp_runner::Clock;
 
@@ -29,185 +30,125 @@ pub struct Ending {
     pub ms: Option<u64>,
 }
 
-/// Runs a station until its time is over or the input ends, and then ends it in order: the slots are closed, and then the
-/// sessions. After a fault it ends so too, as far as it can.
-pub fn run_station<P, C, D, W, O, E, L>(
-    station: &mut Station<P, C, D, W, O, E>,
-    lines: &mut L,
-    ending: Ending,
-) -> Result<(), EarlyEnd>
-where
-    P: KeptPort,
-    C: Clock,
-    D: Device,
-    W: RecordSink + Drop,
-    O: LineSink,
-    E: LineSink,
-    L: CallLines,
-    ensures { Recorded W.contents station.old.witness.recorder station.new.witness.recorder
-        (D.table station.old.device) (D.table station.new.device) }
-{
-    let served = serve_all(station, lines, ending);
-    let closed = close(station, ending.slots);
-    served.and(closed)
-}
+impl<P: KeptPort, C: Clock, D: Device, W: RecordSink + Drop, O: LineSink, E: LineSink> Station<
+    P,
+    C,
+    D,
+    W,
+    O,
+    E,
+> {
+    /// Runs the station until its time is over or the input ends, and then ends it in order: the slots are closed, and then
+    /// the sessions. After a fault it ends so too, as far as it can.
+    pub fn run<L: CallLines>(&mut self, lines: &mut L, ending: Ending) -> Result<(), EarlyEnd>
+        ensures { Recorded W.contents P.is_scripted C.is_scripted C.coming P.tape P.failed D.table self.old self.new }
+    {
+        let ran = self.run_on(lines, ending);
+        let closed = self.close(ending.slots);
+        ran.and(closed)
+    }
 
-/// Opens the slots, and serves until the time is over or the input ends.
-fn serve_all<P, C, D, W, O, E, L>(
-    station: &mut Station<P, C, D, W, O, E>,
-    lines: &mut L,
-    ending: Ending,
-) -> Result<(), EarlyEnd>
-where
-    P: KeptPort,
-    C: Clock,
-    D: Device,
-    W: RecordSink + Drop,
-    O: LineSink,
-    E: LineSink,
-    L: CallLines,
-    ensures { Recorded W.contents station.old.witness.recorder station.new.witness.recorder
-        (D.table station.old.device) (D.table station.new.device) }
-{
-    station.start(ending.slots)?;
-    serve_on(station, lines, ending.ms)
-}
+    /// Opens the slots, and serves until the time is over or the input ends.
+    fn run_on<L: CallLines>(&mut self, lines: &mut L, ending: Ending) -> Result<(), EarlyEnd>
+        ensures { Recorded W.contents P.is_scripted C.is_scripted C.coming P.tape P.failed D.table self.old self.new }
+    {
+        self.start(ending.slots)?;
+        self.go_on(lines, ending.ms)
+    }
 
-/// Serves until the time is over or the input ends.
-fn serve_on<P, C, D, W, O, E, L>(
-    station: &mut Station<P, C, D, W, O, E>,
-    lines: &mut L,
-    end_ms: Option<u64>,
-) -> Result<(), EarlyEnd>
-where
-    P: KeptPort,
-    C: Clock,
-    D: Device,
-    W: RecordSink + Drop,
-    O: LineSink,
-    E: LineSink,
-    L: CallLines,
-    ensures { Recorded W.contents station.old.witness.recorder station.new.witness.recorder
-        (D.table station.old.device) (D.table station.new.device) }
-{
-    for _ in 0..u64::MAX {
-        if !serve(station, lines, end_ms)? {
-            return Ok(());
+    /// Serves until the time is over or the input ends.
+    fn go_on<L: CallLines>(&mut self, lines: &mut L, end_ms: Option<u64>) -> Result<(), EarlyEnd>
+        ensures { Recorded W.contents P.is_scripted C.is_scripted C.coming P.tape P.failed D.table self.old self.new }
+    {
+        for _ in 0..u64::MAX {
+            if !self.advance(lines, end_ms)? {
+                return Ok(());
+            }
+        }
+        Ok(())
+    }
+
+    /// Performs the next call, if there is one, and makes a turn. False if the time is over or the input has ended.
+    #[tactic(auto, using(crate::proofs::Noting::at_rest, crate::proofs::Noting::unmoved))]
+    fn advance<L: CallLines>(
+        &mut self,
+        lines: &mut L,
+        end_ms: Option<u64>,
+    ) -> Result<bool, EarlyEnd>
+        ensures { Recorded W.contents P.is_scripted C.is_scripted C.coming P.tape P.failed D.table self.old self.new }
+    {
+        if is_over(self.now_ms(), end_ms) {
+            return Ok(false);
+        }
+        match lines.next_line()? {
+            NextLine::End => {
+                self.report_input_end();
+                Ok(false)
+            }
+            NextLine::Nothing => self.wait(end_ms),
+            NextLine::Line(line) => self.perform(line.as_slice()),
         }
     }
-    Ok(())
-}
 
-/// Performs the next call, if there is one, and makes a turn. False if the time is over or the input has ended.
-#[tactic(auto, using(crate::proofs::Noting::at_rest))]
-fn serve<P, C, D, W, O, E, L>(
-    station: &mut Station<P, C, D, W, O, E>,
-    lines: &mut L,
-    end_ms: Option<u64>,
-) -> Result<bool, EarlyEnd>
-where
-    P: KeptPort,
-    C: Clock,
-    D: Device,
-    W: RecordSink + Drop,
-    O: LineSink,
-    E: LineSink,
-    L: CallLines,
-    ensures { Recorded W.contents station.old.witness.recorder station.new.witness.recorder
-        (D.table station.old.device) (D.table station.new.device) }
-{
-    if is_over(station.now_ms(), end_ms) {
-        return Ok(false);
+    /// Makes a turn that waits, at most until the end.
+    #[tactic(auto, using(crate::proofs::Turning::turn_records))]
+    fn wait(&mut self, end_ms: Option<u64>) -> Result<bool, EarlyEnd>
+        ensures { Recorded W.contents P.is_scripted C.is_scripted C.coming P.tape P.failed D.table self.old self.new }
+    {
+        self.turn(pause_ms(self.now_ms(), end_ms))?;
+        Ok(true)
     }
-    match lines.next_line()? {
-        NextLine::End => {
-            station.report_input_end();
-            Ok(false)
+
+    /// Performs the call of a line, and makes a turn that does not wait.
+    fn perform(&mut self, line: &[u8]) -> Result<bool, EarlyEnd>
+        ensures { Recorded W.contents P.is_scripted C.is_scripted C.coming P.tape P.failed D.table self.old self.new }
+    {
+        self.call(line)?;
+        self.turn(0)?;
+        Ok(true)
+    }
+
+    /// Closes the slots, waits a bounded time for the replies, and ends the sessions.
+    fn close(&mut self, slots: u32) -> Result<(), EarlyEnd>
+        ensures { Recorded W.contents P.is_scripted C.is_scripted C.coming P.tape P.failed D.table self.old self.new }
+    {
+        self.stop(slots)?;
+        self.wait_closed()?;
+        self.unregister()
+    }
+
+    /// Waits until no slot is being closed, for a bounded time.
+    fn wait_closed(&mut self) -> Result<(), EarlyEnd>
+        ensures ran { Recorded W.contents P.is_scripted C.is_scripted C.coming P.tape P.failed D.table
+            self.old self.new }
+        ensures closed { OnOk result
+            (waits_on (list_any is_marked self.new.observer.closing)
+            self.new.observer.now_ms (close_end self.old.observer.now_ms) ≡ false) }
+    {
+        let until_ms = close_end(self.now_ms());
+        for _ in 0..u64::MAX {
+            if !waits_on(self.is_closing(), self.now_ms(), until_ms) {
+                return Ok(());
+            }
+            self.turn(pause_ms(self.now_ms(), Some(until_ms)))?;
         }
-        NextLine::Nothing => wait(station, end_ms),
-        NextLine::Line(line) => perform(station, line.as_slice()),
+        // (a clock of whole milliseconds does not make so many turns)
+        Err(EarlyEnd::Clock)
     }
 }
 
-/// Makes a turn that waits, at most until the end.
-fn wait<P, C, D, W, O, E>(
-    station: &mut Station<P, C, D, W, O, E>,
-    end_ms: Option<u64>,
-) -> Result<bool, EarlyEnd>
-where
-    P: KeptPort,
-    C: Clock,
-    D: Device,
-    W: RecordSink + Drop,
-    O: LineSink,
-    E: LineSink,
-    ensures { Recorded W.contents station.old.witness.recorder station.new.witness.recorder
-        (D.table station.old.device) (D.table station.new.device) }
+/// When a station waits no longer for the replies to its Forward_Close requests: 2,000 ms later.
+fn close_end(now_ms: u64) -> u64
+    ensures { result ≡ close_end now_ms }
 {
-    station.turn(pause_ms(station.now_ms(), end_ms))?;
-    Ok(true)
+    now_ms.saturating_add(CLOSE_MS)
 }
 
-/// Performs the call of a line, and makes a turn that does not wait.
-fn perform<P, C, D, W, O, E>(
-    station: &mut Station<P, C, D, W, O, E>,
-    line: &[u8],
-) -> Result<bool, EarlyEnd>
-where
-    P: KeptPort,
-    C: Clock,
-    D: Device,
-    W: RecordSink + Drop,
-    O: LineSink,
-    E: LineSink,
-    ensures { Recorded W.contents station.old.witness.recorder station.new.witness.recorder
-        (D.table station.old.device) (D.table station.new.device) }
+/// Whether a station waits for the replies: while a slot is being closed, until this time.
+fn waits_on(closing: bool, now_ms: u64, until_ms: u64) -> bool
+    ensures { result ≡ waits_on closing now_ms until_ms }
 {
-    station.call(line)?;
-    station.turn(0)?;
-    Ok(true)
-}
-
-/// Closes the slots, waits a bounded time for the replies, and ends the sessions.
-fn close<P, C, D, W, O, E>(
-    station: &mut Station<P, C, D, W, O, E>,
-    slots: u32,
-) -> Result<(), EarlyEnd>
-where
-    P: KeptPort,
-    C: Clock,
-    D: Device,
-    W: RecordSink + Drop,
-    O: LineSink,
-    E: LineSink,
-    ensures { Recorded W.contents station.old.witness.recorder station.new.witness.recorder
-        (D.table station.old.device) (D.table station.new.device) }
-{
-    station.stop(slots)?;
-    wait_closed(station)?;
-    station.unregister()
-}
-
-/// Waits until no slot is being closed, for a bounded time.
-fn wait_closed<P, C, D, W, O, E>(station: &mut Station<P, C, D, W, O, E>) -> Result<(), EarlyEnd>
-where
-    P: KeptPort,
-    C: Clock,
-    D: Device,
-    W: RecordSink + Drop,
-    O: LineSink,
-    E: LineSink,
-    ensures { Recorded W.contents station.old.witness.recorder station.new.witness.recorder
-        (D.table station.old.device) (D.table station.new.device) }
-{
-    let until_ms = station.now_ms().saturating_add(CLOSE_MS);
-    for _ in 0..u64::MAX {
-        if !station.is_closing() || station.now_ms() >= until_ms {
-            return Ok(());
-        }
-        station.turn(pause_ms(station.now_ms(), Some(until_ms)))?;
-    }
-    Ok(())
+    closing && now_ms < until_ms
 }
 
 /// Whether a station's time is over.

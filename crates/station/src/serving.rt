@@ -1,28 +1,27 @@
 //! A device at a port with a clock.
 
-ghost use Rattle.std.specs.Prelude.{◌≡◌, true, IfOk};
+ghost use Rattle.std.specs.Prelude.{◌≡◌, ◌∷◌, [], Ok, IfOk, OnOk};
+ghost use Rattle.std.specs.List.{list_any};
+ghost use Rattle.station.specs.Ended.{Ended, Ends};
+ghost use Rattle.station.specs.Faults.{failures_after_call, failures_after_turn};
 ghost use Rattle.station.specs.Recorded.{Recorded};
+ghost use Rattle.station.specs.Rests.{Rests, Unstepped};
+ghost use Rattle.station.specs.Sessions.{sessions_of};
 ghost use Rattle.station.specs.Turned.{Turned};
+ghost use Rattle.station_watch.specs.Closing.{is_marked};
 
-use crate::calls::read_call;
-use crate::fault::{EarlyEnd, end_after};
-use crate::points::Points;
-use crate::reports::{push_report, push_starved};
-use crate::sink::LineSink;
-use crate::slots::SlotDuty;
-use crate::witness::Witness;
-use cip_encap::{MessageView, command, write_message};
-use cip_tables::{Answer, Config, Device, Event, Outcome, StepFault};
-use cip_types::limits::MOST_STREAMS;
+use crate::fault::{EarlyEnd, failures_after_call, failures_after_turn};
+use crate::observer::StationObserver;
+use crate::sessions::{sessions_of, unregister_message};
+use cip_tables::{Config, Device, Event};
 use cip_types::{Ms, Node, OutOfMemory};
 use kept_port::KeptPort;
+use scanner_table::Session;
+use station_lines::{InputLine, LineSink, Points, push_report, push_starved, read_line};
 use station_record::{RecordFault, RecordSink};
+use station_watch::SlotDuty;
 use std::alloc::Global;
-use trace_text::LineFault;
-use udp_runner::{Clock, Observer, Output, RunFault, send_answer, turn_waiting};
-
-/// After so many turns in a row that failed at the port a station ends.
-const MOST_FAILURES: u32 = 1_000;
+use udp_runner::{Clock, Output, RunFault, act, turn_waiting};
 
 /// At most so many reports of the port are told behind one turn.
 const MOST_REPORTS: u32 = 64;
@@ -36,14 +35,14 @@ pub struct Voice {
     pub silent_s: u16,
 }
 
-/// A device at a port with a clock, with a witness of its steps.
+/// A device at a port with a clock, with an observer of its steps.
 #[derive(Drop)]
 pub struct Station<P, C, D, W, O, E> {
     alloc: Global,
     port: P,
     clock: C,
     device: D,
-    witness: Witness<W, O, E>,
+    observer: StationObserver<W, O, E>,
     points: Points,
     peers: Vec<Node>,
     text: String,
@@ -67,7 +66,7 @@ impl<P: KeptPort, C: Clock, D: Device, W: RecordSink + Drop, O: LineSink, E: Lin
         port: P,
         clock: C,
         device: D,
-        witness: Witness<W, O, E>,
+        observer: StationObserver<W, O, E>,
         voice: Voice,
     ) -> Result<Self, OutOfMemory>
     where
@@ -76,7 +75,7 @@ impl<P: KeptPort, C: Clock, D: Device, W: RecordSink + Drop, O: LineSink, E: Lin
         D: Drop,
         O: Drop,
         E: Drop,
-        ensures recorder { IfOk result (λ station. station.witness.recorder ≡ witness.recorder) }
+        ensures recorder { IfOk result (λ station. station.observer.recorder ≡ observer.recorder) }
         ensures device { IfOk result (λ station. station.device ≡ device) }
     {
         Ok(Station {
@@ -84,7 +83,7 @@ impl<P: KeptPort, C: Clock, D: Device, W: RecordSink + Drop, O: LineSink, E: Lin
             port,
             clock,
             device,
-            witness,
+            observer,
             points: Points::of(alloc, config)?,
             peers: Vec::new(alloc),
             text: String::new(alloc),
@@ -95,35 +94,29 @@ impl<P: KeptPort, C: Clock, D: Device, W: RecordSink + Drop, O: LineSink, E: Lin
     }
 
     /// The milliseconds that have passed at the device.
-    pub fn now_ms(&self) -> u64 {
-        self.witness.now_ms()
+    pub fn now_ms(&self) -> u64
+        ensures { result ≡ self.now.observer.now_ms }
+    {
+        self.observer.now_ms()
     }
 
     /// Why the record has ended, if it has.
     pub fn record_fault(&self) -> Option<RecordFault> {
-        self.witness.record_fault()
+        self.observer.record_fault()
     }
 
     /// Makes a turn that waits at most so many milliseconds, and prints what has changed.
     pub fn turn(&mut self, most_ms: u64) -> Result<(), EarlyEnd>
-        ensures recorded { Recorded W.contents self.old.witness.recorder self.new.witness.recorder
-            (D.table self.old.device) (D.table self.new.device) }
-        ensures turned { Turned P.is_scripted C.is_scripted (C.coming self.old.clock) (C.coming self.new.clock)
-            (P.tape self.old.port) (P.tape self.new.port) (P.failed self.old.port) (P.failed self.new.port)
-            (D.table self.old.device) (D.table self.new.device) }
+        ensures { Turned W.contents P.is_scripted C.is_scripted C.coming P.tape P.failed D.table self.old self.new }
     {
         self.wait_and_step(most_ms)?;
         self.inform_port()?;
         self.show()
     }
 
-    /// Tells the port what happened to connections, and says what the port reports.
+    /// Passes on to the port what changed at connections, and reports what the port reports.
     fn inform_port(&mut self) -> Result<(), EarlyEnd>
-        ensures recorder { self.new.witness.recorder ≡ self.old.witness.recorder }
-        ensures device { self.new.device ≡ self.old.device }
-        ensures clock { self.new.clock ≡ self.old.clock }
-        ensures kept { P.is_scripted ≡ true → P.tape self.new.port ≡ P.tape self.old.port }
-        ensures worked { P.failed self.new.port ≡ P.failed self.old.port }
+        ensures { Rests P.is_scripted P.tape P.failed self.old self.new }
     {
         self.pass_peers()?;
         self.pass_duties();
@@ -133,14 +126,10 @@ impl<P: KeptPort, C: Clock, D: Device, W: RecordSink + Drop, O: LineSink, E: Lin
 
     /// Tells an adapter's port which peers have connections, if they have changed.
     fn pass_peers(&mut self) -> Result<(), EarlyEnd>
-        ensures recorder { self.new.witness.recorder ≡ self.old.witness.recorder }
-        ensures device { self.new.device ≡ self.old.device }
-        ensures clock { self.new.clock ≡ self.old.clock }
-        ensures kept { P.is_scripted ≡ true → P.tape self.new.port ≡ P.tape self.old.port }
-        ensures worked { P.failed self.new.port ≡ P.failed self.old.port }
+        ensures { Rests P.is_scripted P.tape P.failed self.old self.new }
     {
         self.peers.clear();
-        if self.witness.push_peers(&mut self.peers)? {
+        if self.observer.push_peers(&mut self.peers)? {
             self.port.keep(self.peers.as_slice());
         }
         Ok(())
@@ -148,15 +137,11 @@ impl<P: KeptPort, C: Clock, D: Device, W: RecordSink + Drop, O: LineSink, E: Lin
 
     /// Tells a scanner's port of which targets the streams are to be renewed, and with which a connection is established.
     fn pass_duties(&mut self)
-        ensures recorder { self.new.witness.recorder ≡ self.old.witness.recorder }
-        ensures device { self.new.device ≡ self.old.device }
-        ensures clock { self.new.clock ≡ self.old.clock }
-        ensures kept { P.is_scripted ≡ true → P.tape self.new.port ≡ P.tape self.old.port }
-        ensures worked { P.failed self.new.port ≡ P.failed self.old.port }
+        ensures { Rests P.is_scripted P.tape P.failed self.old self.new }
     {
         self.peers.clear();
         for _ in 0..u64::MAX {
-            let Some(duty) = self.witness.next_duty() else {
+            let Some(duty) = self.observer.next_duty() else {
                 return;
             };
             self.pass_duty(duty);
@@ -165,11 +150,7 @@ impl<P: KeptPort, C: Clock, D: Device, W: RecordSink + Drop, O: LineSink, E: Lin
 
     /// Tells a scanner's port of the target of one slot.
     fn pass_duty(&mut self, duty: SlotDuty)
-        ensures recorder { self.new.witness.recorder ≡ self.old.witness.recorder }
-        ensures device { self.new.device ≡ self.old.device }
-        ensures clock { self.new.clock ≡ self.old.clock }
-        ensures kept { P.is_scripted ≡ true → P.tape self.new.port ≡ P.tape self.old.port }
-        ensures worked { P.failed self.new.port ≡ P.failed self.old.port }
+        ensures { Rests P.is_scripted P.tape P.failed self.old self.new }
     {
         match duty {
             SlotDuty::Renew(slot) => self.renew(slot),
@@ -179,26 +160,18 @@ impl<P: KeptPort, C: Clock, D: Device, W: RecordSink + Drop, O: LineSink, E: Lin
 
     /// Tells the port that a connection with the target of a slot is established.
     fn succeed(&mut self, slot: u32)
-        ensures recorder { self.new.witness.recorder ≡ self.old.witness.recorder }
-        ensures device { self.new.device ≡ self.old.device }
-        ensures clock { self.new.clock ≡ self.old.clock }
-        ensures kept { P.is_scripted ≡ true → P.tape self.new.port ≡ P.tape self.old.port }
-        ensures worked { P.failed self.new.port ≡ P.failed self.old.port }
+        ensures { Rests P.is_scripted P.tape P.failed self.old self.new }
     {
-        if let Some(target) = self.witness.target(slot) {
+        if let Some(target) = self.observer.target(slot) {
             self.port.succeed(target);
         }
     }
 
     /// Has the stream to the target of a slot renewed, once behind a turn.
     fn renew(&mut self, slot: u32)
-        ensures recorder { self.new.witness.recorder ≡ self.old.witness.recorder }
-        ensures device { self.new.device ≡ self.old.device }
-        ensures clock { self.new.clock ≡ self.old.clock }
-        ensures kept { P.is_scripted ≡ true → P.tape self.new.port ≡ P.tape self.old.port }
-        ensures worked { P.failed self.new.port ≡ P.failed self.old.port }
+        ensures { Rests P.is_scripted P.tape P.failed self.old self.new }
     {
-        let Some(target) = self.witness.target(slot) else {
+        let Some(target) = self.observer.target(slot) else {
             return;
         };
         if self.peers.iter().any(|other| *other == target) {
@@ -211,30 +184,22 @@ impl<P: KeptPort, C: Clock, D: Device, W: RecordSink + Drop, O: LineSink, E: Lin
 
     /// Reports each slot whose data never came.
     fn report_starved(&mut self) -> Result<(), EarlyEnd>
-        ensures recorder { self.new.witness.recorder ≡ self.old.witness.recorder }
-        ensures device { self.new.device ≡ self.old.device }
-        ensures clock { self.new.clock ≡ self.old.clock }
-        ensures kept { P.is_scripted ≡ true → P.tape self.new.port ≡ P.tape self.old.port }
-        ensures worked { P.failed self.new.port ≡ P.failed self.old.port }
+        ensures { Rests P.is_scripted P.tape P.failed self.old self.new }
     {
         for _ in 0..u64::MAX {
-            let Some(starved) = self.witness.next_starved() else {
+            let Some(starved) = self.observer.next_starved() else {
                 return Ok(());
             };
             self.text.clear();
             push_starved(&mut self.text, &starved)?;
-            self.witness.report(self.text.as_bytes());
+            self.observer.report(self.text.as_bytes());
         }
         Ok(())
     }
 
     /// Says what the port reports of its streams.
     fn report_streams(&mut self) -> Result<(), EarlyEnd>
-        ensures recorder { self.new.witness.recorder ≡ self.old.witness.recorder }
-        ensures device { self.new.device ≡ self.old.device }
-        ensures clock { self.new.clock ≡ self.old.clock }
-        ensures kept { P.is_scripted ≡ true → P.tape self.new.port ≡ P.tape self.old.port }
-        ensures worked { P.failed self.new.port ≡ P.failed self.old.port }
+        ensures { Rests P.is_scripted P.tape P.failed self.old self.new }
     {
         for _ in 0..MOST_REPORTS {
             let Some(report) = self.port.next_report() else {
@@ -243,7 +208,7 @@ impl<P: KeptPort, C: Clock, D: Device, W: RecordSink + Drop, O: LineSink, E: Lin
             if !self.voice.quiet {
                 self.text.clear();
                 push_report(&mut self.text, &report, self.voice.silent_s)?;
-                self.witness.report(self.text.as_bytes());
+                self.observer.report(self.text.as_bytes());
             }
         }
         Ok(())
@@ -251,24 +216,19 @@ impl<P: KeptPort, C: Clock, D: Device, W: RecordSink + Drop, O: LineSink, E: Lin
 
     /// Reports that the input has ended.
     pub fn report_input_end(&mut self)
-        ensures recorder { self.new.witness.recorder ≡ self.old.witness.recorder }
-        ensures device { self.new.device ≡ self.old.device }
+        ensures { Rests P.is_scripted P.tape P.failed self.old self.new }
     {
         if !self.voice.quiet {
-            self.witness.report(
+            self.observer.report(
                 b"eip_station: standard input has ended, and so does the station (--no-input: runs on without it)\n",
             );
         }
     }
 
     /// Makes a turn that waits at most so many milliseconds.
-    #[tactic(auto, using(crate::proofs::Noting::at_rest, crate::proofs::Turning::not_turned))]
+    #[tactic(auto, using(crate::proofs::Turning::not_turned))]
     fn wait_and_step(&mut self, most_ms: u64) -> Result<(), EarlyEnd>
-        ensures recorded { Recorded W.contents self.old.witness.recorder self.new.witness.recorder
-            (D.table self.old.device) (D.table self.new.device) }
-        ensures turned { Turned P.is_scripted C.is_scripted (C.coming self.old.clock) (C.coming self.new.clock)
-            (P.tape self.old.port) (P.tape self.new.port) (P.failed self.old.port) (P.failed self.new.port)
-            (D.table self.old.device) (D.table self.new.device) }
+        ensures { Turned W.contents P.is_scripted C.is_scripted C.coming P.tape P.failed D.table self.old self.new }
     {
         // (`turn_waiting` requires that the count of failures can rise)
         if self.port.failures() == u64::MAX {
@@ -278,101 +238,69 @@ impl<P: KeptPort, C: Clock, D: Device, W: RecordSink + Drop, O: LineSink, E: Lin
             &mut self.port,
             &mut self.device,
             &mut self.clock,
-            &mut self.witness,
+            &mut self.observer,
             Ms(most_ms),
         );
-        self.weather(made)
+        self.go_on_after_turn(made)
     }
 
     /// Goes on after a turn, if the station does not end with it.
-    fn weather(&mut self, made: Result<u64, RunFault>) -> Result<(), EarlyEnd>
-        ensures recorder { self.new.witness.recorder ≡ self.old.witness.recorder }
-        ensures device { self.new.device ≡ self.old.device }
-        ensures clock { self.new.clock ≡ self.old.clock }
-        ensures kept { P.is_scripted ≡ true → P.tape self.new.port ≡ P.tape self.old.port }
-        ensures worked { P.failed self.new.port ≡ P.failed self.old.port }
+    fn go_on_after_turn(&mut self, made: Result<u64, RunFault>) -> Result<(), EarlyEnd>
+        ensures rests { Rests P.is_scripted P.tape P.failed self.old self.new }
+        ensures counted { OnOk result (failures_after_turn self.old.failures made ≡ Ok self.new.failures) }
     {
-        let Err(fault) = made else {
-            self.failures = 0;
-            return Ok(());
-        };
-        match end_after(fault) {
-            Some(end) => Err(end),
-            None => self.fail(),
-        }
+        self.failures = failures_after_turn(self.failures, made)?;
+        Ok(())
     }
 
     /// Performs the call of a line, and prints its outcome and what has changed. An empty line and a comment are skipped.
     /// A line that is no call is reported.
-    #[tactic(auto, using(crate::proofs::Noting::at_rest, crate::proofs::Noting::kept))]
+    #[tactic(auto, using(crate::proofs::Noting::at_rest, crate::proofs::Noting::unmoved))]
     pub fn call(&mut self, line: &[u8]) -> Result<(), EarlyEnd>
-        ensures { Recorded W.contents self.old.witness.recorder self.new.witness.recorder
-            (D.table self.old.device) (D.table self.new.device) }
+        ensures { Recorded W.contents P.is_scripted C.is_scripted C.coming P.tape P.failed D.table self.old self.new }
     {
         self.lines = self.lines.saturating_add(1);
-        if line.is_empty() || line[0] == b'#' {
-            return Ok(());
-        }
-        match read_call(self.alloc, line) {
-            Ok(event) => self.act(&event),
-            Err(LineFault::Bad) => self.report_line(),
-            Err(LineFault::OutOfMemory) => Err(EarlyEnd::OutOfMemory),
+        match read_line(self.alloc, line)? {
+            InputLine::Skipped => Ok(()),
+            InputLine::Call(event) => self.act(&event),
+            InputLine::NoCall => self.report_line(),
         }
     }
 
-    /// Steps the device by an event of the application, and sends the answer.
+    /// Steps the device by an event of the application, sends the answer, and prints what has changed.
     pub fn act(&mut self, event: &Event) -> Result<(), EarlyEnd>
-        ensures { Recorded W.contents self.old.witness.recorder self.new.witness.recorder
-            (D.table self.old.device) (D.table self.new.device) }
+        ensures { Recorded W.contents P.is_scripted C.is_scripted C.coming P.tape P.failed D.table self.old self.new }
     {
-        let outcome = self.step(event);
-        self.follow(&outcome)
+        self.step_and_send(event)?;
+        self.show()
     }
 
-    /// Steps the device by an event, before its witness.
-    fn step(&mut self, event: &Event) -> Outcome
-        ensures { Recorded W.contents self.old.witness.recorder self.new.witness.recorder
-            (D.table self.old.device) (D.table self.new.device) }
+    /// Steps the device by an event of the application, and sends the answer. What cannot be sent is lost, as it may be on
+    /// the network.
+    #[tactic(auto, using(crate::proofs::Noting::at_rest, crate::proofs::Noting::unmoved))]
+    fn step_and_send(&mut self, event: &Event) -> Result<(), EarlyEnd>
+        ensures { Recorded W.contents P.is_scripted C.is_scripted C.coming P.tape P.failed D.table self.old self.new }
     {
-        let outcome = self.device.step(event);
-        self.witness.stepped(event, &outcome);
-        outcome
-    }
-
-    /// Sends the answer of a step, and prints what has changed.
-    fn follow(&mut self, outcome: &Outcome) -> Result<(), EarlyEnd>
-        ensures recorder { self.new.witness.recorder ≡ self.old.witness.recorder }
-        ensures device { self.new.device ≡ self.old.device }
-    {
-        match outcome {
-            Ok(answer) => {
-                self.send(answer)?;
-                self.show()
-            }
-            Err(StepFault::OutOfMemory) => Err(EarlyEnd::OutOfMemory),
-            Err(_) => self.show(),
-        }
-    }
-
-    /// Sends an answer. What cannot be sent is lost, as it may be on the network.
-    fn send(&mut self, answer: &Answer) -> Result<(), EarlyEnd>
-        ensures recorder { self.new.witness.recorder ≡ self.old.witness.recorder }
-        ensures device { self.new.device ≡ self.old.device }
-    {
-        // (`send_answer` requires that the count of failures can rise)
+        // (`act` requires that the count of failures can rise)
         if self.port.failures() == u64::MAX {
             return Err(EarlyEnd::Port);
         }
-        match send_answer(&mut self.port, answer) {
-            Ok(()) => Ok(()),
-            Err(_) => self.fail(),
-        }
+        let made = act(&mut self.port, &mut self.device, &mut self.observer, event);
+        self.go_on_after_call(made)
+    }
+
+    /// Goes on after a call, if the station does not end with it. A call that the device refuses ends no station.
+    fn go_on_after_call(&mut self, made: Result<(), RunFault>) -> Result<(), EarlyEnd>
+        ensures rests { Rests P.is_scripted P.tape P.failed self.old self.new }
+        ensures counted { OnOk result (failures_after_call self.old.failures made ≡ Ok self.new.failures) }
+    {
+        self.failures = failures_after_call(self.failures, made)?;
+        Ok(())
     }
 
     /// Asks a scanner to open each slot.
     pub fn start(&mut self, slots: u32) -> Result<(), EarlyEnd>
-        ensures { Recorded W.contents self.old.witness.recorder self.new.witness.recorder
-            (D.table self.old.device) (D.table self.new.device) }
+        ensures { Recorded W.contents P.is_scripted C.is_scripted C.coming P.tape P.failed D.table self.old self.new }
     {
         for slot in 0..slots {
             self.act(&Event::Start { slot })?;
@@ -382,8 +310,7 @@ impl<P: KeptPort, C: Clock, D: Device, W: RecordSink + Drop, O: LineSink, E: Lin
 
     /// Asks a scanner to close each slot.
     pub fn stop(&mut self, slots: u32) -> Result<(), EarlyEnd>
-        ensures { Recorded W.contents self.old.witness.recorder self.new.witness.recorder
-            (D.table self.old.device) (D.table self.new.device) }
+        ensures { Recorded W.contents P.is_scripted C.is_scripted C.coming P.tape P.failed D.table self.old self.new }
     {
         for slot in 0..slots {
             self.act(&Event::Stop { slot })?;
@@ -392,35 +319,45 @@ impl<P: KeptPort, C: Clock, D: Device, W: RecordSink + Drop, O: LineSink, E: Lin
     }
 
     /// Whether a slot is being closed.
-    pub fn is_closing(&self) -> bool {
-        self.witness.sessions().is_closing()
+    pub fn is_closing(&self) -> bool
+        ensures { result ≡ list_any is_marked self.now.observer.closing }
+    {
+        self.observer.is_closing()
     }
 
-    /// Ends each session: sends UnRegisterSession, and closes the stream.
+    /// Ends each session of the device: sends UnRegisterSession, and closes the stream.
     ///
     /// Volume 2, chapter 2, UnRegisterSession.
     pub fn unregister(&mut self) -> Result<(), EarlyEnd>
-        ensures recorder { self.new.witness.recorder ≡ self.old.witness.recorder }
-        ensures device { self.new.device ≡ self.old.device }
+        ensures unstepped { Unstepped self.old self.new }
+        ensures ended { OnOk result (Ended P.is_scripted P.tape P.failed D.table self.old self.new) }
     {
-        for stream in 0..MOST_STREAMS as u16 {
-            if let Some(session) = self.witness.sessions().handle(stream) {
-                self.end_session(stream, session)?;
-            }
+        let copy = self.device.copy()?;
+        let sessions = sessions_of(self.alloc, copy.table())?;
+        self.end_sessions(sessions.as_slice())
+    }
+
+    /// Ends these sessions, one after another.
+    fn end_sessions(&mut self, sessions: &[Session]) -> Result<(), EarlyEnd>
+        ensures unstepped { Unstepped self.old self.new }
+        ensures ended { OnOk result (Ends P.is_scripted P.tape P.failed sessions.now self.old self.new) }
+    {
+        for session in sessions {
+            self.end_session(*session)?;
         }
         Ok(())
     }
 
-    /// Sends UnRegisterSession over a stream, and closes it.
-    fn end_session(&mut self, stream: u16, session: u32) -> Result<(), EarlyEnd>
-        ensures recorder { self.new.witness.recorder ≡ self.old.witness.recorder }
-        ensures device { self.new.device ≡ self.old.device }
+    /// Sends UnRegisterSession over the stream of a session, and closes it.
+    fn end_session(&mut self, session: Session) -> Result<(), EarlyEnd>
+        ensures unstepped { Unstepped self.old self.new }
+        ensures ended { OnOk result (Ends P.is_scripted P.tape P.failed (session ∷ []) self.old self.new) }
     {
         if self.port.failures() == u64::MAX {
             return Err(EarlyEnd::Port);
         }
-        let message = unregister_message(self.alloc, session)?;
-        let bytes = message.as_slice();
+        let message = unregister_message(self.alloc, session.handle)?;
+        let (stream, bytes) = (session.stream, message.as_slice());
         // (a stream that has broken takes no message; that is no fault of the station)
         if self.port.send(&Output::Frame { stream, bytes }).is_err() {
             return Ok(());
@@ -429,43 +366,22 @@ impl<P: KeptPort, C: Clock, D: Device, W: RecordSink + Drop, O: LineSink, E: Lin
         Ok(())
     }
 
-    /// Counts a failure of the port.
-    fn fail(&mut self) -> Result<(), EarlyEnd>
-        ensures recorder { self.new.witness.recorder ≡ self.old.witness.recorder }
-        ensures device { self.new.device ≡ self.old.device }
-        ensures clock { self.new.clock ≡ self.old.clock }
-        ensures kept { P.is_scripted ≡ true → P.tape self.new.port ≡ P.tape self.old.port }
-        ensures worked { P.failed self.new.port ≡ P.failed self.old.port }
-    {
-        if self.failures >= MOST_FAILURES {
-            return Err(EarlyEnd::Port);
-        }
-        self.failures += 1;
-        Ok(())
-    }
-
     /// Prints the points that have changed. The fault: there was no memory for an outcome or a change.
     fn show(&mut self) -> Result<(), EarlyEnd>
-        ensures recorder { self.new.witness.recorder ≡ self.old.witness.recorder }
-        ensures device { self.new.device ≡ self.old.device }
-        ensures clock { self.new.clock ≡ self.old.clock }
-        ensures kept { P.is_scripted ≡ true → P.tape self.new.port ≡ P.tape self.old.port }
-        ensures worked { P.failed self.new.port ≡ P.failed self.old.port }
+        ensures { Rests P.is_scripted P.tape P.failed self.old self.new }
     {
-        self.witness.check()?;
+        self.observer.check()?;
         self.text.clear();
-        let number = self.witness.count();
-        let ms = self.witness.now_ms();
+        let at = self.observer.moment();
         self.points
-            .push_changes(self.alloc, &mut self.text, &self.device, number, ms)?;
-        self.witness.print(self.text.as_bytes());
+            .push_changes(self.alloc, &mut self.text, &self.device, at)?;
+        self.observer.print(self.text.as_bytes());
         Ok(())
     }
 
     /// Reports that a line of the input is no call.
     fn report_line(&mut self) -> Result<(), EarlyEnd>
-        ensures recorder { self.new.witness.recorder ≡ self.old.witness.recorder }
-        ensures device { self.new.device ≡ self.old.device }
+        ensures { Rests P.is_scripted P.tape P.failed self.old self.new }
     {
         self.text.clear();
         let number = self.lines;
@@ -477,20 +393,7 @@ impl<P: KeptPort, C: Clock, D: Device, W: RecordSink + Drop, O: LineSink, E: Lin
         {
             return Err(EarlyEnd::OutOfMemory);
         }
-        self.witness.report(self.text.as_bytes());
+        self.observer.report(self.text.as_bytes());
         Ok(())
     }
-}
-
-/// The message that ends a session.
-fn unregister_message(alloc: Global, session: u32) -> Result<Vec<u8>, OutOfMemory> {
-    let message = MessageView {
-        command: command::UNREGISTER_SESSION,
-        session,
-        status: 0,
-        context: 0,
-        options: 0,
-        data: &[],
-    };
-    write_message(alloc, &message)
 }

@@ -1,87 +1,94 @@
-//! The sessions that a scanner has registered, and the slots that are being closed.
+//! The sessions of a device, and the message that ends one.
 
-ghost use Rattle.std.specs.Prelude.{◌≡◌, IfSome};
+ghost use Rattle.std.specs.Prelude.{◌≡◌, IfOk, OnOk};
+ghost use Rattle.scanner_table.specs.Sessions.{session_on};
+ghost use Rattle.station.specs.Sessions.{adapter_session, sessions_of, sessions_through, unregister_text};
 
-use cip_encap::{command, read_message};
-use cip_events::{Event, Notice};
-use cip_types::limits::{MOST_SLOTS, MOST_STREAMS};
+use adapter_table::Stream;
+use cip_encap::{MessageView, command, write_message};
+use cip_tables::DeviceTable;
+use cip_types::OutOfMemory;
+use scanner_table::{Session, Stage, TargetStream};
+use std::alloc::Global;
 
-/// The state of a slot whose connection is being closed.
-const CLOSING: u8 = 6;
-
-/// What the end of a station has to know: the session of each stream, and which slots are being closed.
-#[derive(Clone, Copy)]
-pub struct Sessions {
-    handles: [Option<u32>; MOST_STREAMS],
-    closing: [bool; MOST_SLOTS],
+/// The sessions of a device, in the order of its streams. The only fault is a refused allocation.
+pub(crate) fn sessions_of(alloc: Global, table: &DeviceTable) -> Result<Vec<Session>, OutOfMemory>
+    ensures { IfOk result (λ found. found.items ≡ sessions_of table.now) }
+{
+    let mut found = Vec::new(alloc);
+    match table {
+        DeviceTable::Adapter(table) => push_adapter_sessions(&mut found, table.streams.as_slice())?,
+        DeviceTable::Scanner(table) => push_scanner_sessions(&mut found, table.streams.as_slice())?,
+    }
+    Ok(found)
 }
 
-impl Sessions {
-    /// No session, and no slot that is being closed.
-    pub fn none() -> Sessions {
-        Sessions {
-            handles: [None; MOST_STREAMS],
-            closing: [false; MOST_SLOTS],
+/// Appends the sessions of an adapter's streams.
+fn push_adapter_sessions(found: &mut Vec<Session>, streams: &[Stream]) -> Result<(), OutOfMemory>
+    ensures { OnOk result (found.new.items ≡ sessions_through adapter_session found.old.items streams.now) }
+{
+    for stream in streams {
+        if let Some(session) = adapter_session(stream) {
+            found.push(session)?;
         }
     }
+    Ok(())
+}
 
-    /// Notes an event: a stream has no session from its beginning and after its end, and the one that a reply gives it.
-    pub fn see_event(&mut self, event: &Event) {
-        match event {
-            Event::StreamOpened { stream, peer: _ } => self.put(*stream, None),
-            Event::StreamCut { stream } => self.put(*stream, None),
-            Event::Frame { stream, bytes } => {
-                if let Some(handle) = registered_session(bytes.as_slice()) {
-                    self.put(*stream, Some(handle));
-                }
-            }
-            _ => {}
+/// Appends the sessions of a scanner's streams.
+fn push_scanner_sessions(
+    found: &mut Vec<Session>,
+    streams: &[TargetStream],
+) -> Result<(), OutOfMemory>
+    ensures { OnOk result (found.new.items ≡ sessions_through session_on found.old.items streams.now) }
+{
+    for stream in streams {
+        if let Some(session) = scanner_session(stream) {
+            found.push(session)?;
         }
     }
+    Ok(())
+}
 
-    /// Notes the notices of an answer: which slots are being closed.
-    pub fn see_notices(&mut self, notices: &[Notice]) {
-        for notice in notices {
-            if let Notice::Slot(slot, state) = notice {
-                self.put_slot(*slot, *state == CLOSING);
-            }
-        }
+/// The session on a stream of an adapter.
+fn adapter_session(stream: &Stream) -> Option<Session>
+    ensures { result ≡ adapter_session stream.now }
+{
+    if !stream.registered {
+        return None;
     }
+    Some(Session {
+        stream: stream.number,
+        handle: u32::from(stream.number) + 1,
+    })
+}
 
-    /// Whether a slot is being closed.
-    pub fn is_closing(&self) -> bool {
-        self.closing.iter().any(|closing| *closing)
-    }
-
-    /// The session of a stream.
-    pub fn handle(&self, stream: u16) -> Option<u32> {
-        *self.handles.get(usize::from(stream))?
-    }
-
-    fn put(&mut self, stream: u16, handle: Option<u32>) {
-        if let Some(place) = self.handles.get_mut(usize::from(stream)) {
-            *place = handle;
-        }
-    }
-
-    fn put_slot(&mut self, slot: u32, closing: bool) {
-        let Ok(slot) = usize::try_from(slot) else {
-            return;
-        };
-        if let Some(place) = self.closing.get_mut(slot) {
-            *place = closing;
-        }
+/// The session on a stream of a scanner.
+fn scanner_session(stream: &TargetStream) -> Option<Session>
+    ensures { result ≡ session_on stream.now }
+{
+    match stream.stage {
+        Stage::Up(handle) => Some(Session {
+            stream: stream.number,
+            handle,
+        }),
+        _ => None,
     }
 }
 
-/// The session that a reply to RegisterSession gives.
+/// The message that ends a session.
 ///
-/// Volume 2, chapter 2, RegisterSession.
-fn registered_session(bytes: &[u8]) -> Option<u32> {
-    let message = read_message(bytes).ok()?;
-    if message.command == command::REGISTER_SESSION && message.status == 0 {
-        Some(message.session)
-    } else {
-        None
-    }
+/// Volume 2, chapter 2, UnRegisterSession.
+pub(crate) fn unregister_message(alloc: Global, session: u32) -> Result<Vec<u8>, OutOfMemory>
+    ensures { IfOk result (λ message. message.items ≡ unregister_text session) }
+{
+    let message = MessageView {
+        command: command::UNREGISTER_SESSION,
+        session,
+        status: 0,
+        context: 0,
+        options: 0,
+        data: &[],
+    };
+    write_message(alloc, &message)
 }

@@ -1,6 +1,6 @@
 -- A record with one entry more.
 use Rattle.std.proofs.Common.{append_assoc, ◌≡◌, ◌≢◌, ℕ, ◌+◌, ◌-◌, ◌^◌, min, List, [], ◌∷◌, ◌++◌, length, Option, Some, None, Ok, Err, refl, sym, ap, subst, ◌∙◌, arith}
-use Rattle.std.specs.Prelude.{IfSome}
+use Rattle.std.specs.Prelude.{IfSome, IsSome}
 use Rattle.std.specs.Io.KnownBytes.{Appends}
 use Rattle.std.proofs.lemmas.List.{append-nil, length-append}
 use Rattle.cip_events.specs.declared.event.Event.{Event}
@@ -9,10 +9,11 @@ use Rattle.cip_events.specs.Outcomes.{Outcome}
 use Rattle.cip_tables.specs.declared.table.Config.{Config}
 use Rattle.trace_text.specs.Reading.{Entry}
 use Rattle.trace_text.specs.Written.{config_lines, entries_text, event_words, recorded_text, trace_text}
-use Rattle.trace_outcomes.specs.Written.{outcome_text}
+use Rattle.trace_lines.specs.WrittenOutcomes.{outcome_text}
 use Rattle.trace_words.specs.Words.{line_text}
-use Rattle.station_record.specs.Records.{GoesOn, IsRecordedAs, IsTraceOf, Records, entries_of, entry_text}
+use Rattle.station_record.specs.Records.{GoesOn, IsNoted, IsRecordedAs, IsTraceOf, Records, SaysEnd, entries_of, entry_text, next_number, said_end}
 use Rattle.station_record.specs.Shortened.{recorded_event}
+use Rattle.station_record.specs.declared.fault.RecordFault.{RecordFault}
 use Rattle.station_record.specs.declared.recorder.Recorder.{Recorder}
 
 -- an event and its outcome as they are written
@@ -66,12 +67,25 @@ appended (Some xs) (Some ys) head config entries event outcome had more =
     more ∙ ap (λ front. front ++ text) had ∙ append_assoc head before text ∙ ap (λ rest. head ++ rest) (sym (grows config entries event outcome))
 
 -- the same of a record that may be closed
-pub recorded : {W : Type 0} (contents : W → Option (List ℕ)) (old new : Option W) (number : ℕ) (head : List ℕ) (config : Config) (entries : List Entry) (event : Event) (outcome : Outcome) → number ≡ length entries + 1 → IfSome old (λ out. IsTraceOf (contents out) head config entries) → IsRecordedAs contents old new (entry_text number event outcome) → IfSome new (λ out. IsTraceOf (contents out) head config (entries ++ (recorded_event event outcome, Some outcome) ∷ []))
-recorded contents None None number head config entries event outcome count had more = tt
-recorded contents None (Some new) number head config entries event outcome count had more = absurd (cc)
-recorded contents (Some old) None number head config entries event outcome count had more = tt
-recorded contents (Some old) (Some new) number head config entries event outcome count had more =
+pub recorded : {W : Type 0} (contents : W → Option (List ℕ)) (accepts : W → List ℕ → Type 0) (old new : Option W) (number : ℕ) (head : List ℕ) (config : Config) (entries : List Entry) (event : Event) (outcome : Outcome) (answer : Option RecordFault) → number ≡ length entries + 1 → IfSome old (λ out. IsTraceOf (contents out) head config entries) → IsRecordedAs contents accepts old new (entry_text number event outcome) answer → IfSome new (λ out. IsTraceOf (contents out) head config (entries ++ (recorded_event event outcome, Some outcome) ∷ []))
+recorded contents accepts None None number head config entries event outcome answer count had more = tt
+recorded contents accepts None (Some new) number head config entries event outcome answer count had (none, silent) = absurd (cc)
+recorded contents accepts (Some old) None number head config entries event outcome answer count had more = tt
+recorded contents accepts (Some old) (Some new) number head config entries event outcome (Some fault) count had more = absurd more
+recorded contents accepts (Some old) (Some new) number head config entries event outcome None count had more =
     appended (contents old) (contents new) head config entries (recorded_event event outcome) outcome had (subst (λ n. Appends (contents old) (contents new) (entry_text n event outcome)) count more)
+
+-- a record that was handed a text says its end
+pub says_end : {W : Type 0} (contents : W → Option (List ℕ)) (accepts : W → List ℕ → Type 0) (old new : Option W) (text : List ℕ) (before answer after : Option RecordFault) → IsRecordedAs contents accepts old new text answer → after ≡ said_end before answer → SaysEnd old new before after
+says_end contents accepts None new text before answer after (none, silent) is = (none, is ∙ ap (said_end before) silent)
+says_end contents accepts (Some old) None text before None after more is = absurd more
+says_end contents accepts (Some old) None text before (Some fault) after more is = subst IsSome (sym is) refl
+says_end contents accepts (Some old) (Some new) text before None after more is = is
+says_end contents accepts (Some old) (Some new) text before (Some fault) after more is = absurd more
+
+pub says_nothing : {W : Type 0} (out : Option W) (ended : Option RecordFault) → SaysEnd out out ended ended
+says_nothing None ended = (refl, refl)
+says_nothing (Some out) ended = refl
 
 -- the entry of an event that found memory
 entry_is : (event : Event) (outcome : Outcome) → outcome ≢ Err fault.OutOfMemory → entries_of event outcome ≡ (recorded_event event outcome, Some outcome) ∷ []
@@ -91,12 +105,26 @@ notes_nothing contents recorder event outcome is head config entries few had =
     subst (Records contents recorder head config) (sym same) had
 
 -- each other event is an entry more
-pub notes_entry : {W : Type 0} (contents : W → Option (List ℕ)) (old new : Recorder W) (event : Event) (outcome : Outcome) (number : ℕ) → outcome ≢ Err fault.OutOfMemory → number ≡ min (old.count + 1) (2 ^ 64 - 1) → new.count ≡ number → IsRecordedAs contents old.out new.out (entry_text number event outcome) → GoesOn contents old event outcome new
-notes_entry contents old new event outcome number other rises count more head config entries few had =
+pub notes_entry : {W : Type 0} (contents : W → Option (List ℕ)) (accepts : W → List ℕ → Type 0) (old new : Recorder W) (event : Event) (outcome : Outcome) (answer : Option RecordFault) (number : ℕ) → outcome ≢ Err fault.OutOfMemory → number ≡ min (old.count + 1) (2 ^ 64 - 1) → new.count ≡ number → IsRecordedAs contents accepts old.out new.out (entry_text number event outcome) answer → GoesOn contents old event outcome new
+notes_entry contents accepts old new event outcome answer number other rises count more head config entries few had =
     let next : number ≡ length entries + 1 = grind (arith, rises, had.counts, few) in
     let longer : length (entries ++ (recorded_event event outcome, Some outcome) ∷ []) ≡ length entries + 1 = length-append entries _ in
     subst (λ last. Records contents new head config (entries ++ last)) (sym (entry_is event outcome other))
     (record {
       counts = count ∙ next ∙ sym longer;
-      text = recorded contents old.out new.out number head config entries event outcome next had.text more;
+      text = recorded contents accepts old.out new.out number head config entries event outcome answer next had.text more;
     })
+
+-- what was handed to the record, if the event found memory
+pub is_noted : {W : Type 0} (contents : W → Option (List ℕ)) (accepts : W → List ℕ → Type 0) (old new : Recorder W) (event : Event) (outcome : Outcome) (answer : Option RecordFault) → outcome ≢ Err fault.OutOfMemory → IsRecordedAs contents accepts old.out new.out (entry_text (next_number old) event outcome) answer → new.ended ≡ said_end old.ended answer → IsNoted contents accepts old event outcome new answer
+is_noted contents accepts old new event (Ok answer) given other more is = (more, is)
+is_noted contents accepts old new event (Err fault.OutOfMemory) given other more is = absurd (other refl)
+is_noted contents accepts old new event (Err fault.TickTooLong) given other more is = (more, is)
+is_noted contents accepts old new event (Err fault.ClockEnd) given other more is = (more, is)
+is_noted contents accepts old new event (Err fault.NoSuchPoint) given other more is = (more, is)
+is_noted contents accepts old new event (Err fault.WrongLength) given other more is = (more, is)
+is_noted contents accepts old new event (Err fault.NoSuchSlot) given other more is = (more, is)
+is_noted contents accepts old new event (Err fault.NotAllowedNow) given other more is = (more, is)
+
+pub is_noted_nothing : {W : Type 0} (contents : W → Option (List ℕ)) (accepts : W → List ℕ → Type 0) (recorder : Recorder W) (event : Event) (outcome : Outcome) → outcome ≡ Err fault.OutOfMemory → IsNoted contents accepts recorder event outcome recorder None
+is_noted_nothing contents accepts recorder event outcome is = subst (λ o. IsNoted contents accepts recorder event o recorder None) (sym is) (refl, refl)

@@ -23,7 +23,7 @@ use Rattle.adapter_table.specs.Connections.{Row}
 use Rattle.adapter_table.specs.Requests.{Next as AdapterNext}
 use Rattle.adapter_table.specs.Datagrams as adapter
 use Rattle.scanner_table.specs.declared.table.ScannerTable.{ScannerTable}
-use Rattle.scanner_table.specs.declared.slot.Connection as slotted
+use Rattle.scanner_table.specs.declared.slot.SlotConnection as slotted
 use Rattle.scanner_table.specs.declared.slot.SlotState.{SlotState}
 use Rattle.scanner_table.specs.declared.slot.SlotState.TheVariants.{Idle, Opening, Established, TimedOut, Closing}
 use Rattle.scanner_table.specs.Slots.{IndexedSlot, indexed_slots}
@@ -86,7 +86,7 @@ adapter_alike t peer (Ok d) bare is lost = ap (adapter.datagram_of t peer) is �
 
 -- A SCANNER
 
-connected_kept : (t : ScannerTable) (indexed : IndexedSlot) (d : DatagramFields) (c : slotted.Connection) → is_for_none (Ok (scanner.connected t indexed d c).0) ≡ false
+connected_kept : (t : ScannerTable) (indexed : IndexedSlot) (d : DatagramFields) (c : slotted.SlotConnection) → is_for_none (Ok (scanner.connected t indexed d c).0) ≡ false
 connected_kept t indexed d c =
     either keeps (length d.payload == indexed.config.in_len) _ _
     (either keeps (accepts_sequence c.last d.sequence) _ _ (either keeps (is_duplicate c.last d.count) _ _ refl refl) refl)

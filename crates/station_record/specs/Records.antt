@@ -1,14 +1,16 @@
 -- What a recorder has written.
-use Rattle.std.specs.Prelude.{ℕ, ◌≡◌, ◌+◌, ◌-◌, ◌^◌, ◌<◌, min, List, [], ◌∷◌, ◌++◌, length, Option, Some, None, Err, IfSome, IsSomeAnd}
+use Rattle.std.specs.Prelude.{ℕ, ◌≡◌, ◌+◌, ◌-◌, ◌^◌, ◌<◌, min, List, [], ◌∷◌, ◌++◌, length, Option, Some, None, Err, IfSome, IsSome, IsSomeAnd}
 use Rattle.std.specs.Io.KnownBytes.{Appends}
 use Rattle.cip_events.specs.declared.event.Event.{Event}
 use Rattle.cip_events.specs.declared.event.StepFault.TheVariants as fault
 use Rattle.cip_events.specs.Outcomes.{Outcome}
 use Rattle.cip_tables.specs.declared.table.Config.{Config}
 use Rattle.trace_words.specs.Words.{line_text}
-use Rattle.trace_outcomes.specs.Written.{outcome_text}
+use Rattle.trace_lines.specs.WrittenOutcomes.{outcome_text}
 use Rattle.trace_text.specs.Reading.{Entry}
 use Rattle.trace_text.specs.Written.{event_words, trace_text}
+use Rattle.station_record.specs.declared.fault.RecordFault.{RecordFault}
+use Rattle.station_record.specs.declared.fault.RecordFault.TheVariants as end
 use Rattle.station_record.specs.declared.recorder.Recorder.{Recorder}
 use Rattle.station_record.specs.Shortened.{Repeats, recorded_event}
 
@@ -16,24 +18,30 @@ use Rattle.station_record.specs.Shortened.{Repeats, recorded_event}
 abbrev pub entry_text : ℕ → Event → Outcome → List ℕ
 entry_text number event outcome = line_text (event_words (recorded_event event outcome)) ++ outcome_text number outcome
 
--- a text is written if the record was open and stays open
-abbrev pub IsRecordedAs : {W : Type 0} → (W → Option (List ℕ)) → Option W → Option W → List ℕ → Type 0
-IsRecordedAs contents None new text = new ≡ None
-IsRecordedAs contents (Some old) None text = Unit {0}
-IsRecordedAs contents (Some old) (Some new) text = Appends (contents old) (contents new) text
+-- A text was handed to a record, with this answer. An open record has taken it, and answers nothing; or it has ended, and
+-- answers why: its sink does not take this text, or there was no memory for it. A record that has ended takes nothing.
+abbrev pub IsRecordedAs : {W : Type 0} → (W → Option (List ℕ)) → (W → List ℕ → Type 0) → Option W → Option W → List ℕ → Option RecordFault → Type 0
+IsRecordedAs contents accepts None new text answer = (new ≡ None) × (answer ≡ None)
+IsRecordedAs contents accepts (Some old) None text None = ⊥
+IsRecordedAs contents accepts (Some old) None text (Some end.Refused) = accepts old text → ⊥
+IsRecordedAs contents accepts (Some old) None text (Some end.OutOfMemory) = Unit {0}
+IsRecordedAs contents accepts (Some old) (Some new) text None = Appends (contents old) (contents new) text
+IsRecordedAs contents accepts (Some old) (Some new) text (Some fault) = ⊥
 
--- the sink takes a text, if there is a sink
-abbrev pub AcceptsText : {W : Type 0} → (W → List ℕ → Type 0) → Option W → List ℕ → Type 0
-AcceptsText accepts None text = Unit {0}
-AcceptsText accepts (Some out) text = accepts out text
+-- why a record has ended, once it was handed a text with this answer
+abbrev pub said_end : Option RecordFault → Option RecordFault → Option RecordFault
+said_end before None = before
+said_end before (Some fault) = Some fault
 
 -- the number of the next event; 2^64 - 1 is the last number
 abbrev pub next_number : {W : Type 0} → Recorder W → ℕ
 next_number recorder = min (recorder.count + 1) (2 ^ 64 - 1)
 
--- the sink takes the next event and its outcome
-abbrev pub Accepts : {W : Type 0} → (W → List ℕ → Type 0) → Recorder W → Event → Outcome → Type 0
-Accepts accepts recorder event outcome = AcceptsText accepts recorder.out (entry_text (next_number recorder) event outcome)
+-- The next event and its outcome were handed to a record, with this answer. Those of an event that found no memory were not.
+abbrev pub IsNoted : {W : Type 0} → (W → Option (List ℕ)) → (W → List ℕ → Type 0) → Recorder W → Event → Outcome → Recorder W → Option RecordFault → Type 0
+IsNoted contents accepts old event (Err fault.OutOfMemory) new answer = (new ≡ old) × (answer ≡ None)
+IsNoted contents accepts old event outcome new answer =
+    IsRecordedAs contents accepts old.out new.out (entry_text (next_number old) event outcome) answer × (new.ended ≡ said_end old.ended answer)
 
 -- the bytes of a record are known: its head, and the text of a trace
 abbrev pub IsTraceOf : Option (List ℕ) → List ℕ → Config → List Entry → Type 0
@@ -53,6 +61,13 @@ entries_of event outcome = (recorded_event event outcome, Some outcome) ∷ []
 abbrev pub GoesOn : {W : Type 0} → (W → Option (List ℕ)) → Recorder W → Event → Outcome → Recorder W → Type 0
 GoesOn contents old event outcome new = (head : List ℕ) (config : Config) (entries : List Entry) → length entries < 2 ^ 64 - 1 → Records contents old head config entries → Records contents new head config (entries ++ entries_of event outcome)
 
--- a recorder has noted an event and its outcome, in words that every device takes as it takes the event
+-- a record that ends says why, and until then and from then on it says nothing else
+abbrev pub SaysEnd : {W : Type 0} → Option W → Option W → Option RecordFault → Option RecordFault → Type 0
+SaysEnd None new before after = (new ≡ None) × (after ≡ before)
+SaysEnd (Some old) None before after = IsSome after
+SaysEnd (Some old) (Some new) before after = after ≡ before
+
+-- A recorder has noted an event and its outcome, in words that every device takes as it takes the event. If its record has
+-- ended with them, it says why.
 abbrev pub Notes : {W : Type 0} → (W → Option (List ℕ)) → Recorder W → Event → Outcome → Recorder W → Type 0
-Notes contents old event outcome new = GoesOn contents old event outcome new × Repeats event outcome
+Notes contents old event outcome new = GoesOn contents old event outcome new × (Repeats event outcome × SaysEnd old.out new.out old.ended new.ended)

@@ -1,6 +1,6 @@
 //! The files of a record: a full one is followed by the next.
 
-ghost use Rattle.std.specs.Prelude.{◌≡◌, ◌≤◌, ◌+◌, ◌^◌, ◌-◌, min, IfOk, string_bytes};
+ghost use Rattle.std.specs.Prelude.{◌≡◌, ◌≤◌, ◌-◌, IfOk, string_bytes};
 ghost use Rattle.station_record.specs.Files.{file_name_text, first_file, grown, longest_file, placed};
 
 use cip_types::OutOfMemory;

@@ -1,8 +1,8 @@
 //! A recorder, which writes the events of a device and their outcomes.
 
-ghost use Rattle.std.specs.Prelude.{◌≡◌, ◌≢◌, ◌↔◌, ◌++◌, [], Some, None, Err, IsTrue, IfOk, OnOk, IsSome, string_bytes};
+ghost use Rattle.std.specs.Prelude.{◌≡◌, ◌≢◌, ◌↔◌, ◌++◌, [], None, Err, IsTrue, IfOk, OnOk, IsSome, string_bytes};
 ghost use Rattle.std.specs.Io.KnownBytes.{Appends};
-ghost use Rattle.station_record.specs.Records.{Accepts, AcceptsText, IsRecordedAs, Notes, Records, entry_text};
+ghost use Rattle.station_record.specs.Records.{IsNoted, IsRecordedAs, Notes, Records, entry_text, said_end};
 ghost use Rattle.trace_text.specs.Written.{config_lines};
 
 use crate::fault::RecordFault;
@@ -18,7 +18,8 @@ use trace_text::{push_config, push_outcome};
 /// The bytes that are written are a head and the text of a trace at all times: the lines of the profile, then for each
 /// event its line and the lines of its outcome. Each event is handed to the sink in one piece, so that a station that is
 /// killed leaves whole events. A record has no limit of its own. It ends where the sink refuses a text or no memory is
-/// left for one, and for no other cause; a record that has ended is closed, and never begins again; the count goes on.
+/// left for one, and for no other cause, which it says from then on. A record that has ended is closed, and never begins
+/// again; the count goes on.
 ///
 /// A datagram that no connection can take has the verdict `unknown` or `malformed`. It is recorded without its data, or
 /// without any bytes if it is malformed: the line then has at most 66 bytes.
@@ -26,6 +27,7 @@ use trace_text::{push_config, push_outcome};
 pub struct Recorder<W> {
     alloc: Global,
     out: Option<W>,
+    ended: Option<RecordFault>,
     count: u64,
     text: String,
 }
@@ -35,10 +37,12 @@ impl<W: RecordSink + Drop> Recorder<W> {
     pub fn idle(alloc: Global) -> Recorder<W>
         ensures closed { result.out ≡ None }
         ensures count { result.count ≡ 0 }
+        ensures unended { result.ended ≡ None }
     {
         Recorder {
             alloc,
             out: None,
+            ended: None,
             count: 0,
             text: String::new(alloc),
         }
@@ -53,8 +57,10 @@ impl<W: RecordSink + Drop> Recorder<W> {
         head: &str,
         out: W,
     ) -> Result<Recorder<W>, RecordFault>
-        ensures begun { IfOk result (λ recorder. W.contents out ≡ Some [] → Records W.contents recorder head.now config.now []) }
+        ensures begun { IfOk result
+            (λ recorder. W.contents out ≡ Some [] → Records W.contents recorder head.now config.now []) }
         ensures opened { IfOk result (λ recorder. IsSome recorder.out) }
+        ensures unended { IfOk result (λ recorder. recorder.ended ≡ None) }
         ensures refused { W.accepts out (head.now ++ config_lines config.now) → result ≢ Err RecordFault.Refused }
     {
         let mut out = out;
@@ -65,6 +71,7 @@ impl<W: RecordSink + Drop> Recorder<W> {
         Ok(Recorder {
             alloc,
             out: Some(out),
+            ended: None,
             count: 0,
             text,
         })
@@ -77,13 +84,19 @@ impl<W: RecordSink + Drop> Recorder<W> {
         self.count
     }
 
+    /// Why the record has ended, if it has.
+    pub fn ended(&self) -> Option<RecordFault>
+        ensures { result ≡ self.now.ended }
+    {
+        self.ended
+    }
+
     /// Notes an event with its outcome, and answers why the record ended with it, if it did. An event for which the device
     /// had no memory changed nothing: it is not counted, and not recorded.
-    #[tactic(auto, using(crate::proofs::Growing::notes_nothing))]
+    #[tactic(auto, using(crate::proofs::Growing::notes_nothing, crate::proofs::Growing::says_nothing, crate::proofs::Growing::is_noted_nothing))]
     pub fn note(&mut self, event: &Event, outcome: &Outcome) -> Option<RecordFault>
         ensures noted { Notes W.contents self.old event.now outcome.now self.new }
-        ensures open { result ≡ None → IsSome self.old.out → IsSome self.new.out }
-        ensures refused { Accepts W.accepts self.old event.now outcome.now → result ≢ Some RecordFault.Refused }
+        ensures ended { IsNoted W.contents W.accepts self.old event.now outcome.now self.new result }
     {
         // (a law: the event as it is recorded has the same outcome)
         repeats(event);
@@ -97,10 +110,9 @@ impl<W: RecordSink + Drop> Recorder<W> {
     /// Records an event with its outcome under the number of the last one, if the record is open. Answers why the record
     /// ended.
     fn record(&mut self, event: &Event, outcome: &Outcome) -> Option<RecordFault>
-        ensures recorded { IsRecordedAs W.contents self.old.out self.new.out
-            (entry_text self.old.count event.now outcome.now) }
-        ensures open { result ≡ None → IsSome self.old.out → IsSome self.new.out }
-        ensures refused { AcceptsText W.accepts self.old.out (entry_text self.old.count event.now outcome.now) → result ≢ Some RecordFault.Refused }
+        ensures recorded { IsRecordedAs W.contents W.accepts self.old.out self.new.out
+            (entry_text self.old.count event.now outcome.now) result }
+        ensures said { self.new.ended ≡ said_end self.old.ended result }
         ensures counted { self.new.count ≡ self.old.count }
     {
         let Some(mut out) = self.out.take() else {
@@ -112,7 +124,10 @@ impl<W: RecordSink + Drop> Recorder<W> {
                 self.out = Some(out);
                 None
             }
-            Err(fault) => Some(fault),
+            Err(fault) => {
+                self.ended = Some(fault);
+                self.ended
+            }
         }
     }
 }
@@ -126,7 +141,8 @@ fn append<W: RecordSink>(
     event: &Event,
     outcome: &Outcome,
 ) -> Result<(), RecordFault>
-    ensures appends { OnOk result (Appends (W.contents out.old) (W.contents out.new) (entry_text number event.now outcome.now)) }
+    ensures appends { OnOk result
+        (Appends (W.contents out.old) (W.contents out.new) (entry_text number event.now outcome.now)) }
     ensures refused { W.accepts out.old (entry_text number event.now outcome.now) → result ≢ Err RecordFault.Refused }
 {
     text.clear();

@@ -1,7 +1,7 @@
 //! The text of a station's state: two lines, `incarnation N` and `serial N`.
 
 ghost use Rattle.std.specs.Prelude.{◌≡◌, ◌<◌, ◌++◌, length, position, option_map, IfSome, OnOk, string_bytes};
-ghost use Rattle.station_state.specs.States.{first_line, is_line_feed, line_behind, line_of, number_word, state_of, state_text, state_with, view_line};
+ghost use Rattle.station_state.specs.States.{first_line, is_line_feed, line_behind, number_word, state_of, state_text, state_with, view_line};
 
 use crate::state::StationState;
 use cip_types::OutOfMemory;

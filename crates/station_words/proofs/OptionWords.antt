@@ -6,10 +6,10 @@ use Rattle.station_words.specs.declared.options.Options.{Options}
 use Rattle.station_words.specs.declared.options.Setting.{Setting}
 use Rattle.station_words.specs.declared.options.Flag.{Flag}
 use Rattle.station_words.specs.declared.options.OptionName.TheVariants as name
-use Rattle.station_words.specs.declared.options.Misuse.{Misuse}
-use Rattle.station_words.specs.declared.options.Misuse.TheVariants as misuse
+use Rattle.station_words.specs.declared.options.StationMisuse.{StationMisuse}
+use Rattle.station_words.specs.declared.options.StationMisuse.TheVariants as misuse
 
-abbrev after_value : Options → List ℕ → List (List ℕ) → Setting → Result Options Misuse
+abbrev after_value : Options → List ℕ → List (List ℕ) → Setting → Result Options StationMisuse
 after_value options value rest named = and_then (λ next. options_after next rest) (with_value options named value (length (value ∷ rest)))
 
 -- a word that names no option
@@ -41,7 +41,7 @@ lone_left text options first named [] left none count is =
     ∙ ap (λ n. Err (misuse.NoValue n)) (sym count)
 lone_left text options first named (value ∷ rest) left none count is = absurd (omega (arith, none))
 
-here : {X : Type 0} (text : X → List ℕ) (options : Options) (named : Setting) (after rest : List X) (value : X) (result : Result Options Misuse) → after ≡ value ∷ rest → result ≡ with_value options named (text value) (length after) → result ≡ with_value options named (text value) (length (text value ∷ map text rest))
+here : {X : Type 0} (text : X → List ℕ) (options : Options) (named : Setting) (after rest : List X) (value : X) (result : Result Options StationMisuse) → after ≡ value ∷ rest → result ≡ with_value options named (text value) (length after) → result ≡ with_value options named (text value) (length (text value ∷ map text rest))
 here text options named after rest value result split given =
     let same : length (map text rest) ≡ length rest = length-map rest text in
     let all : length after ≡ length (value ∷ rest) = ap length split in
@@ -54,7 +54,7 @@ valued_on text options next first named after rest value split is given =
     ∙ valued options first (text value) (map text rest) named (sym is)
     ∙ ap (λ r. and_then (λ n. options_after n (map text rest)) r) (sym (here text options named after rest value (Ok next) split given))
 
-pub valued_not : {X : Type 0} (text : X → List ℕ) (options : Options) (fault : Misuse) (first : List ℕ) (named : Setting) (after rest : List X) (value : X) → after ≡ value ∷ rest → Some (name.Valued named) ≡ option_of first → Err fault ≡ with_value options named (text value) (length after) → options_after options (first ∷ map text after) ≡ Err fault
+pub valued_not : {X : Type 0} (text : X → List ℕ) (options : Options) (fault : StationMisuse) (first : List ℕ) (named : Setting) (after rest : List X) (value : X) → after ≡ value ∷ rest → Some (name.Valued named) ≡ option_of first → Err fault ≡ with_value options named (text value) (length after) → options_after options (first ∷ map text after) ≡ Err fault
 valued_not text options fault first named after rest value split is given =
     ap (λ ws. options_after options (first ∷ map text ws)) split
     ∙ valued options first (text value) (map text rest) named (sym is)

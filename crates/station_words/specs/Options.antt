@@ -10,8 +10,8 @@ use Rattle.station_words.specs.declared.options.Flag.{Flag}
 use Rattle.station_words.specs.declared.options.Flag.TheVariants as flag
 use Rattle.station_words.specs.declared.options.OptionName.{OptionName}
 use Rattle.station_words.specs.declared.options.OptionName.TheVariants as name
-use Rattle.station_words.specs.declared.options.Misuse.{Misuse}
-use Rattle.station_words.specs.declared.options.Misuse.TheVariants as misuse
+use Rattle.station_words.specs.declared.options.StationMisuse.{StationMisuse}
+use Rattle.station_words.specs.declared.options.StationMisuse.TheVariants as misuse
 
 -- VALUES
 
@@ -69,7 +69,7 @@ option_of word = meaning option_meanings None word
 
 -- the usual values
 abbrev pub usual : Options
-usual = record { address = None; tcp = 44818; udp = 2222; peer_udp = 2222; seconds = None; record_left = None; state_left = None; incarnation = None; inactivity_s = 120; serial = None; name_left = None; multicast = false; no_input = false; quiet = false }
+usual = record { address = None; tcp = 44818; udp = 2222; peer_udp = 2222; seconds = None; record_from_end = None; state_from_end = None; incarnation = None; inactivity_s = 120; serial = None; name_from_end = None; multicast = false; no_input = false; quiet = false }
 
 -- one that has no value
 abbrev pub with_flag : Options → Flag → Options
@@ -77,7 +77,7 @@ with_flag options flag.Multicast = record options { multicast = true }
 with_flag options flag.NoInput = record options { no_input = true }
 with_flag options flag.Quiet = record options { quiet = true }
 
-abbrev pub with_address : Options → ℕ → Option Node → Result Options Misuse
+abbrev pub with_address : Options → ℕ → Option Node → Result Options StationMisuse
 with_address options left None = Err (misuse.BadAddress left)
 with_address options left (Some address) = Ok (record options { address = Some address })
 
@@ -89,19 +89,19 @@ with_number options setting.Inactivity word = option_map (λ seconds. record opt
 with_number options setting.Serial word = option_map (λ serial. record options { serial = Some serial }) (serial_of word)
 with_number options other word = None
 
-abbrev pub with_number_word : ℕ → Option Options → Result Options Misuse
+abbrev pub with_number_word : ℕ → Option Options → Result Options StationMisuse
 with_number_word left None = Err (misuse.BadValue left)
 with_number_word left (Some options) = Ok options
 
 -- a file for one of the options that are files, from which on so many words are left
 abbrev pub with_file : Options → Setting → ℕ → Options
-with_file options setting.Record left = record options { record_left = Some left }
-with_file options setting.State left = record options { state_left = Some left }
+with_file options setting.Record left = record options { record_from_end = Some left }
+with_file options setting.State left = record options { state_from_end = Some left }
 with_file options other left = options
 
 -- a name of 1 to 32 bytes
-abbrev pub with_name : Options → List ℕ → ℕ → Result Options Misuse
-with_name options word left = if (length word == 0) || nat_lt 32 (length word) then Err (misuse.BadValue left) else Ok (record options { name_left = Some left })
+abbrev pub with_name : Options → List ℕ → ℕ → Result Options StationMisuse
+with_name options word left = if (length word == 0) || nat_lt 32 (length word) then Err (misuse.BadValue left) else Ok (record options { name_from_end = Some left })
 
 -- a port for one of the options that are ports
 abbrev pub with_port : Options → Setting → ℕ → Options
@@ -110,12 +110,12 @@ with_port options setting.Udp port = record options { udp = port }
 with_port options setting.PeerUdp port = record options { peer_udp = port }
 with_port options other port = options
 
-abbrev pub with_port_word : Options → Setting → ℕ → Option ℕ → Result Options Misuse
+abbrev pub with_port_word : Options → Setting → ℕ → Option ℕ → Result Options StationMisuse
 with_port_word options given left None = Err (misuse.BadValue left)
 with_port_word options given left (Some port) = Ok (with_port options given port)
 
 -- the options with the value of one of them; so many words are left, from the value on
-abbrev pub with_value : Options → Setting → List ℕ → ℕ → Result Options Misuse
+abbrev pub with_value : Options → Setting → List ℕ → ℕ → Result Options StationMisuse
 with_value options setting.Address word left = with_address options left (node_of word)
 with_value options setting.Record word left = Ok (with_file options setting.Record left)
 with_value options setting.State word left = Ok (with_file options setting.State left)
@@ -135,12 +135,12 @@ chosen unknown lone valued (Some (name.Alone given)) = lone given
 chosen unknown lone valued (Some (name.Valued named)) = valued named
 
 -- an option behind another
-abbrev pub and_then : {A B : Type 0} → (A → Result B Misuse) → Result A Misuse → Result B Misuse
+abbrev pub and_then : {A B : Type 0} → (A → Result B StationMisuse) → Result A StationMisuse → Result B StationMisuse
 and_then next (Ok value) = next value
 and_then next (Err fault) = Err fault
 
 -- the options with those of the words
-abbrev pub options_after : Options → List (List ℕ) → Result Options Misuse
+abbrev pub options_after : Options → List (List ℕ) → Result Options StationMisuse
 options_after options [] = Ok options
 options_after options (first ∷ []) = chosen (Err (misuse.NoSuchOption 1)) (λ given. Ok (with_flag options given)) (λ _. Err (misuse.NoValue 1)) (option_of first)
 options_after options (first ∷ value ∷ rest) =

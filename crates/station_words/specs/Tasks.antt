@@ -3,15 +3,15 @@ use Rattle.std.specs.Prelude.{ℕ, List, [], ◌∷◌, codes, length, Bool, fal
 use Rattle.trace_words.specs.Reader.{Meanings, meaning}
 use Rattle.station_words.specs.Options.{usual, options_after}
 use Rattle.station_words.specs.declared.options.Options.{Options}
-use Rattle.station_words.specs.declared.options.Misuse.{Misuse}
-use Rattle.station_words.specs.declared.options.Misuse.TheVariants as misuse
-use Rattle.station_words.specs.declared.task.Command.{Command}
-use Rattle.station_words.specs.declared.task.Command.TheVariants as command
-use Rattle.station_words.specs.declared.task.Task.{Task}
-use Rattle.station_words.specs.declared.task.Task.TheVariants as task
+use Rattle.station_words.specs.declared.options.StationMisuse.{StationMisuse}
+use Rattle.station_words.specs.declared.options.StationMisuse.TheVariants as misuse
+use Rattle.station_words.specs.declared.task.StationCommand.{StationCommand}
+use Rattle.station_words.specs.declared.task.StationCommand.TheVariants as command
+use Rattle.station_words.specs.declared.task.ProgramTask.{ProgramTask}
+use Rattle.station_words.specs.declared.task.ProgramTask.TheVariants as task
 
 -- the commands by their names
-abbrev pub command_meanings : Meanings (Option Command)
+abbrev pub command_meanings : Meanings (Option StationCommand)
 command_meanings =
     (codes "adapter", Some command.Adapter)
     ∷ (codes "scanner", Some command.Scanner)
@@ -23,26 +23,26 @@ command_meanings =
     ∷ (codes "--version", Some command.Version)
     ∷ []
 
-unfoldable pub command_of : List ℕ → Option Command
+unfoldable pub command_of : List ℕ → Option StationCommand
 command_of word = meaning command_meanings None word
 
 -- an adapter or a scanner, with its options
-abbrev pub station_with : Bool → Result Options Misuse → Result Task Misuse
+abbrev pub station_with : Bool → Result Options StationMisuse → Result ProgramTask StationMisuse
 station_with scanner (Ok options) = Ok (task.Station (record { scanner = scanner; options = options }))
 station_with scanner (Err fault) = Err fault
 
 -- a station, whose words are the name of its profile and its options
-abbrev pub station_of : Bool → List (List ℕ) → Result Task Misuse
+abbrev pub station_of : Bool → List (List ℕ) → Result ProgramTask StationMisuse
 station_of scanner [] = Err misuse.NoFile
 station_of scanner (file ∷ rest) = station_with scanner (options_after usual rest)
 
 -- a task whose words are the names of its files
-abbrev pub of_files : Task → List (List ℕ) → Result Task Misuse
+abbrev pub of_files : ProgramTask → List (List ℕ) → Result ProgramTask StationMisuse
 of_files given [] = Err misuse.NoFile
 of_files given (file ∷ files) = Ok given
 
 -- the task of a command with the words behind it
-abbrev pub task_with : Command → List (List ℕ) → Result Task Misuse
+abbrev pub task_with : StationCommand → List (List ℕ) → Result ProgramTask StationMisuse
 task_with command.Help words = Ok task.Help
 task_with command.Version words = Ok task.Version
 task_with command.Adapter words = station_of false words
@@ -52,12 +52,12 @@ task_with command.Pcap words = of_files task.Pcap words
 task_with command.Explain words = of_files task.Explain words
 
 -- the task of a command, if the word names one
-abbrev pub task_named : Option Command → ℕ → List (List ℕ) → Result Task Misuse
+abbrev pub task_named : Option StationCommand → ℕ → List (List ℕ) → Result ProgramTask StationMisuse
 task_named None left rest = Err (misuse.NoSuchCommand left)
 task_named (Some named) left rest = task_with named rest
 
 -- the task that the words request, the first of which is the program's own name
-abbrev pub task_of : List (List ℕ) → Result Task Misuse
+abbrev pub task_of : List (List ℕ) → Result ProgramTask StationMisuse
 task_of [] = Err misuse.NoCommand
 task_of (program ∷ []) = Err misuse.NoCommand
 task_of (program ∷ word ∷ rest) = task_named (command_of word) (length (word ∷ rest)) rest

@@ -5,5 +5,5 @@ mod numbers;
 mod options;
 mod task;
 
-pub use options::{Flag, Misuse, OptionName, Options, Setting};
-pub use task::{Command, StationTask, Task, read_task};
+pub use options::{Flag, OptionName, Options, Setting, StationMisuse};
+pub use task::{ProgramTask, StationCommand, StationTask, read_task};

@@ -31,9 +31,9 @@ pub struct Options {
     /// The seconds until the station ends.
     pub seconds: Option<u32>,
     /// The number of words from the record's file on.
-    pub record_left: Option<usize>,
+    pub record_from_end: Option<usize>,
     /// The number of words from the file of the station's state on.
-    pub state_left: Option<usize>,
+    pub state_from_end: Option<usize>,
     /// The incarnation of this start.
     pub incarnation: Option<u8>,
     /// The seconds for which an adapter's stream may be silent; 0: without end.
@@ -41,7 +41,7 @@ pub struct Options {
     /// The station's serial number.
     pub serial: Option<u32>,
     /// The number of words from the station's name on.
-    pub name_left: Option<usize>,
+    pub name_from_end: Option<usize>,
     /// Whether T->O datagrams go once to the address of their group.
     pub multicast: bool,
     /// Whether the standard input is not read.
@@ -85,7 +85,7 @@ pub enum OptionName {
 
 /// Why words request no task. A number says how many words are left, from the wrong one on.
 #[derive(Clone, Copy, Debug, PartialEq, Eq, Error)]
-pub enum Misuse {
+pub enum StationMisuse {
     /// There is no command.
     #[error("a command is missing")]
     NoCommand,
@@ -119,12 +119,12 @@ fn usual() -> Options
         udp: UDP_PORT,
         peer_udp: UDP_PORT,
         seconds: None,
-        record_left: None,
-        state_left: None,
+        record_from_end: None,
+        state_from_end: None,
         incarnation: None,
         inactivity_s: USUAL_INACTIVITY_S,
         serial: None,
-        name_left: None,
+        name_from_end: None,
         multicast: false,
         no_input: false,
         quiet: false,
@@ -158,7 +158,7 @@ fn option_of(word: &str) -> Option<OptionName>
 /// The options that the words give. A later word takes the place of an earlier one for the same option.
 ///
 /// The faults, at the first word that is wrong: `NoSuchOption`, `NoValue`, `BadValue`, `BadAddress`.
-pub fn read_options<S: AsStr>(words: &[S]) -> Result<Options, Misuse>
+pub fn read_options<S: AsStr>(words: &[S]) -> Result<Options, StationMisuse>
     ensures { result ≡ options_after usual (map S.text words.now) }
 {
     let mut options = usual();
@@ -178,7 +178,7 @@ fn with_option<'a, S: AsStr>(
     name: &str,
     left: usize,
     after: &'a [S],
-) -> Result<(Options, &'a [S]), Misuse>
+) -> Result<(Options, &'a [S]), StationMisuse>
     requires { left ≡ length after.now + 1 }
     ensures taken { IfOk result (λ next. options_after options (name.now ∷ map S.text after.now)
         ≡ options_after next.0 (map S.text next.1.now)) }
@@ -186,11 +186,11 @@ fn with_option<'a, S: AsStr>(
     ensures fault { IfErr result (λ fault. options_after options (name.now ∷ map S.text after.now) ≡ Err fault) }
 {
     match option_of(name) {
-        None => Err(Misuse::NoSuchOption(left)),
+        None => Err(StationMisuse::NoSuchOption(left)),
         Some(OptionName::Alone(flag)) => Ok((with_flag(options, flag), after)),
         Some(OptionName::Valued(setting)) => {
             let Some((value, behind)) = after.split_first() else {
-                return Err(Misuse::NoValue(left));
+                return Err(StationMisuse::NoValue(left));
             };
             match with_value(options, setting, value.as_str(), after.len()) {
                 Ok(next) => Ok((next, behind)),
@@ -226,7 +226,7 @@ fn with_value(
     setting: Setting,
     word: &str,
     left: usize,
-) -> Result<Options, Misuse>
+) -> Result<Options, StationMisuse>
     ensures { result ≡ with_value options setting word.now left }
 {
     match setting {
@@ -235,18 +235,18 @@ fn with_value(
                 address: Some(address),
                 ..options
             }),
-            None => Err(Misuse::BadAddress(left)),
+            None => Err(StationMisuse::BadAddress(left)),
         },
         Setting::Record | Setting::State => Ok(with_file(options, setting, left)),
         Setting::Name => with_name(options, word, left),
         Setting::Tcp | Setting::Udp | Setting::PeerUdp => match port_of(word) {
             Some(port) => Ok(with_port(options, setting, port)),
-            None => Err(Misuse::BadValue(left)),
+            None => Err(StationMisuse::BadValue(left)),
         },
         Setting::Seconds | Setting::Incarnation | Setting::Inactivity | Setting::Serial => {
             match with_number(options, setting, word) {
                 Some(options) => Ok(options),
-                None => Err(Misuse::BadValue(left)),
+                None => Err(StationMisuse::BadValue(left)),
             }
         }
     }
@@ -258,11 +258,11 @@ fn with_file(options: Options, setting: Setting, left: usize) -> Options
 {
     match setting {
         Setting::Record => Options {
-            record_left: Some(left),
+            record_from_end: Some(left),
             ..options
         },
         Setting::State => Options {
-            state_left: Some(left),
+            state_from_end: Some(left),
             ..options
         },
         _ => options,
@@ -270,14 +270,14 @@ fn with_file(options: Options, setting: Setting, left: usize) -> Options
 }
 
 /// The options with a name, from which on so many words are left: it has 1 to 32 bytes.
-fn with_name(options: Options, word: &str, left: usize) -> Result<Options, Misuse>
+fn with_name(options: Options, word: &str, left: usize) -> Result<Options, StationMisuse>
     ensures { result ≡ with_name options word.now left }
 {
     if word.is_empty() || word.len() > LONGEST_NAME {
-        return Err(Misuse::BadValue(left));
+        return Err(StationMisuse::BadValue(left));
     }
     Ok(Options {
-        name_left: Some(left),
+        name_from_end: Some(left),
         ..options
     })
 }

@@ -3,12 +3,12 @@
 ghost use Rattle.std.specs.Prelude.{◌≡◌, map};
 ghost use Rattle.station_words.specs.Tasks.{command_of, of_files, station_of, task_of, task_with};
 
-use crate::options::{Misuse, Options, read_options};
+use crate::options::{Options, StationMisuse, read_options};
 use std::convert::AsStr;
 
 /// A command of the program.
 #[derive(Clone, Copy, PartialEq, Eq)]
-pub enum Command {
+pub enum StationCommand {
     /// Serves a profile.
     Adapter,
     /// Keeps the connections of a profile open.
@@ -34,7 +34,7 @@ pub struct StationTask {
 
 /// The task that a command line requests.
 #[derive(Clone, Copy, PartialEq, Eq)]
-pub enum Task {
+pub enum ProgramTask {
     /// Prints how the program is used.
     Help,
     /// Runs a station.
@@ -51,18 +51,18 @@ pub enum Task {
 
 /// The command that a word names.
 #[tactic(auto, unfolding(crate::specs::Tasks::command_of))]
-fn command_of(word: &str) -> Option<Command>
+fn command_of(word: &str) -> Option<StationCommand>
     ensures { result ≡ command_of word.now }
 {
     match word {
-        "adapter" => Some(Command::Adapter),
-        "scanner" => Some(Command::Scanner),
-        "replay" => Some(Command::Replay),
-        "pcap" => Some(Command::Pcap),
-        "explain" => Some(Command::Explain),
-        "--help" => Some(Command::Help),
-        "-h" => Some(Command::Help),
-        "--version" => Some(Command::Version),
+        "adapter" => Some(StationCommand::Adapter),
+        "scanner" => Some(StationCommand::Scanner),
+        "replay" => Some(StationCommand::Replay),
+        "pcap" => Some(StationCommand::Pcap),
+        "explain" => Some(StationCommand::Explain),
+        "--help" => Some(StationCommand::Help),
+        "-h" => Some(StationCommand::Help),
+        "--version" => Some(StationCommand::Version),
         _ => None,
     }
 }
@@ -72,55 +72,55 @@ fn command_of(word: &str) -> Option<Command>
 ///
 /// The faults, in order: `NoCommand`, `NoSuchCommand`, `NoFile`, and those of the options at the first word that is
 /// wrong. The words behind `--help` and `--version` are not read.
-pub fn read_task<S: AsStr>(words: &[S]) -> Result<Task, Misuse>
+pub fn read_task<S: AsStr>(words: &[S]) -> Result<ProgramTask, StationMisuse>
     ensures { result ≡ task_of (map S.text words.now) }
 {
     let Some((_program, words)) = words.split_first() else {
-        return Err(Misuse::NoCommand);
+        return Err(StationMisuse::NoCommand);
     };
     let Some((word, rest)) = words.split_first() else {
-        return Err(Misuse::NoCommand);
+        return Err(StationMisuse::NoCommand);
     };
     match command_of(word.as_str()) {
         Some(command) => task_with(command, rest),
-        None => Err(Misuse::NoSuchCommand(words.len())),
+        None => Err(StationMisuse::NoSuchCommand(words.len())),
     }
 }
 
 /// The task of a command with the words behind it.
-fn task_with<S: AsStr>(command: Command, words: &[S]) -> Result<Task, Misuse>
+fn task_with<S: AsStr>(command: StationCommand, words: &[S]) -> Result<ProgramTask, StationMisuse>
     ensures { result ≡ task_with command (map S.text words.now) }
 {
     match command {
-        Command::Adapter => station_of(false, words),
-        Command::Scanner => station_of(true, words),
-        Command::Replay => of_files(Task::Replay, words),
-        Command::Pcap => of_files(Task::Pcap, words),
-        Command::Explain => of_files(Task::Explain, words),
-        Command::Help => Ok(Task::Help),
-        Command::Version => Ok(Task::Version),
+        StationCommand::Adapter => station_of(false, words),
+        StationCommand::Scanner => station_of(true, words),
+        StationCommand::Replay => of_files(ProgramTask::Replay, words),
+        StationCommand::Pcap => of_files(ProgramTask::Pcap, words),
+        StationCommand::Explain => of_files(ProgramTask::Explain, words),
+        StationCommand::Help => Ok(ProgramTask::Help),
+        StationCommand::Version => Ok(ProgramTask::Version),
     }
 }
 
 /// A station, whose words are the name of its profile and its options.
-fn station_of<S: AsStr>(scanner: bool, words: &[S]) -> Result<Task, Misuse>
+fn station_of<S: AsStr>(scanner: bool, words: &[S]) -> Result<ProgramTask, StationMisuse>
     ensures { result ≡ station_of scanner (map S.text words.now) }
 {
     let Some((_file, rest)) = words.split_first() else {
-        return Err(Misuse::NoFile);
+        return Err(StationMisuse::NoFile);
     };
     match read_options(rest) {
-        Ok(options) => Ok(Task::Station(StationTask { scanner, options })),
+        Ok(options) => Ok(ProgramTask::Station(StationTask { scanner, options })),
         Err(misuse) => Err(misuse),
     }
 }
 
 /// A task whose words are the names of its files, of which there is one or more.
-fn of_files<S: AsStr>(task: Task, words: &[S]) -> Result<Task, Misuse>
+fn of_files<S: AsStr>(task: ProgramTask, words: &[S]) -> Result<ProgramTask, StationMisuse>
     ensures { result ≡ of_files task (map S.text words.now) }
 {
     if words.is_empty() {
-        return Err(Misuse::NoFile);
+        return Err(StationMisuse::NoFile);
     }
     Ok(task)
 }

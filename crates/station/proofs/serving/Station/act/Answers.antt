@@ -1,5 +1,5 @@
-use Rattle.station.proofs.Noting.{kept_after}
+use Rattle.station.proofs.Noting.{recorded_then}
 use Rattle.station.proofs.serving.Station.act.Goals as goal
 
 pub returns : goal.returns
-returns g c = kept_after (g.W.RecordSink.contents) (g.D.Device.table) _ _ _ _ _ _ c.step-outcome.ensures c.follow.ensures.recorder c.follow.ensures.device
+returns g c = recorded_then (g.W.RecordSink.contents) (g.P.Port.is_scripted) (g.C.Clock.is_scripted) (g.C.Clock.coming) (g.P.Port.tape) (g.P.Port.failed) (g.D.Device.table) _ _ _ c.step_and_send.ensures c.show.ensures

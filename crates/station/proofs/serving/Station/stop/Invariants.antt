@@ -3,4 +3,4 @@ use Rattle.station.proofs.serving.Station.stop.Given as goal
 
 -- the recorder has noted what the device did so far
 abbrev pub invariant-loop-slot : goal.invariant-loop-slot
-invariant-loop-slot g l = Recorded g.W.RecordSink.contents l.initial.self.witness.recorder l.self.witness.recorder (g.D.Device.table l.initial.self.device) (g.D.Device.table l.self.device)
+invariant-loop-slot g l = Recorded (g.W.RecordSink.contents) (g.P.Port.is_scripted) (g.C.Clock.is_scripted) (g.C.Clock.coming) (g.P.Port.tape) (g.P.Port.failed) (g.D.Device.table) l.initial.self l.self

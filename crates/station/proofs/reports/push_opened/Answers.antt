@@ -1,7 +1,0 @@
-use Rattle.std.specs.Prelude.{codes}
-use Rattle.station.specs.Reports.{stream_text}
-use Rattle.station.proofs.Appended.{two}
-use Rattle.station.proofs.reports.push_opened.Goals as goal
-
-pub returns : goal.returns
-returns c = two _ _ _ (stream_text c.args.stream c.args.peer) (codes " is open\n") c.in_ok-push_stream.ensures c.in_ok-push_text.ensures

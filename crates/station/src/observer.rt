@@ -1,0 +1,223 @@
+//! The observer of a station's device: it records its steps, prints them, and notes what the port has to know.
+
+ghost use Rattle.std.specs.Prelude.{◌≡◌, IfOk};
+ghost use Rattle.std.specs.List.{list_any};
+ghost use Rattle.station_watch.specs.Closing.{is_marked};
+
+use crate::fault::EarlyEnd;
+use cip_events::{Answer, Delivery, Event, Outcome, Verdict};
+use cip_tables::Config;
+use cip_types::{Node, OutOfMemory};
+use station_lines::{EventMoment, LineSink, has_news};
+use station_record::{RecordFault, RecordSink, Recorder};
+use station_watch::{ClosingSlots, ConnectedPeers, SlotDuty, SlotWatches, Starved};
+use std::alloc::Global;
+use trace_text::push_outcome;
+use udp_runner::Observer;
+
+/// Records the steps of a device, says outcomes on `out` and faults on `err`, and notes what a port is to be told.
+#[derive(Drop)]
+pub struct StationObserver<W, O, E> {
+    alloc: Global,
+    recorder: Recorder<W>,
+    out: O,
+    err: E,
+    now_ms: u64,
+    closing: ClosingSlots,
+    peers: ConnectedPeers,
+    slots: SlotWatches,
+    fault: Option<EarlyEnd>,
+    record_fault: Option<RecordFault>,
+}
+
+impl<W: RecordSink + Drop, O: LineSink, E: LineSink> StationObserver<W, O, E> {
+    /// An observer that has noted nothing of a device of this configuration. The fault: an allocation was refused.
+    pub fn new(
+        alloc: Global,
+        config: &Config,
+        recorder: Recorder<W>,
+        out: O,
+        err: E,
+    ) -> Result<Self, OutOfMemory>
+    where
+        O: Drop,
+        E: Drop,
+        ensures { IfOk result (λ observer. observer.recorder ≡ recorder) }
+    {
+        Ok(StationObserver {
+            alloc,
+            recorder,
+            out,
+            err,
+            now_ms: 0,
+            closing: ClosingSlots::none(alloc)?,
+            peers: ConnectedPeers::none(alloc),
+            slots: SlotWatches::of(alloc, config)?,
+            fault: None,
+            record_fault: None,
+        })
+    }
+
+    /// The milliseconds of all ticks.
+    pub fn now_ms(&self) -> u64
+        ensures { result ≡ self.now.now_ms }
+    {
+        self.now_ms
+    }
+
+    /// The number of events that the device has taken.
+    pub fn count(&self) -> u64
+        ensures { result ≡ self.now.recorder.count }
+    {
+        self.recorder.count()
+    }
+
+    /// When its last event was: the number of that, and the time.
+    pub fn moment(&self) -> EventMoment
+        ensures { result ≡ record { number = self.now.recorder.count; ms = self.now.now_ms } }
+    {
+        EventMoment {
+            number: self.count(),
+            ms: self.now_ms(),
+        }
+    }
+
+    /// Why the record has ended, if it has.
+    pub fn record_fault(&self) -> Option<RecordFault> {
+        self.record_fault
+    }
+
+    /// Whether a slot is being closed.
+    pub fn is_closing(&self) -> bool
+        ensures { result ≡ list_any is_marked self.now.closing }
+    {
+        self.closing.any()
+    }
+
+    /// Appends the peers that have connections, if they may have changed since the last time. Whether they may have.
+    pub fn push_peers(&mut self, peers: &mut Vec<Node>) -> Result<bool, OutOfMemory>
+        ensures kept { self.new.recorder ≡ self.old.recorder }
+    {
+        self.peers.push_changed(peers)
+    }
+
+    /// Takes the next thing that the port is to be told of a slot's target.
+    pub fn next_duty(&mut self) -> Option<SlotDuty>
+        ensures kept { self.new.recorder ≡ self.old.recorder }
+    {
+        self.slots.next_duty()
+    }
+
+    /// Takes the next slot whose data never came.
+    pub fn next_starved(&mut self) -> Option<Starved>
+        ensures kept { self.new.recorder ≡ self.old.recorder }
+    {
+        self.slots.next_starved()
+    }
+
+    /// The target of a slot.
+    pub fn target(&self, slot: u32) -> Option<Node> {
+        self.slots.target(slot)
+    }
+
+    /// Fails once if there was no memory to note a step.
+    pub fn check(&mut self) -> Result<(), EarlyEnd>
+        ensures kept { self.new.recorder ≡ self.old.recorder }
+    {
+        match self.fault.take() {
+            Some(fault) => Err(fault),
+            None => Ok(()),
+        }
+    }
+
+    /// Says a text on `out`.
+    pub fn print(&mut self, text: &[u8])
+        ensures kept { self.new.recorder ≡ self.old.recorder }
+    {
+        if !text.is_empty() {
+            self.out.line(text);
+        }
+    }
+
+    /// Reports a text on `err`.
+    pub fn report(&mut self, text: &[u8])
+        ensures kept { self.new.recorder ≡ self.old.recorder }
+    {
+        self.err.line(text);
+    }
+
+    /// Prints the outcome of the last event.
+    fn print_outcome(&mut self, outcome: &Outcome) -> Result<(), OutOfMemory>
+        ensures kept { self.new.recorder ≡ self.old.recorder }
+    {
+        let mut text = String::new(self.alloc);
+        push_outcome(&mut text, self.recorder.count(), outcome)?;
+        self.print(text.as_bytes());
+        Ok(())
+    }
+
+    /// Notes what the device has done.
+    fn note(&mut self, event: &Event, outcome: &Outcome) -> Result<(), OutOfMemory>
+        ensures kept { self.new.recorder ≡ self.old.recorder }
+    {
+        if let Event::Tick { ms } = event {
+            if outcome.is_ok() {
+                self.now_ms = self.now_ms.saturating_add(u64::from(*ms));
+            }
+        }
+        match outcome {
+            Ok(answer) => self.note_answer(event, answer),
+            Err(_) => Ok(()),
+        }
+    }
+
+    /// Notes what an answer says of connections and slots.
+    fn note_answer(&mut self, event: &Event, answer: &Answer) -> Result<(), OutOfMemory>
+        ensures kept { self.new.recorder ≡ self.old.recorder }
+    {
+        let notices = answer.notices.as_slice();
+        self.closing.note(notices);
+        self.peers.note(event, notices)?;
+        self.slots.note(event, answer)
+    }
+
+    /// Notes a step. Reports why the record has ended, if it has, and prints the outcome, if it is to be printed.
+    fn report_step(&mut self, event: &Event, outcome: &Outcome, ended: Option<RecordFault>)
+        ensures kept { self.new.recorder ≡ self.old.recorder }
+    {
+        if let Some(fault) = ended {
+            self.report_end(fault);
+        }
+        if self.note(event, outcome).is_err() {
+            self.fault = Some(EarlyEnd::OutOfMemory);
+        }
+        if has_news(event, outcome) && self.print_outcome(outcome).is_err() {
+            self.fault = Some(EarlyEnd::OutOfMemory);
+        }
+    }
+
+    /// Reports that the record has ended.
+    fn report_end(&mut self, fault: RecordFault)
+        ensures kept { self.new.recorder ≡ self.old.recorder }
+    {
+        self.record_fault = Some(fault);
+        self.report(b"eip_station: the record cannot take more and has ended\n");
+    }
+}
+
+impl<W: RecordSink + Drop, O: LineSink, E: LineSink> Observer for StationObserver<W, O, E> {
+    ghost use Rattle.station_record.specs.Records.{Notes};
+
+    ghost notes = { λ old event outcome new. Notes W.contents old.recorder event outcome new.recorder };
+
+    fn stepped(&mut self, event: &Event, outcome: &Outcome) {
+        let ended = self.recorder.note(event, outcome);
+        self.report_step(event, outcome, ended);
+    }
+
+    fn delivered(&mut self, event: &Event, delivery: Delivery) {
+        // (an answer of a verdict alone takes no memory)
+        let outcome = Ok(Answer::plain(self.alloc, Verdict::Delivered(delivery)));
+        self.stepped(event, &outcome);
+    }
+}

@@ -1,0 +1,65 @@
+-- What a station says of the streams of its port and of its slots.
+use Rattle.std.specs.Prelude.{ℕ, ◌/◌, List, ◌++◌, codes, decimal, Option, Some, None}
+use Rattle.cip_types.specs.declared.names.Node.{Node}
+use Rattle.kept_port.specs.declared.report.EndCause.{EndCause}
+use Rattle.kept_port.specs.declared.report.EndCause.TheVariants as ended
+use Rattle.kept_port.specs.declared.report.RefusalCause.{RefusalCause}
+use Rattle.kept_port.specs.declared.report.RefusalCause.TheVariants as refusal
+use Rattle.kept_port.specs.declared.report.PortReport.{PortReport}
+use Rattle.kept_port.specs.declared.report.PortReport.TheVariants as report
+use Rattle.trace_words.specs.Words.{node_word}
+use Rattle.station_watch.specs.declared.slots.Starved.{Starved}
+
+-- STREAMS
+
+-- a stream and its peer
+abbrev pub stream_text : ℕ → Node → List ℕ
+stream_text stream peer = codes "eip_station: stream " ++ (decimal stream ++ (codes " of " ++ node_word peer))
+
+-- why a stream ended; an adapter's may be silent for so many seconds
+abbrev pub ending_text : ℕ → EndCause → List ℕ
+ending_text silent ended.Cut = codes "its peer cut it"
+ending_text silent ended.Silent = codes "it was silent for " ++ (decimal silent ++ codes " s")
+ending_text silent ended.Displaced = codes "a new one took its place"
+ending_text silent ended.NoSession = codes "no session in time"
+ending_text silent ended.SessionRefused = codes "its session was refused"
+ending_text silent ended.Renewed = codes "a request was not answered in time, or a slot timed out"
+
+-- when a target is tried again
+abbrev pub retry_text : ℕ → List ℕ
+retry_text ms = codes "; the next try is in " ++ (decimal (ms / 1000) ++ codes " s\n")
+
+-- a connection found no place
+abbrev pub full_text : Node → List ℕ
+full_text peer = codes "eip_station: a connection of " ++ (node_word peer ++ codes " is refused: 16 streams are open\n")
+
+-- why a stream did not open
+abbrev pub refusal_text : Node → RefusalCause → List ℕ
+refusal_text peer refusal.Full = full_text peer
+refusal_text peer (refusal.Refused ms) = codes "eip_station: " ++ (node_word peer ++ (codes " refuses a stream" ++ retry_text ms))
+refusal_text peer (refusal.Unanswered ms) = codes "eip_station: " ++ (node_word peer ++ (codes " does not answer" ++ retry_text ms))
+
+-- a stream is open
+abbrev pub opened_text : ℕ → Node → List ℕ
+opened_text stream peer = stream_text stream peer ++ codes " is open\n"
+
+-- a stream ended
+abbrev pub ended_text : ℕ → ℕ → Node → EndCause → List ℕ
+ended_text silent stream peer cause = stream_text stream peer ++ (codes " ended: " ++ (ending_text silent cause ++ codes "\n"))
+
+-- the line of a report
+abbrev pub report_text : ℕ → PortReport → List ℕ
+report_text silent (report.Opened stream peer) = opened_text stream peer
+report_text silent (report.Ended stream peer cause) = ended_text silent stream peer cause
+report_text silent (report.NotOpened peer cause) = refusal_text peer cause
+
+-- SLOTS
+
+-- what to do for the data of a group, if the reply named one
+abbrev pub remedy_text : Option Node → List ℕ
+remedy_text (Some group) = codes " came to " ++ (node_word group ++ (codes ": this host does not receive that group: ip address add " ++ (node_word group ++ codes "/32 dev INTERFACE autojoin\n")))
+remedy_text None = codes " came: if this host does not receive its group: ip address add GROUP/32 dev INTERFACE autojoin\n"
+
+-- the line of a slot whose data never came
+abbrev pub starved_text : Starved → List ℕ
+starved_text starved = codes "eip_station: slot " ++ (decimal starved.slot ++ (codes ": no multicast datagram of " ++ (node_word starved.target ++ remedy_text starved.group)))

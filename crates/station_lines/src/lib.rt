@@ -1,0 +1,15 @@
+//! The texts of a station: the calls of its application as lines that arrive while it runs, and the lines that it prints of
+//! points, streams and slots.
+#![tactic(auto)]
+
+mod calls;
+mod lines;
+mod points;
+mod reports;
+mod sink;
+
+pub use calls::{InputLine, has_news, is_call, read_call, read_line};
+pub use lines::{CallBuffer, CallLines, InputRead, NextLine, NoLines, input_read};
+pub use points::{EventMoment, Points};
+pub use reports::{push_report, push_starved};
+pub use sink::LineSink;

@@ -1,0 +1,141 @@
+//! The points whose changes a station prints: the outputs of an adapter, the images of a scanner's slots.
+
+ghost use Rattle.std.specs.Prelude.{◌≡◌, ◌++◌, OnOk, string_bytes};
+ghost use Rattle.station_lines.specs.Points.{change_text, point_line, word_of};
+
+use cip_tables::{Config, Device};
+use cip_types::{Items, OutOfMemory};
+use std::alloc::Global;
+use trace_words::push_last_bytes;
+
+/// A kind of point.
+#[derive(Clone, Copy, PartialEq, Eq)]
+pub enum PointKind {
+    /// An output of an adapter.
+    Output,
+    /// The image of a scanner's slot.
+    Image,
+}
+
+/// When points changed: behind the event of this number, at this time in milliseconds.
+#[derive(Clone, Copy, PartialEq, Eq)]
+pub struct EventMoment {
+    pub number: u64,
+    pub ms: u64,
+}
+
+/// A point, and the bytes that were printed last.
+#[derive(Drop)]
+pub struct WatchedPoint {
+    kind: PointKind,
+    point: u32,
+    bytes: Items<u8>,
+}
+
+/// The points whose changes are printed.
+#[derive(Drop)]
+pub struct Points {
+    points: Vec<WatchedPoint>,
+}
+
+impl Points {
+    /// The outputs of an adapter, or the images of a scanner: at first each is zeros.
+    pub fn of(alloc: Global, config: &Config) -> Result<Points, OutOfMemory> {
+        let mut points = Vec::new(alloc);
+        match config {
+            Config::Adapter(profile) => {
+                for output in profile.outputs.as_slice() {
+                    points.push(zeros(alloc, PointKind::Output, output.instance, output.len)?)?;
+                }
+            }
+            Config::Scanner(profile) => {
+                for (slot, config) in profile.slots.as_slice().iter().enumerate() {
+                    let point = u32::try_from(slot).unwrap_or(u32::MAX);
+                    points.push(zeros(alloc, PointKind::Image, point, config.in_len)?)?;
+                }
+            }
+        }
+        Ok(Points { points })
+    }
+
+    /// Appends a line for each point whose bytes have changed: the number of the last event, the kind and the number of the
+    /// point, its bytes, and the time in milliseconds.
+    pub fn push_changes<D: Device>(
+        &mut self,
+        alloc: Global,
+        out: &mut String,
+        device: &D,
+        at: EventMoment,
+    ) -> Result<(), OutOfMemory> {
+        for watched in self.points.iter_mut() {
+            if let Ok(bytes) = device.read_point(watched.point) {
+                push_change(alloc, out, watched, bytes, at)?;
+            }
+        }
+        Ok(())
+    }
+}
+
+/// A point of zeros.
+fn zeros(
+    alloc: Global,
+    kind: PointKind,
+    point: u32,
+    len: u64,
+) -> Result<WatchedPoint, OutOfMemory> {
+    let len = usize::try_from(len).unwrap_or(0);
+    Ok(WatchedPoint {
+        kind,
+        point,
+        bytes: Items::zeros(alloc, len)?,
+    })
+}
+
+/// Appends the line of a point whose bytes are now these, if they have changed. They are the point's bytes from then on.
+fn push_change(
+    alloc: Global,
+    out: &mut String,
+    watched: &mut WatchedPoint,
+    bytes: &[u8],
+    at: EventMoment,
+) -> Result<(), OutOfMemory>
+    ensures text { OnOk result
+        (string_bytes out.new ≡ string_bytes out.old
+        ++ change_text at.number at.ms watched.old.kind watched.old.point watched.old.bytes bytes.now) }
+    ensures held { OnOk result (watched.new.bytes ≡ bytes.now) }
+{
+    if watched.bytes.as_slice() == bytes {
+        return Ok(());
+    }
+    let copy = Items::copy_of(alloc, bytes)?;
+    push_line(out, at, watched.kind, watched.point, bytes)?;
+    watched.bytes = copy;
+    Ok(())
+}
+
+/// Appends the line of a point.
+fn push_line(
+    out: &mut String,
+    at: EventMoment,
+    kind: PointKind,
+    point: u32,
+    bytes: &[u8],
+) -> Result<(), OutOfMemory>
+    ensures { OnOk result
+        (string_bytes out.new ≡ string_bytes out.old ++ point_line at.number at.ms kind point bytes.now) }
+{
+    let (number, ms) = (at.number, at.ms);
+    let word = word_of(kind);
+    write!(out, "{number} at {ms} {word} {point}")?;
+    push_last_bytes(out, bytes)
+}
+
+/// The word of a kind of point.
+fn word_of(kind: PointKind) -> &'static str
+    ensures { result.now ≡ word_of kind }
+{
+    match kind {
+        PointKind::Output => "output",
+        PointKind::Image => "image",
+    }
+}

@@ -1,0 +1,150 @@
+//! What a station says of the streams of its port and of its slots.
+
+ghost use Rattle.std.specs.Prelude.{◌≡◌, ◌++◌, OnOk, string_bytes};
+ghost use Rattle.station_lines.specs.Reports.{ended_text, ending_text, full_text, opened_text, refusal_text, remedy_text, report_text, retry_text, starved_text, stream_text};
+
+use cip_types::{Node, OutOfMemory};
+use kept_port::{EndCause, PortReport, RefusalCause};
+use station_watch::Starved;
+use trace_words::{push_node, push_text};
+
+/// Appends the line of a port's report. An adapter's streams may be silent for so many seconds.
+pub fn push_report(out: &mut String, report: &PortReport, silent_s: u16) -> Result<(), OutOfMemory>
+    ensures { OnOk result (string_bytes out.new ≡ string_bytes out.old ++ report_text silent_s report.now) }
+{
+    match report {
+        PortReport::Opened { stream, peer } => push_opened(out, *stream, *peer),
+        PortReport::Ended {
+            stream,
+            peer,
+            cause,
+        } => push_ended(out, *stream, *peer, *cause, silent_s),
+        PortReport::NotOpened { peer, cause } => push_refusal(out, *peer, *cause),
+    }
+}
+
+/// Appends that a stream is open.
+fn push_opened(out: &mut String, stream: u16, peer: Node) -> Result<(), OutOfMemory>
+    ensures { OnOk result (string_bytes out.new ≡ string_bytes out.old ++ opened_text stream peer) }
+{
+    push_stream(out, stream, peer)?;
+    push_text(out, " is open\n")?;
+    Ok(())
+}
+
+/// Appends that a stream ended, and why.
+fn push_ended(
+    out: &mut String,
+    stream: u16,
+    peer: Node,
+    cause: EndCause,
+    silent_s: u16,
+) -> Result<(), OutOfMemory>
+    ensures { OnOk result (string_bytes out.new ≡ string_bytes out.old ++ ended_text silent_s stream peer cause) }
+{
+    push_stream(out, stream, peer)?;
+    push_text(out, " ended: ")?;
+    push_ending(out, cause, silent_s)?;
+    push_text(out, "\n")?;
+    Ok(())
+}
+
+/// Appends a stream and its peer.
+fn push_stream(out: &mut String, stream: u16, peer: Node) -> Result<(), OutOfMemory>
+    ensures { OnOk result (string_bytes out.new ≡ string_bytes out.old ++ stream_text stream peer) }
+{
+    write!(out, "eip_station: stream {stream} of ")?;
+    push_node(out, peer)?;
+    Ok(())
+}
+
+/// Appends why a stream ended.
+fn push_ending(out: &mut String, cause: EndCause, silent_s: u16) -> Result<(), OutOfMemory>
+    ensures { OnOk result (string_bytes out.new ≡ string_bytes out.old ++ ending_text silent_s cause) }
+{
+    match cause {
+        EndCause::Cut => push_text(out, "its peer cut it"),
+        EndCause::Silent => {
+            write!(out, "it was silent for {silent_s} s")?;
+            Ok(())
+        }
+        EndCause::Displaced => push_text(out, "a new one took its place"),
+        EndCause::NoSession => push_text(out, "no session in time"),
+        EndCause::SessionRefused => push_text(out, "its session was refused"),
+        EndCause::Renewed => push_text(
+            out,
+            "a request was not answered in time, or a slot timed out",
+        ),
+    }
+}
+
+/// Appends why a stream did not open.
+fn push_refusal(out: &mut String, peer: Node, cause: RefusalCause) -> Result<(), OutOfMemory>
+    ensures { OnOk result (string_bytes out.new ≡ string_bytes out.old ++ refusal_text peer cause) }
+{
+    match cause {
+        RefusalCause::Full => push_full(out, peer),
+        RefusalCause::Refused { retry_ms } => {
+            push_text(out, "eip_station: ")?;
+            push_node(out, peer)?;
+            push_text(out, " refuses a stream")?;
+            push_retry(out, retry_ms)
+        }
+        RefusalCause::Unanswered { retry_ms } => {
+            push_text(out, "eip_station: ")?;
+            push_node(out, peer)?;
+            push_text(out, " does not answer")?;
+            push_retry(out, retry_ms)
+        }
+    }
+}
+
+/// Appends that a connection found no place.
+fn push_full(out: &mut String, peer: Node) -> Result<(), OutOfMemory>
+    ensures { OnOk result (string_bytes out.new ≡ string_bytes out.old ++ full_text peer) }
+{
+    push_text(out, "eip_station: a connection of ")?;
+    push_node(out, peer)?;
+    push_text(out, " is refused: 16 streams are open\n")?;
+    Ok(())
+}
+
+/// Appends when the next try is.
+fn push_retry(out: &mut String, retry_ms: u64) -> Result<(), OutOfMemory>
+    ensures { OnOk result (string_bytes out.new ≡ string_bytes out.old ++ retry_text retry_ms) }
+{
+    let seconds = retry_ms / 1_000;
+    write!(out, "; the next try is in {seconds} s\n")?;
+    Ok(())
+}
+
+/// Appends the line of a slot whose data never came.
+pub fn push_starved(out: &mut String, starved: &Starved) -> Result<(), OutOfMemory>
+    ensures { OnOk result (string_bytes out.new ≡ string_bytes out.old ++ starved_text starved.now) }
+{
+    let slot = starved.slot;
+    write!(out, "eip_station: slot {slot}: no multicast datagram of ")?;
+    push_node(out, starved.target)?;
+    push_remedy(out, starved.group)?;
+    Ok(())
+}
+
+/// Appends what to do for the data of a group, if the reply named one.
+fn push_remedy(out: &mut String, group: Option<Node>) -> Result<(), OutOfMemory>
+    ensures { OnOk result (string_bytes out.new ≡ string_bytes out.old ++ remedy_text group) }
+{
+    let Some(group) = group else {
+        return push_text(
+            out,
+            " came: if this host does not receive its group: ip address add GROUP/32 dev INTERFACE autojoin\n",
+        );
+    };
+    push_text(out, " came to ")?;
+    push_node(out, group)?;
+    push_text(
+        out,
+        ": this host does not receive that group: ip address add ",
+    )?;
+    push_node(out, group)?;
+    push_text(out, "/32 dev INTERFACE autojoin\n")
+}

@@ -1,0 +1,71 @@
+//! The slots of a scanner that are being closed.
+
+ghost use Rattle.std.specs.Prelude.{◌≡◌, replicate, slice_set, false, IfOk};
+ghost use Rattle.std.specs.List.{list_any};
+ghost use Rattle.station_watch.specs.Closing.{closing_after, closing_through, is_marked};
+
+use cip_events::{Notice, SlotPhase};
+use cip_types::OutOfMemory;
+use cip_types::limits::MOST_SLOTS;
+use std::alloc::Global;
+use std::marker::Model;
+
+/// Of each slot whether it is being closed. Contracts see a list.
+#[derive(Drop)]
+pub struct ClosingSlots {
+    closing: Vec<bool>,
+}
+
+impl Model for ClosingSlots {
+    ghost use Rattle.std.specs.Prelude.{List, Bool};
+
+    ghost Value = { List Bool };
+
+    ghost view = { λ c. c.closing.items };
+}
+
+impl ClosingSlots {
+    /// No slot is being closed. The only fault is a refused allocation.
+    pub fn none(alloc: Global) -> Result<ClosingSlots, OutOfMemory>
+        ensures { IfOk result (λ slots. slots ≡ replicate 64 false) }
+    {
+        Ok(ClosingSlots {
+            closing: vec![in alloc; false; MOST_SLOTS]?,
+        })
+    }
+
+    /// Notes the notices of an answer. Takes no memory.
+    pub fn note(&mut self, notices: &[Notice])
+        ensures { self.new ≡ closing_through notices.now self.old }
+    {
+        for notice in notices {
+            self.note_one(notice);
+        }
+    }
+
+    /// Notes a notice.
+    fn note_one(&mut self, notice: &Notice)
+        ensures { self.new ≡ closing_after notice.now self.old }
+    {
+        if let Notice::Slot(slot, state) = notice {
+            self.put(*slot, *state == SlotPhase::Closing.number());
+        }
+    }
+
+    /// Puts whether a slot is being closed, if there is such a slot.
+    fn put(&mut self, slot: u32, closing: bool)
+        ensures { self.new ≡ slice_set self.old slot closing }
+    {
+        let index = slot as usize;
+        if index < self.closing.len() {
+            self.closing[index] = closing;
+        }
+    }
+
+    /// Whether a slot is being closed. Takes no memory.
+    pub fn any(&self) -> bool
+        ensures { result ≡ list_any is_marked self.now }
+    {
+        self.closing.iter().any(|closing| *closing)
+    }
+}
