@@ -141,12 +141,11 @@ static void carry_out(void)
 /* What every event ends with. The room is larger than any answer of this profile. Whether the event happened. */
 static bool done(uint32_t status)
 {
-    uint32_t told = status == EIP_KEPT_NO_MEMORY ? eip_answer(&device, answer, sizeof answer, &size) : status;
-    if (told == EIP_DONE)
+    if (status == EIP_DONE)
         carry_out();
     else
-        say("status %u\n", told);
-    return status == EIP_DONE || status == EIP_KEPT_NO_MEMORY;
+        say("status %u\n", status);
+    return status == EIP_DONE;
 }
 
 /* A stream ends. The connections that were opened over it live on, until their own time-out. */

@@ -48,7 +48,7 @@ enum eip_status {
     /* Performed, and what it answers is kept: an event's answer for eip_answer, a value and the reply to an inquiry for
        another call. Nothing is written at out. */
     EIP_KEPT_NO_ROOM = 8,      /* *size is the room that the bytes need */
-    EIP_KEPT_NO_MEMORY = 9,    /* an allocation for the bytes of the answer was refused */
+    /* 9 is no status, and is given to none. */
     /* eip_answer: the device keeps no answer. */
     EIP_NO_ANSWER = 10,
     /* eip_new: there is no device. */
@@ -91,7 +91,7 @@ typedef struct eip_identity {
 
 /* THE LIBRARY: what the proofs speak of. The inline functions below test pointers for NULL and call these. */
 
-uint32_t eip_c_new(const uint8_t *profile, size_t len, eip_device *place, uint64_t *number);
+uint32_t eip_c_new(const uint8_t *profile, size_t len, eip_device *device, uint64_t *number);
 void eip_c_free(eip_device device);
 uint32_t eip_c_answer(eip_device *device, uint8_t *out, size_t room, size_t *size);
 uint32_t eip_c_request(eip_device *device, uint32_t peer, const uint8_t *bytes, size_t len, uint8_t *out, size_t room,
@@ -162,10 +162,11 @@ static inline void eip_free(eip_device *device)
  *
  * Each performs one event. Its answer is kept until the next event that is not refused, and written at out: EIP_DONE, and
  * *size is its size. If it needs more room than there is, nothing is written: EIP_KEPT_NO_ROOM, *size is the room that it
- * needs, the event is performed all the same, and eip_answer writes its answer. EIP_KEPT_NO_MEMORY is the same for an
- * allocation that was refused. Each other status leaves the device as it was, and *size too. */
+ * needs, the event is performed all the same, and eip_answer writes its answer. Each other status leaves the device as it
+ * was, and *size too. Writing an answer takes no memory, so EIP_REFUSED_NO_MEMORY is the only status that says that an
+ * allocation was refused, and then the event has not happened. */
 
-/* Writes the answer that is kept, again: EIP_DONE, EIP_KEPT_NO_ROOM, EIP_KEPT_NO_MEMORY, EIP_NO_ANSWER or EIP_NULL. */
+/* Writes the answer that is kept, again: EIP_DONE, EIP_KEPT_NO_ROOM, EIP_NO_ANSWER or EIP_NULL. Takes no memory. */
 static inline uint32_t eip_answer(eip_device *device, uint8_t *out, size_t room, size_t *size)
 {
     EIP_CALL(out, room, eip_c_answer(device, out, room, size));
@@ -231,9 +232,9 @@ static inline uint32_t eip_tick(eip_device *device, uint32_t ms, uint8_t *out, s
     EIP_CALL(out, room, eip_c_tick(device, ms, out, room, size));
 }
 
-/* Answers at *ms for how many milliseconds the device needs no tick: one of fewer milliseconds answers EIP_ITEM_DONE alone,
- * and moves the clock alone. At most 60,000. An event may shorten the time, so ask again behind it. The time may end before
- * anything is due: tick then, and ask again. Takes no memory, and changes nothing. EIP_DONE or EIP_NULL. */
+/* Answers at *ms in how many milliseconds something is due at the device, at most 60,000: a tick of fewer milliseconds
+ * answers EIP_ITEM_DONE alone, and moves the clock alone. Each event may change the time, so ask again behind it. Takes no
+ * memory, and changes nothing. EIP_DONE or EIP_NULL. */
 static inline uint32_t eip_next_wake(eip_device *device, uint32_t *ms)
 {
     if (!device || !device->at || !ms)

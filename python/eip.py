@@ -53,9 +53,7 @@ class Status(enum.IntEnum):
     NOT_ALLOWED_NOW = 7
     """The event does not fit this kind of device, or its present state."""
     KEPT_NO_ROOM = 8
-    """The answer needs more room. This module asks again, so you never see it."""
-    KEPT_NO_MEMORY = 9
-    """The event was performed, and an allocation for the bytes of its answer was refused."""
+    """The answer needs more room. This module asks again: you see it only in AnswerKept."""
     NO_ANSWER = 10
     """The device keeps no answer."""
     BAD_LINE = 11
@@ -181,10 +179,10 @@ class Refused(EipError):
 
 
 class AnswerKept(EipError):
-    """The event was performed, but memory for its answer was refused. The device keeps it: call `Device.answer`."""
+    """The event was performed, but Python had no memory for its answer. The device keeps it: call `Device.answer`."""
 
     def __init__(self) -> None:
-        super().__init__(Status.KEPT_NO_MEMORY, "the answer is kept")
+        super().__init__(Status.KEPT_NO_ROOM, "the answer is kept")
 
 
 class NoAnswer(EipError):
@@ -618,9 +616,9 @@ class Device:
         return self._event(self._calls.eip_c_tick, _number(ms, 0xFFFFFFFF, "milliseconds"), passed_ms=ms)
 
     def next_wake(self) -> int:
-        """For how many milliseconds the device needs no tick, at most 60,000.
+        """In how many milliseconds something is due at the device, at most 60,000.
 
-        A tick of fewer answers a plain DONE and moves the clock alone. An event may shorten the time, so ask again after it.
+        A tick of fewer answers a plain DONE and moves the clock alone. Each event may change the time, so ask again after it.
         """
         with self._lock:
             if not self._is_open:
@@ -668,7 +666,7 @@ class Device:
                 if size == _HEAD_SIZE and room[0] == b"\1":
                     return _PLAIN
                 return read_answer(ctypes.string_at(room, size))
-            if status == Status.KEPT_NO_MEMORY:
+            if status == _NO_ROOM:
                 self._now_ms += passed_ms
                 raise AnswerKept
         if status == Status.NO_ANSWER:
@@ -676,11 +674,11 @@ class Device:
         raise Refused(Status(status))
 
     def _requested_again(self, size: int) -> tuple[int, Any]:
-        """The status of the answer that is kept, and the bytes of it in room enough. The lock is held."""
+        """The status of the answer that is kept, and the bytes of it in room enough, if there is one. The lock is held."""
         try:
             room = ctypes.create_string_buffer(size)
         except MemoryError:
-            return Status.KEPT_NO_MEMORY, None
+            return _NO_ROOM, None
         return self._calls.eip_c_answer(self._at, room, size, self._count), room
 
 

@@ -153,19 +153,19 @@ class Devices(unittest.TestCase):
             self.assertEqual(device.answer().frames, (Frame(0, REGISTERED),))
 
     def test_memory_that_is_refused(self):
-        """The library's statuses 1, 8 and 9, which no test can cause here."""
+        """The library's statuses 1 and 8, where memory is refused, which no test can cause here."""
         with RecordedDevice(ADAPTER) as device:
             def no_room(*_words):
                 device._size.value = 1 << 62
                 return 8
 
-            for call, fault, now_ms in (lambda *_: 1, Refused, 0), (lambda *_: 9, AnswerKept, 5), (no_room, AnswerKept, 10):
+            for call, fault, now_ms in (lambda *_: 1, Refused, 0), (no_room, AnswerKept, 5):
                 device._calls = types.SimpleNamespace(eip_c_tick=call)
                 with self.assertRaises(fault):
                     device.tick(5)
                 self.assertEqual(device.now_ms, now_ms)
             # what was performed is in the record, without its outcome
-            self.assertEqual(device.trace(), ADAPTER + "tick 5\ntick 5\n")
+            self.assertEqual(device.trace(), ADAPTER + "tick 5\n")
 
     def test_every_item_reads(self):
         """Items that need a rare state of a device: their numbers are those of include/eip.h."""

@@ -4,20 +4,24 @@
 #![tactic(auto)]
 
 pub use adapter_engine::FastAdapter;
+pub use cip_events::Arrival;
 pub use cip_netparams::Trigger;
 pub use cip_tables::{
-    Action, Answer, Config, Delivery, Device, Event, Frame, InputPoint, Kind, NewFault, Notice,
-    Outcome, OutgoingDatagram, OutputPoint, Profile, ProfileFault, Reason, Recipient,
+    Action, Answer, AnyDevice, Config, Delivery, Device, Event, Frame, InputPoint, Kind, NewFault,
+    Notice, Outcome, OutgoingDatagram, OutputPoint, Profile, ProfileFault, Reason, Recipient,
     ScannerProfile, SlotConfig, StepFault, TableCopy, Verdict, run,
 };
 pub use cip_types::{ConnId, Fault, Identity, Items, Mismatch, Ms, Node, OutOfMemory, Triad};
 pub use device_lock::{Book, BookFault, History, LockedDevice, Receipt, Segment};
-pub use plain_engine::{PlainAdapter, PlainScanner};
+pub use plain_engine::{PlainAdapter, PlainDevice, PlainScanner};
 pub use port_streams::{DatagramRoute, DatagramRoutes, Destination};
 pub use scanner_engine::FastScanner;
 pub use socket_port::{OpenFault, SocketPort, SystemClock};
 pub use stream_keeper::{KeptStream, Place, StreamKeeper};
 pub use udp_runner::{
-    Clock, Input, MemoryPort, Observer, Output, Port, PortFault, RunFault, SentOutput,
-    SteppedClock, Unobserved, drive, drive_watched, turn_waiting,
+    Clock, MemoryPort, Observer, Output, Port, PortFault, RunFault, SentOutput, SteppedClock,
+    Unobserved, act, drive, drive_watched, turn_waiting,
 };
+
+/// A fast adapter or a fast scanner, as its configuration says.
+pub type FastDevice = AnyDevice<FastAdapter, FastScanner>;

@@ -1,6 +1,6 @@
 pub mod Calls
+pub mod Cells
 pub mod Exchange
 pub mod Inquiries
 pub mod Memory
-pub mod Places
 pub mod Statuses

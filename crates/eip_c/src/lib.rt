@@ -9,25 +9,25 @@ ghost use Rattle.cip_events.specs.declared.event.Verdict.TheVariants.{Delivered}
 ghost use Rattle.cip_events.specs.Answers.{plain_answer};
 ghost use Rattle.cip_events.specs.Clock.{longest_tick};
 ghost use Rattle.cip_tables.specs.Step.{step};
-ghost use Rattle.cip_tables.specs.Wakes.{IsQuietFor};
+ghost use Rattle.cip_tables.specs.Wakes.{IsQuietFor, due_in};
 ghost use Rattle.trace_text.specs.Reading.{trace_reading};
 ghost use Rattle.flat_answers.specs.Flat.{delivery_number, delivery_of};
 ghost use Rattle.eip_c.specs.Statuses.{status_of};
 ghost use Rattle.eip_c.specs.Inquiries.{Inquires};
-ghost use Rattle.eip_c.specs.Calls.{table_of, state, node, Answers, Reports, Reads, Opens, HasOpened};
+ghost use Rattle.eip_c.specs.Calls.{table_of, node, Answers, Reports, Reads, Opens, HasOpened};
 
-mod held;
-mod holder;
+mod answered_device;
+mod handle;
 mod inquiry;
 mod opening;
 mod room;
-mod station;
 mod status;
 
 use cip_events::Event;
+use cip_tables::Device;
 use cip_types::{Items, Node};
 use flat_answers::delivery_number;
-use held::{HandlePlace, Held};
+use handle::{Handle, HandleCell};
 use inquiry::{IdentityNumbers, report_inquiry};
 use opening::opened;
 use room::report;
@@ -44,7 +44,7 @@ use std::alloc::Global;
 pub extern "C" fn eip_c_new(
     alloc: Global,
     profile: &[u8],
-    at: &mut HandlePlace,
+    at: &mut HandleCell,
     number: &mut u64,
 ) -> u32
     ensures status { Opens (trace_reading profile.now) (status_of result) number.new }
@@ -52,8 +52,8 @@ pub extern "C" fn eip_c_new(
     ensures unchanged { 0 < result → at.new.value ≡ at.old.value }
 {
     match opened(alloc, profile, number) {
-        Ok(holder) => {
-            at.put(holder);
+        Ok(device) => {
+            at.put(device);
             DONE
         }
         Err(status) => status,
@@ -62,24 +62,20 @@ pub extern "C" fn eip_c_new(
 
 /// Frees a device.
 #[unsafe(no_mangle)]
-pub extern "C" fn eip_c_free(device: Held) {
+pub extern "C" fn eip_c_free(device: Handle) {
     let _ = device.into_box();
 }
 
 /// Writes the answer that is kept: that of the last event that was not refused. Datagrams and reads keep none.
+/// Takes no memory.
 #[unsafe(no_mangle)]
-pub extern "C" fn eip_c_answer(
-    alloc: Global,
-    device: &mut Held,
-    out: &mut [u8],
-    size: &mut usize,
-) -> u32
+pub extern "C" fn eip_c_answer(device: &mut Handle, out: &mut [u8], size: &mut usize) -> u32
     ensures answer { Reports device.old.value.answer (status_of result) (out.old, size.old) (out.new, size.new) }
     ensures unchanged { device.new.value ≡ device.old.value }
 {
-    let holder = device.place.take();
-    let status = report(alloc, &holder.answer, out, size);
-    device.place.put(holder);
+    let taken = device.cell.take();
+    let status = report(&taken.answer, out, size);
+    device.cell.put(taken);
     status
 }
 
@@ -89,7 +85,7 @@ pub extern "C" fn eip_c_answer(
 #[unsafe(no_mangle)]
 pub extern "C" fn eip_c_request(
     alloc: Global,
-    device: &mut Held,
+    device: &mut Handle,
     peer: u32,
     bytes: &[u8],
     out: &mut [u8],
@@ -105,14 +101,13 @@ pub extern "C" fn eip_c_request(
         peer: Node(peer),
         bytes,
     };
-    device.answered(alloc, &event, out, size)
+    device.answered(&event, out, size)
 }
 
 /// A peer opens a stream, which gets this number.
 #[unsafe(no_mangle)]
 pub extern "C" fn eip_c_stream(
-    alloc: Global,
-    device: &mut Held,
+    device: &mut Handle,
     stream: u16,
     peer: u32,
     out: &mut [u8],
@@ -125,14 +120,14 @@ pub extern "C" fn eip_c_stream(
         stream,
         peer: Node(peer),
     };
-    device.answered(alloc, &event, out, size)
+    device.answered(&event, out, size)
 }
 
 /// A stream brings the bytes of one encapsulation message.
 #[unsafe(no_mangle)]
 pub extern "C" fn eip_c_frame(
     alloc: Global,
-    device: &mut Held,
+    device: &mut Handle,
     stream: u16,
     bytes: &[u8],
     out: &mut [u8],
@@ -145,14 +140,13 @@ pub extern "C" fn eip_c_frame(
         return OUT_OF_MEMORY;
     };
     let event = Event::Frame { stream, bytes };
-    device.answered(alloc, &event, out, size)
+    device.answered(&event, out, size)
 }
 
 /// A stream breaks, or its peer closes it.
 #[unsafe(no_mangle)]
 pub extern "C" fn eip_c_cut(
-    alloc: Global,
-    device: &mut Held,
+    device: &mut Handle,
     stream: u16,
     out: &mut [u8],
     size: &mut usize,
@@ -161,20 +155,20 @@ pub extern "C" fn eip_c_cut(
         device.old.value result device.new.value (out.old, size.old) (out.new, size.new) }
 {
     let event = Event::StreamCut { stream };
-    device.answered(alloc, &event, out, size)
+    device.answered(&event, out, size)
 }
 
 /// A peer sends a class 1 datagram. Answers the number of its delivery. Takes no memory, and never fails.
 #[unsafe(no_mangle)]
-pub extern "C" fn eip_c_datagram(device: &mut Held, peer: u32, bytes: &[u8]) -> u32
-    ensures step { step (table_of device.old.value.station) (Datagram (node peer) bytes.now)
-        ≡ Ok (plain_answer (Delivered (delivery_of result)), table_of device.new.value.station) }
+pub extern "C" fn eip_c_datagram(device: &mut Handle, peer: u32, bytes: &[u8]) -> u32
+    ensures step { step (table_of device.old.value.device) (Datagram (node peer) bytes.now)
+        ≡ Ok (plain_answer (Delivered (delivery_of result)), table_of device.new.value.device) }
     ensures number { delivery_number (delivery_of result) ≡ result }
     ensures answer { device.new.value.answer ≡ device.old.value.answer }
 {
-    let mut holder = device.place.take();
-    let delivery = holder.station.deliver(Node(peer), bytes);
-    device.place.put(holder);
+    let mut taken = device.cell.take();
+    let delivery = taken.device.deliver(Node(peer), bytes);
+    device.cell.put(taken);
     delivery_number(delivery)
 }
 
@@ -204,8 +198,7 @@ pub extern "C" fn eip_c_inquiry(
 /// The application sets the value of an input.
 #[unsafe(no_mangle)]
 pub extern "C" fn eip_c_write(
-    alloc: Global,
-    device: &mut Held,
+    device: &mut Handle,
     point: u32,
     bytes: &[u8],
     out: &mut [u8],
@@ -214,52 +207,52 @@ pub extern "C" fn eip_c_write(
     ensures { Answers (Write point bytes.now)
         device.old.value result device.new.value (out.old, size.old) (out.new, size.new) }
 {
-    let mut holder = device.place.take();
-    let status = holder.written(alloc, point, bytes, out, size);
-    device.place.put(holder);
+    let mut taken = device.cell.take();
+    let status = taken.written(point, bytes, out, size);
+    device.cell.put(taken);
     status
 }
 
 /// Writes the value of a point, as it is. Takes no memory.
 #[unsafe(no_mangle)]
-pub extern "C" fn eip_c_read(device: &mut Held, point: u32, out: &mut [u8], size: &mut usize) -> u32
-    ensures value { Reads (table_of device.old.value.station) point
+pub extern "C" fn eip_c_read(
+    device: &mut Handle,
+    point: u32,
+    out: &mut [u8],
+    size: &mut usize,
+) -> u32
+    ensures value { Reads (table_of device.old.value.device) point
         (status_of result) (out.old, size.old) (out.new, size.new) }
     ensures unchanged { device.new.value ≡ device.old.value }
 {
-    let holder = device.place.take();
-    let status = holder.value(point, out, size);
-    device.place.put(holder);
+    let taken = device.cell.take();
+    let status = taken.value(point, out, size);
+    device.cell.put(taken);
     status
 }
 
 /// Milliseconds pass, at most 60,000.
 #[unsafe(no_mangle)]
-pub extern "C" fn eip_c_tick(
-    alloc: Global,
-    device: &mut Held,
-    ms: u32,
-    out: &mut [u8],
-    size: &mut usize,
-) -> u32
+pub extern "C" fn eip_c_tick(device: &mut Handle, ms: u32, out: &mut [u8], size: &mut usize) -> u32
     ensures { Answers (Tick ms)
         device.old.value result device.new.value (out.old, size.old) (out.new, size.new) }
 {
     let event = Event::Tick { ms };
-    device.answered(alloc, &event, out, size)
+    device.answered(&event, out, size)
 }
 
-/// Answers for how many milliseconds the device needs no tick: each tick of fewer answers nothing, and moves the clock alone.
-/// Takes no memory.
+/// Answers in how many milliseconds something is due at the device: each tick of fewer answers nothing, and moves the clock
+/// alone. Takes no memory.
 #[unsafe(no_mangle)]
-pub extern "C" fn eip_c_next_wake(device: &mut Held) -> u32
-    ensures quiet { IsQuietFor (table_of device.old.value.station) result }
+pub extern "C" fn eip_c_next_wake(device: &mut Handle) -> u32
+    ensures due { result ≡ due_in (table_of device.old.value.device) }
+    ensures quiet { IsQuietFor (table_of device.old.value.device) result }
     ensures longest { result ≤ longest_tick }
     ensures unchanged { device.new.value ≡ device.old.value }
 {
-    let holder = device.place.take();
-    let wake = holder.station.next_wake().0 as u32;
-    device.place.put(holder);
+    let taken = device.cell.take();
+    let wake = taken.device.next_wake().0 as u32;
+    device.cell.put(taken);
     wake
 }
 
@@ -268,8 +261,7 @@ pub extern "C" fn eip_c_next_wake(device: &mut Held) -> u32
 /// The application starts to run, or becomes idle.
 #[unsafe(no_mangle)]
 pub extern "C" fn eip_c_mode(
-    alloc: Global,
-    device: &mut Held,
+    device: &mut Handle,
     run: bool,
     out: &mut [u8],
     size: &mut usize,
@@ -278,14 +270,13 @@ pub extern "C" fn eip_c_mode(
         device.old.value result device.new.value (out.old, size.old) (out.new, size.new) }
 {
     let event = Event::Mode { run };
-    device.answered(alloc, &event, out, size)
+    device.answered(&event, out, size)
 }
 
 /// The connection of a slot is opened, and kept open.
 #[unsafe(no_mangle)]
 pub extern "C" fn eip_c_start(
-    alloc: Global,
-    device: &mut Held,
+    device: &mut Handle,
     slot: u32,
     out: &mut [u8],
     size: &mut usize,
@@ -294,14 +285,13 @@ pub extern "C" fn eip_c_start(
         device.old.value result device.new.value (out.old, size.old) (out.new, size.new) }
 {
     let event = Event::Start { slot };
-    device.answered(alloc, &event, out, size)
+    device.answered(&event, out, size)
 }
 
 /// The connection of a slot is closed.
 #[unsafe(no_mangle)]
 pub extern "C" fn eip_c_stop(
-    alloc: Global,
-    device: &mut Held,
+    device: &mut Handle,
     slot: u32,
     out: &mut [u8],
     size: &mut usize,
@@ -310,5 +300,5 @@ pub extern "C" fn eip_c_stop(
         device.old.value result device.new.value (out.old, size.old) (out.new, size.new) }
 {
     let event = Event::Stop { slot };
-    device.answered(alloc, &event, out, size)
+    device.answered(&event, out, size)
 }

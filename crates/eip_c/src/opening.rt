@@ -8,10 +8,8 @@ ghost use Rattle.trace_text.specs.Reading.{trace_reading};
 ghost use Rattle.eip_c.specs.Calls.{table_of, state, IsOpened, Opens, Refuses};
 ghost use Rattle.eip_c.specs.Statuses.{status_of};
 
-use crate::holder::Holder;
-use crate::station::{LineScanner, Station};
+use crate::answered_device::{AnsweredDevice, FastDevice};
 use crate::status::{BAD_LINE, BAD_PROFILE, OUT_OF_MEMORY};
-use adapter_engine::FastAdapter;
 use cip_events::NewFault;
 use cip_tables::{Config, Device};
 use std::alloc::Global;
@@ -19,8 +17,8 @@ use trace_text::{TraceFault, read_trace};
 
 /// A fresh device of a profile's text, in memory of its own, or the status that says why there is none. The number is
 /// that of a bad line, or of the fault of the profile.
-pub fn opened(alloc: Global, profile: &[u8], number: &mut u64) -> Result<Box<Holder>, u32>
-    ensures opens { IfOk result (λ holder. IsOpened (trace_reading profile.now) (state holder.value)) }
+pub fn opened(alloc: Global, profile: &[u8], number: &mut u64) -> Result<Box<AnsweredDevice>, u32>
+    ensures opens { IfOk result (λ opened. IsOpened (trace_reading profile.now) (state opened.value)) }
     ensures refused { IfErr result (λ status. Opens (trace_reading profile.now) (status_of status) number.new) }
     ensures no_device { IfErr result (λ status. 0 < status) }
 {
@@ -48,38 +46,33 @@ fn refusal(fault: TraceFault, number: &mut u64) -> u32
     }
 }
 
-fn boxed(alloc: Global, config: Config, number: &mut u64) -> Result<Box<Holder>, u32>
-    ensures opens { IfOk result (λ holder. state holder.value ≡ (opening_table config, None)) }
+fn boxed(alloc: Global, config: Config, number: &mut u64) -> Result<Box<AnsweredDevice>, u32>
+    ensures opens { IfOk result (λ opened. state opened.value ≡ (opening_table config, None)) }
     ensures refused { IfErr result (λ status. Refuses (config_fault config) (status_of status) number.new) }
     ensures no_device { IfErr result (λ status. 0 < status) }
 {
     match fresh(alloc, config) {
-        Ok(station) => {
+        Ok(device) => {
             let answer = None;
-            Box::new(alloc, Holder { station, answer }).map_err(|_| OUT_OF_MEMORY)
+            Box::new(alloc, AnsweredDevice { device, answer }).map_err(|_| OUT_OF_MEMORY)
         }
         Err(fault) => Err(new_refusal(fault, number)),
     }
 }
 
-/// A fresh device.
-fn fresh(alloc: Global, config: Config) -> Result<Station, NewFault>
-    ensures opens { IfOk result (λ station. table_of station ≡ opening_table config) }
+/// A fresh device of either kind.
+#[tactic(auto, using(cip_tables::specs::AnyDevices::both_accept_all))]
+fn fresh(alloc: Global, config: Config) -> Result<FastDevice, NewFault>
+    ensures opens { IfOk result (λ device. table_of device ≡ opening_table config) }
     ensures refused { IfErr result (λ fault. IsRefusedAs (config_fault config) true fault) }
 {
-    match config {
-        Config::Adapter(profile) => {
-            FastAdapter::new(alloc, Config::Adapter(profile)).map(Station::Adapter)
-        }
-        Config::Scanner(profile) => {
-            LineScanner::new(alloc, Config::Scanner(profile)).map(Station::Scanner)
-        }
-    }
+    FastDevice::new(alloc, config)
 }
 
 /// The status of a device that is not created, and its number.
 fn new_refusal(fault: NewFault, number: &mut u64) -> u32
-    ensures refused { (wrong : Option ProfileFault) → IsRefusedAs wrong true fault → Refuses wrong (status_of result) number.new }
+    ensures refused { (wrong : Option ProfileFault) → IsRefusedAs wrong true fault
+        → Refuses wrong (status_of result) number.new }
     ensures no_device { 0 < result }
 {
     match fault {

@@ -5,10 +5,9 @@ ghost use Rattle.eip_c.specs.Calls.{Reports};
 ghost use Rattle.eip_c.specs.Memory.{Writes};
 ghost use Rattle.eip_c.specs.Statuses.{status_of};
 
-use crate::status::{DONE, NO_ANSWER, NO_MEMORY, NO_ROOM};
+use crate::status::{DONE, NO_ANSWER, NO_ROOM};
 use cip_events::Answer;
-use flat_answers::push_answer;
-use std::alloc::Global;
+use flat_answers::{answer_len, put_answer};
 
 /// Writes bytes at the front of the room, and their number. Where the room is too small for them, it writes their number
 /// alone.
@@ -32,22 +31,24 @@ fn put_first(bytes: &[u8], out: &mut [u8])
     front.copy_from_slice(bytes);
 }
 
-/// Writes the answer that is kept, in the form of `flat_answers`.
-pub fn report(alloc: Global, answer: &Option<Answer>, out: &mut [u8], size: &mut usize) -> u32
+/// Writes the answer that is kept, in the form of `flat_answers`. Takes no memory.
+pub fn report(answer: &Option<Answer>, out: &mut [u8], size: &mut usize) -> u32
     ensures { Reports answer.now (status_of result) (out.old, size.old) (out.new, size.new) }
 {
     match answer {
-        Some(answer) => report_answer(alloc, answer, out, size),
+        Some(answer) => report_answer(answer, out, size),
         None => NO_ANSWER,
     }
 }
 
-fn report_answer(alloc: Global, answer: &Answer, out: &mut [u8], size: &mut usize) -> u32
+fn report_answer(answer: &Answer, out: &mut [u8], size: &mut usize) -> u32
     ensures { Reports (Some answer.now) (status_of result) (out.old, size.old) (out.new, size.new) }
 {
-    let mut text = Vec::new(alloc);
-    match push_answer(&mut text, answer) {
-        Ok(()) => copy_out(text.as_slice(), out, size),
-        Err(_) => NO_MEMORY,
+    let len = answer_len(answer);
+    *size = len;
+    if out.len() < len {
+        return NO_ROOM;
     }
+    put_answer(out, answer);
+    DONE
 }

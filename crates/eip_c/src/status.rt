@@ -1,22 +1,20 @@
 //! The numbers that C reads for the outcome of a call.
 
 ghost use Rattle.std.specs.Prelude.{◌≡◌};
-ghost use Rattle.eip_c.specs.declared.status.Status.TheVariants.{Fault};
+ghost use Rattle.eip_c.specs.declared.status.CallStatus.TheVariants.{Fault};
 ghost use Rattle.eip_c.specs.Statuses.{status_of};
 
 use cip_events::StepFault;
 
-/// The outcome of a call. `status_of` gives each its number.
+/// The outcome of a call. `status_of` gives each its number. The number 9 is no status, and is given to none.
 #[derive(Clone, Copy)]
-pub enum Status {
+pub enum CallStatus {
     /// The call was performed, and its bytes are written.
     Done,
     /// The event is refused.
     Fault(StepFault),
     /// The call was performed. Its bytes need more room, and are counted.
     NoRoom,
-    /// The event was performed. An allocation for the bytes of its answer was refused; the answer is kept.
-    NoMemory,
     /// No answer is kept.
     NoAnswer,
     /// A line of the profile is bad.
@@ -39,9 +37,6 @@ pub const OUT_OF_MEMORY: u32 = 1;
 
 /// `NoRoom`.
 pub const NO_ROOM: u32 = 8;
-
-/// `NoMemory`.
-pub const NO_MEMORY: u32 = 9;
 
 /// `NoAnswer`.
 pub const NO_ANSWER: u32 = 10;

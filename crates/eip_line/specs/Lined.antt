@@ -1,5 +1,5 @@
 -- The output of a run in threads.
-use Rattle.std.specs.Prelude.{ℕ, ◌≡◌, ◌+◌, Bool, true, List, codes, length, Option, Result, Ok, Err}
+use Rattle.std.specs.Prelude.{ℕ, ◌≡◌, Bool, true, List, map, All, codes, Option, Result, Ok, Err}
 use Rattle.std.specs.Io.KnownBytes.{Appends}
 use Rattle.trace_stepper.specs.Written.{BeginsToWrite}
 use Rattle.segment_world.specs.declared.act.Act.{Act}
@@ -7,6 +7,10 @@ use Rattle.device_lock.specs.Histories.{HistoryValue}
 use Rattle.device_lock.specs.declared.receipt.Receipt.{Receipt}
 use Rattle.settling.specs.Histories.{configs_of}
 use Rattle.settling.specs.Settlings.{SettlesAll}
+use Rattle.line_threads.specs.Accounts.{own_in, HasItsReceipts}
+use Rattle.line_devices.specs.Devices.{line_configs}
+use Rattle.line_setup.specs.Scripts.{line_scripts}
+use Rattle.line_words.specs.declared.task.LineTask.{LineTask}
 use Rattle.eip_line.specs.declared.faults.ProgramFault.{ProgramFault}
 use Rattle.eip_line.specs.declared.faults.ProgramFault.TheVariants as program
 
@@ -14,22 +18,26 @@ use Rattle.eip_line.specs.declared.faults.ProgramFault.TheVariants as program
 abbrev pub settled_line : List ℕ
 settled_line = codes "settled\n"
 
--- There are histories of an adapter and so many scanners, with receipts that settle into one schedule.
-pub record HasSettled (scanners : ℕ) : Type 0 where
+-- There are histories of the line's devices: an adapter, and as many scanners as the task has. What arrived left out, each
+-- is its device's script over the task's ticks, each event once and in order. The receipts of a device are for the events of
+-- its history, in order and each once. Histories and receipts settle into one schedule.
+pub record HasSettled (given : LineTask) : Type 0 where
   pub histories : List HistoryValue
   pub receipts : List Receipt
   pub acts : List Act
-  pub devices : length (configs_of histories) ≡ scanners + 1
+  pub devices : configs_of histories ≡ line_configs given.scanners
+  pub scripts : map own_in histories ≡ line_scripts given.scanners given.ticks
+  pub reported : All (HasItsReceipts receipts) histories
   pub settles : SettlesAll histories receipts acts
 
 -- the devices have settled, and that is printed
-abbrev pub SettlesLine : ℕ → Option (List ℕ) → Option (List ℕ) → Type 0
-SettlesLine scanners old new = HasSettled scanners × Appends old new settled_line
+abbrev pub SettlesLine : LineTask → Option (List ℕ) → Option (List ℕ) → Type 0
+SettlesLine given old new = HasSettled given × Appends old new settled_line
 
--- The output when a line of so many scanners ends so: none if the devices did not settle. It has no other end.
-abbrev pub IsLined : ℕ → Option (List ℕ) → Result Bool ProgramFault → Option (List ℕ) → Type 0
-IsLined scanners old (Ok true) new = SettlesLine scanners old new
-IsLined scanners old (Err (program.Line fault)) new = new ≡ old
-IsLined scanners old (Err (program.Unsettled fault)) new = new ≡ old
-IsLined scanners old (Err program.Write) new = BeginsToWrite old settled_line new
-IsLined scanners old ended new = ⊥
+-- The output when a line ends so: none if the devices did not settle. It has no other end.
+abbrev pub IsLined : LineTask → Option (List ℕ) → Result Bool ProgramFault → Option (List ℕ) → Type 0
+IsLined given old (Ok true) new = SettlesLine given old new
+IsLined given old (Err (program.Line fault)) new = new ≡ old
+IsLined given old (Err (program.Unsettled fault)) new = new ≡ old
+IsLined given old (Err program.Write) new = BeginsToWrite old settled_line new
+IsLined given old ended new = ⊥

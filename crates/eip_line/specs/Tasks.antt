@@ -16,14 +16,14 @@ use Rattle.line_words.specs.declared.task.Task.TheVariants as task
 abbrev pub Prints : Task → Option (List ℕ) → Option (List ℕ) → Option (List ℕ) → Type 0
 Prints task.Step input old new = PrintsRun input old new
 Prints (task.Loop given) input old new = Appends old new (turns_line given.turns)
-Prints (task.Line given) input old new = SettlesLine given.scanners old new
+Prints (task.Line given) input old new = SettlesLine given old new
 Prints task.Version input old new = Appends old new version_line
 
 -- The output when a task ends so; false if an outcome of a trace is not as recorded.
 abbrev pub IsPerformed : Task → Option (List ℕ) → Option (List ℕ) → Option (List ℕ) → Result Bool ProgramFault → Type 0
 IsPerformed task.Step input old new ended = IsStepped input old new ended
 IsPerformed (task.Loop given) input old new ended = IsLooped given.turns old ended new
-IsPerformed (task.Line given) input old new ended = IsLined given.scanners old ended new
+IsPerformed (task.Line given) input old new ended = IsLined given old ended new
 IsPerformed task.Version input old new ended = IsVersioned old ended new
 
 -- What is reported of a task that ended so with status 1: nothing if an outcome is not as recorded; else the line of the

@@ -8,16 +8,14 @@ ghost use Rattle.eip_line.specs.Tasks.{HasFailed, IsDone, IsPerformed, IsReporte
 ghost use Rattle.line_words.specs.Tasks.{IsAlone, task_of};
 ghost use Rattle.eip_line.specs.Usage.{usage_text};
 
+use crate::FastDevice;
 use crate::faults::{FAILED, ProgramFault, failed};
 use crate::lines::print_settled;
 use crate::loops::print_turns;
 use crate::output::{flush, print_version, write_numbered};
 use crate::usage::misused;
-use adapter_engine::FastAdapter;
-use cip_tables::Config;
 use cip_types::limits::LONGEST_TRACE;
 use line_words::{Misuse, Task, read_task};
-use scanner_engine::FastScanner;
 use std::alloc::Global;
 use std::convert::AsStr;
 use std::io::{ErrorKind, Read, Write};
@@ -54,7 +52,8 @@ where
         → IsDone (map S.text words.now) (I.remaining reader.old) (O.contents out.old) (O.contents out.new)
         × (err.new ≡ err.old) }
     ensures failed { result ≡ 1
-        → HasFailed (map S.text words.now) (I.remaining reader.old) (O.contents out.old) (O.contents out.new) (E.contents err.old) (E.contents err.new) }
+        → HasFailed (map S.text words.now) (I.remaining reader.old) (O.contents out.old) (O.contents out.new)
+        (E.contents err.old) (E.contents err.new) }
     ensures usage { result ≡ 2 → (out.new ≡ out.old)
         × BeginsToWrite (E.contents err.old) usage_text (E.contents err.new) }
     ensures step { IsAlone (map S.text words.now) (codes "step") → result ≤ 1 }
@@ -125,6 +124,7 @@ fn step<I: Read, O: Write>(alloc: Global, reader: &mut I, out: &mut O) -> Result
 }
 
 /// Plays a trace at a device of its kind.
+#[tactic(auto, using(cip_tables::specs::AnyDevices::both_accept_all))]
 fn played<O: Write>(
     alloc: Global,
     trace: &Trace,
@@ -132,10 +132,7 @@ fn played<O: Write>(
 ) -> Result<Option<usize>, StepperFault>
     ensures { IsPlayed true trace.now (O.contents out.old) (O.contents out.new) result }
 {
-    match &trace.config {
-        Config::Adapter(_) => play::<FastAdapter, O>(alloc, trace, out),
-        Config::Scanner(_) => play::<FastScanner, O>(alloc, trace, out),
-    }
+    play::<FastDevice, O>(alloc, trace, out)
 }
 
 /// Reads a trace.

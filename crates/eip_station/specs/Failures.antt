@@ -1,7 +1,9 @@
 -- The status of the program after a failure.
 use Rattle.std.specs.Prelude.{ℕ, Bool, true, false}
+use Rattle.std.specs.declared.io.ErrorKind.{ErrorKind}
+use Rattle.std.specs.declared.io.ErrorKind.TheVariants.{OutOfMemory}
 use Rattle.station_port.specs.declared.fault.SocketCause.TheVariants as cause
-use Rattle.station_words.specs.declared.options.Misuse.TheVariants as misuse
+use Rattle.station_words.specs.declared.options.StationMisuse.TheVariants as misuse
 use Rattle.eip_station.specs.declared.traces.TracesFault.{TracesFault}
 use Rattle.eip_station.specs.declared.traces.TracesFault.TheVariants as traces
 use Rattle.eip_station.specs.declared.failure.Failure.{Failure}
@@ -15,6 +17,16 @@ traces_status traces.NoTrace = 3
 traces_status traces.Differs = 1
 traces_status traces.Write = 1
 traces_status traces.OutOfMemory = 7
+
+-- why the file at this index is not read to its end: for lack of memory, or it cannot be read
+abbrev pub unread_fault : ℕ → ErrorKind → TracesFault
+unread_fault place OutOfMemory = traces.OutOfMemory
+unread_fault place _ = traces.Unread place
+
+-- why the file of a profile is not read to its end
+abbrev pub unread_failure : ErrorKind → Failure
+unread_failure OutOfMemory = failure.OutOfMemory
+unread_failure _ = failure.Unread
 
 -- 1 after an early end or where the output takes nothing, 2 after a wrong word, 3 after a bad profile or state, 4 after an
 -- address that is none, 5 where a socket cannot be made, 6 where the record or the state cannot be written, 7 where there is

@@ -1,7 +1,7 @@
 //! The end of a station's outputs.
 
 use crate::rim::Rim;
-use station::LineSink;
+use station_lines::LineSink;
 use std::rt::Clock;
 use std::sync::Wait;
 use std::thread;

@@ -1,7 +1,7 @@
 //! Why the program fails: the line on standard error, and the status.
 
 ghost use Rattle.std.specs.Prelude.{◌≡◌};
-ghost use Rattle.eip_station.specs.Failures.{is_reported, status_of, traces_status};
+ghost use Rattle.eip_station.specs.Failures.{is_reported, status_of, traces_status, unread_failure};
 
 use crate::traces::TracesFault;
 use cip_tables::NewFault;
@@ -9,17 +9,21 @@ use cip_types::OutOfMemory;
 use station::EarlyEnd;
 use station_port::{SocketCause, StationFault, StationSocket};
 use station_record::RecordFault;
-use station_words::Misuse;
+use station_words::StationMisuse;
 use std::alloc::{AllocError, AllocFailed};
+use std::io::ErrorKind;
 use thiserror::Error;
 use trace_text::TraceFault;
+
+/// The line where an allocation was refused.
+pub const NO_MEMORY: &[u8] = b"eip_station: no memory\n";
 
 /// Why the program fails.
 #[derive(Clone, Copy, Debug, PartialEq, Eq, Error)]
 pub enum Failure {
     /// The command line requests nothing.
     #[error(transparent)]
-    Words(#[from] Misuse),
+    Words(#[from] StationMisuse),
     /// The file cannot be read.
     #[error("cannot be read")]
     Unread,
@@ -69,7 +73,7 @@ pub fn status_of(failure: Failure) -> u8
         Failure::Early(_) => 1,
         Failure::Output => 1,
         Failure::Traces(fault) => traces_status(fault),
-        Failure::Words(Misuse::BadAddress(_)) => 4,
+        Failure::Words(StationMisuse::BadAddress(_)) => 4,
         Failure::Words(_) => 2,
         Failure::Unread => 3,
         Failure::Profile(_) => 3,
@@ -169,6 +173,16 @@ impl<T: Drop> From<AllocFailed<T>> for Failure {
     }
 }
 
+/// Why the file of a profile is not read to its end, by the kind of the system's error.
+pub fn unread(kind: ErrorKind) -> Failure
+    ensures { result ≡ unread_failure kind }
+{
+    match kind {
+        ErrorKind::OutOfMemory => Failure::OutOfMemory,
+        _ => Failure::Unread,
+    }
+}
+
 /// Whether a line has told the failure already.
 pub fn is_reported(failure: Failure) -> bool
     ensures { result ≡ is_reported failure }
@@ -199,14 +213,14 @@ pub fn subject_of(words: &[String], failure: Failure) -> &str {
 }
 
 /// The wrong word of a command line.
-fn wrong_word(words: &[String], misuse: Misuse) -> &str {
+fn wrong_word(words: &[String], misuse: StationMisuse) -> &str {
     let left = match misuse {
-        Misuse::NoCommand | Misuse::NoFile => return "",
-        Misuse::NoSuchCommand(left) => left,
-        Misuse::NoSuchOption(left) => left,
-        Misuse::NoValue(left) => left,
-        Misuse::BadValue(left) => left,
-        Misuse::BadAddress(left) => left,
+        StationMisuse::NoCommand | StationMisuse::NoFile => return "",
+        StationMisuse::NoSuchCommand(left) => left,
+        StationMisuse::NoSuchOption(left) => left,
+        StationMisuse::NoValue(left) => left,
+        StationMisuse::BadValue(left) => left,
+        StationMisuse::BadAddress(left) => left,
     };
     match words.get(words.len().saturating_sub(left)) {
         Some(word) => word.as_str(),

@@ -2,9 +2,9 @@
 
 use cip_types::OutOfMemory;
 use mio::Waker;
-use station::{CallBuffer, CallLines, NextLine};
+use station_lines::{CallBuffer, CallLines, InputRead, NextLine, input_read};
 use std::alloc::Global;
-use std::io::{ErrorKind, Read};
+use std::io::Read;
 use std::rt::Clock;
 use std::sync::{Arc, Mutex, Wait};
 use std::thread;
@@ -15,7 +15,7 @@ const CHUNK_BYTES: usize = 4_096;
 
 /// What was read and not yet taken, and what wakes the station that takes it.
 #[derive(Drop)]
-struct Unread {
+struct UnreadCalls {
     buffer: CallBuffer,
     waker: Option<Waker>,
 }
@@ -24,13 +24,13 @@ struct Unread {
 #[derive(Drop)]
 pub struct SharedInput {
     alloc: Global,
-    unread: Arc<Mutex<Unread>, Global>,
+    unread: Arc<Mutex<UnreadCalls>, Global>,
 }
 
 impl SharedInput {
     /// An input of which nothing was read. OutOfMemory is the only fault.
     pub fn new(alloc: Global) -> Result<SharedInput, OutOfMemory> {
-        let unread = Mutex::new(Unread {
+        let unread = Mutex::new(UnreadCalls {
             buffer: CallBuffer::new(alloc),
             waker: None,
         });
@@ -52,9 +52,9 @@ impl SharedInput {
     }
 
     /// The lines of the input, for a station that this waker wakes.
-    pub fn lines<R: Wait + Drop>(self, rt: R, waker: Waker) -> Inbox<R> {
+    pub fn lines<R: Wait + Drop>(self, rt: R, waker: Waker) -> InputLines<R> {
         self.unread.lock(&rt).waker = Some(waker);
-        Inbox { rt, input: self }
+        InputLines { rt, input: self }
     }
 
     /// Reads the standard input to its end.
@@ -62,15 +62,14 @@ impl SharedInput {
         let mut reader = rt.reader();
         let mut chunk = [0u8; CHUNK_BYTES];
         for _ in 0..u64::MAX {
-            match reader.read(&mut chunk) {
-                Ok(0) => break,
-                Ok(count) => {
+            match input_read(reader.read(&mut chunk)) {
+                InputRead::Bytes(count) => {
                     if self.push(rt, &chunk[..count]).is_err() {
                         break;
                     }
                 }
-                Err(error) if error.kind() == ErrorKind::Interrupted => {}
-                Err(_) => break,
+                InputRead::Again => {}
+                InputRead::End => break,
             }
         }
         self.end(rt);
@@ -105,12 +104,12 @@ impl SharedInput {
 
 /// The lines of an input that another thread reads.
 #[derive(Drop)]
-pub struct Inbox<R: Wait + Drop> {
+pub struct InputLines<R: Wait + Drop> {
     rt: R,
     input: SharedInput,
 }
 
-impl<R: Wait + Drop> CallLines for Inbox<R> {
+impl<R: Wait + Drop> CallLines for InputLines<R> {
     fn next_line(&mut self) -> Result<NextLine, OutOfMemory> {
         let alloc = self.input.alloc;
         self.input.unread.lock(&self.rt).buffer.next_line(alloc)

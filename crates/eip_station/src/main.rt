@@ -19,8 +19,9 @@ mod threads;
 mod traces;
 mod usage;
 
-use failure::{Failure, status_of};
+use failure::{Failure, NO_MEMORY, status_of};
 use rim::Rim;
+use std::io::Write;
 use std::process::ExitCode;
 use std::thread;
 use threads::begin_output;
@@ -28,31 +29,37 @@ use threads::begin_output;
 /// Performs what the command line requests, and ends with its status. A station has threads of their own for its input, its
 /// outputs and its record; they are not joined, and end with the program.
 fn main(rt: HostRuntime) -> ExitCode {
-    let no_memory = ExitCode::from(status_of(Failure::OutOfMemory));
     let Ok(rim) = Rim::new(rt.alloc()) else {
-        return no_memory;
+        return no_memory(rt.stderr());
     };
     let needs = program::needs_of(&rt);
     if needs.station
         && !(begin_output(rt, &rim.out, rt.stdout()) && begin_output(rt, &rim.err, rt.stderr()))
     {
-        return no_memory;
+        return no_memory(rt.stderr());
     }
     if needs.record {
         let Ok(record) = rim.record.share() else {
-            return no_memory;
+            return no_memory(rt.stderr());
         };
         if thread::spawn(&rt, move || record.write_files(&rt)).is_err() {
-            return no_memory;
+            return no_memory(rt.stderr());
         }
     }
     if needs.input {
         let Ok(input) = rim.input.share() else {
-            return no_memory;
+            return no_memory(rt.stderr());
         };
         if thread::spawn(&rt, move || input.fill(&rt)).is_err() {
-            return no_memory;
+            return no_memory(rt.stderr());
         }
     }
     program::run(rt, rim, rt.stdout(), rt.stderr())
+}
+
+/// Reports that there is no memory to begin with, as far as the stream takes the line, and answers the status for that.
+fn no_memory<E: Write + Drop>(err: E) -> ExitCode {
+    let mut err = err;
+    let _ = err.write_all(NO_MEMORY);
+    ExitCode::from(status_of(Failure::OutOfMemory))
 }

@@ -1,9 +1,11 @@
-//! The ports of stations.
+//! Where a station is, and the port of a scanner.
+
+ghost use Rattle.std.specs.Prelude.{◌≡◌, IfOk, OnOk};
+ghost use Rattle.eip_station.specs.Settings.{given_or, is_among, place_of, targets_of, with_target};
 
 use crate::failure::Failure;
 use cip_tables::ScannerProfile;
-use cip_types::Node;
-use list_identity::StationIdentity;
+use cip_types::{Node, OutOfMemory};
 use port_streams::Destination;
 use station_port::{StationPlace, StationPort};
 use station_words::Options;
@@ -12,9 +14,11 @@ use std::net::Net;
 use std::rt::Clock;
 
 /// Where a station is: at the address of its options, or of its profile, in the network of this mask.
-pub fn place_of(options: &Options, node: Node, mask: u32) -> StationPlace {
+pub fn place_of(options: &Options, node: Node, mask: u32) -> StationPlace
+    ensures { result ≡ place_of options.now node mask }
+{
     StationPlace {
-        address: options.address.unwrap_or(node),
+        address: given_or(options.address, node),
         mask,
         tcp: options.tcp,
         udp: options.udp,
@@ -24,32 +28,47 @@ pub fn place_of(options: &Options, node: Node, mask: u32) -> StationPlace {
     }
 }
 
-/// The targets of a scanner's slots, each once, at this TCP port.
+/// The address of the options, or that of the profile.
+fn given_or(address: Option<Node>, node: Node) -> Node
+    ensures { result ≡ given_or address node }
+{
+    match address {
+        Some(address) => address,
+        None => node,
+    }
+}
+
+/// The targets of a scanner's slots, each once, at this TCP port. The only fault is a refused allocation.
 pub fn targets_of(
     alloc: Global,
     profile: &ScannerProfile,
     port: u16,
-) -> Result<Vec<Destination>, Failure> {
+) -> Result<Vec<Destination>, OutOfMemory>
+    ensures { IfOk result (λ targets. targets.items ≡ targets_of port profile.now.slots) }
+{
     let mut targets: Vec<Destination> = Vec::new(alloc);
     for slot in profile.slots.as_slice() {
-        let node = slot.target;
-        if !targets.iter().any(|target| target.node == node) {
-            targets.push(Destination { node, port })?;
-        }
+        add_target(&mut targets, slot.target, port)?;
     }
     Ok(targets)
 }
 
-/// The port of an adapter, which its peers find by ListIdentity.
-pub fn adapter_port<R>(
-    rt: R,
-    place: &StationPlace,
-    identity: StationIdentity,
-) -> Result<StationPort<R>, Failure>
-where
-    R: AllocGlobal + Net + Clock + Copy + Drop,
+/// Adds a target, if it is not among them.
+fn add_target(targets: &mut Vec<Destination>, node: Node, port: u16) -> Result<(), OutOfMemory>
+    ensures { OnOk result (targets.new.items ≡ with_target port targets.old.items node) }
 {
-    Ok(StationPort::adapter(rt.alloc(), rt, place, identity)?)
+    if is_among(node, targets.as_slice()) {
+        return Ok(());
+    }
+    targets.push(Destination { node, port })?;
+    Ok(())
+}
+
+/// Whether a target of this address is among them.
+fn is_among(node: Node, targets: &[Destination]) -> bool
+    ensures { result ≡ is_among node targets.now }
+{
+    targets.iter().any(|target| target.node.0 == node.0)
 }
 
 /// The port of a scanner, which opens a stream to each target of its slots.

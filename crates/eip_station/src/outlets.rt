@@ -1,8 +1,8 @@
 //! The lines of an output, which a thread of its own writes.
 
 use cip_types::{Items, OutOfMemory};
-use line_queue::{NoticeForm, Outlet};
-use station::LineSink;
+use line_queue::{NoticeForm, QueueOutlet};
+use station_lines::LineSink;
 use std::alloc::Global;
 use std::io::{self, ErrorKind, Write};
 use std::rt::Clock;
@@ -18,7 +18,7 @@ const MOST_TEXTS: usize = 4_096;
 /// Lines on their way, and whether the writer has some in its hands.
 #[derive(Drop)]
 struct Way {
-    outlet: Outlet,
+    outlet: QueueOutlet,
     is_busy: bool,
 }
 
@@ -40,7 +40,7 @@ impl SharedLines {
     pub fn new(alloc: Global, form: NoticeForm) -> Result<SharedLines, OutOfMemory> {
         let channel = Channel {
             way: Mutex::new(Way {
-                outlet: Outlet::new(alloc, form, MOST_BYTES, MOST_TEXTS),
+                outlet: QueueOutlet::new(alloc, form, MOST_BYTES, MOST_TEXTS),
                 is_busy: false,
             }),
             more: Condvar::new(),
@@ -60,8 +60,8 @@ impl SharedLines {
     }
 
     /// The end of the way at which lines are put in.
-    pub fn sink<R: Wait + Drop>(&self, rt: R) -> Result<Lines<R>, OutOfMemory> {
-        Ok(Lines {
+    pub fn sink<R: Wait + Drop>(&self, rt: R) -> Result<LineEntrance<R>, OutOfMemory> {
+        Ok(LineEntrance {
             rt,
             lines: self.share()?,
         })
@@ -130,12 +130,12 @@ fn write_whole<R: Clock, W: Write>(rt: &R, out: &mut W, text: &[u8]) -> io::Resu
 
 /// The end of a way at which a station puts lines in. It waits for no reader.
 #[derive(Drop)]
-pub struct Lines<R: Wait + Drop> {
+pub struct LineEntrance<R: Wait + Drop> {
     rt: R,
     lines: SharedLines,
 }
 
-impl<R: Wait + Drop> LineSink for Lines<R> {
+impl<R: Wait + Drop> LineSink for LineEntrance<R> {
     fn line(&mut self, text: &[u8]) {
         let _ = self.lines.channel.way.lock(&self.rt).outlet.offer(text);
         self.lines.channel.more.notify_one();

@@ -1,16 +1,20 @@
 //! Profiles in files.
 
 use crate::draining::report_line;
-use crate::failure::Failure;
+use crate::failure::{Failure, unread};
 use crate::rim::Rim;
-use cip_tables::Config;
+use adapter_engine::FastAdapter;
+use cip_tables::{AnyDevice, Config};
 use cip_types::OutOfMemory;
-use std::alloc::Global;
+use scanner_engine::FastScanner;
 use std::fs;
 use std::rt::Files;
 use std::sync::Wait;
-use trace_explain::explain_fault;
+use trace_faults::explain_fault;
 use trace_text::{Trace, TraceFault, read_trace};
+
+/// The device of a profile of either kind.
+pub type FastDevice = AnyDevice<FastAdapter, FastScanner>;
 
 /// The profile of a file, which is to have no events, and to be that of a scanner or not. A bad profile is reported with its
 /// file, its line and its word.
@@ -21,11 +25,13 @@ pub fn profile_of<R: Files + AllocGlobal + Wait + Copy + Drop>(
     scanner: bool,
 ) -> Result<Config, Failure> {
     let alloc = rt.alloc();
-    let Ok(text) = fs::read(&rt, path) else {
-        return Err(Failure::Unread);
+    let text = match fs::read(&rt, path) {
+        Ok(text) => text,
+        Err(error) => return Err(unread(error.kind())),
     };
     let Trace { config, events } = match read_trace(alloc, text.as_slice()) {
         Ok(trace) => trace,
+        Err(TraceFault::OutOfMemory) => return Err(Failure::OutOfMemory),
         Err(fault) => {
             report_fault(rt, rim, path, text.as_slice(), fault)?;
             return Err(Failure::from(fault));

@@ -1,11 +1,11 @@
 //! The program, at its command line and its streams.
 
-use crate::failure::{Failure, is_reported, status_of, subject_of};
+use crate::failure::{Failure, NO_MEMORY, is_reported, status_of, subject_of};
 use crate::rim::{Needs, Rim};
 use crate::stationing::run_task;
 use crate::traces::{explain, pcap, replay};
 use crate::usage::USAGE;
-use station_words::{Task, read_task};
+use station_words::{ProgramTask, read_task};
 use std::alloc::Global;
 use std::env::{self, Env};
 use std::fs::File;
@@ -26,7 +26,7 @@ where
 {
     let mut err = err;
     let Some(words) = words_of(&rt) else {
-        let _ = err.write_all(b"eip_station: no memory\n");
+        let _ = err.write_all(NO_MEMORY);
         return ExitCode::from(status_of(Failure::OutOfMemory));
     };
     match perform(rt, words.as_slice(), rim, out, &mut err) {
@@ -46,10 +46,10 @@ pub fn needs_of<R: AllocGlobal + Env>(rt: &R) -> Needs {
         return none;
     };
     match read_task(words.as_slice()) {
-        Ok(Task::Station(task)) => Needs {
+        Ok(ProgramTask::Station(task)) => Needs {
             station: true,
             input: !task.options.no_input,
-            record: task.options.record_left.is_some(),
+            record: task.options.record_from_end.is_some(),
         },
         _ => none,
     }
@@ -68,7 +68,7 @@ where
     E: Write,
 {
     match read_task(words) {
-        Ok(Task::Station(task)) => run_task(rt, words, task, &rim),
+        Ok(ProgramTask::Station(task)) => run_task(rt, words, task, &rim),
         Ok(task) => {
             let done = write(&rt, words, task, out);
             report(rt.alloc(), words, done, err)
@@ -78,21 +78,21 @@ where
 }
 
 /// Performs a task that writes a text or a capture file.
-fn write<R, O>(rt: &R, words: &[String], task: Task, out: O) -> Result<(), Failure>
+fn write<R, O>(rt: &R, words: &[String], task: ProgramTask, out: O) -> Result<(), Failure>
 where
     R: AllocGlobal + Files<File = File>,
     O: Write + Drop,
 {
     match task {
-        Task::Help => print(out, USAGE.as_bytes()),
-        Task::Version => {
+        ProgramTask::Help => print(out, USAGE.as_bytes()),
+        ProgramTask::Version => {
             let line = format!(in rt.alloc(); "eip_station {VERSION}\n")?;
             print(out, line.as_bytes())
         }
-        Task::Replay => Ok(replay(rt, files_of(words), out)?),
-        Task::Pcap => Ok(pcap(rt, files_of(words), out)?),
-        Task::Explain => Ok(explain(rt, files_of(words), out)?),
-        Task::Station(_) => Ok(()),
+        ProgramTask::Replay => Ok(replay(rt, files_of(words), out)?),
+        ProgramTask::Pcap => Ok(pcap(rt, files_of(words), out)?),
+        ProgramTask::Explain => Ok(explain(rt, files_of(words), out)?),
+        ProgramTask::Station(_) => Ok(()),
     }
 }
 
@@ -124,7 +124,7 @@ fn report<E: Write>(
         let line = line_of(alloc, words, failure);
         let _ = match &line {
             Ok(line) => err.write_all(line.as_bytes()),
-            Err(_) => err.write_all(b"eip_station: no memory\n"),
+            Err(_) => err.write_all(NO_MEMORY),
         };
     }
     done

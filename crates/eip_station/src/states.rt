@@ -3,7 +3,6 @@
 use crate::failure::Failure;
 use crate::record_file::fresh_file;
 use station_state::{StationState, begin_state, push_state, read_state};
-use std::alloc::Global;
 use std::fs::{self, File, OpenFile};
 use std::io::{self, ErrorKind, Write};
 use std::random::RandomSource;
@@ -45,8 +44,11 @@ where
             Some(state) => Ok(Some(state)),
             None => Err(Failure::State),
         },
-        Err(error) if error.kind() == ErrorKind::NotFound => Ok(None),
-        Err(_) => Err(Failure::State),
+        Err(error) => match error.kind() {
+            ErrorKind::NotFound => Ok(None),
+            ErrorKind::OutOfMemory => Err(Failure::OutOfMemory),
+            _ => Err(Failure::State),
+        },
     }
 }
 

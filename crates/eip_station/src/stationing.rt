@@ -1,27 +1,28 @@
 //! A station from its words to its end.
 
+ghost use Rattle.std.specs.Prelude.{◌≡◌};
+ghost use Rattle.eip_station.specs.Settings.{ending_of, ms_of};
+
 use crate::draining::{drain_lines, drain_record, report_line};
-use crate::failure::Failure;
-use crate::identity::{identity_of, name_of, stem_of};
+use crate::failure::{Failure, NO_MEMORY};
+use crate::identity::{name_of, stem_of};
 use crate::moment::push_moment;
-use crate::opening::{adapter_port, place_of, scanner_port};
-use crate::profiles::{incarnation_of, profile_of, with_incarnation};
+use crate::opening::{place_of, scanner_port};
+use crate::profiles::{FastDevice, incarnation_of, profile_of, with_incarnation};
 use crate::program::line_of;
 use crate::record_file::place_of_record;
 use crate::record_queue::Entries;
 use crate::rim::Rim;
 use crate::states::begin_in_file;
-use adapter_engine::FastAdapter;
 use cip_tables::{Config, Device};
-use kept_port::KeptPort;
-use scanner_engine::FastScanner;
+use list_identity::StationIdentity;
 use socket_port::SystemClock;
-use station::{Ending, NoLines, Station, Voice, Witness, run_station};
+use station::{Ending, Station, StationObserver, Voice};
+use station_lines::NoLines;
 use station_port::{StationPlace, StationPort};
 use station_record::Recorder;
 use station_state::StationState;
 use station_words::{Options, StationTask};
-use std::alloc::Global;
 use std::fs::File;
 use std::net::Net;
 use std::random::RandomSource;
@@ -34,7 +35,7 @@ const NO_NETWORK: u32 = 0xFFFF_FFFF;
 
 /// The words of a station, its options, and what it shares with its threads.
 #[derive(Clone, Copy)]
-struct Setting<'a, R> {
+struct Stationed<'a, R> {
     rt: R,
     words: &'a [String],
     options: &'a Options,
@@ -46,7 +47,7 @@ pub fn run_task<R>(rt: R, words: &[String], task: StationTask, rim: &Rim) -> Res
 where
     R: AllocGlobal + Files<File = File> + Clock + Net + RandomSource + Wait + Copy + Drop,
 {
-    let setting = Setting {
+    let setting = Stationed {
         rt,
         words,
         options: &task.options,
@@ -57,7 +58,7 @@ where
     if let Err(failure) = done {
         match line_of(rt.alloc(), words, failure) {
             Ok(line) => report_line(rt, rim, line.as_bytes()),
-            Err(_) => report_line(rt, rim, b"eip_station: no memory\n"),
+            Err(_) => report_line(rt, rim, NO_MEMORY),
         }
     }
     drain_lines(&rt, rim);
@@ -65,11 +66,11 @@ where
 }
 
 /// The outcome of a station with that of its record: if the record was not written whole, this is told here.
-fn with_record<R>(setting: &Setting<'_, R>, ran: Result<(), Failure>) -> Result<(), Failure>
+fn with_record<R>(setting: &Stationed<'_, R>, ran: Result<(), Failure>) -> Result<(), Failure>
 where
     R: Clock + Wait + Copy + Drop,
 {
-    if setting.options.record_left.is_none() {
+    if setting.options.record_from_end.is_none() {
         return ran;
     }
     let whole = drain_record(&setting.rt, setting.rim);
@@ -86,7 +87,7 @@ where
 }
 
 /// Reads the profile, begins the state, and runs the station.
-fn begin<R>(setting: &Setting<'_, R>, scanner: bool) -> Result<(), Failure>
+fn begin<R>(setting: &Stationed<'_, R>, scanner: bool) -> Result<(), Failure>
 where
     R: AllocGlobal + Files<File = File> + Clock + Net + RandomSource + Wait + Copy + Drop,
 {
@@ -97,20 +98,20 @@ where
 }
 
 /// The state of this start.
-fn state_of<R>(setting: &Setting<'_, R>, own: u8) -> Result<StationState, Failure>
+fn state_of<R>(setting: &Stationed<'_, R>, own: u8) -> Result<StationState, Failure>
 where
     R: AllocGlobal + Files<File = File> + RandomSource + Wait + Copy + Drop,
 {
     let options = setting.options;
-    if let (Some(incarnation), None) = (options.incarnation, options.state_left) {
+    if let (Some(incarnation), None) = (options.incarnation, options.state_from_end) {
         return Ok(StationState {
             incarnation,
             serial: 0,
         });
     }
     let alloc = setting.rt.alloc();
-    let path = match options.state_left {
-        Some(left) => format!(in alloc; "{}", word_left(setting.words, left))?,
+    let path = match options.state_from_end {
+        Some(left) => format!(in alloc; "{}", word_from_end(setting.words, left))?,
         None => format!(in alloc; "{}.state", file_of(setting.words))?,
     };
     match begin_in_file(&setting.rt, path.as_str(), options.incarnation, own) {
@@ -126,7 +127,7 @@ where
 }
 
 /// Opens the port of a station, begins its record, and runs it.
-fn open<R>(setting: &Setting<'_, R>, config: Config, state: StationState) -> Result<(), Failure>
+fn open<R>(setting: &Stationed<'_, R>, config: Config, state: StationState) -> Result<(), Failure>
 where
     R: AllocGlobal + Files<File = File> + Clock + Net + Wait + Copy + Drop,
 {
@@ -136,10 +137,12 @@ where
         Config::Adapter(profile) => {
             let place = place_of(options, profile.node, profile.mask);
             let serial = options.serial.unwrap_or(state.serial);
-            let identity = identity_of(alloc, profile.identity, serial, station_name(setting))?;
-            let port = adapter_port(setting.rt, &place, identity)?;
+            let name = station_name(setting).as_bytes();
+            let identity = StationIdentity::of(alloc, profile.identity, serial, name)?;
+            // (its peers find it by ListIdentity)
+            let port = StationPort::adapter(alloc, setting.rt, &place, identity)?;
             let start = start_line(setting, "adapter", &place, state.incarnation)?;
-            serve::<FastAdapter, _>(setting, &config, port, start.as_str(), 0)
+            serve(setting, &config, port, start.as_str(), 0)
         }
         Config::Scanner(profile) => {
             // (a scanner is not found by inquiries)
@@ -147,22 +150,22 @@ where
             let port = scanner_port(setting.rt, &place, profile)?;
             let slots = u32::try_from(profile.slots.as_slice().len()).unwrap_or(0);
             let start = start_line(setting, "scanner", &place, state.incarnation)?;
-            serve::<FastScanner, _>(setting, &config, port, start.as_str(), slots)
+            serve(setting, &config, port, start.as_str(), slots)
         }
     }
 }
 
 /// The name of a station: that of its options, or that of its profile's file.
-fn station_name<'a, R>(setting: &Setting<'a, R>) -> &'a str {
-    match setting.options.name_left {
-        Some(left) => word_left(setting.words, left),
+fn station_name<'a, R>(setting: &Stationed<'a, R>) -> &'a str {
+    match setting.options.name_from_end {
+        Some(left) => word_from_end(setting.words, left),
         None => stem_of(file_of(setting.words)),
     }
 }
 
 /// The line that says which station has started.
 fn start_line<R>(
-    setting: &Setting<'_, R>,
+    setting: &Stationed<'_, R>,
     kind: &str,
     place: &StationPlace,
     incarnation: u8,
@@ -176,9 +179,9 @@ where
     trace_words::push_node(&mut line, place.address)?;
     let (tcp, udp) = (place.tcp, place.udp);
     write!(line, ", TCP {tcp}, UDP {udp}, incarnation {incarnation}, ")?;
-    match setting.options.record_left {
+    match setting.options.record_from_end {
         Some(left) => {
-            let record = word_left(setting.words, left);
+            let record = word_from_end(setting.words, left);
             write!(line, "record {record}\n")?;
         }
         None => line.push_str("no record\n")?,
@@ -187,15 +190,14 @@ where
 }
 
 /// Runs a device at a port until its time is over or the standard input ends.
-fn serve<D, R>(
-    setting: &Setting<'_, R>,
+fn serve<R>(
+    setting: &Stationed<'_, R>,
     config: &Config,
     port: StationPort<R>,
     start: &str,
     slots: u32,
 ) -> Result<(), Failure>
 where
-    D: Device + Drop,
     R: AllocGlobal + Files<File = File> + Clock + Net + Wait + Copy + Drop,
 {
     let rt = setting.rt;
@@ -206,20 +208,20 @@ where
         report_line(rt, setting.rim, start.as_bytes());
     }
     let (out, err) = (setting.rim.out.sink(rt)?, setting.rim.err.sink(rt)?);
-    let witness = Witness::new(alloc, config, recorder, out, err)?;
-    let device = D::new(alloc, config.copy(alloc)?)?;
+    let observer = StationObserver::new(alloc, config, recorder, out, err)?;
+    let device = FastDevice::new(alloc, config.copy(alloc)?)?;
     let clock = SystemClock::new(rt);
     let voice = Voice {
         quiet: setting.options.quiet,
         silent_s: setting.options.inactivity_s,
     };
-    let mut station = Station::new(alloc, config, port, clock, device, witness, voice)?;
+    let mut station = Station::new(alloc, config, port, clock, device, observer, voice)?;
     let ending = ending_of(setting.options, slots);
     let ended = if setting.options.no_input {
-        run_station(&mut station, &mut NoLines, ending)
+        station.run(&mut NoLines, ending)
     } else {
         let mut lines = setting.rim.input.share()?.lines(rt, waker);
-        run_station(&mut station, &mut lines, ending)
+        station.run(&mut lines, ending)
     };
     ended?;
     match station.record_fault() {
@@ -229,16 +231,28 @@ where
 }
 
 /// When a station of so many slots ends.
-fn ending_of(options: &Options, slots: u32) -> Ending {
+fn ending_of(options: &Options, slots: u32) -> Ending
+    ensures { result ≡ ending_of options.now slots }
+{
     Ending {
         slots,
-        ms: options.seconds.map(|seconds| u64::from(seconds) * 1_000),
+        ms: ms_of(options.seconds),
+    }
+}
+
+/// The milliseconds of so many seconds, if there is an end.
+fn ms_of(seconds: Option<u32>) -> Option<u64>
+    ensures { result ≡ ms_of seconds }
+{
+    match seconds {
+        Some(seconds) => Some(u64::from(seconds) * 1_000),
+        None => None,
     }
 }
 
 /// The recorder of a station, over a new file if one is named.
 fn recorder_of<R>(
-    setting: &Setting<'_, R>,
+    setting: &Stationed<'_, R>,
     config: &Config,
 ) -> Result<Recorder<Entries<R>>, Failure>
 where
@@ -246,10 +260,10 @@ where
 {
     let rt = setting.rt;
     let alloc = rt.alloc();
-    let Some(left) = setting.options.record_left else {
+    let Some(left) = setting.options.record_from_end else {
         return Ok(Recorder::idle(alloc));
     };
-    let path = format!(in alloc; "{}", word_left(setting.words, left))?;
+    let path = format!(in alloc; "{}", word_from_end(setting.words, left))?;
     let Ok(place) = place_of_record(&rt, alloc, path) else {
         return Err(Failure::Record);
     };
@@ -272,11 +286,11 @@ fn head_of<R: AllocGlobal + Clock>(rt: &R) -> Result<String, Failure> {
 
 /// The file that the words name.
 fn file_of(words: &[String]) -> &str {
-    word_left(words, words.len().saturating_sub(2))
+    word_from_end(words, words.len().saturating_sub(2))
 }
 
 /// The word from which on so many words are left.
-fn word_left(words: &[String], left: usize) -> &str {
+fn word_from_end(words: &[String], left: usize) -> &str {
     match words.get(words.len().saturating_sub(left)) {
         Some(word) => word.as_str(),
         None => "",

@@ -1,15 +1,17 @@
 //! Traces in files: played again, as a capture file, and in words. The files are read as one text, one behind another.
 
-use adapter_engine::FastAdapter;
-use cip_tables::{Config, Device};
+ghost use Rattle.std.specs.Prelude.{◌≡◌};
+ghost use Rattle.eip_station.specs.Failures.{unread_fault};
+
+use crate::profiles::FastDevice;
 use cip_types::OutOfMemory;
-use scanner_engine::FastScanner;
 use std::alloc::{AllocError, AllocFailed, Global};
 use std::fs::{self, File};
-use std::io::{BufReader, BufWriter, Write};
+use std::io::{BufReader, BufWriter, ErrorKind, Write};
 use std::rt::Files;
 use thiserror::Error;
-use trace_explain::{explain_fault, explain_trace};
+use trace_explain::explain_trace;
+use trace_faults::explain_fault;
 use trace_files::{LinePart, Player, TracePiece, TraceReader, read_line_part};
 use trace_pcap::{recorded_from, write_pcap};
 use trace_stepper::{NotTaken, StepperFault, write_text};
@@ -80,6 +82,16 @@ impl<T: Drop> From<AllocFailed<T>> for TracesFault {
     }
 }
 
+/// Why the file at an index is not read to its end, by the kind of the system's error.
+fn unread(place: usize, kind: ErrorKind) -> TracesFault
+    ensures { result ≡ unread_fault place kind }
+{
+    match kind {
+        ErrorKind::OutOfMemory => TracesFault::OutOfMemory,
+        _ => TracesFault::Unread(place),
+    }
+}
+
 // PLAYING
 
 /// Plays the files at a fresh device of their profile: prints each outcome before the next step, and then the number of
@@ -90,11 +102,8 @@ where
     R: AllocGlobal + Files<File = File>,
     O: Write + Drop,
 {
-    if is_adapters(rt, files)? {
-        play::<FastAdapter, R, O>(rt, files, out)
-    } else {
-        play::<FastScanner, R, O>(rt, files, out)
-    }
+    check(rt, files)?;
+    play(rt, files, out)
 }
 
 /// Takes the lines of files.
@@ -112,8 +121,9 @@ where
 {
     let mut line = Vec::new(rt.alloc());
     for (place, path) in files.iter().enumerate() {
-        let Ok(file) = File::open(rt, path.as_str()) else {
-            return Err(TracesFault::Unread(place));
+        let file = match File::open(rt, path.as_str()) {
+            Ok(file) => file,
+            Err(error) => return Err(unread(place, error.kind())),
         };
         let Ok(mut reader) = BufReader::new(rt.alloc(), file) else {
             return Err(TracesFault::OutOfMemory);
@@ -139,57 +149,42 @@ fn hand_out_file<T: LineTaker>(
                 line.clear();
             }
             Ok(other) => return Ok(other),
-            Err(_) => return Err(TracesFault::Unread(place)),
+            Err(error) => return Err(unread(place, error.kind())),
         }
     }
     Ok(LinePart::Rest)
 }
 
-/// Whether the files are the trace of an adapter, and not of a scanner.
-fn is_adapters<R>(rt: &R, files: &[String]) -> Result<bool, TracesFault>
+/// Reads the files for the faults of their lines.
+fn check<R>(rt: &R, files: &[String]) -> Result<(), TracesFault>
 where
     R: AllocGlobal + Files<File = File>,
 {
-    let mut check = Check {
+    let mut check = FaultSearch {
         reader: TraceReader::new(rt.alloc()),
-        is_adapter: false,
     };
     let rest = hand_out(rt, files, &mut check)?;
-    let Check { reader, is_adapter } = check;
-    match reader.end(rest.as_slice())? {
-        TracePiece::Config(config) => Ok(makes_adapter(&config)),
-        TracePiece::Entry(_) => Ok(is_adapter),
-    }
+    let FaultSearch { reader } = check;
+    reader.end(rest.as_slice())?;
+    Ok(())
 }
 
-/// Reads lines for their faults, and the kind of their device.
+/// Reads lines for their faults.
 #[derive(Drop)]
-struct Check {
+struct FaultSearch {
     reader: TraceReader,
-    is_adapter: bool,
 }
 
-impl LineTaker for Check {
+impl LineTaker for FaultSearch {
     fn take_line(&mut self, line: &[u8]) -> Result<(), TracesFault> {
-        if let Some(TracePiece::Config(config)) = self.reader.take(line)? {
-            self.is_adapter = makes_adapter(&config);
-        }
+        self.reader.take(line)?;
         Ok(())
     }
 }
 
-/// Whether an adapter is made of a configuration.
-fn makes_adapter(config: &Config) -> bool {
-    match config {
-        Config::Adapter(_) => true,
-        Config::Scanner(_) => false,
-    }
-}
-
-/// Plays files that are the trace of such a device.
-fn play<D, R, O>(rt: &R, files: &[String], out: O) -> Result<(), TracesFault>
+/// Plays files that are a trace.
+fn play<R, O>(rt: &R, files: &[String], out: O) -> Result<(), TracesFault>
 where
-    D: Device + Drop,
     R: AllocGlobal + Files<File = File>,
     O: Write + Drop,
 {
@@ -197,9 +192,9 @@ where
     let Ok(out) = BufWriter::new(alloc, out) else {
         return Err(TracesFault::OutOfMemory);
     };
-    let mut playing: Playing<D, O> = Playing {
+    let mut playing = Playing {
         reader: TraceReader::new(alloc),
-        stage: Stage {
+        stage: PlayedTrace {
             alloc,
             player: None,
             out,
@@ -217,12 +212,12 @@ where
 
 /// Reads lines, and plays what they give.
 #[derive(Drop)]
-struct Playing<D, O: Write + Drop> {
+struct Playing<O: Write + Drop> {
     reader: TraceReader,
-    stage: Stage<D, O>,
+    stage: PlayedTrace<O>,
 }
 
-impl<D: Device + Drop, O: Write + Drop> LineTaker for Playing<D, O> {
+impl<O: Write + Drop> LineTaker for Playing<O> {
     fn take_line(&mut self, line: &[u8]) -> Result<(), TracesFault> {
         match self.reader.take(line)? {
             Some(piece) => self.stage.play(piece),
@@ -232,9 +227,8 @@ impl<D: Device + Drop, O: Write + Drop> LineTaker for Playing<D, O> {
 }
 
 /// Plays the last piece, and prints the number of the first difference.
-fn end<D, O>(reader: TraceReader, stage: &mut Stage<D, O>, rest: &[u8]) -> Result<(), TracesFault>
+fn end<O>(reader: TraceReader, stage: &mut PlayedTrace<O>, rest: &[u8]) -> Result<(), TracesFault>
 where
-    D: Device + Drop,
     O: Write + Drop,
 {
     stage.play(reader.end(rest)?)?;
@@ -243,13 +237,13 @@ where
 
 /// A device, once its configuration is known, and the output of what it answers.
 #[derive(Drop)]
-struct Stage<D, O: Write + Drop> {
+struct PlayedTrace<O: Write + Drop> {
     alloc: Global,
-    player: Option<Player<D>>,
+    player: Option<Player<FastDevice>>,
     out: BufWriter<O>,
 }
 
-impl<D: Device + Drop, O: Write + Drop> Stage<D, O> {
+impl<O: Write + Drop> PlayedTrace<O> {
     /// Makes the device of a configuration, or plays an entry.
     fn play(&mut self, piece: TracePiece) -> Result<(), TracesFault> {
         match piece {
@@ -331,8 +325,9 @@ where
 {
     let mut text = Vec::new(rt.alloc());
     for (place, path) in files.iter().enumerate() {
-        let Ok(bytes) = fs::read(rt, path.as_str()) else {
-            return Err(TracesFault::Unread(place));
+        let bytes = match fs::read(rt, path.as_str()) {
+            Ok(bytes) => bytes,
+            Err(error) => return Err(unread(place, error.kind())),
         };
         text.extend_from_slice(bytes.as_slice())?;
     }

@@ -1,22 +1,23 @@
 //! Answers as items.
 
-ghost use Rattle.std.specs.Prelude.{◌≡◌, ◌++◌, OnOk, flat_map};
+ghost use Rattle.std.specs.Prelude.{◌≡◌, ◌+◌, ◌≤◌, ◌++◌, length, drop, flat_map};
 ghost use Rattle.flat_answers.specs.Flat.{delivery_number, delivery_of, verdict_item, recipient_head, frame_item, consumer_item, datagram_items, notice_item, answer_bytes};
+ghost use Rattle.flat_answers.specs.Places.{Puts};
 
-use crate::head::{ItemHeader, one_number, push_item};
+use crate::head::{ItemHeader, one_number, put_item};
 use crate::notices::notice_head;
 use cip_events::{Answer, Delivery, Frame, Notice, OutgoingDatagram, Recipient, Verdict};
-use cip_types::{Node, OutOfMemory};
+use cip_types::Node;
 
-/// Appends the bytes of an answer. If an allocation is refused, a part of them may be appended.
-#[tactic(auto, unfolding(crate::specs::Flat::answer_bytes))]
-pub fn push_answer(out: &mut Vec<u8>, answer: &Answer) -> Result<(), OutOfMemory>
-    ensures { OnOk result (out.new.items ≡ out.old.items ++ answer_bytes answer.now) }
+/// Writes the bytes of an answer at the front of a room, which has that many bytes or more. Takes no memory.
+pub fn put_answer(out: &mut [u8], answer: &Answer)
+    requires { length (answer_bytes answer.now) ≤ length out.old }
+    ensures { out.new ≡ answer_bytes answer.now ++ drop (length (answer_bytes answer.now)) out.old }
 {
-    push_verdict(out, &answer.verdict)?;
-    push_frames(out, answer.frames.as_slice())?;
-    push_datagrams(out, answer.datagrams.as_slice())?;
-    push_notices(out, answer.notices.as_slice())
+    let at = put_verdict(out, 0, &answer.verdict);
+    let at = put_frames(out, at, answer.frames.as_slice());
+    let at = put_datagrams(out, at, answer.datagrams.as_slice());
+    let _end = put_notices(out, at, answer.notices.as_slice());
 }
 
 /// The number of a delivery, in the order of its cases, from 0.
@@ -36,27 +37,37 @@ pub fn delivery_number(delivery: Delivery) -> u32
     }
 }
 
-fn push_verdict(out: &mut Vec<u8>, verdict: &Verdict) -> Result<(), OutOfMemory>
-    ensures { OnOk result (out.new.items ≡ out.old.items ++ verdict_item verdict.now) }
+fn put_verdict(out: &mut [u8], at: usize, verdict: &Verdict) -> usize
+    requires { at + length (verdict_item verdict.now) ≤ length out.old }
+    ensures { Puts (verdict_item verdict.now) at out.old result out.new }
 {
     match verdict {
-        Verdict::Done => push_item(out, one_number(1, 0), &[]),
-        Verdict::BadFrame => push_item(out, one_number(2, 0), &[]),
-        Verdict::Ignored => push_item(out, one_number(3, 0), &[]),
-        Verdict::Value(bytes) => push_item(out, one_number(4, 0), bytes.as_slice()),
+        Verdict::Done => put_item(out, at, one_number(1, 0), &[]),
+        Verdict::BadFrame => put_item(out, at, one_number(2, 0), &[]),
+        Verdict::Ignored => put_item(out, at, one_number(3, 0), &[]),
+        Verdict::Value(bytes) => put_item(out, at, one_number(4, 0), bytes.as_slice()),
         Verdict::Delivered(delivery) => {
-            push_item(out, one_number(5, delivery_number(*delivery)), &[])
+            put_item(out, at, one_number(5, delivery_number(*delivery)), &[])
         }
     }
 }
 
-fn push_frames(out: &mut Vec<u8>, frames: &[Frame]) -> Result<(), OutOfMemory>
-    ensures { OnOk result (out.new.items ≡ out.old.items ++ flat_map frame_item frames.now) }
+fn put_frames(out: &mut [u8], at: usize, frames: &[Frame]) -> usize
+    requires { at + length (flat_map frame_item frames.now) ≤ length out.old }
+    ensures { Puts (flat_map frame_item frames.now) at out.old result out.new }
 {
+    let mut end = at;
     for frame in frames {
-        push_item(out, recipient_head(frame.to), frame.bytes.as_slice())?;
+        end = put_frame(out, end, frame);
     }
-    Ok(())
+    end
+}
+
+fn put_frame(out: &mut [u8], at: usize, frame: &Frame) -> usize
+    requires { at + length (frame_item frame.now) ≤ length out.old }
+    ensures { Puts (frame_item frame.now) at out.old result out.new }
+{
+    put_item(out, at, recipient_head(frame.to), frame.bytes.as_slice())
 }
 
 fn recipient_head(recipient: Recipient) -> ItemHeader
@@ -68,40 +79,58 @@ fn recipient_head(recipient: Recipient) -> ItemHeader
     }
 }
 
-fn push_datagrams(out: &mut Vec<u8>, datagrams: &[OutgoingDatagram]) -> Result<(), OutOfMemory>
-    ensures { OnOk result (out.new.items ≡ out.old.items ++ flat_map datagram_items datagrams.now) }
+fn put_datagrams(out: &mut [u8], at: usize, datagrams: &[OutgoingDatagram]) -> usize
+    requires { at + length (flat_map datagram_items datagrams.now) ≤ length out.old }
+    ensures { Puts (flat_map datagram_items datagrams.now) at out.old result out.new }
 {
+    let mut end = at;
     for outgoing in datagrams {
-        push_datagram(out, outgoing)?;
+        end = put_datagram(out, end, outgoing);
     }
-    Ok(())
+    end
 }
 
-fn push_datagram(out: &mut Vec<u8>, outgoing: &OutgoingDatagram) -> Result<(), OutOfMemory>
-    ensures { OnOk result (out.new.items ≡ out.old.items ++ datagram_items outgoing.now) }
+fn put_datagram(out: &mut [u8], at: usize, outgoing: &OutgoingDatagram) -> usize
+    requires { at + length (datagram_items outgoing.now) ≤ length out.old }
+    ensures { Puts (datagram_items outgoing.now) at out.old result out.new }
 {
-    push_item(
-        out,
-        one_number(32, outgoing.address.0),
-        outgoing.bytes.as_slice(),
-    )?;
-    push_consumers(out, outgoing.nodes.as_slice())
+    let head = one_number(32, outgoing.address.0);
+    let at = put_item(out, at, head, outgoing.bytes.as_slice());
+    put_consumers(out, at, outgoing.nodes.as_slice())
 }
 
-fn push_consumers(out: &mut Vec<u8>, nodes: &[Node]) -> Result<(), OutOfMemory>
-    ensures { OnOk result (out.new.items ≡ out.old.items ++ flat_map consumer_item nodes.now) }
+fn put_consumers(out: &mut [u8], at: usize, nodes: &[Node]) -> usize
+    requires { at + length (flat_map consumer_item nodes.now) ≤ length out.old }
+    ensures { Puts (flat_map consumer_item nodes.now) at out.old result out.new }
 {
+    let mut end = at;
     for node in nodes {
-        push_item(out, one_number(33, node.0), &[])?;
+        end = put_consumer(out, end, *node);
     }
-    Ok(())
+    end
 }
 
-fn push_notices(out: &mut Vec<u8>, notices: &[Notice]) -> Result<(), OutOfMemory>
-    ensures { OnOk result (out.new.items ≡ out.old.items ++ flat_map notice_item notices.now) }
+fn put_consumer(out: &mut [u8], at: usize, node: Node) -> usize
+    requires { at + length (consumer_item node) ≤ length out.old }
+    ensures { Puts (consumer_item node) at out.old result out.new }
 {
+    put_item(out, at, one_number(33, node.0), &[])
+}
+
+fn put_notices(out: &mut [u8], at: usize, notices: &[Notice]) -> usize
+    requires { at + length (flat_map notice_item notices.now) ≤ length out.old }
+    ensures { Puts (flat_map notice_item notices.now) at out.old result out.new }
+{
+    let mut end = at;
     for notice in notices {
-        push_item(out, notice_head(*notice), &[])?;
+        end = put_notice(out, end, *notice);
     }
-    Ok(())
+    end
+}
+
+fn put_notice(out: &mut [u8], at: usize, notice: Notice) -> usize
+    requires { at + length (notice_item notice) ≤ length out.old }
+    ensures { Puts (notice_item notice) at out.old result out.new }
+{
+    put_item(out, at, notice_head(notice), &[])
 }

@@ -3,7 +3,9 @@
 
 mod answer;
 mod head;
+mod length;
 mod notices;
 
-pub use answer::{delivery_number, push_answer};
+pub use answer::{delivery_number, put_answer};
 pub use head::ItemHeader;
+pub use length::answer_len;

@@ -1,7 +1,7 @@
 //! The gateway's two devices, and what it carries from one to the other.
 
 use crate::field::FIELD_NODE;
-use eip::{Config, Device, Event, FastAdapter, FastScanner, Items, NewFault, Node, StepFault};
+use eip::{Config, Device, Event, FastAdapter, FastScanner, NewFault, Node, StepFault};
 use example_profiles::{INPUT, OUTPUT, adapter, scanner};
 use std::alloc::Global;
 

@@ -1,8 +1,9 @@
 //! The configurations of the line.
 
-ghost use Rattle.std.specs.Prelude.{◌≡◌, ◌+◌, true, false, None, IfOk, OnOk, length};
+ghost use Rattle.std.specs.Prelude.{◌≡◌, ◌+◌, [], ◌∷◌, ◌++◌, true, false, None, IfOk, OnOk, length};
 ghost use Rattle.cip_tables.specs.Step.{config_fault, makes_adapter};
 ghost use Rattle.segment_world.specs.Configs.{world_fault};
+ghost use Rattle.line_devices.specs.Devices.{input_slot, line_adapter, line_configs, line_scanner, node_of_scanner, scanner_of};
 
 use cip_netparams::Trigger;
 use cip_tables::{Config, Kind, ScannerProfile, SlotConfig};
@@ -25,7 +26,9 @@ const SCANNER_NODE: u32 = 0xC0A8_0114;
 const INPUT_ONLY: u32 = 152;
 
 /// The address of a scanner.
-pub fn scanner_node(number: u8) -> Node {
+pub fn scanner_node(number: u8) -> Node
+    ensures { result ≡ node_of_scanner number }
+{
     Node(SCANNER_NODE + u32::from(number))
 }
 
@@ -33,6 +36,7 @@ pub fn scanner_node(number: u8) -> Node {
 ///
 /// The errors: `Profile`, which this profile never has, and `OutOfMemory`.
 pub fn adapter_config(alloc: Global) -> Result<Config, WorldFault>
+    ensures config { IfOk result (λ config. config ≡ line_adapter) }
     ensures valid { IfOk result (λ config. config_fault config ≡ None) }
     ensures kind { IfOk result (λ config. makes_adapter config ≡ true) }
 {
@@ -48,6 +52,7 @@ pub fn adapter_config(alloc: Global) -> Result<Config, WorldFault>
 ///
 /// The errors: `Profile`, which these profiles never have, and `OutOfMemory`.
 pub fn scanner_config(alloc: Global, number: u8) -> Result<Config, WorldFault>
+    ensures config { IfOk result (λ config. config ≡ line_scanner number) }
     ensures valid { IfOk result (λ config. config_fault config ≡ None) }
     ensures kind { IfOk result (λ config. makes_adapter config ≡ false) }
 {
@@ -58,7 +63,9 @@ pub fn scanner_config(alloc: Global, number: u8) -> Result<Config, WorldFault>
     }
 }
 
-fn scanner_profile(alloc: Global, number: u8) -> Result<ScannerProfile, OutOfMemory> {
+fn scanner_profile(alloc: Global, number: u8) -> Result<ScannerProfile, OutOfMemory>
+    ensures { IfOk result (λ profile. profile ≡ scanner_of number) }
+{
     let byte = SCANNER_BYTE.wrapping_add(number);
     let owner = scanner(alloc, byte, scanner_node(number), ADAPTER)?;
     if number == 0 {
@@ -72,7 +79,9 @@ fn scanner_profile(alloc: Global, number: u8) -> Result<ScannerProfile, OutOfMem
 }
 
 // A slot that only consumes the input, with all others that do so.
-fn input_slot(alloc: Global) -> SlotConfig {
+fn input_slot(alloc: Global) -> SlotConfig
+    ensures { result ≡ input_slot }
+{
     SlotConfig {
         target: ADAPTER,
         kind: Kind::InputOnly,
@@ -97,6 +106,7 @@ fn input_slot(alloc: Global) -> SlotConfig {
 /// The errors, in order: `OutOfMemory`, and the others of a world, which these configurations have for no number of
 /// scanners up to eight.
 pub fn configs(alloc: Global, scanners: u8) -> Result<Vec<Config>, WorldFault>
+    ensures configs { IfOk result (λ configs. configs.items ≡ line_configs scanners) }
     ensures valid { IfOk result (λ configs. world_fault configs.items ≡ None) }
     ensures count { IfOk result (λ configs. length configs.items ≡ scanners + 1) }
 {
@@ -108,7 +118,8 @@ pub fn configs(alloc: Global, scanners: u8) -> Result<Vec<Config>, WorldFault>
 }
 
 fn all_configs(alloc: Global, scanners: u8) -> Result<Vec<Config>, WorldFault>
-    ensures { IfOk result (λ configs. length configs.items ≡ scanners + 1) }
+    ensures configs { IfOk result (λ configs. configs.items ≡ line_configs scanners) }
+    ensures count { IfOk result (λ configs. length configs.items ≡ scanners + 1) }
 {
     let mut configs = Vec::new(alloc);
     add(&mut configs, adapter_config(alloc)?)?;
@@ -119,7 +130,7 @@ fn all_configs(alloc: Global, scanners: u8) -> Result<Vec<Config>, WorldFault>
 }
 
 fn add(configs: &mut Vec<Config>, config: Config) -> Result<(), OutOfMemory>
-    ensures { OnOk result (length configs.new.items ≡ length configs.old.items + 1) }
+    ensures { OnOk result (configs.new.items ≡ configs.old.items ++ config ∷ []) }
 {
     configs.push(config)?;
     Ok(())

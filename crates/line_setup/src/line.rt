@@ -2,6 +2,7 @@
 
 ghost use Rattle.std.specs.Prelude.{◌≡◌, ◌+◌, None, IfOk, length};
 ghost use Rattle.segment_world.specs.Configs.{world_fault};
+ghost use Rattle.line_devices.specs.Devices.{line_configs};
 
 use line_devices::configs;
 use line_threads::Line;
@@ -15,6 +16,7 @@ const INBOX: usize = 64;
 ///
 /// The errors are those of `configs`.
 pub fn line_of(alloc: Global, scanners: u8) -> Result<Line, WorldFault>
+    ensures configs { IfOk result (λ line. line.configs.items ≡ line_configs scanners) }
     ensures valid { IfOk result (λ line. world_fault line.configs.items ≡ None) }
     ensures count { IfOk result (λ line. length line.configs.items ≡ scanners + 1) }
     ensures inbox { IfOk result (λ line. line.inbox ≡ 64) }

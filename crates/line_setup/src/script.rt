@@ -1,7 +1,8 @@
 //! What the applications of the line do.
 
-ghost use Rattle.std.specs.Prelude.{◌≡◌, ◌+◌, true, All, IfOk, OnOk, length};
-ghost use Rattle.line_threads.specs.Scripts.{is_own, IsOwn};
+ghost use Rattle.std.specs.Prelude.{◌≡◌, ◌+◌, [], ◌∷◌, ◌++◌, All, IfOk, OnOk, length, map};
+ghost use Rattle.line_threads.specs.Scripts.{events_in, IsOwn};
+ghost use Rattle.line_setup.specs.Scripts.{adapter_script, line_scripts, output_of, scanner_script, turn_of, turns_of, write_of};
 
 use cip_tables::Event;
 use cip_types::{Items, OutOfMemory};
@@ -12,7 +13,7 @@ use std::alloc::Global;
 const SLOT: u32 = 0;
 
 fn write(alloc: Global, point: u32, turn: u32) -> Result<Event, OutOfMemory>
-    ensures { IfOk result (λ event. is_own event ≡ true) }
+    ensures { IfOk result (λ event. event ≡ write_of point turn) }
 {
     Ok(Event::Write {
         point,
@@ -21,9 +22,7 @@ fn write(alloc: Global, point: u32, turn: u32) -> Result<Event, OutOfMemory>
 }
 
 fn add(script: &mut Vec<Event>, event: Event) -> Result<(), OutOfMemory>
-    requires script { IsOwn script.old.items }
-    requires event { is_own event ≡ true }
-    ensures { OnOk result (IsOwn script.new.items) }
+    ensures { OnOk result (script.new.items ≡ script.old.items ++ event ∷ []) }
 {
     script.push(event)?;
     Ok(())
@@ -36,8 +35,7 @@ fn add_turn(
     turn: u32,
     point: Option<u32>,
 ) -> Result<(), OutOfMemory>
-    requires { IsOwn script.old.items }
-    ensures { OnOk result (IsOwn script.new.items) }
+    ensures { OnOk result (script.new.items ≡ script.old.items ++ turn_of point turn) }
 {
     if let Some(point) = point {
         add(script, write(alloc, point, turn)?)?;
@@ -52,8 +50,7 @@ fn add_turns(
     turns: u32,
     point: Option<u32>,
 ) -> Result<(), OutOfMemory>
-    requires { IsOwn script.old.items }
-    ensures { OnOk result (IsOwn script.new.items) }
+    ensures { OnOk result (script.new.items ≡ script.old.items ++ turns_of point turns) }
 {
     for turn in 0..turns {
         add_turn(alloc, script, turn + 1, point)?;
@@ -63,7 +60,7 @@ fn add_turns(
 
 // The adapter's application writes the input in each turn.
 fn adapter_script(alloc: Global, turns: u32) -> Result<Vec<Event>, OutOfMemory>
-    ensures { IfOk result (λ script. IsOwn script.items) }
+    ensures { IfOk result (λ script. script.items ≡ adapter_script turns) }
 {
     let mut script = Vec::new(alloc);
     add_turns(alloc, &mut script, turns, Some(INPUT))?;
@@ -71,13 +68,15 @@ fn adapter_script(alloc: Global, turns: u32) -> Result<Vec<Event>, OutOfMemory>
 }
 
 // The point to which a scanner's application writes: scanner 0 alone has an output.
-fn output_of(number: u8) -> Option<u32> {
+fn output_of(number: u8) -> Option<u32>
+    ensures { result ≡ output_of number }
+{
     if number == 0 { Some(SLOT) } else { None }
 }
 
 // A scanner's application starts its slot and runs. That of scanner 0 writes the output in each turn.
 fn scanner_script(alloc: Global, number: u8, turns: u32) -> Result<Vec<Event>, OutOfMemory>
-    ensures { IfOk result (λ script. IsOwn script.items) }
+    ensures { IfOk result (λ script. script.items ≡ scanner_script turns number) }
 {
     let mut script = Vec::new(alloc);
     add(&mut script, Event::Start { slot: SLOT })?;
@@ -91,6 +90,7 @@ fn scanner_script(alloc: Global, number: u8, turns: u32) -> Result<Vec<Event>, O
 ///
 /// The error is `OutOfMemory`.
 pub fn scripts(alloc: Global, scanners: u8, turns: u32) -> Result<Vec<Vec<Event>>, OutOfMemory>
+    ensures scripts { IfOk result (λ scripts. map events_in scripts.items ≡ line_scripts scanners turns) }
     ensures own { IfOk result (λ scripts. All (λ script. IsOwn script.items) scripts.items) }
     ensures count { IfOk result (λ scripts. length scripts.items ≡ scanners + 1) }
 {
@@ -103,10 +103,7 @@ pub fn scripts(alloc: Global, scanners: u8, turns: u32) -> Result<Vec<Vec<Event>
 }
 
 fn add_script(scripts: &mut Vec<Vec<Event>>, script: Vec<Event>) -> Result<(), OutOfMemory>
-    requires scripts { All (λ script. IsOwn script.items) scripts.old.items }
-    requires script { IsOwn script.items }
-    ensures own { OnOk result (All (λ script. IsOwn script.items) scripts.new.items) }
-    ensures count { OnOk result (length scripts.new.items ≡ length scripts.old.items + 1) }
+    ensures { OnOk result (scripts.new.items ≡ scripts.old.items ++ script ∷ []) }
 {
     scripts.push(script)?;
     Ok(())

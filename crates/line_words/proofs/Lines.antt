@@ -3,7 +3,7 @@ use Rattle.std.proofs.Common.{◌≡◌, ◌∙◌, ℕ, Bool, true, false, cond
 use Rattle.std.specs.Prelude.{slice_get, option_and_then, option_map, IfErr, ◌&&◌, ◌==◌, if◌then◌else◌}
 use Rattle.std.specs.Option.{option_map_or}
 use Rattle.std.specs.Str.{bytes_eq}
-use Rattle.std.proofs.lemmas.Bool.{eqb-true, eq-eqb}
+use Rattle.std.proofs.lemmas.Bool.{eqb-true}
 use Rattle.std.proofs.lemmas.Slice.Eq.{bytes_eq-Decides}
 use Rattle.clap.specs.Faults.{fault_of, is_simple_and_free}
 use Rattle.clap.specs.Kinds.{HasKind, IsAmong, Kinds}
@@ -152,7 +152,3 @@ met_is name_of rows_in found (Some (n, r)) given is names rows =
 pub mapped : {A B C : Type 0} (f : B → C) (g : A → B) (o : Option A) → option_map f (option_map g o) ≡ option_map (λ x. f (g x)) o
 mapped f g None = refl
 mapped f g (Some x) = refl
-
-pub none_met : {A : Type 0} (name_of : A → Text) (found : Option A) (met : Option (Text × List Row)) → found ≡ None → option_map name_of found ≡ option_map (λ m. m.0) met → met ≡ None
-none_met name_of found None is names = refl
-none_met name_of found (Some m) is names = let no : None ≡ Some m.0 = sym (ap (option_map name_of) is) ∙ names in absurd (cc)

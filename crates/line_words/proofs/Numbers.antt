@@ -1,10 +1,10 @@
 -- The number that is read of an option, and what clap's contracts say of the program's commands.
-use Rattle.std.proofs.Common.{◌≡◌, ◌∙◌, ℕ, ◌<◌, ◌≤◌, ◌+◌, ◌^◌, Bool, true, false, cond, not, List, Option, Some, None, Result, Ok, Err, refl, sym, ap, subst, arith}
+use Rattle.std.proofs.Common.{◌≡◌, ◌∙◌, ℕ, ◌<◌, ◌+◌, ◌^◌, Bool, true, false, cond, not, Option, Some, None, Result, Ok, Err, refl, sym, ap, subst, arith}
 use Rattle.std.specs.Prelude.{unwrap_or, option_and_then, ◌&&◌}
 use Rattle.std.specs.Str.Parse.{ParsesUnsigned, digits_value, without_leading_plus}
 use Rattle.clap.specs.Matches.{ReadsOne, one_text}
 use Rattle.clap.specs.ValueTests.{accepts}
-use Rattle.clap.specs.Walk.{Row, Text, one_of, rows_of}
+use Rattle.clap.specs.Walk.{Text, rows_of}
 use Rattle.clap.specs.declared.parser.matches.Found.{Found}
 use Rattle.clap.specs.declared.builder.value_parser.ValueParser.TheVariants as vp
 use Rattle.clap.proofs.ValueTestLemmas.{accepts-Accepts, Accepts-accepts}

@@ -1,6 +1,6 @@
 -- The program's commands and their options, and the numbers of their words. What clap reads of a command line is a
 -- function of the declared commands and the words.
-use Rattle.std.specs.Prelude.{ℕ, ◌==◌, Bool, true, if◌then◌else◌, List, [], codes, length, pos, unwrap_or, option_and_then, Option, Some, None}
+use Rattle.std.specs.Prelude.{ℕ, ◌==◌, true, if◌then◌else◌, List, [], codes, length, pos, unwrap_or, option_and_then, Option, Some, None}
 use Rattle.std.specs.Str.{bytes_eq}
 use Rattle.std.specs.Str.Parse.{digits_value, without_leading_plus}
 use Rattle.clap.specs.Faults.{fault_of}

@@ -28,7 +28,9 @@ pub type SocketLine<R, A, S> = LoopLine<SocketPort<R>, SystemClock<R>, A, S>;
 impl<P: Port, C: Clock, A: Device, S: Device> LoopLine<P, C, A, S> {
     /// The application of the scanner writes the output of slot 0.
     pub fn write(&mut self, bytes: &[u8]) -> Result<(), LoopFault>
-        ensures written { OnOk result (S.table self.new.scanner.device ≡ table_after (S.table self.old.scanner.device) (Event.Write 0 bytes.now ∷ [])) }
+        ensures written { OnOk result
+            (S.table self.new.scanner.device
+            ≡ table_after (S.table self.old.scanner.device) (Event.Write 0 bytes.now ∷ [])) }
         ensures adapter { A.table self.new.adapter.device ≡ A.table self.old.adapter.device }
     {
         let _written = self.scanner.device.write_point(0, bytes)?;
@@ -37,8 +39,10 @@ impl<P: Port, C: Clock, A: Device, S: Device> LoopLine<P, C, A, S> {
 
     /// Drives the adapter for one turn, and then the scanner.
     pub fn turn(&mut self) -> Result<(), LoopFault>
-        ensures adapter { OnOk result (C.is_scripted ≡ true → IsReadTimes 1 (C.coming self.old.adapter.clock) (C.coming self.new.adapter.clock)) }
-        ensures scanner { OnOk result (C.is_scripted ≡ true → IsReadTimes 1 (C.coming self.old.scanner.clock) (C.coming self.new.scanner.clock)) }
+        ensures adapter { OnOk result
+            (C.is_scripted ≡ true → IsReadTimes 1 (C.coming self.old.adapter.clock) (C.coming self.new.adapter.clock)) }
+        ensures scanner { OnOk result
+            (C.is_scripted ≡ true → IsReadTimes 1 (C.coming self.old.scanner.clock) (C.coming self.new.scanner.clock)) }
     {
         self.adapter.turn()?;
         self.scanner.turn()
@@ -47,8 +51,12 @@ impl<P: Port, C: Clock, A: Device, S: Device> LoopLine<P, C, A, S> {
     /// Drives both devices for this many turns, and answers the number of turns that each made.
     pub fn turns(&mut self, turns: u32) -> Result<u32, LoopFault>
         ensures made { IfOk result (λ made. made ≡ turns) }
-        ensures adapter { OnOk result (C.is_scripted ≡ true → IsReadTimes turns (C.coming self.old.adapter.clock) (C.coming self.new.adapter.clock)) }
-        ensures scanner { OnOk result (C.is_scripted ≡ true → IsReadTimes turns (C.coming self.old.scanner.clock) (C.coming self.new.scanner.clock)) }
+        ensures adapter { OnOk result
+            (C.is_scripted ≡ true
+            → IsReadTimes turns (C.coming self.old.adapter.clock) (C.coming self.new.adapter.clock)) }
+        ensures scanner { OnOk result
+            (C.is_scripted ≡ true
+            → IsReadTimes turns (C.coming self.old.scanner.clock) (C.coming self.new.scanner.clock)) }
     {
         let mut made = 0;
         for _ in 0..turns {
@@ -60,10 +68,10 @@ impl<P: Port, C: Clock, A: Device, S: Device> LoopLine<P, C, A, S> {
 }
 
 /// A fresh adapter.
-fn fresh_adapter<A: Device>(alloc: Global) -> Result<A, LoopFault>
-    ensures { IfOk result (λ device. A.table device ≡ adapter_begins) }
+fn fresh_adapter<D: Device>(alloc: Global) -> Result<D, LoopFault>
+    ensures { IfOk result (λ device. D.table device ≡ adapter_begins) }
 {
-    Ok(A::new(alloc, Config::Adapter(profiles::adapter(alloc)?))?)
+    Ok(D::new(alloc, Config::Adapter(profiles::adapter(alloc)?))?)
 }
 
 /// A fresh scanner whose slot 0 is started, in run mode.

@@ -18,7 +18,8 @@ pub struct LoopDevice<P, C, D> {
 impl<P: Port, C: Clock, D: Device> LoopDevice<P, C, D> {
     /// Drives the device for one turn, which reads the clock once.
     pub fn turn(&mut self) -> Result<(), LoopFault>
-        ensures { OnOk result (C.is_scripted ≡ true → IsReadTimes 1 (C.coming self.old.clock) (C.coming self.new.clock)) }
+        ensures { OnOk result
+            (C.is_scripted ≡ true → IsReadTimes 1 (C.coming self.old.clock) (C.coming self.new.clock)) }
     {
         // (`drive` requires that the count of failures can rise)
         if self.port.failures() == u64::MAX {

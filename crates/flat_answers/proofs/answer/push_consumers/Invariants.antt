@@ -1,6 +1,0 @@
-use Rattle.std.proofs.Common.{◌≡◌, ◌++◌, flat_map, take}
-use Rattle.flat_answers.specs.Flat.{consumer_item}
-use Rattle.flat_answers.proofs.answer.push_consumers.Given as goal
-
-abbrev pub invariant-loop-node : goal.invariant-loop-node
-invariant-loop-node l = l.out.items ≡ l.fn.out.items ++ flat_map consumer_item (take l.node-index l.nodes)

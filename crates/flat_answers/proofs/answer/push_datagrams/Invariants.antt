@@ -1,6 +1,0 @@
-use Rattle.std.proofs.Common.{◌≡◌, ◌++◌, flat_map, take}
-use Rattle.flat_answers.specs.Flat.{datagram_items}
-use Rattle.flat_answers.proofs.answer.push_datagrams.Given as goal
-
-abbrev pub invariant-loop-outgoing : goal.invariant-loop-outgoing
-invariant-loop-outgoing l = l.out.items ≡ l.fn.out.items ++ flat_map datagram_items (take l.outgoing-index l.datagrams)
