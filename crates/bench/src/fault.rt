@@ -8,7 +8,7 @@ use thiserror::Error;
 
 /// The fault of a run.
 #[derive(Debug, Drop, Error)]
-pub enum BenchFault {
+pub enum CodecBenchFault {
     #[error("the one word that may follow is check, wheel, splitter or datagrams")]
     Usage,
     #[error("no memory")]
@@ -21,14 +21,14 @@ pub enum BenchFault {
     Io(#[from] io::Error),
 }
 
-impl From<OutOfMemory> for BenchFault {
-    fn from(_error: OutOfMemory) -> BenchFault {
-        BenchFault::OutOfMemory
+impl From<OutOfMemory> for CodecBenchFault {
+    fn from(_error: OutOfMemory) -> CodecBenchFault {
+        CodecBenchFault::OutOfMemory
     }
 }
 
-impl From<AllocError> for BenchFault {
-    fn from(_error: AllocError) -> BenchFault {
-        BenchFault::OutOfMemory
+impl From<AllocError> for CodecBenchFault {
+    fn from(_error: AllocError) -> CodecBenchFault {
+        CodecBenchFault::OutOfMemory
     }
 }

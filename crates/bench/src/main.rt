@@ -15,13 +15,13 @@ mod splitter;
 mod timers;
 mod wheel;
 
-use fault::BenchFault;
+use fault::CodecBenchFault;
 use std::alloc::Global;
 use std::env;
 use std::rt::CpuClock;
 
 /// Short runs of all.
-fn check(rt: &(impl Print + CpuClock), alloc: Global) -> Result<(), BenchFault> {
+fn check(rt: &(impl Print + CpuClock), alloc: Global) -> Result<(), CodecBenchFault> {
     race::check(rt, alloc)?;
     splitter::check(rt, alloc)?;
     datagrams::check(rt, alloc)
@@ -32,7 +32,7 @@ fn bench(
     rt: &(impl Print + CpuClock),
     alloc: Global,
     word: Option<String>,
-) -> Result<(), BenchFault> {
+) -> Result<(), CodecBenchFault> {
     let Some(word) = word else {
         return check(rt, alloc);
     };
@@ -41,11 +41,11 @@ fn bench(
         "wheel" => race::print_times(rt, alloc),
         "splitter" => splitter::print_times(rt, alloc),
         "datagrams" => datagrams::print_times(rt, alloc),
-        _ => Err(BenchFault::Usage),
+        _ => Err(CodecBenchFault::Usage),
     }
 }
 
-fn main(rt: HostRuntime) -> Result<(), BenchFault> {
+fn main(rt: HostRuntime) -> Result<(), CodecBenchFault> {
     let mut args = env::args(&rt)?;
     let _program = args.next();
     bench(&rt, rt.alloc(), args.next())

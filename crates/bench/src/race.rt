@@ -2,10 +2,10 @@
 //! indices, and the wheel looks them up by number.
 
 use crate::clock::{Quotient, ROUNDS, cpu_nanos};
-use crate::fault::BenchFault;
+use crate::fault::CodecBenchFault;
 use crate::heap::Heap;
 use crate::list::SortedList;
-use crate::timers::{Load, Timers, Work};
+use crate::timers::{Load, Timers, WheelLoad};
 use std::alloc::Global;
 use std::rt::CpuClock;
 use timer_wheel::Wheel;
@@ -13,7 +13,7 @@ use timer_wheel::Wheel;
 const TICKS: u32 = 200_000;
 
 /// Whether the three fire the same tokens in the same order.
-fn agree(alloc: Global, count: u64, work: Work, ticks: u32) -> Result<bool, BenchFault> {
+fn agree(alloc: Global, count: u64, work: WheelLoad, ticks: u32) -> Result<bool, CodecBenchFault> {
     let room = count as usize;
     let mut wheel = Load::new(alloc, Wheel::new(alloc, room)?, count, work)?;
     let mut list = Load::new(alloc, SortedList::new(alloc, room)?, count, work)?;
@@ -30,12 +30,12 @@ fn agree(alloc: Global, count: u64, work: Work, ticks: u32) -> Result<bool, Benc
 }
 
 /// Short runs. In their last steps idle timers fire too.
-pub fn check(rt: &impl Print, alloc: Global) -> Result<(), BenchFault> {
+pub fn check(rt: &impl Print, alloc: Global) -> Result<(), CodecBenchFault> {
     for count in [8, 128, 1_024] {
-        if !agree(alloc, count, Work::Busy, 2_000)?
-            || !agree(alloc, count, Work::Idle(60_000), 300)?
+        if !agree(alloc, count, WheelLoad::Busy, 2_000)?
+            || !agree(alloc, count, WheelLoad::Idle(60_000), 300)?
         {
-            return Err(BenchFault::Differs);
+            return Err(CodecBenchFault::Differs);
         }
     }
     println!(rt; "wheel, list and heap agree")?;
@@ -43,7 +43,7 @@ pub fn check(rt: &impl Print, alloc: Global) -> Result<(), BenchFault> {
 }
 
 /// Runs all ticks.
-fn tick_all<T: Timers>(load: &mut Load<T>) -> Result<(), BenchFault> {
+fn tick_all<T: Timers>(load: &mut Load<T>) -> Result<(), CodecBenchFault> {
     for _ in 0..TICKS {
         load.step()?;
     }
@@ -51,7 +51,7 @@ fn tick_all<T: Timers>(load: &mut Load<T>) -> Result<(), BenchFault> {
 }
 
 /// The time of all ticks, in nanoseconds.
-fn tick_nanos<T: Timers>(rt: &impl CpuClock, load: &mut Load<T>) -> Result<u64, BenchFault> {
+fn tick_nanos<T: Timers>(rt: &impl CpuClock, load: &mut Load<T>) -> Result<u64, CodecBenchFault> {
     let start = cpu_nanos(rt)?;
     tick_all(load)?;
     Ok(cpu_nanos(rt)?.wrapping_sub(start))
@@ -61,8 +61,8 @@ fn wheel_nanos(
     rt: &impl CpuClock,
     alloc: Global,
     count: u64,
-    work: Work,
-) -> Result<u64, BenchFault> {
+    work: WheelLoad,
+) -> Result<u64, CodecBenchFault> {
     let wheel = Wheel::new(alloc, count as usize)?;
     tick_nanos(rt, &mut Load::new(alloc, wheel, count, work)?)
 }
@@ -71,8 +71,8 @@ fn list_nanos(
     rt: &impl CpuClock,
     alloc: Global,
     count: u64,
-    work: Work,
-) -> Result<u64, BenchFault> {
+    work: WheelLoad,
+) -> Result<u64, CodecBenchFault> {
     let list = SortedList::new(alloc, count as usize)?;
     tick_nanos(rt, &mut Load::new(alloc, list, count, work)?)
 }
@@ -81,8 +81,8 @@ fn heap_nanos(
     rt: &impl CpuClock,
     alloc: Global,
     count: u64,
-    work: Work,
-) -> Result<u64, BenchFault> {
+    work: WheelLoad,
+) -> Result<u64, CodecBenchFault> {
     let heap = Heap::new(alloc, count as usize)?;
     tick_nanos(rt, &mut Load::new(alloc, heap, count, work)?)
 }
@@ -93,8 +93,8 @@ fn report(
     alloc: Global,
     count: u64,
     name: &str,
-    work: Work,
-) -> Result<(), BenchFault> {
+    work: WheelLoad,
+) -> Result<(), CodecBenchFault> {
     let (mut wheel, mut list, mut heap) = (u64::MAX, u64::MAX, u64::MAX);
     for _ in 0..ROUNDS {
         wheel = wheel.min(wheel_nanos(rt, alloc, count, work)?);
@@ -114,11 +114,17 @@ fn report(
 }
 
 /// Prints the nanoseconds of a tick of each.
-pub fn print_times(rt: &(impl Print + CpuClock), alloc: Global) -> Result<(), BenchFault> {
+pub fn print_times(rt: &(impl Print + CpuClock), alloc: Global) -> Result<(), CodecBenchFault> {
     for count in [8, 128, 1_024] {
-        report(rt, alloc, count, "busy", Work::Busy)?;
-        report(rt, alloc, count, "idle, steps of 1 ms", Work::Idle(1))?;
-        report(rt, alloc, count, "idle, steps of 60 ms", Work::Idle(60))?;
+        report(rt, alloc, count, "busy", WheelLoad::Busy)?;
+        report(rt, alloc, count, "idle, steps of 1 ms", WheelLoad::Idle(1))?;
+        report(
+            rt,
+            alloc,
+            count,
+            "idle, steps of 60 ms",
+            WheelLoad::Idle(60),
+        )?;
     }
     Ok(())
 }

@@ -50,7 +50,7 @@ pub fn period(count: u64, token: Token) -> u64
 
 /// A steady load, or ticks of this number of milliseconds with nothing due for 16,000 s.
 #[derive(Clone, Copy)]
-pub enum Work {
+pub enum WheelLoad {
     Busy,
     Idle(u32),
 }
@@ -61,7 +61,7 @@ pub struct Load<T: Timers> {
     timers: T,
     fired: Vec<Token>,
     count: u64,
-    work: Work,
+    work: WheelLoad,
     // The refreshes that are owed, in 64ths, and the next token to refresh.
     owed: u64,
     next: u64,
@@ -69,11 +69,16 @@ pub struct Load<T: Timers> {
 
 impl<T: Timers> Load<T> {
     /// This number of tokens, all armed.
-    pub fn new(alloc: Global, mut timers: T, count: u64, work: Work) -> Result<Self, AllocError> {
+    pub fn new(
+        alloc: Global,
+        mut timers: T,
+        count: u64,
+        work: WheelLoad,
+    ) -> Result<Self, AllocError> {
         for token in 0..count {
             let after = match work {
-                Work::Busy => period(count, Token(token)),
-                Work::Idle(_) => 16_000_000 + token % 4096,
+                WheelLoad::Busy => period(count, Token(token)),
+                WheelLoad::Idle(_) => 16_000_000 + token % 4096,
             };
             timers.start(Token(token), after)?;
         }
@@ -91,7 +96,7 @@ impl<T: Timers> Load<T> {
     /// A tick. Under the steady load it is a millisecond, in which productions fire and are armed again,
     /// and watchdogs are refreshed, at 128 timers six of them.
     pub fn step(&mut self) -> Result<(), AllocError> {
-        if let Work::Idle(ms) = self.work {
+        if let WheelLoad::Idle(ms) = self.work {
             return self.timers.tick(ms.min(60_000), &mut self.fired);
         }
         self.timers.turn(self.count, &mut self.fired)?;

@@ -4,7 +4,7 @@ use crate::fault::WorkFault;
 use crate::profiles::configs;
 use cip_tables::{Answer, Delivery, Verdict};
 use cip_types::Items;
-use plain_engine::{PlainAdapter, PlainScanner};
+use plain_engine::PlainDevice;
 use segment_world::{Act, Call, Direction, World};
 use std::alloc::Global;
 
@@ -22,7 +22,7 @@ pub const ROUND: u64 = 30;
 #[derive(Drop)]
 pub struct BenchLine {
     alloc: Global,
-    pub world: World<PlainAdapter, PlainScanner>,
+    pub world: World<PlainDevice>,
     pub acts: u64,
 }
 
@@ -127,6 +127,7 @@ impl BenchLine {
 }
 
 /// The segment with all connections open.
+#[tactic(auto, using(cip_tables::specs::AnyDevices::both_accept_all))]
 pub fn fresh_line(alloc: Global) -> Result<BenchLine, WorkFault> {
     let Ok(world) = World::new(alloc, configs(alloc)?) else {
         return Err(WorkFault::Differs);
@@ -144,7 +145,7 @@ pub fn fresh_line(alloc: Global) -> Result<BenchLine, WorkFault> {
 }
 
 /// The bytes of all datagrams that were sent.
-pub fn bytes_sent(world: &World<PlainAdapter, PlainScanner>) -> u64 {
+pub fn bytes_sent(world: &World<PlainDevice>) -> u64 {
     let mut bytes: u64 = 0;
     for index in 0..world.sent_count() {
         if let Some((_, datagram)) = world.sent(index) {

@@ -2,6 +2,7 @@
 
 use crate::clock::{ROUNDS, cpu_nanos};
 use crate::fault::BenchFault;
+use cip_events::SlotPhase;
 use cip_tables::{Config, Delivery, Device, Event, Notice, ScannerProfile, SlotConfig};
 use cip_types::limits::MOST_SLOTS;
 use cip_types::{Items, OutOfMemory};
@@ -56,7 +57,9 @@ fn frame(alloc: Global, device: &mut impl Device, bytes: &[u8]) -> Result<bool, 
         stream: 0,
         bytes: Items::copy_of(alloc, bytes)?,
     })?;
-    Ok(matches!(answer.notices.as_slice(), [Notice::Slot(_, 3)]))
+    Ok(
+        matches!(answer.notices.as_slice(), [Notice::Slot(_, state)] if *state == SlotPhase::Established.number()),
+    )
 }
 
 /// The session with the target is registered.

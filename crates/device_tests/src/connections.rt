@@ -63,7 +63,7 @@ fn lives(connections: Connections) -> bool {
         && connections.accept(PEER, ConnId(0x1000_0001), accepted, Ms(160))
         && connections.numbered(1).is_some()
         && connections.is_open(TRIAD)
-        && connections.first_end() == 160
+        && connections.next_watchdog() == 160
         && connections.first_due() == 10
         && connections.expire(TRIAD)
         && connections.find(PEER, ConnId(0x1000_0001)).is_none()

@@ -1,5 +1,5 @@
 //! Tests of what no scenario runs: the pool of producers and the connections over it, calls of whole devices beside
-//! `step`, copies of devices, and traces as they are written.
+//! `step`, copies of devices, how often a device needs time, and traces as they are written.
 #![tactic(auto)]
 
 #[cfg(test)]
@@ -10,3 +10,5 @@ mod devices;
 mod producers;
 #[cfg(test)]
 mod traces;
+#[cfg(test)]
+mod wakes;

@@ -19,7 +19,7 @@ const OWNER: ConnId = ConnId(0x1000_0001);
 
 /// The peer of an end.
 #[derive(Drop)]
-pub struct Peer {
+pub struct MeasuredPeer {
     socket: UdpSocket,
     to: SocketAddr,
     pub port: u16,
@@ -39,14 +39,14 @@ where
     TcpListener::bind(rt, loopback(0))
 }
 
-impl Peer {
+impl MeasuredPeer {
     /// The peer of the end at this socket. It waits a second for a datagram, and no longer.
-    pub fn of<R: Net>(rt: &R, end: &UdpSocket) -> io::Result<Peer> {
+    pub fn of<R: Net>(rt: &R, end: &UdpSocket) -> io::Result<MeasuredPeer> {
         let to = end.local_addr()?;
         let socket = socket(rt)?;
         socket.set_read_timeout(Some(Duration::from_secs(1)))?;
         let port = socket.local_addr()?.port();
-        Ok(Peer {
+        Ok(MeasuredPeer {
             socket,
             to,
             port,

@@ -59,7 +59,7 @@ impl Clock for Steady {
 
 /// An adapter at its port.
 #[derive(Drop)]
-pub struct Driven<R: System + Drop, D> {
+pub struct DrivenAdapter<R: System + Drop, D> {
     port: SocketPort<R>,
     device: D,
 }
@@ -78,21 +78,21 @@ fn to_loopback(port: u16) -> DatagramRoutes {
     })
 }
 
-impl<R: System + Drop, D: Device + Drop> Driven<R, D> {
+impl<R: System + Drop, D: Device + Drop> DrivenAdapter<R, D> {
     /// A fresh adapter at these sockets, which sends its datagrams to this port and receives those from there.
     pub fn at(
         rt: R,
         listener: TcpListener,
         socket: UdpSocket,
         to: u16,
-    ) -> Result<Driven<R, D>, TimesFault>
+    ) -> Result<DrivenAdapter<R, D>, TimesFault>
     where
         R: AllocGlobal + Copy,
     {
         let mut port = SocketPort::listening(rt.alloc(), rt, listener, socket, to_loopback(to))?;
         port.join()?;
         let device = fresh(&rt)?;
-        Ok(Driven { port, device })
+        Ok(DrivenAdapter { port, device })
     }
 
     /// Its peer opens the connection of an owner.
@@ -106,7 +106,7 @@ impl<R: System + Drop, D: Device + Drop> Driven<R, D> {
     }
 }
 
-impl<R: System + Drop, D: Device + Drop> BatchServer for Driven<R, D> {
+impl<R: System + Drop, D: Device + Drop> BatchServer for DrivenAdapter<R, D> {
     fn serve(&mut self) -> Result<(), TimesFault> {
         if self.port.failures() == u64::MAX {
             return Err(TimesFault::Lost);

@@ -2,8 +2,8 @@
 
 use crate::clock::cpu_nanos;
 use crate::fault::TimesFault;
-use crate::peer::{BATCH, Peer, listener, socket};
-use crate::servers::{Bare, BatchServer, Driven};
+use crate::peer::{BATCH, MeasuredPeer, listener, socket};
+use crate::servers::{Bare, BatchServer, DrivenAdapter};
 use cip_tables::Device;
 use std::net::{Net, TcpListener, TcpStream};
 use std::rt::{Clock, CpuClock};
@@ -11,7 +11,7 @@ use std::rt::{Clock, CpuClock};
 /// The nanoseconds that an end needs for a datagram in and one out, over so many batches.
 fn time<E: BatchServer>(
     rt: &impl CpuClock,
-    peer: &mut Peer,
+    peer: &mut MeasuredPeer,
     end: &mut E,
     batches: u32,
 ) -> Result<u64, TimesFault> {
@@ -30,7 +30,7 @@ fn time<E: BatchServer>(
 /// What a socket alone needs.
 pub fn bare<R: Net + CpuClock>(rt: &R, batches: u32) -> Result<u64, TimesFault> {
     let here = socket(rt)?;
-    let mut peer = Peer::of(rt, &here)?;
+    let mut peer = MeasuredPeer::of(rt, &here)?;
     time(rt, &mut peer, &mut Bare { socket: here }, batches)
 }
 
@@ -42,8 +42,8 @@ where
     D: Device + Drop,
 {
     let here = socket(&rt)?;
-    let mut peer = Peer::of(&rt, &here)?;
-    let mut end: Driven<R, D> = Driven::at(rt, listener(&rt)?, here, peer.port)?;
+    let mut peer = MeasuredPeer::of(&rt, &here)?;
+    let mut end: DrivenAdapter<R, D> = DrivenAdapter::at(rt, listener(&rt)?, here, peer.port)?;
     end.own(&rt)?;
     time(&rt, &mut peer, &mut end, batches)
 }

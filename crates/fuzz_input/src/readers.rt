@@ -4,7 +4,8 @@ use cip_datagram::{read_datagram, read_header};
 use cip_encap::{Splitter, read_items, read_message};
 use cip_epath::{read_path, read_target};
 use cip_fwdopen::{
-    read_close, read_close_reply, read_get_reply, read_open, read_open_reply, read_request,
+    OpenService, read_close, read_close_reply, read_get_reply, read_open, read_open_reply,
+    read_request,
 };
 use cip_netparams::{read16, read32};
 use cip_router::read_router_request;
@@ -15,8 +16,8 @@ pub fn read_all(bytes: &[u8]) -> bool {
     let _path = read_path(bytes).is_ok();
     let _target = read_target(bytes).is_ok();
     let _request = read_request(bytes).is_ok();
-    let _open = read_open(false, bytes).is_ok();
-    let _large = read_open(true, bytes).is_ok();
+    let _open = read_open(OpenService::ForwardOpen, bytes).is_ok();
+    let _large = read_open(OpenService::LargeForwardOpen, bytes).is_ok();
     let _close = read_close(bytes).is_ok();
     read_replies(bytes) && read_packets(bytes)
 }

@@ -2,12 +2,15 @@
 
 use crate::events::events_of;
 use adapter_engine::FastAdapter;
-use cip_tables::{Config, Device, Outcome};
-use plain_engine::{PlainAdapter, PlainScanner};
+use cip_tables::{AnyDevice, Device, Outcome};
+use plain_engine::PlainDevice;
 use scanner_engine::FastScanner;
 use std::alloc::Global;
 use trace_stepper::{Stepper, StepperFault};
 use trace_text::{Trace, TraceFault, read_trace};
+
+/// The fast device of a profile of either kind.
+type FastDevice = AnyDevice<FastAdapter, FastScanner>;
 
 /// The profile of the adapter: two outputs, three inputs of which one is long, a configuration.
 const ADAPTER: &[u8] =
@@ -51,13 +54,10 @@ pub fn texts_agree(alloc: Global, bytes: &[u8]) -> bool {
 }
 
 fn agree(alloc: Global, trace: &Trace) -> bool {
-    let found = match trace.config {
-        Config::Adapter(_) => answers_agree::<PlainAdapter, FastAdapter>(alloc, trace),
-        Config::Scanner(_) => answers_agree::<PlainScanner, FastScanner>(alloc, trace),
-    };
-    found.unwrap_or(true)
+    answers_agree::<PlainDevice, FastDevice>(alloc, trace).unwrap_or(true)
 }
 
+// (over any two types of devices, so that the prover does not look into the engines that are dropped at its end)
 fn answers_agree<A: Device + Drop, B: Device + Drop>(
     alloc: Global,
     trace: &Trace,

@@ -7,27 +7,27 @@ use thiserror::Error;
 
 /// Why the program ends early.
 #[derive(Clone, Copy, Debug, PartialEq, Eq, Error)]
-pub enum RunFault {
+pub enum LineRunFault {
     #[error("no memory")]
     OutOfMemory,
     #[error("the output cannot be written")]
     Output,
 }
 
-impl From<OutOfMemory> for RunFault {
-    fn from(_error: OutOfMemory) -> RunFault {
-        RunFault::OutOfMemory
+impl From<OutOfMemory> for LineRunFault {
+    fn from(_error: OutOfMemory) -> LineRunFault {
+        LineRunFault::OutOfMemory
     }
 }
 
-impl From<AllocError> for RunFault {
-    fn from(_error: AllocError) -> RunFault {
-        RunFault::OutOfMemory
+impl From<AllocError> for LineRunFault {
+    fn from(_error: AllocError) -> LineRunFault {
+        LineRunFault::OutOfMemory
     }
 }
 
-impl From<io::Error> for RunFault {
-    fn from(_error: io::Error) -> RunFault {
-        RunFault::Output
+impl From<io::Error> for LineRunFault {
+    fn from(_error: io::Error) -> LineRunFault {
+        LineRunFault::Output
     }
 }

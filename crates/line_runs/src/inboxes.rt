@@ -1,28 +1,30 @@
 //! An inbox.
 
-use crate::fault::RunFault;
+use crate::fault::LineRunFault;
+use cip_events::Arrival;
 use cip_types::{Items, Node, OutOfMemory};
-use line_threads::{Inbox, Item};
+use line_threads::Inbox;
 use std::alloc::Global;
 use std::sync::Wait;
 
-fn datagram(alloc: Global, peer: u32) -> Item {
-    Item::Datagram {
+fn datagram(alloc: Global, peer: u32) -> Arrival {
+    Arrival::Datagram {
         peer: Node(peer),
         bytes: Items::new(alloc),
     }
 }
 
-fn peer_of(item: &Item) -> u32 {
-    match item {
-        Item::Datagram { peer, .. } => peer.0,
-        _ => 0,
-    }
-}
-
-fn print_item(rt: &impl Print, name: &str, item: Option<Item>) -> Result<(), RunFault> {
-    match item {
-        Some(item) => println!(rt; "{name}: datagram {}", peer_of(&item))?,
+/// Prints what was taken or lost.
+pub fn print_arrival(
+    rt: &impl Print,
+    name: &str,
+    arrival: Option<Arrival>,
+) -> Result<(), LineRunFault> {
+    match arrival {
+        Some(Arrival::Datagram { peer, .. }) => println!(rt; "{name}: datagram {}", peer.0)?,
+        Some(Arrival::Opened { peer, .. }) => println!(rt; "{name}: stream {}", peer.0)?,
+        Some(Arrival::Frame { .. }) => println!(rt; "{name}: frame")?,
+        Some(Arrival::Cut { .. }) => println!(rt; "{name}: cut")?,
         None => println!(rt; "{name}: nothing")?,
     }
     Ok(())
@@ -33,13 +35,13 @@ fn inbox(alloc: Global) -> Result<Inbox, OutOfMemory> {
 }
 
 /// Prints what an inbox of two hands back at each of three puts, and then at three takes.
-pub fn print_all<R: Print + Wait>(rt: &R, alloc: Global) -> Result<(), RunFault> {
+pub fn print_all<R: Print + Wait>(rt: &R, alloc: Global) -> Result<(), LineRunFault> {
     let inbox = inbox(alloc)?;
     for peer in 1..4 {
-        print_item(rt, "put", inbox.put(rt, datagram(alloc, peer)))?;
+        print_arrival(rt, "put", inbox.put(rt, datagram(alloc, peer)))?;
     }
     for _ in 0..3 {
-        print_item(rt, "take", inbox.take(rt))?;
+        print_arrival(rt, "take", inbox.take(rt))?;
     }
     Ok(())
 }

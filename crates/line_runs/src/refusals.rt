@@ -1,11 +1,12 @@
 //! Lines that end with a fault.
 
-ghost use Rattle.std.specs.Prelude.{◌≡◌, ◌+◌, true, false, None, All, IfOk, length};
+ghost use Rattle.std.specs.Prelude.{◌≡◌, ◌+◌, None, All, IfOk, length};
+ghost use Rattle.cip_tables.specs.Step.{AcceptsAll};
 ghost use Rattle.segment_world.specs.Configs.{world_fault};
 ghost use Rattle.settling.specs.Histories.{configs_of};
 ghost use Rattle.line_threads.specs.Scripts.{IsOwn};
 
-use crate::fault::RunFault;
+use crate::fault::LineRunFault;
 use crate::gates::Closed;
 use crate::runs::{print_run, run};
 use cip_tables::{Config, Device, Event};
@@ -47,13 +48,11 @@ fn long_scripts(alloc: Global) -> Result<Vec<Vec<Event>>, OutOfMemory>
 }
 
 // An adapter alone, whose time goes too far at once.
-fn long_tick<A, S, R>(rt: &R, alloc: Global) -> Result<LineRun, LineFault>
+fn long_tick<D, R>(rt: &R, alloc: Global) -> Result<LineRun, LineFault>
 where
-    A: Device + Drop + Send,
-    S: Device + Drop + Send,
+    D: Device + Drop + Send,
     R: Threads + Wait + Sync,
-    requires adapter { A.ADAPTER ≡ true }
-    requires scanner { S.ADAPTER ≡ false }
+    requires accepts { AcceptsAll D.accepts }
     ensures valid { IfOk result (λ run. world_fault (configs_of run.histories.items) ≡ None) }
 {
     let line = Line {
@@ -61,7 +60,7 @@ where
         inbox: 64,
     };
     let scripts = long_scripts(alloc)?;
-    run_line::<A, S, Open, R>(rt, alloc, line, scripts, &Open)
+    run_line::<D, Open, R>(rt, alloc, line, scripts, &Open)
 }
 
 // A scanner has the incarnation byte of the first one.
@@ -81,56 +80,40 @@ fn give_same_byte(configs: &mut Vec<Config>)
     }
 }
 
-fn same_byte<A, S, R>(rt: &R, alloc: Global) -> Result<LineRun, LineFault>
+fn same_byte<D, R>(rt: &R, alloc: Global) -> Result<LineRun, LineFault>
 where
-    A: Device + Drop + Send,
-    S: Device + Drop + Send,
+    D: Device + Drop + Send,
     R: Threads + Wait + Sync,
-    requires adapter { A.ADAPTER ≡ true }
-    requires scanner { S.ADAPTER ≡ false }
+    requires accepts { AcceptsAll D.accepts }
     ensures valid { IfOk result (λ run. world_fault (configs_of run.histories.items) ≡ None) }
 {
     let mut configs = checked_configs(alloc, 2)?;
     give_same_byte(&mut configs);
     let line = Line { configs, inbox: 64 };
     let scripts = scripts(alloc, 2, 1)?;
-    run_line::<A, S, Open, R>(rt, alloc, line, scripts, &Open)
+    run_line::<D, Open, R>(rt, alloc, line, scripts, &Open)
 }
 
-fn print_closed<A, S, R>(rt: &R, alloc: Global, name: &str, gate: Closed) -> Result<(), RunFault>
+fn print_closed<D, R>(rt: &R, alloc: Global, name: &str, gate: Closed) -> Result<(), LineRunFault>
 where
-    A: Device + Drop + Send,
-    S: Device + Drop + Send,
+    D: Device + Drop + Send,
     R: Print + Threads + Wait + Sync,
-    requires adapter { A.ADAPTER ≡ true }
-    requires scanner { S.ADAPTER ≡ false }
+    requires accepts { AcceptsAll D.accepts }
 {
-    let run = run::<A, S, Closed, R>(rt, alloc, 2, &gate);
-    print_run::<A, S>(rt, alloc, name, &run)
+    let run = run::<D, Closed, R>(rt, alloc, 2, &gate);
+    print_run::<D>(rt, alloc, name, &run)
 }
 
 /// Prints the fault of each line.
-pub fn print_all<A, S, R>(rt: &R, alloc: Global) -> Result<(), RunFault>
+pub fn print_all<D, R>(rt: &R, alloc: Global) -> Result<(), LineRunFault>
 where
-    A: Device + Drop + Send,
-    S: Device + Drop + Send,
+    D: Device + Drop + Send,
     R: Print + Threads + Wait + Sync,
-    requires adapter { A.ADAPTER ≡ true }
-    requires scanner { S.ADAPTER ≡ false }
+    requires accepts { AcceptsAll D.accepts }
 {
-    print_run::<A, S>(
-        rt,
-        alloc,
-        "a tick too long",
-        &long_tick::<A, S, R>(rt, alloc),
-    )?;
-    print_run::<A, S>(
-        rt,
-        alloc,
-        "one byte twice",
-        &same_byte::<A, S, R>(rt, alloc),
-    )?;
-    print_closed::<A, S, R>(rt, alloc, "no before", Closed::Before(0))?;
-    print_closed::<A, S, R>(rt, alloc, "no inside", Closed::Inside(1))?;
-    print_closed::<A, S, R>(rt, alloc, "no after", Closed::After(2))
+    print_run::<D>(rt, alloc, "a tick too long", &long_tick::<D, R>(rt, alloc))?;
+    print_run::<D>(rt, alloc, "one byte twice", &same_byte::<D, R>(rt, alloc))?;
+    print_closed::<D, R>(rt, alloc, "no before", Closed::Before(0))?;
+    print_closed::<D, R>(rt, alloc, "no inside", Closed::Inside(1))?;
+    print_closed::<D, R>(rt, alloc, "no after", Closed::After(2))
 }

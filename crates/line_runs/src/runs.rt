@@ -1,11 +1,13 @@
 //! Lines whose devices settle.
 
-ghost use Rattle.std.specs.Prelude.{◌≡◌, None, IfOk, true, false};
+ghost use Rattle.std.specs.Prelude.{◌≡◌, None, IfOk};
+ghost use Rattle.cip_tables.specs.Step.{AcceptsAll};
 ghost use Rattle.segment_world.specs.Configs.{world_fault};
 ghost use Rattle.settling.specs.Histories.{configs_of};
 
-use crate::fault::RunFault;
+use crate::fault::LineRunFault;
 use crate::gates::{Held, InStep};
+use cip_events::SlotPhase;
 use cip_tables::{Answer, Delivery, Device, Notice, Verdict};
 use device_lock::Receipt;
 use line_setup::{line_of, scripts};
@@ -23,18 +25,13 @@ const ADAPTER_BYTE: u8 = 0x10;
 
 const SCANNER_BYTE: u8 = 0x20;
 
-/// The state of a slot whose connection is open.
-const ESTABLISHED: u8 = 3;
-
 /// Runs a line of an adapter and so many scanners.
-pub fn run<A, S, G, R>(rt: &R, alloc: Global, scanners: u8, gate: &G) -> Result<LineRun, LineFault>
+pub fn run<D, G, R>(rt: &R, alloc: Global, scanners: u8, gate: &G) -> Result<LineRun, LineFault>
 where
-    A: Device + Drop + Send,
-    S: Device + Drop + Send,
+    D: Device + Drop + Send,
     G: Gate + Sync,
     R: Threads + Wait + Sync,
-    requires adapter { A.ADAPTER ≡ true }
-    requires scanner { S.ADAPTER ≡ false }
+    requires accepts { AcceptsAll D.accepts }
     ensures valid { IfOk result (λ run. world_fault (configs_of run.histories.items) ≡ None) }
 {
     let line = match line_of(alloc, scanners) {
@@ -43,7 +40,7 @@ where
         Err(_) => return Err(LineFault::World),
     };
     let scripts = scripts(alloc, scanners, TICKS)?;
-    run_line::<A, S, G, R>(rt, alloc, line, scripts, gate)
+    run_line::<D, G, R>(rt, alloc, line, scripts, gate)
 }
 
 /// The name of a fault.
@@ -58,17 +55,16 @@ pub fn name_of(fault: LineFault) -> &'static str {
     }
 }
 
-fn print_settled<A: Device + Drop, S: Device + Drop>(
+fn print_settled<D: Device + Drop>(
     rt: &impl Print,
     alloc: Global,
     name: &str,
     run: &LineRun,
-) -> Result<(), RunFault>
-    requires adapter { A.ADAPTER ≡ true }
-    requires scanner { S.ADAPTER ≡ false }
+) -> Result<(), LineRunFault>
+    requires accepts { AcceptsAll D.accepts }
     requires valid { world_fault (configs_of run.now.histories.items) ≡ None }
 {
-    match settle::<A, S>(alloc, &run.histories, &run.receipts) {
+    match settle::<D>(alloc, &run.histories, &run.receipts) {
         Ok(_) => println!(rt; "{name}: settled")?,
         Err(fault) => println!(rt; "{name}: {fault}")?,
     }
@@ -76,18 +72,17 @@ fn print_settled<A: Device + Drop, S: Device + Drop>(
 }
 
 /// Prints what becomes of a line.
-pub fn print_run<A: Device + Drop, S: Device + Drop>(
+pub fn print_run<D: Device + Drop>(
     rt: &impl Print,
     alloc: Global,
     name: &str,
     run: &Result<LineRun, LineFault>,
-) -> Result<(), RunFault>
-    requires adapter { A.ADAPTER ≡ true }
-    requires scanner { S.ADAPTER ≡ false }
+) -> Result<(), LineRunFault>
+    requires accepts { AcceptsAll D.accepts }
     requires valid { IfOk run.now (λ run. world_fault (configs_of run.histories.items) ≡ None) }
 {
     match run {
-        Ok(run) => print_settled::<A, S>(rt, alloc, name, run),
+        Ok(run) => print_settled::<D>(rt, alloc, name, run),
         Err(fault) => {
             println!(rt; "{name}: fault {}", name_of(*fault))?;
             Ok(())
@@ -96,11 +91,9 @@ pub fn print_run<A: Device + Drop, S: Device + Drop>(
 }
 
 fn has_opened(answer: &Answer) -> bool {
-    answer
-        .notices
-        .as_slice()
-        .iter()
-        .any(|notice| matches!(notice, Notice::Slot(0, ESTABLISHED)))
+    answer.notices.as_slice().iter().any(
+        |notice| matches!(notice, Notice::Slot(0, state) if *state == SlotPhase::Established.number()),
+    )
 }
 
 fn has_applied(answer: &Answer) -> bool {
@@ -115,7 +108,7 @@ fn has_applied_at(receipts: &[Receipt], device: u8) -> bool {
     receipts.iter().any(|receipt| receipt.device == device && has_applied(&receipt.answer))
 }
 
-fn print_owner(rt: &impl Print, run: &Result<LineRun, LineFault>) -> Result<(), RunFault> {
+fn print_owner(rt: &impl Print, run: &Result<LineRun, LineFault>) -> Result<(), LineRunFault> {
     let Ok(run) = run else {
         return Ok(());
     };
@@ -126,59 +119,51 @@ fn print_owner(rt: &impl Print, run: &Result<LineRun, LineFault>) -> Result<(), 
 }
 
 // The adapter is held inside its lock until the scanner was answered: they have two workers and two locks.
-fn print_held<A, S, R>(rt: &R, alloc: Global) -> Result<(), RunFault>
+fn print_held<D, R>(rt: &R, alloc: Global) -> Result<(), LineRunFault>
 where
-    A: Device + Drop + Send,
-    S: Device + Drop + Send,
+    D: Device + Drop + Send,
     R: Print + Threads + Wait + Sync,
-    requires adapter { A.ADAPTER ≡ true }
-    requires scanner { S.ADAPTER ≡ false }
+    requires accepts { AcceptsAll D.accepts }
 {
-    let run = run::<A, S, Held, R>(rt, alloc, 1, &Held::new());
-    print_run::<A, S>(rt, alloc, "held inside its lock", &run)
+    let run = run::<D, Held, R>(rt, alloc, 1, &Held::new());
+    print_run::<D>(rt, alloc, "held inside its lock", &run)
 }
 
 // Two devices, in step over their first 200 steps.
-fn print_two<A, S, R>(rt: &R, alloc: Global) -> Result<(), RunFault>
+fn print_two<D, R>(rt: &R, alloc: Global) -> Result<(), LineRunFault>
 where
-    A: Device + Drop + Send,
-    S: Device + Drop + Send,
+    D: Device + Drop + Send,
     R: Print + Threads + Wait + Sync,
-    requires adapter { A.ADAPTER ≡ true }
-    requires scanner { S.ADAPTER ≡ false }
+    requires accepts { AcceptsAll D.accepts }
 {
     let gate = InStep::new(alloc, 2, 200)?;
-    let run = run::<A, S, InStep, R>(rt, alloc, 1, &gate);
-    print_run::<A, S>(rt, alloc, "two devices in step", &run)?;
+    let run = run::<D, InStep, R>(rt, alloc, 1, &gate);
+    print_run::<D>(rt, alloc, "two devices in step", &run)?;
     print_owner(rt, &run)
 }
 
 // Nine devices, in step over their first 100 steps: each has a worker of its own.
-fn print_nine<A, S, R>(rt: &R, alloc: Global) -> Result<(), RunFault>
+fn print_nine<D, R>(rt: &R, alloc: Global) -> Result<(), LineRunFault>
 where
-    A: Device + Drop + Send,
-    S: Device + Drop + Send,
+    D: Device + Drop + Send,
     R: Print + Threads + Wait + Sync,
-    requires adapter { A.ADAPTER ≡ true }
-    requires scanner { S.ADAPTER ≡ false }
+    requires accepts { AcceptsAll D.accepts }
 {
     let gate = InStep::new(alloc, 9, 100)?;
-    let run = run::<A, S, InStep, R>(rt, alloc, 8, &gate);
-    print_run::<A, S>(rt, alloc, "nine devices in step", &run)
+    let run = run::<D, InStep, R>(rt, alloc, 8, &gate);
+    print_run::<D>(rt, alloc, "nine devices in step", &run)
 }
 
 /// Prints what becomes of each line.
-pub fn print_all<A, S, R>(rt: &R, alloc: Global) -> Result<(), RunFault>
+pub fn print_all<D, R>(rt: &R, alloc: Global) -> Result<(), LineRunFault>
 where
-    A: Device + Drop + Send,
-    S: Device + Drop + Send,
+    D: Device + Drop + Send,
     R: Print + Threads + Wait + Sync,
-    requires adapter { A.ADAPTER ≡ true }
-    requires scanner { S.ADAPTER ≡ false }
+    requires accepts { AcceptsAll D.accepts }
 {
-    print_held::<A, S, R>(rt, alloc)?;
-    print_two::<A, S, R>(rt, alloc)?;
-    print_nine::<A, S, R>(rt, alloc)?;
-    let run = run::<A, S, Open, R>(rt, alloc, 8, &Open);
-    print_run::<A, S>(rt, alloc, "nine devices, nothing held", &run)
+    print_held::<D, R>(rt, alloc)?;
+    print_two::<D, R>(rt, alloc)?;
+    print_nine::<D, R>(rt, alloc)?;
+    let run = run::<D, Open, R>(rt, alloc, 8, &Open);
+    print_run::<D>(rt, alloc, "nine devices, nothing held", &run)
 }

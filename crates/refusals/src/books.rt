@@ -1,6 +1,6 @@
 //! Books of devices: their making, their events, and the segments that they hand out.
 
-use crate::calls::{Call, Difference, Refusals, Trial};
+use crate::calls::{Difference, MemoryCall, Refusals, Trial};
 use crate::devices::{is_device_like, made};
 use cip_events::{Event, StepFault};
 use cip_tables::{Config, Device};
@@ -8,8 +8,7 @@ use cip_types::OutOfMemory;
 use device_lock::{Book, BookFault, Receipt, Segment};
 use std::alloc::Global;
 use std::marker::PhantomData;
-use trace_outcomes::Recorded;
-use trace_text::Trace;
+use trace_text::{Recorded, Trace};
 
 /// A book of a fresh device of a configuration.
 pub fn book_of<D: Device + Drop>(alloc: Global, config: &Config) -> Result<Book<D>, OutOfMemory> {
@@ -70,7 +69,7 @@ pub fn rotated<D: Device + Drop>(book: &mut Book<D>) -> Result<Segment, OutOfMem
 /// The making of a book.
 struct BookMaking<D>(PhantomData<D>);
 
-impl<D: Device + Drop> Call for BookMaking<D> {
+impl<D: Device + Drop> MemoryCall for BookMaking<D> {
     type On = ();
 
     type Input = Config;
@@ -93,7 +92,7 @@ impl<D: Device + Drop> Call for BookMaking<D> {
 /// The step of a book at an event of a trace.
 struct BookStep<D>(PhantomData<D>);
 
-impl<D: Device + Drop> Call for BookStep<D> {
+impl<D: Device + Drop> MemoryCall for BookStep<D> {
     type On = Book<D>;
 
     type Input = (Event, Recorded);
@@ -124,7 +123,7 @@ impl<D: Device + Drop> Call for BookStep<D> {
 /// The end of a book's present segment.
 struct Rotation<D>(PhantomData<D>);
 
-impl<D: Device + Drop> Call for Rotation<D> {
+impl<D: Device + Drop> MemoryCall for Rotation<D> {
     type On = Book<D>;
 
     type Input = ();

@@ -31,7 +31,7 @@ impl From<OutOfMemory> for Difference {
 }
 
 /// A kind of call that takes memory.
-pub trait Call {
+pub trait MemoryCall {
     /// What the call is made on.
     type On;
 
@@ -89,7 +89,7 @@ impl Refusals {
     /// Makes a call with its first request refused, then with its second, and so on, until none is refused; and once on a
     /// twin, where none is. Each refused call has to answer `OutOfMemory` and to leave what it is made on as its twin is.
     /// The call that passes has to return what the twin's call returns, and to leave the two alike.
-    pub fn in_call<C: Call>(
+    pub fn in_call<C: MemoryCall>(
         &mut self,
         on: &mut C::On,
         twin: &mut C::On,
@@ -109,7 +109,7 @@ impl Refusals {
     }
 
     /// Makes a call for each input in turn, as `in_call` does.
-    pub fn in_calls<C: Call>(
+    pub fn in_calls<C: MemoryCall>(
         &mut self,
         on: &mut C::On,
         twin: &mut C::On,
@@ -131,7 +131,7 @@ impl Refusals {
 }
 
 /// One call with its nth request refused. None if it was refused, and the call answered so.
-fn attempt<C: Call>(
+fn attempt<C: MemoryCall>(
     alloc: Global,
     on: &mut C::On,
     input: &C::Input,
@@ -148,7 +148,7 @@ fn attempt<C: Call>(
 }
 
 /// Makes the twin's call, and compares what the two calls returned.
-fn compare<C: Call>(
+fn compare<C: MemoryCall>(
     alloc: Global,
     twin: &mut C::On,
     input: &C::Input,
@@ -162,7 +162,7 @@ fn compare<C: Call>(
 }
 
 /// Compares what a call is made on with its twin.
-fn compare_values<C: Call>(on: &C::On, twin: &C::On) -> Result<(), Difference> {
+fn compare_values<C: MemoryCall>(on: &C::On, twin: &C::On) -> Result<(), Difference> {
     if C::is_like(on, twin)? {
         return Ok(());
     }

@@ -1,11 +1,11 @@
 //! Texts of codecs, and a stream that is cut into messages.
 
-use crate::calls::{Call, Difference, Refusals, Trial};
+use crate::calls::{Difference, MemoryCall, Refusals, Trial};
 use cip_encap::{MessageView, SocketAddress, SplitFault, Splitter, write_items, write_message};
 use cip_epath::{ConnPath, Target, write_path, write_target};
 use cip_fwdopen::{
-    CloseRequest, OpenRequest, Opened, write_close, write_closed, write_get, write_got, write_open,
-    write_opened, write_refused,
+    CloseRequest, OpenRequest, OpenService, Opened, write_close, write_closed, write_get,
+    write_got, write_open, write_opened, write_refused,
 };
 use cip_netparams::{ConnectionType, NetParams, Priority};
 use cip_router::Reply;
@@ -128,7 +128,7 @@ fn open(alloc: Global) -> Result<Vec<u8>, OutOfMemory> {
         trigger: 1,
         path,
     };
-    write_open(alloc, false, &request)
+    write_open(alloc, OpenService::ForwardOpen, &request)
 }
 
 /// The data of a Forward_Close.
@@ -155,7 +155,7 @@ fn refused(alloc: Global) -> Result<Vec<u8>, OutOfMemory> {
 /// A text of a writer.
 struct Writing;
 
-impl Call for Writing {
+impl MemoryCall for Writing {
     type On = ();
 
     type Input = Text;
@@ -172,7 +172,7 @@ impl Call for Writing {
             Text::Close => close(alloc),
             Text::Get => write_get(alloc, &TARGET),
             Text::Got => write_got(alloc, &BYTES),
-            Text::Opened => write_opened(alloc, false, &OPENED),
+            Text::Opened => write_opened(alloc, OpenService::ForwardOpen, &OPENED),
             Text::Closed => write_closed(alloc, TRIAD),
             Text::Refused => refused(alloc),
             Text::Reply => Reply::Closed(TRIAD).write(alloc),
@@ -200,7 +200,7 @@ const PIECES: [&[u8]; 3] = [
 /// A piece of a stream that a splitter cuts.
 struct Feeding;
 
-impl Call for Feeding {
+impl MemoryCall for Feeding {
     type On = Splitter;
 
     type Input = &'static [u8];
@@ -229,9 +229,9 @@ impl Call for Feeding {
 }
 
 /// A splitter that is fed the pieces of a stream.
-struct Stream;
+struct SplitStream;
 
-impl Trial for Stream {
+impl Trial for SplitStream {
     type On = Splitter;
 
     type Input = ();
@@ -253,5 +253,5 @@ impl Trial for Stream {
 /// Refuses requests where texts are written and a stream is cut into messages.
 pub fn refuse_codecs(refusals: &mut Refusals) -> Result<(), Difference> {
     refusals.in_calls::<Writing>(&mut (), &mut (), &TEXTS)?;
-    refusals.in_trial::<Stream>(&())
+    refusals.in_trial::<SplitStream>(&())
 }

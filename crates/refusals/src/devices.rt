@@ -1,6 +1,6 @@
 //! Devices: their making, their steps, their copies.
 
-use crate::calls::{Call, Compared, Difference, Refusals, Trial, are_same};
+use crate::calls::{Compared, Difference, MemoryCall, Refusals, Trial, are_same};
 use adapter_engine::FastAdapter;
 use cip_events::{Event, NewFault, Outcome, StepFault};
 use cip_tables::{Config, Device, TableCopy};
@@ -9,8 +9,7 @@ use plain_engine::{PlainAdapter, PlainScanner};
 use scanner_engine::FastScanner;
 use std::alloc::Global;
 use std::marker::PhantomData;
-use trace_outcomes::Recorded;
-use trace_text::Trace;
+use trace_text::{Recorded, Trace};
 
 /// A device that can be made of a copy of a table.
 pub trait Restore {
@@ -71,9 +70,9 @@ pub fn made<D: Device>(alloc: Global, config: &Config) -> Result<D, OutOfMemory>
 }
 
 /// The making of a device, from a copy of its configuration.
-pub struct Making<D>(PhantomData<D>);
+pub struct DeviceMaking<D>(PhantomData<D>);
 
-impl<D: Device + Drop> Call for Making<D> {
+impl<D: Device + Drop> MemoryCall for DeviceMaking<D> {
     type On = ();
 
     type Input = Config;
@@ -94,9 +93,9 @@ impl<D: Device + Drop> Call for Making<D> {
 }
 
 /// The step at an event of a trace.
-struct Step<D>(PhantomData<D>);
+struct DeviceStep<D>(PhantomData<D>);
 
-impl<D: Device> Call for Step<D> {
+impl<D: Device> MemoryCall for DeviceStep<D> {
     type On = D;
 
     type Input = (Event, Recorded);
@@ -123,7 +122,7 @@ impl<D: Device> Call for Step<D> {
 /// The call of `write_point` for an event Write of a trace, and a step at any other event.
 struct Write<D>(PhantomData<D>);
 
-impl<D: Device> Call for Write<D> {
+impl<D: Device> MemoryCall for Write<D> {
     type On = D;
 
     type Input = (Event, Recorded);
@@ -153,7 +152,7 @@ impl<D: Device> Call for Write<D> {
 /// The copy of a device's table.
 struct Copying<D>(PhantomData<D>);
 
-impl<D: Device> Call for Copying<D> {
+impl<D: Device> MemoryCall for Copying<D> {
     type On = D;
 
     type Input = ();
@@ -176,7 +175,7 @@ impl<D: Device> Call for Copying<D> {
 /// The making of a device of a copy.
 struct Restoring<D>(PhantomData<D>);
 
-impl<D: Device + Restore + Drop> Call for Restoring<D> {
+impl<D: Device + Restore + Drop> MemoryCall for Restoring<D> {
     type On = ();
 
     type Input = TableCopy;
@@ -225,8 +224,8 @@ impl<D: Device + Restore + Drop> Trial for Stepped<D> {
         twin: &mut D,
         trace: &Trace,
     ) -> Result<(), Difference> {
-        refusals.in_call::<Making<D>>(&mut (), &mut (), &trace.config)?;
-        refusals.in_calls::<Step<D>>(device, twin, trace.events.as_slice())?;
+        refusals.in_call::<DeviceMaking<D>>(&mut (), &mut (), &trace.config)?;
+        refusals.in_calls::<DeviceStep<D>>(device, twin, trace.events.as_slice())?;
         refusals.in_call::<Copying<D>>(device, twin, &())?;
         refuse_restoring(refusals, device)
     }

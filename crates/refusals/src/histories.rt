@@ -1,19 +1,18 @@
-//! Histories of devices.
+//! Records of devices.
 
 ghost use Rattle.std.specs.Prelude.{◌≡◌, true, None};
-ghost use Rattle.cip_tables.specs.Step.{config_fault, makes_adapter, same_kind};
+ghost use Rattle.cip_tables.specs.Step.{config_fault};
 
 use crate::books::{are_events_same, book_of, rotated, step_book};
-use crate::calls::{Call, passed};
+use crate::calls::{MemoryCall, passed};
 use cip_events::Event;
 use cip_tables::{Config, Device};
 use cip_types::OutOfMemory;
 use device_lock::{Book, History, Segment};
 use std::alloc::Global;
 use std::marker::PhantomData;
-use trace_outcomes::Recorded;
 use trace_stepper::Stepper;
-use trace_text::Trace;
+use trace_text::{Recorded, Trace};
 
 /// How many events of a trace make a history and a run, of which each try begins anew.
 pub const MOST_EVENTS: usize = 12;
@@ -87,7 +86,7 @@ pub fn history_of<D: Device + Drop>(
     trace: &Trace,
     segments: Vec<Segment>,
 ) -> Result<History, OutOfMemory> {
-    // (a stepper is made only of a configuration of its kind without a fault, as a history requires)
+    // (a stepper is made only of an accepted configuration without a fault, as a history requires)
     match Stepper::<'_, D>::new(alloc, trace) {
         Ok(_) => joined::<D>(alloc, &trace.config, segments),
         Err(_) => Err(OutOfMemory),
@@ -101,7 +100,7 @@ fn joined<D: Device + Drop>(
     segments: Vec<Segment>,
 ) -> Result<History, OutOfMemory>
     requires valid { config_fault config.now ≡ None }
-    requires kind { same_kind D.ADAPTER (makes_adapter config.now) ≡ true }
+    requires accepts { D.accepts config.now ≡ true }
 {
     match config.copy(alloc) {
         Ok(config) => History::new::<D>(alloc, config, segments).ok_or(OutOfMemory),
@@ -112,7 +111,7 @@ fn joined<D: Device + Drop>(
 /// The history of a device, from its making on.
 pub struct Recalling<D>(PhantomData<D>);
 
-impl<D: Device + Drop> Call for Recalling<D> {
+impl<D: Device + Drop> MemoryCall for Recalling<D> {
     type On = ();
 
     type Input = Trace;

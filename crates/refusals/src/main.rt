@@ -27,7 +27,7 @@ mod worlds;
 
 use calls::{Difference, Refusals};
 use codecs::refuse_codecs;
-use networks::{FastWorld, Network, PlainWorld};
+use networks::{DeviceNetwork, FastWorld, PlainWorld};
 use race::acts;
 use segment_world::Act;
 use settlings::Settlement;
@@ -84,7 +84,7 @@ fn none_yet(alloc: Global) -> Refusals {
 }
 
 /// Refuses requests in the acts of a network, and where its histories are settled into a schedule.
-fn refuse_network<W: Network + Drop>(refusals: &mut Refusals) -> Result<(), Difference> {
+fn refuse_network<W: DeviceNetwork + Drop>(refusals: &mut Refusals) -> Result<(), Difference> {
     match acts(refusals.alloc) {
         Ok(acts) => refuse_acts::<W>(refusals, &acts),
         Err(refused) => Err(Difference::from(refused)),
@@ -92,7 +92,7 @@ fn refuse_network<W: Network + Drop>(refusals: &mut Refusals) -> Result<(), Diff
 }
 
 /// Refuses requests in these acts of a network, and where its histories are settled into a schedule.
-fn refuse_acts<W: Network + Drop>(
+fn refuse_acts<W: DeviceNetwork + Drop>(
     refusals: &mut Refusals,
     acts: &Vec<Act>,
 ) -> Result<(), Difference> {

@@ -1,26 +1,29 @@
-//! Networks of devices of a kind. What is made over all devices of a network needs both kinds of device.
+//! Networks of devices of one engine. What is made over all devices of a network needs adapters and scanners.
 
-use crate::settlings::{Account, account_of};
+use crate::settlings::{Records, account_of};
 use crate::worlds::is_world_like;
 use adapter_engine::FastAdapter;
 use cip_events::Answer;
-use cip_tables::Config;
+use cip_tables::{AnyDevice, Config};
 use cip_types::OutOfMemory;
 use device_lock::{History, Receipt};
-use plain_engine::{PlainAdapter, PlainScanner};
+use plain_engine::PlainDevice;
 use scanner_engine::FastScanner;
 use segment_world::{Act, ActFault, World, WorldFault};
 use settling::{Settled, Unsettled, check_configs, settle};
 use std::alloc::Global;
 
 /// Plain adapters and scanners on a network.
-pub type PlainWorld = World<PlainAdapter, PlainScanner>;
+pub type PlainWorld = World<PlainDevice>;
+
+/// The fast device of a profile of either kind.
+type FastDevice = AnyDevice<FastAdapter, FastScanner>;
 
 /// Fast adapters and scanners on a network.
-pub type FastWorld = World<FastAdapter, FastScanner>;
+pub type FastWorld = World<FastDevice>;
 
 /// A network of devices.
-pub trait Network {
+pub trait DeviceNetwork {
     /// A network of fresh devices.
     fn found(alloc: Global, configs: Vec<Config>) -> Result<Self, WorldFault>;
 
@@ -31,7 +34,7 @@ pub trait Network {
     fn is_like(&self, twin: &Self) -> Result<bool, OutOfMemory>;
 
     /// The histories of the race's devices, and the receipts of their events.
-    fn account(alloc: Global) -> Result<Account, OutOfMemory>;
+    fn account(alloc: Global) -> Result<Records, OutOfMemory>;
 
     /// A schedule for histories and receipts. Configurations of which no network is made find no memory.
     fn schedule(
@@ -41,7 +44,8 @@ pub trait Network {
     ) -> Result<Settled, Unsettled>;
 }
 
-impl Network for PlainWorld {
+impl DeviceNetwork for PlainWorld {
+    #[tactic(auto, using(cip_tables::specs::AnyDevices::both_accept_all))]
     fn found(alloc: Global, configs: Vec<Config>) -> Result<PlainWorld, WorldFault> {
         World::new(alloc, configs)
     }
@@ -54,23 +58,25 @@ impl Network for PlainWorld {
         is_world_like(self, twin)
     }
 
-    fn account(alloc: Global) -> Result<Account, OutOfMemory> {
-        account_of::<PlainAdapter, PlainScanner>(alloc)
+    fn account(alloc: Global) -> Result<Records, OutOfMemory> {
+        account_of::<PlainDevice>(alloc)
     }
 
+    #[tactic(auto, using(cip_tables::specs::AnyDevices::both_accept_all))]
     fn schedule(
         alloc: Global,
         histories: &[History],
         receipts: &[Receipt],
     ) -> Result<Settled, Unsettled> {
         match check_configs(alloc, histories) {
-            Ok(()) => settle::<PlainAdapter, PlainScanner>(alloc, histories, receipts),
+            Ok(()) => settle::<PlainDevice>(alloc, histories, receipts),
             Err(_) => Err(Unsettled::OutOfMemory),
         }
     }
 }
 
-impl Network for FastWorld {
+impl DeviceNetwork for FastWorld {
+    #[tactic(auto, using(cip_tables::specs::AnyDevices::both_accept_all))]
     fn found(alloc: Global, configs: Vec<Config>) -> Result<FastWorld, WorldFault> {
         World::new(alloc, configs)
     }
@@ -83,17 +89,18 @@ impl Network for FastWorld {
         is_world_like(self, twin)
     }
 
-    fn account(alloc: Global) -> Result<Account, OutOfMemory> {
-        account_of::<FastAdapter, FastScanner>(alloc)
+    fn account(alloc: Global) -> Result<Records, OutOfMemory> {
+        account_of::<FastDevice>(alloc)
     }
 
+    #[tactic(auto, using(cip_tables::specs::AnyDevices::both_accept_all))]
     fn schedule(
         alloc: Global,
         histories: &[History],
         receipts: &[Receipt],
     ) -> Result<Settled, Unsettled> {
         match check_configs(alloc, histories) {
-            Ok(()) => settle::<FastAdapter, FastScanner>(alloc, histories, receipts),
+            Ok(()) => settle::<FastDevice>(alloc, histories, receipts),
             Err(_) => Err(Unsettled::OutOfMemory),
         }
     }

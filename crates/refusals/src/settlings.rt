@@ -1,9 +1,9 @@
 //! Schedules for the histories of the race's devices and their receipts.
 
 use crate::books::{book_of, rotated, step_book};
-use crate::calls::{Call, Difference, Refusals, Trial};
+use crate::calls::{Difference, MemoryCall, Refusals, Trial};
 use crate::histories::{completed, history_of, push};
-use crate::networks::Network;
+use crate::networks::DeviceNetwork;
 use crate::race_events::{ADAPTER_EVENTS, FIRST_EVENTS, SECOND_EVENTS};
 use cip_events::Event;
 use cip_tables::Device;
@@ -13,12 +13,11 @@ use segment_world::{Act, Call as LocalCall, Direction};
 use settling::{Settled, Unsettled};
 use std::alloc::Global;
 use std::marker::PhantomData;
-use trace_outcomes::Recorded;
-use trace_text::{Trace, read_trace};
+use trace_text::{Recorded, Trace, read_trace};
 
 /// The histories of devices, and the receipts of their events.
 #[derive(Drop)]
-pub struct Account {
+pub struct Records {
     histories: Vec<History>,
     receipts: Vec<Receipt>,
 }
@@ -26,14 +25,14 @@ pub struct Account {
 /// A schedule for an account.
 struct Settling<W>(PhantomData<W>);
 
-impl<W: Network> Call for Settling<W> {
+impl<W: DeviceNetwork> MemoryCall for Settling<W> {
     type On = ();
 
-    type Input = Account;
+    type Input = Records;
 
     type Given = Result<Settled, Unsettled>;
 
-    fn make(alloc: Global, _on: &mut (), account: &Account) -> Result<Self::Given, OutOfMemory> {
+    fn make(alloc: Global, _on: &mut (), account: &Records) -> Result<Self::Given, OutOfMemory> {
         match W::schedule(
             alloc,
             account.histories.as_slice(),
@@ -108,19 +107,19 @@ fn call_number(call: &LocalCall) -> u64 {
 /// The histories of the race's devices on a network.
 pub struct Settlement<W>(PhantomData<W>);
 
-impl<W: Network> Trial for Settlement<W> {
-    type On = Account;
+impl<W: DeviceNetwork> Trial for Settlement<W> {
+    type On = Records;
 
     type Input = ();
 
-    fn begin(alloc: Global, _input: &()) -> Result<Account, OutOfMemory> {
+    fn begin(alloc: Global, _input: &()) -> Result<Records, OutOfMemory> {
         W::account(alloc)
     }
 
     fn refuse(
         refusals: &mut Refusals,
-        account: &mut Account,
-        _twin: &mut Account,
+        account: &mut Records,
+        _twin: &mut Records,
         _input: &(),
     ) -> Result<(), Difference> {
         refusals.in_call::<Settling<W>>(&mut (), &mut (), account)
@@ -128,31 +127,26 @@ impl<W: Network> Trial for Settlement<W> {
 }
 
 /// The histories of the race's devices, and the receipts of their events.
-pub fn account_of<A: Device + Drop, S: Device + Drop>(
-    alloc: Global,
-) -> Result<Account, OutOfMemory> {
-    let mut account = Account {
+pub fn account_of<D: Device + Drop>(alloc: Global) -> Result<Records, OutOfMemory> {
+    let mut account = Records {
         histories: Vec::new(alloc),
         receipts: Vec::new(alloc),
     };
-    let ended = add_devices::<A, S>(alloc, &mut account);
+    let ended = add_devices::<D>(alloc, &mut account);
     completed(account, ended)
 }
 
 /// Adds the histories of the race's devices and their receipts.
-fn add_devices<A: Device + Drop, S: Device + Drop>(
-    alloc: Global,
-    account: &mut Account,
-) -> Result<(), OutOfMemory> {
-    add_text::<A>(alloc, account, ADAPTER_EVENTS)?;
-    add_text::<S>(alloc, account, FIRST_EVENTS)?;
-    add_text::<S>(alloc, account, SECOND_EVENTS)
+fn add_devices<D: Device + Drop>(alloc: Global, account: &mut Records) -> Result<(), OutOfMemory> {
+    add_text::<D>(alloc, account, ADAPTER_EVENTS)?;
+    add_text::<D>(alloc, account, FIRST_EVENTS)?;
+    add_text::<D>(alloc, account, SECOND_EVENTS)
 }
 
 /// Adds the history of a device of a trace, and its receipts.
 fn add_text<D: Device + Drop>(
     alloc: Global,
-    account: &mut Account,
+    account: &mut Records,
     text: &[u8],
 ) -> Result<(), OutOfMemory> {
     match read_trace(alloc, text) {
@@ -164,7 +158,7 @@ fn add_text<D: Device + Drop>(
 /// Adds the history of a device, and its receipts.
 fn add_trace<D: Device + Drop>(
     alloc: Global,
-    account: &mut Account,
+    account: &mut Records,
     trace: &Trace,
 ) -> Result<(), OutOfMemory> {
     match book_of::<D>(alloc, &trace.config) {
@@ -176,7 +170,7 @@ fn add_trace<D: Device + Drop>(
 /// Steps a book through the events of a trace. Adds the receipts and the history.
 fn add_book<D: Device + Drop>(
     alloc: Global,
-    account: &mut Account,
+    account: &mut Records,
     book: &mut Book<D>,
     trace: &Trace,
 ) -> Result<(), OutOfMemory> {

@@ -1,7 +1,7 @@
 //! Traces through the stepper, and lists of events through `run`.
 
 use crate::arming::{arm, disarm};
-use crate::calls::{Call, Difference, Refusals, Trial};
+use crate::calls::{Difference, MemoryCall, Refusals, Trial};
 use crate::devices::{is_device_like, made};
 use crate::histories::{completed, first_events, push};
 use cip_events::{Event, Outcome, StepFault};
@@ -9,14 +9,13 @@ use cip_tables::{Config, Device, run};
 use cip_types::OutOfMemory;
 use std::alloc::Global;
 use std::marker::PhantomData;
-use trace_outcomes::Recorded;
 use trace_stepper::{Report, Stepper, replay};
-use trace_text::Trace;
+use trace_text::{Recorded, Trace};
 
 /// The next outcome of a stepper.
 struct Next<'a, D>(PhantomData<&'a D>);
 
-impl<'a, D: Device> Call for Next<'a, D> {
+impl<'a, D: Device> MemoryCall for Next<'a, D> {
     type On = Stepper<'a, D>;
 
     type Input = (Event, Recorded);
@@ -66,7 +65,7 @@ impl<'a, D: Device + Drop> Trial for Played<'a, D> {
 /// The outcomes of a whole trace.
 pub struct Replaying<D>(PhantomData<D>);
 
-impl<D: Device + Drop> Call for Replaying<D> {
+impl<D: Device + Drop> MemoryCall for Replaying<D> {
     type On = ();
 
     type Input = Trace;

@@ -1,6 +1,6 @@
 //! What adapters are made of, whose memory is taken as it is made.
 
-use crate::calls::{Call, Difference, Refusals};
+use crate::calls::{Difference, MemoryCall, Refusals};
 use adapter_table::{Profile, Row, State};
 use app_rules::Rules;
 use assembly_set::AssemblySet;
@@ -49,18 +49,18 @@ const OWNER: Row = Row {
 
 /// What is made.
 #[derive(Clone, Copy)]
-enum Part {
+enum MadePart {
     Wheel,
     Counts,
     Producers,
     Connections,
 }
 
-const PARTS: [Part; 4] = [
-    Part::Wheel,
-    Part::Counts,
-    Part::Producers,
-    Part::Connections,
+const PARTS: [MadePart; 4] = [
+    MadePart::Wheel,
+    MadePart::Counts,
+    MadePart::Producers,
+    MadePart::Connections,
 ];
 
 /// The number of rows in the list of a slab in which a connection was opened.
@@ -73,19 +73,19 @@ fn connections(alloc: Global) -> Result<usize, OutOfMemory> {
 /// A part that is made, whose size is compared.
 struct PartMaking;
 
-impl Call for PartMaking {
+impl MemoryCall for PartMaking {
     type On = ();
 
-    type Input = Part;
+    type Input = MadePart;
 
     type Given = usize;
 
-    fn make(alloc: Global, _on: &mut (), part: &Part) -> Result<usize, OutOfMemory> {
+    fn make(alloc: Global, _on: &mut (), part: &MadePart) -> Result<usize, OutOfMemory> {
         match part {
-            Part::Wheel => Ok(Wheel::new(alloc, 8)?.capacity()),
-            Part::Counts => Ok(Rules::new(alloc)?.owners(150) as usize),
-            Part::Producers => Ok(Pool::new(alloc)?.len()),
-            Part::Connections => connections(alloc),
+            MadePart::Wheel => Ok(Wheel::new(alloc, 8)?.capacity()),
+            MadePart::Counts => Ok(Rules::new(alloc)?.owners(150) as usize),
+            MadePart::Producers => Ok(Pool::new(alloc)?.len()),
+            MadePart::Connections => connections(alloc),
         }
     }
 
@@ -101,7 +101,7 @@ impl Call for PartMaking {
 /// The points of a profile.
 pub struct PointMaking;
 
-impl Call for PointMaking {
+impl MemoryCall for PointMaking {
     type On = ();
 
     type Input = Profile;

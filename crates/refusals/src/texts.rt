@@ -1,20 +1,20 @@
 //! Traces as text: their reading, their writing, and the lines of outcomes.
 
-use crate::calls::{Call, Difference, Refusals, Trial};
+use crate::calls::{Difference, MemoryCall, Refusals, Trial};
 use crate::steppers::Replaying;
 use cip_events::Outcome;
 use cip_tables::Device;
 use cip_types::OutOfMemory;
 use std::alloc::Global;
 use std::marker::PhantomData;
-use trace_outcomes::write_outcome;
+use trace_lines::write_outcome;
 use trace_stepper::Report;
 use trace_text::{Trace, read_trace, write_trace};
 
 /// A trace that is read and written again.
 pub struct Rewriting;
 
-impl Call for Rewriting {
+impl MemoryCall for Rewriting {
     type On = ();
 
     type Input = Vec<u8>;
@@ -38,9 +38,9 @@ impl Call for Rewriting {
 }
 
 /// The lines of an outcome.
-struct Lines;
+struct OutcomeLines;
 
-impl Call for Lines {
+impl MemoryCall for OutcomeLines {
     type On = ();
 
     type Input = Outcome;
@@ -78,6 +78,6 @@ impl<D: Device + Drop> Trial for Printed<D> {
         _twin: &mut Report,
         _trace: &Trace,
     ) -> Result<(), Difference> {
-        refusals.in_calls::<Lines>(&mut (), &mut (), report.outcomes.as_slice())
+        refusals.in_calls::<OutcomeLines>(&mut (), &mut (), report.outcomes.as_slice())
     }
 }

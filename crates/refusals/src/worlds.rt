@@ -1,7 +1,7 @@
 //! Devices on a simulated network: its making, and the acts of two owners that want one output.
 
-use crate::calls::{Call, Difference, Refusals, Trial, are_same_if_any};
-use crate::networks::Network;
+use crate::calls::{Difference, MemoryCall, Refusals, Trial, are_same_if_any};
+use crate::networks::DeviceNetwork;
 use crate::race::configs;
 use cip_events::{Answer, StepFault};
 use cip_tables::Device;
@@ -24,7 +24,7 @@ fn answered(
 /// An act of a network.
 struct Acting<W>(PhantomData<W>);
 
-impl<W: Network> Call for Acting<W> {
+impl<W: DeviceNetwork> MemoryCall for Acting<W> {
     type On = W;
 
     type Input = Act;
@@ -51,7 +51,7 @@ impl<W: Network> Call for Acting<W> {
 /// The making of a network of the race.
 struct Founding<W>(PhantomData<W>);
 
-impl<W: Network + Drop> Call for Founding<W> {
+impl<W: DeviceNetwork + Drop> MemoryCall for Founding<W> {
     type On = ();
 
     type Input = ();
@@ -72,7 +72,7 @@ impl<W: Network + Drop> Call for Founding<W> {
 }
 
 /// A network of the race's devices.
-fn founded<W: Network>(alloc: Global) -> Result<W, OutOfMemory> {
+fn founded<W: DeviceNetwork>(alloc: Global) -> Result<W, OutOfMemory> {
     match configs(alloc) {
         Ok(configs) => W::found(alloc, configs).map_err(|_| OutOfMemory),
         Err(refused) => Err(refused),
@@ -81,9 +81,9 @@ fn founded<W: Network>(alloc: Global) -> Result<W, OutOfMemory> {
 
 /// Whether two worlds have the same devices, the same datagrams in their logs, and streams of the same ends in which the
 /// same waits first.
-pub fn is_world_like<A: Device + Drop, S: Device + Drop>(
-    world: &World<A, S>,
-    twin: &World<A, S>,
+pub fn is_world_like<D: Device + Drop>(
+    world: &World<D>,
+    twin: &World<D>,
 ) -> Result<bool, OutOfMemory> {
     // (a world has fewer than 256 devices, since each has an incarnation byte of its own)
     for device in 0..256u32 {
@@ -95,10 +95,7 @@ pub fn is_world_like<A: Device + Drop, S: Device + Drop>(
 }
 
 /// Whether the same datagrams were sent in two worlds.
-fn is_log_like<A: Device + Drop, S: Device + Drop>(
-    world: &World<A, S>,
-    twin: &World<A, S>,
-) -> bool {
+fn is_log_like<D: Device + Drop>(world: &World<D>, twin: &World<D>) -> bool {
     let mut same = world.sent_count() == twin.sent_count();
     for index in 0..world.sent_count() {
         same &= is_datagram_like(world.sent(index), twin.sent(index));
@@ -116,10 +113,7 @@ fn is_datagram_like(datagram: Option<(Node, &[u8])>, other: Option<(Node, &[u8])
 }
 
 /// Whether two worlds have as many streams, of the same ends, and the same waits first in each direction of each.
-fn are_streams_like<A: Device + Drop, S: Device + Drop>(
-    world: &World<A, S>,
-    twin: &World<A, S>,
-) -> bool {
+fn are_streams_like<D: Device + Drop>(world: &World<D>, twin: &World<D>) -> bool {
     let mut same = world.stream_count() == twin.stream_count();
     for stream in 0..=u16::MAX {
         if world.endpoints(stream).is_none() {
@@ -131,11 +125,7 @@ fn are_streams_like<A: Device + Drop, S: Device + Drop>(
 }
 
 /// Whether a stream has the same ends in two worlds, and the same waits first in each direction.
-fn is_stream_like<A: Device + Drop, S: Device + Drop>(
-    world: &World<A, S>,
-    twin: &World<A, S>,
-    stream: u16,
-) -> bool {
+fn is_stream_like<D: Device + Drop>(world: &World<D>, twin: &World<D>, stream: u16) -> bool {
     let mut same = world.endpoints(stream) == twin.endpoints(stream);
     for direction in [Direction::Forth, Direction::Back] {
         same &= world.has_taken(stream, direction) == twin.has_taken(stream, direction);
@@ -161,7 +151,7 @@ fn is_front_like(front: Option<QueueFront<'_>>, other: Option<QueueFront<'_>>) -
 /// A network on which the acts of the race happen.
 pub struct Raced<W>(PhantomData<W>);
 
-impl<W: Network + Drop> Trial for Raced<W> {
+impl<W: DeviceNetwork + Drop> Trial for Raced<W> {
     type On = W;
 
     type Input = Vec<Act>;

@@ -55,10 +55,10 @@ fn play(alloc: Global, text: &[u8], fails_at: u64) -> Result<Driven, DriveFailur
     let Script {
         config,
         times_ms,
-        inputs,
+        arrivals,
         turns,
     } = read_script(alloc, text)?;
-    let mut port = MemoryPort::new(alloc, inputs, fails_at);
+    let mut port = MemoryPort::new(alloc, arrivals, fails_at);
     let mut clock = SteppedClock { times_ms };
     let mut device = PlainAdapter::new(alloc, config)?;
     let outcome = drive(&mut port, &mut device, &mut clock, turns);

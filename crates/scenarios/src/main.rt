@@ -9,8 +9,8 @@ mod driven;
 mod script;
 
 use adapter_engine::FastAdapter;
-use cip_tables::{Config, Device};
-use plain_engine::{PlainAdapter, PlainScanner};
+use cip_tables::AnyDevice;
+use plain_engine::PlainDevice;
 use scanner_engine::FastScanner;
 use std::alloc::Global;
 use std::env;
@@ -20,9 +20,12 @@ use thiserror::Error;
 use trace_stepper::{Differs, Report, StepperFault, compare, replay};
 use trace_text::{Trace, TraceFault, read_trace};
 
+/// The fast device of a profile of either kind.
+type FastDevice = AnyDevice<FastAdapter, FastScanner>;
+
 /// Why a scenario does not hold.
 #[derive(Clone, Copy, Debug, Error)]
-enum Failure {
+enum ScenarioFailure {
     #[error("fault Read")]
     Read,
     #[error("{0}")]
@@ -37,7 +40,7 @@ enum Failure {
 
 /// The task for the named traces.
 #[derive(Clone, Copy, PartialEq, Eq)]
-enum Task {
+enum ScenarioTask {
     /// They are played over each engine.
     Play,
     /// They are driven over memory.
@@ -52,11 +55,11 @@ fn main(rt: HostRuntime) -> ExitCode {
     let Ok(words) = words.collect::<Vec<String>>(rt.alloc()) else {
         return ExitCode::from(2);
     };
-    let mut task = Task::Play;
+    let mut task = ScenarioTask::Play;
     let mut status = 0;
     for word in words.iter().skip(1) {
         if word.as_str() == "driven" {
-            task = Task::Drive;
+            task = ScenarioTask::Drive;
         } else if !is_well(&rt, task, word.as_str()) {
             status = 1;
         }
@@ -65,10 +68,10 @@ fn main(rt: HostRuntime) -> ExitCode {
 }
 
 /// Whether the trace of this file has the recorded outcomes, and all of the report was printed.
-fn is_well<R: AllocGlobal + Files + Print>(rt: &R, task: Task, name: &str) -> bool {
+fn is_well<R: AllocGlobal + Files + Print>(rt: &R, task: ScenarioTask, name: &str) -> bool {
     match task {
-        Task::Play => is_played(rt, name),
-        Task::Drive => is_driven(rt, name),
+        ScenarioTask::Play => is_played(rt, name),
+        ScenarioTask::Drive => is_driven(rt, name),
     }
 }
 
@@ -93,26 +96,23 @@ fn is_played<R: AllocGlobal + Files + Print>(rt: &R, name: &str) -> bool {
 }
 
 /// Whether the trace of this file holds over each engine.
-fn played<R: AllocGlobal + Files>(rt: &R, name: &str) -> Result<(), Failure> {
+fn played<R: AllocGlobal + Files>(rt: &R, name: &str) -> Result<(), ScenarioFailure> {
     let Ok(text) = fs::read(rt, name) else {
-        return Err(Failure::Read);
+        return Err(ScenarioFailure::Read);
     };
     let trace = match read_trace(rt.alloc(), text.as_slice()) {
         Ok(trace) => trace,
-        Err(fault) => return Err(Failure::Trace(fault)),
+        Err(fault) => return Err(ScenarioFailure::Trace(fault)),
     };
     replayed(rt.alloc(), &trace)
 }
 
 /// Plays a trace over a plain and a fast engine, which have to give the same outcomes.
-fn replayed_by_both<P: Device + Drop, F: Device + Drop>(
-    alloc: Global,
-    trace: &Trace,
-) -> Result<(), Failure> {
-    let plain = replay::<P>(alloc, trace);
-    let fast = replay::<F>(alloc, trace);
+fn replayed(alloc: Global, trace: &Trace) -> Result<(), ScenarioFailure> {
+    let plain = replay::<PlainDevice>(alloc, trace);
+    let fast = replay::<FastDevice>(alloc, trace);
     if !are_alike(&plain, &fast) {
-        return Err(Failure::Engines);
+        return Err(ScenarioFailure::Engines);
     }
     compared(trace, plain, "plain")?;
     compared(trace, fast, "fast")
@@ -127,25 +127,17 @@ fn are_alike(plain: &Result<Report, StepperFault>, fast: &Result<Report, Stepper
     }
 }
 
-/// Plays a trace over each engine of its kind of device.
-fn replayed(alloc: Global, trace: &Trace) -> Result<(), Failure> {
-    match &trace.config {
-        Config::Adapter(_) => replayed_by_both::<PlainAdapter, FastAdapter>(alloc, trace),
-        Config::Scanner(_) => replayed_by_both::<PlainScanner, FastScanner>(alloc, trace),
-    }
-}
-
 /// Whether the outcomes of a trace's events at an engine are as recorded.
 fn compared(
     trace: &Trace,
     report: Result<Report, StepperFault>,
     engine: &'static str,
-) -> Result<(), Failure> {
+) -> Result<(), ScenarioFailure> {
     match report {
         Ok(report) => match compare(trace, report.outcomes.as_slice()) {
             Ok(()) => Ok(()),
-            Err(differs) => Err(Failure::Differs(engine, differs)),
+            Err(differs) => Err(ScenarioFailure::Differs(engine, differs)),
         },
-        Err(fault) => Err(Failure::Stepper(fault)),
+        Err(fault) => Err(ScenarioFailure::Stepper(fault)),
     }
 }

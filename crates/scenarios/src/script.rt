@@ -1,19 +1,19 @@
 //! Turns of a trace: a tick and the event after it make one.
 
 use crate::driven::DriveFailure;
+use cip_events::Arrival;
 use cip_tables::{Config, Event};
 use cip_types::OutOfMemory;
 use std::alloc::Global;
 use std::collections::VecDeque;
 use trace_text::read_trace;
-use udp_runner::Input;
 
-/// The configuration of a device, and the times and inputs of its turns.
+/// The configuration of a device, and the times and arrivals of its turns.
 #[derive(Drop)]
 pub struct Script {
     pub config: Config,
     pub times_ms: VecDeque<u64>,
-    pub inputs: VecDeque<Option<Input>>,
+    pub arrivals: VecDeque<Option<Arrival>>,
     pub turns: u32,
 }
 
@@ -24,32 +24,32 @@ fn keep_time(times_ms: &mut VecDeque<u64>, ms: u32) -> Result<(), OutOfMemory> {
     }
 }
 
-fn keep_input(
-    inputs: &mut VecDeque<Option<Input>>,
-    input: Option<Input>,
+fn keep_arrival(
+    arrivals: &mut VecDeque<Option<Arrival>>,
+    arrival: Option<Arrival>,
 ) -> Result<(), OutOfMemory> {
-    match inputs.push_back(input) {
+    match arrivals.push_back(arrival) {
         Ok(()) => Ok(()),
         Err(_) => Err(OutOfMemory),
     }
 }
 
 impl Script {
-    fn push(&mut self, ms: u32, input: Option<Input>) -> Result<(), OutOfMemory> {
+    fn push(&mut self, ms: u32, arrival: Option<Arrival>) -> Result<(), OutOfMemory> {
         keep_time(&mut self.times_ms, ms)?;
-        keep_input(&mut self.inputs, input)?;
+        keep_arrival(&mut self.arrivals, arrival)?;
         self.turns = self.turns.saturating_add(1);
         Ok(())
     }
 }
 
-/// The input of a port for this event of a device, if it comes over a port.
-fn input_of(event: Event) -> Option<Input> {
+/// The arrival of a port for this event of a device, if it comes over a port.
+fn arrival_of(event: Event) -> Option<Arrival> {
     match event {
-        Event::StreamOpened { stream, peer } => Some(Input::Opened { stream, peer }),
-        Event::Frame { stream, bytes } => Some(Input::Frame { stream, bytes }),
-        Event::StreamCut { stream } => Some(Input::Cut { stream }),
-        Event::Datagram { peer, bytes } => Some(Input::Datagram { peer, bytes }),
+        Event::StreamOpened { stream, peer } => Some(Arrival::Opened { stream, peer }),
+        Event::Frame { stream, bytes } => Some(Arrival::Frame { stream, bytes }),
+        Event::StreamCut { stream } => Some(Arrival::Cut { stream }),
+        Event::Datagram { peer, bytes } => Some(Arrival::Datagram { peer, bytes }),
         _ => None,
     }
 }
@@ -60,7 +60,7 @@ pub fn read_script(alloc: Global, text: &[u8]) -> Result<Script, DriveFailure> {
     let mut script = Script {
         config: trace.config,
         times_ms: VecDeque::new(alloc),
-        inputs: VecDeque::new(alloc),
+        arrivals: VecDeque::new(alloc),
         turns: 0,
     };
     let mut passed = None;
@@ -71,10 +71,10 @@ pub fn read_script(alloc: Global, text: &[u8]) -> Result<Script, DriveFailure> {
             }
             passed = Some(ms);
         } else {
-            let Some(input) = input_of(event) else {
+            let Some(arrival) = arrival_of(event) else {
                 return Err(DriveFailure::Event);
             };
-            script.push(passed.unwrap_or(0), Some(input))?;
+            script.push(passed.unwrap_or(0), Some(arrival))?;
             passed = None;
         }
     }

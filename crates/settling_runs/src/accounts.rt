@@ -1,12 +1,14 @@
 //! Accounts of lines, and what becomes of them.
 
-ghost use Rattle.std.specs.Prelude.{◌≡◌, true, false};
+ghost use Rattle.std.specs.Prelude.{◌≡◌, None, IfOk};
+ghost use Rattle.cip_tables.specs.Step.{AcceptsAll, config_fault};
 
-use crate::fault::RunFault;
+use crate::fault::SettlingRunFault;
 use crate::mail::number_of;
-use cip_tables::{Device, Verdict};
+use cip_tables::{Config, Device, Verdict};
 use device_lock::{History, Receipt, Segment};
 use line_devices::{adapter_config, scanner_config};
+use segment_world::WorldFault;
 use settling::{check_configs, settle};
 use std::alloc::Global;
 
@@ -17,23 +19,26 @@ pub struct Account {
     pub receipts: Vec<Receipt>,
 }
 
+/// The configuration of the device of a number.
+pub fn config_of(alloc: Global, device: usize) -> Result<Config, WorldFault>
+    ensures { IfOk result (λ config. config_fault config ≡ None) }
+{
+    match device.checked_sub(1) {
+        None => adapter_config(alloc),
+        Some(scanner) => scanner_config(alloc, number_of(scanner)),
+    }
+}
+
 /// The history of the device of a number.
-pub fn history_of<A: Device + Drop, S: Device + Drop>(
+pub fn history_of<D: Device + Drop>(
     alloc: Global,
     device: usize,
     segments: Vec<Segment>,
-) -> Result<History, RunFault>
-    requires adapter { A.ADAPTER ≡ true }
-    requires scanner { S.ADAPTER ≡ false }
+) -> Result<History, SettlingRunFault>
+    requires accepts { AcceptsAll D.accepts }
 {
-    let history = match device.checked_sub(1) {
-        None => History::new::<A>(alloc, adapter_config(alloc)?, segments),
-        Some(scanner) => {
-            let config = scanner_config(alloc, number_of(scanner))?;
-            History::new::<S>(alloc, config, segments)
-        }
-    };
-    history.ok_or(RunFault::Segments)
+    let config = config_of(alloc, device)?;
+    History::new::<D>(alloc, config, segments).ok_or(SettlingRunFault::Segments)
 }
 
 fn is_of(receipt: &Receipt, device: u8, index: u32) -> bool {
@@ -76,17 +81,16 @@ impl Account {
     }
 
     /// Tells how many acts the schedule has beside an act for each event, or why there is no schedule.
-    pub fn print<A: Device + Drop, S: Device + Drop>(
+    pub fn print<D: Device + Drop>(
         &self,
         rt: &impl Print,
         alloc: Global,
         name: &str,
-    ) -> Result<(), RunFault>
-        requires adapter { A.ADAPTER ≡ true }
-        requires scanner { S.ADAPTER ≡ false }
+    ) -> Result<(), SettlingRunFault>
+        requires accepts { AcceptsAll D.accepts }
     {
         check_configs(alloc, &self.histories)?;
-        match settle::<A, S>(alloc, &self.histories, &self.receipts) {
+        match settle::<D>(alloc, &self.histories, &self.receipts) {
             Ok(settled) => {
                 let acts = settled.schedule.as_slice().len();
                 let more = acts.wrapping_sub(self.receipts.len());

@@ -1,10 +1,11 @@
 //! Short lines, and what becomes of their accounts.
 
-ghost use Rattle.std.specs.Prelude.{◌≡◌, true, false};
+ghost use Rattle.std.specs.Prelude.{true};
+ghost use Rattle.cip_tables.specs.Step.{AcceptsAll};
 
 use crate::accounts::Account;
-use crate::fault::RunFault;
-use crate::line::Line;
+use crate::fault::SettlingRunFault;
+use crate::line::BookLine;
 use cip_tables::{Device, Event};
 use cip_types::{Items, OutOfMemory};
 use line_devices::{ADAPTER, scanner_node};
@@ -28,7 +29,7 @@ fn write(alloc: Global, point: u32, number: u32) -> Result<Event, OutOfMemory> {
 }
 
 /// Each scanner starts its slot, and runs.
-pub fn start<A: Device + Drop, S: Device + Drop>(line: &mut Line<A, S>) -> Result<(), RunFault> {
+pub fn start<D: Device + Drop>(line: &mut BookLine<D>) -> Result<(), SettlingRunFault> {
     for device in 1..line.devices() {
         line.turn(device, Event::Start { slot: 0 })?;
         line.turn(device, Event::Mode { run: true })?;
@@ -37,11 +38,11 @@ pub fn start<A: Device + Drop, S: Device + Drop>(line: &mut Line<A, S>) -> Resul
 }
 
 // The adapter and the first scanner write the number of the turn, and a millisecond passes at each device.
-fn turn<A: Device + Drop, S: Device + Drop>(
+fn turn<D: Device + Drop>(
     alloc: Global,
-    line: &mut Line<A, S>,
+    line: &mut BookLine<D>,
     number: u32,
-) -> Result<(), RunFault> {
+) -> Result<(), SettlingRunFault> {
     line.turn(0, write(alloc, 100, number)?)?;
     line.turn(1, write(alloc, 0, number)?)?;
     for device in 0..line.devices() {
@@ -51,11 +52,11 @@ fn turn<A: Device + Drop, S: Device + Drop>(
 }
 
 /// So many turns.
-pub fn turns<A: Device + Drop, S: Device + Drop>(
+pub fn turns<D: Device + Drop>(
     alloc: Global,
-    line: &mut Line<A, S>,
+    line: &mut BookLine<D>,
     count: u32,
-) -> Result<(), RunFault> {
+) -> Result<(), SettlingRunFault> {
     for number in 0..count {
         turn(alloc, line, number)?;
     }
@@ -63,11 +64,11 @@ pub fn turns<A: Device + Drop, S: Device + Drop>(
 }
 
 // A datagram comes to a device that no device sent.
-fn unsent<A: Device + Drop, S: Device + Drop>(
+fn unsent<D: Device + Drop>(
     alloc: Global,
-    line: &mut Line<A, S>,
+    line: &mut BookLine<D>,
     device: usize,
-) -> Result<(), RunFault> {
+) -> Result<(), SettlingRunFault> {
     let peer = if device == 0 {
         scanner_node(0)
     } else {
@@ -93,44 +94,38 @@ enum Story {
 }
 
 // Each stream is opened.
-fn open_all<A: Device + Drop, S: Device + Drop>(line: &mut Line<A, S>) -> Result<(), RunFault> {
+fn open_all<D: Device + Drop>(line: &mut BookLine<D>) -> Result<(), SettlingRunFault> {
     for device in 0..line.devices() {
         line.take_mail(device)?;
     }
     Ok(())
 }
 
-fn whole<A: Device + Drop, S: Device + Drop>(
-    alloc: Global,
-    line: &mut Line<A, S>,
-) -> Result<(), RunFault> {
+fn whole<D: Device + Drop>(alloc: Global, line: &mut BookLine<D>) -> Result<(), SettlingRunFault> {
     start(line)?;
     turns(alloc, line, TURNS)
 }
 
-fn two_segments<A: Device + Drop, S: Device + Drop>(
+fn two_segments<D: Device + Drop>(
     alloc: Global,
-    line: &mut Line<A, S>,
-) -> Result<(), RunFault> {
+    line: &mut BookLine<D>,
+) -> Result<(), SettlingRunFault> {
     whole(alloc, line)?;
     line.rotate()?;
     turns(alloc, line, TURNS)
 }
 
-fn cut<A: Device + Drop, S: Device + Drop>(
-    alloc: Global,
-    line: &mut Line<A, S>,
-) -> Result<(), RunFault> {
+fn cut<D: Device + Drop>(alloc: Global, line: &mut BookLine<D>) -> Result<(), SettlingRunFault> {
     whole(alloc, line)?;
     line.cut_stream(0)?;
     turns(alloc, line, 1)
 }
 
-fn unsent_from<A: Device + Drop, S: Device + Drop>(
+fn unsent_from<D: Device + Drop>(
     alloc: Global,
-    line: &mut Line<A, S>,
+    line: &mut BookLine<D>,
     first: usize,
-) -> Result<(), RunFault> {
+) -> Result<(), SettlingRunFault> {
     open_all(line)?;
     for device in first..line.devices() {
         unsent(alloc, line, device)?;
@@ -138,11 +133,11 @@ fn unsent_from<A: Device + Drop, S: Device + Drop>(
     Ok(())
 }
 
-fn play<A: Device + Drop, S: Device + Drop>(
+fn play<D: Device + Drop>(
     alloc: Global,
-    line: &mut Line<A, S>,
+    line: &mut BookLine<D>,
     story: Story,
-) -> Result<(), RunFault> {
+) -> Result<(), SettlingRunFault> {
     match story {
         Story::Whole => whole(alloc, line),
         Story::TwoSegments => two_segments(alloc, line),
@@ -152,14 +147,10 @@ fn play<A: Device + Drop, S: Device + Drop>(
     }
 }
 
-fn account_of<A: Device + Drop, S: Device + Drop>(
-    alloc: Global,
-    story: Story,
-) -> Result<Account, RunFault>
-    requires adapter { A.ADAPTER ≡ true }
-    requires scanner { S.ADAPTER ≡ false }
+fn account_of<D: Device + Drop>(alloc: Global, story: Story) -> Result<Account, SettlingRunFault>
+    requires accepts { AcceptsAll D.accepts }
 {
-    let mut line = Line::<A, S>::new(alloc, SCANNERS)?;
+    let mut line = BookLine::<D>::new(alloc, SCANNERS)?;
     play(alloc, &mut line, story)?;
     line.account()
 }
@@ -196,116 +187,95 @@ fn apply(account: &mut Account, change: Change) {
     }
 }
 
-fn print_case<A: Device + Drop, S: Device + Drop>(
+fn print_case<D: Device + Drop>(
     rt: &impl Print,
     alloc: Global,
     name: &str,
     story: Story,
     wrong: Change,
-) -> Result<(), RunFault>
-    requires adapter { A.ADAPTER ≡ true }
-    requires scanner { S.ADAPTER ≡ false }
+) -> Result<(), SettlingRunFault>
+    requires accepts { AcceptsAll D.accepts }
 {
-    let mut account = account_of::<A, S>(alloc, story)?;
+    let mut account = account_of::<D>(alloc, story)?;
     apply(&mut account, wrong);
-    account.print::<A, S>(rt, alloc, name)
+    account.print::<D>(rt, alloc, name)
 }
 
 // Each event has a second receipt, behind all the first ones.
-fn print_twice<A: Device + Drop, S: Device + Drop>(
-    rt: &impl Print,
-    alloc: Global,
-) -> Result<(), RunFault>
-    requires adapter { A.ADAPTER ≡ true }
-    requires scanner { S.ADAPTER ≡ false }
+fn print_twice<D: Device + Drop>(rt: &impl Print, alloc: Global) -> Result<(), SettlingRunFault>
+    requires accepts { AcceptsAll D.accepts }
 {
-    let mut account = account_of::<A, S>(alloc, Story::Whole)?;
-    let mut again = account_of::<A, S>(alloc, Story::Whole)?;
+    let mut account = account_of::<D>(alloc, Story::Whole)?;
+    let mut again = account_of::<D>(alloc, Story::Whole)?;
     account.receipts.append(&mut again.receipts)?;
-    account.print::<A, S>(rt, alloc, "two receipts for an event")
+    account.print::<D>(rt, alloc, "two receipts for an event")
 }
 
 // Accounts that settle.
-fn print_settled<A: Device + Drop, S: Device + Drop>(
-    rt: &impl Print,
-    alloc: Global,
-) -> Result<(), RunFault>
-    requires adapter { A.ADAPTER ≡ true }
-    requires scanner { S.ADAPTER ≡ false }
+fn print_settled<D: Device + Drop>(rt: &impl Print, alloc: Global) -> Result<(), SettlingRunFault>
+    requires accepts { AcceptsAll D.accepts }
 {
-    print_case::<A, S>(rt, alloc, "a whole account", Story::Whole, Change::Nothing)?;
-    print_case::<A, S>(
+    print_case::<D>(rt, alloc, "a whole account", Story::Whole, Change::Nothing)?;
+    print_case::<D>(
         rt,
         alloc,
         "two segments",
         Story::TwoSegments,
         Change::Nothing,
     )?;
-    print_case::<A, S>(rt, alloc, "a cut stream", Story::Cut, Change::Nothing)?;
-    print_case::<A, S>(rt, alloc, "another order", Story::Whole, Change::Order)
+    print_case::<D>(rt, alloc, "a cut stream", Story::Cut, Change::Nothing)?;
+    print_case::<D>(rt, alloc, "another order", Story::Whole, Change::Order)
 }
 
 // Accounts whose receipts are wrong.
-fn print_wrong<A: Device + Drop, S: Device + Drop>(
-    rt: &impl Print,
-    alloc: Global,
-) -> Result<(), RunFault>
-    requires adapter { A.ADAPTER ≡ true }
-    requires scanner { S.ADAPTER ≡ false }
+fn print_wrong<D: Device + Drop>(rt: &impl Print, alloc: Global) -> Result<(), SettlingRunFault>
+    requires accepts { AcceptsAll D.accepts }
 {
-    print_case::<A, S>(rt, alloc, "another answer", Story::Whole, Change::Answer)?;
-    print_case::<A, S>(
+    print_case::<D>(rt, alloc, "another answer", Story::Whole, Change::Answer)?;
+    print_case::<D>(
         rt,
         alloc,
         "another segment",
         Story::TwoSegments,
         Change::Segment,
     )?;
-    print_twice::<A, S>(rt, alloc)?;
-    print_case::<A, S>(
+    print_twice::<D>(rt, alloc)?;
+    print_case::<D>(
         rt,
         alloc,
         "a receipt left out",
         Story::Whole,
         Change::LeftOut,
     )?;
-    print_case::<A, S>(rt, alloc, "two left out", Story::Whole, Change::TwoLeftOut)
+    print_case::<D>(rt, alloc, "two left out", Story::Whole, Change::TwoLeftOut)
 }
 
 // Accounts with an event that nothing causes.
-fn print_uncaused<A: Device + Drop, S: Device + Drop>(
-    rt: &impl Print,
-    alloc: Global,
-) -> Result<(), RunFault>
-    requires adapter { A.ADAPTER ≡ true }
-    requires scanner { S.ADAPTER ≡ false }
+fn print_uncaused<D: Device + Drop>(rt: &impl Print, alloc: Global) -> Result<(), SettlingRunFault>
+    requires accepts { AcceptsAll D.accepts }
 {
-    print_case::<A, S>(
+    print_case::<D>(
         rt,
         alloc,
         "an unsent datagram",
         Story::UnsentToLast,
         Change::Nothing,
     )?;
-    print_case::<A, S>(
+    print_case::<D>(
         rt,
         alloc,
         "one for each device",
         Story::Unsent,
         Change::Nothing,
     )?;
-    print_case::<A, S>(rt, alloc, "in another order", Story::Unsent, Change::Order)
+    print_case::<D>(rt, alloc, "in another order", Story::Unsent, Change::Order)
 }
 
 /// Prints what becomes of each account.
-pub fn print_all<A: Device + Drop, S: Device + Drop>(
-    rt: &impl Print,
-    alloc: Global,
-) -> Result<(), RunFault>
-    requires adapter { A.ADAPTER ≡ true }
-    requires scanner { S.ADAPTER ≡ false }
+pub fn print_all<D: Device + Drop>(rt: &impl Print, alloc: Global) -> Result<(), SettlingRunFault>
+    requires accepts { AcceptsAll D.accepts }
 {
-    print_settled::<A, S>(rt, alloc)?;
-    print_wrong::<A, S>(rt, alloc)?;
-    print_uncaused::<A, S>(rt, alloc)
+    print_settled::<D>(rt, alloc)?;
+    print_wrong::<D>(rt, alloc)?;
+    print_uncaused::<D>(rt, alloc)
 }

@@ -10,7 +10,7 @@ use thiserror::Error;
 
 /// Why the program ends early.
 #[derive(Clone, Copy, Debug, PartialEq, Eq, Error)]
-pub enum RunFault {
+pub enum SettlingRunFault {
     #[error("no memory")]
     OutOfMemory,
     #[error("a configuration that makes no device")]
@@ -23,38 +23,38 @@ pub enum RunFault {
     Stream,
 }
 
-impl From<OutOfMemory> for RunFault {
-    fn from(_error: OutOfMemory) -> RunFault {
-        RunFault::OutOfMemory
+impl From<OutOfMemory> for SettlingRunFault {
+    fn from(_error: OutOfMemory) -> SettlingRunFault {
+        SettlingRunFault::OutOfMemory
     }
 }
 
-impl From<AllocError> for RunFault {
-    fn from(_error: AllocError) -> RunFault {
-        RunFault::OutOfMemory
+impl From<AllocError> for SettlingRunFault {
+    fn from(_error: AllocError) -> SettlingRunFault {
+        SettlingRunFault::OutOfMemory
     }
 }
 
-impl From<NewFault> for RunFault {
-    fn from(_fault: NewFault) -> RunFault {
-        RunFault::Config
+impl From<NewFault> for SettlingRunFault {
+    fn from(_fault: NewFault) -> SettlingRunFault {
+        SettlingRunFault::Config
     }
 }
 
-impl From<WorldFault> for RunFault {
-    fn from(_fault: WorldFault) -> RunFault {
-        RunFault::Config
+impl From<WorldFault> for SettlingRunFault {
+    fn from(_fault: WorldFault) -> SettlingRunFault {
+        SettlingRunFault::Config
     }
 }
 
-impl From<BookFault> for RunFault {
-    fn from(_fault: BookFault) -> RunFault {
-        RunFault::Step
+impl From<BookFault> for SettlingRunFault {
+    fn from(_fault: BookFault) -> SettlingRunFault {
+        SettlingRunFault::Step
     }
 }
 
-impl From<io::Error> for RunFault {
-    fn from(_error: io::Error) -> RunFault {
-        RunFault::Stream
+impl From<io::Error> for SettlingRunFault {
+    fn from(_error: io::Error) -> SettlingRunFault {
+        SettlingRunFault::Stream
     }
 }

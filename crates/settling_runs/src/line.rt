@@ -1,48 +1,39 @@
 //! A line of devices with books, whose answers are handed to one another, and the receipts of its events.
 
-ghost use Rattle.std.specs.Prelude.{◌≡◌, true, false};
+ghost use Rattle.cip_tables.specs.Step.{AcceptsAll};
 
-use crate::accounts::{Account, history_of};
-use crate::fault::RunFault;
+use crate::accounts::{Account, config_of, history_of};
+use crate::fault::SettlingRunFault;
 use crate::mail::{Mail, node_of};
 use cip_tables::{Config, Device, Event};
 use cip_types::OutOfMemory;
 use device_lock::{Book, BookFault, Receipt, Segment};
-use line_devices::{adapter_config, scanner_config};
 use std::alloc::Global;
 use std::mem;
 
-/// An adapter and scanners, what waits for each of them, and the receipts so far.
+/// The books of an adapter and of scanners, what waits for each of them, and the receipts so far.
 #[derive(Drop)]
-pub struct Line<A: Device + Drop, S: Device + Drop> {
+pub struct BookLine<D: Device + Drop> {
     alloc: Global,
-    adapter: Book<A>,
-    scanners: Vec<Book<S>>,
+    books: Vec<Book<D>>,
     mail: Mail,
     segments: Vec<Vec<Segment>>,
     receipts: Vec<Receipt>,
 }
 
 /// A book of a fresh device.
-pub fn book_of<D: Device + Drop>(alloc: Global, config: Config) -> Result<Book<D>, RunFault> {
+pub fn book_of<D: Device + Drop>(
+    alloc: Global,
+    config: Config,
+) -> Result<Book<D>, SettlingRunFault> {
     let device = D::new(alloc, config)?;
     Ok(Book::new(alloc, device)?)
 }
 
-fn stepped<D: Device + Drop>(
-    book: Option<&mut Book<D>>,
-    event: Event,
-) -> Result<Receipt, BookFault> {
-    match book {
-        None => Err(BookFault::TraceFull),
-        Some(book) => book.step(event),
-    }
-}
-
 /// The present segment of a book, which begins the next one.
-pub fn rotated<D: Device + Drop>(book: &mut Book<D>) -> Result<Segment, RunFault> {
+pub fn rotated<D: Device + Drop>(book: &mut Book<D>) -> Result<Segment, SettlingRunFault> {
     if book.segment() == u16::MAX {
-        return Err(RunFault::Segments);
+        return Err(SettlingRunFault::Segments);
     }
     Ok(book.rotate()?)
 }
@@ -63,45 +54,34 @@ fn keep(
     Ok(())
 }
 
-impl<A: Device + Drop, S: Device + Drop> Line<A, S> {
-    // The adapter alone.
-    fn of_adapter(alloc: Global) -> Result<Line<A, S>, RunFault> {
-        Ok(Line {
+impl<D: Device + Drop> BookLine<D> {
+    /// An adapter and so many scanners. Between the adapter and each scanner a stream is opened.
+    pub fn new(alloc: Global, scanners: u8) -> Result<BookLine<D>, SettlingRunFault> {
+        let mut line = BookLine {
             alloc,
-            adapter: book_of(alloc, adapter_config(alloc)?)?,
-            scanners: Vec::new(alloc),
+            books: Vec::new(alloc),
             mail: Mail::new(alloc),
             segments: Vec::new(alloc),
             receipts: Vec::new(alloc),
-        })
-    }
-
-    /// An adapter and so many scanners. Between the adapter and each scanner a stream is opened.
-    pub fn new(alloc: Global, scanners: u8) -> Result<Line<A, S>, RunFault> {
-        let mut line = Line::of_adapter(alloc)?;
-        line.add_scanners(scanners)?;
+        };
+        line.add_devices(scanners)?;
         Ok(line)
     }
 
-    fn add_scanners(&mut self, scanners: u8) -> Result<(), RunFault> {
-        self.add_place()?;
+    fn add_devices(&mut self, scanners: u8) -> Result<(), SettlingRunFault> {
+        self.add_device(0)?;
         for number in 0..scanners {
-            self.add_scanner(number)?;
+            self.add_device(usize::from(number).wrapping_add(1))?;
+            self.open_stream(u16::from(number))?;
         }
         Ok(())
     }
 
-    fn add_place(&mut self) -> Result<(), OutOfMemory> {
+    fn add_device(&mut self, device: usize) -> Result<(), SettlingRunFault> {
+        let config = config_of(self.alloc, device)?;
+        push(&mut self.books, book_of(self.alloc, config)?)?;
         self.mail.add_device()?;
-        self.segments.push(Vec::new(self.alloc))?;
-        Ok(())
-    }
-
-    fn add_scanner(&mut self, number: u8) -> Result<(), RunFault> {
-        let config = scanner_config(self.alloc, number)?;
-        push(&mut self.scanners, book_of(self.alloc, config)?)?;
-        self.add_place()?;
-        self.open_stream(u16::from(number))?;
+        push(&mut self.segments, Vec::new(self.alloc))?;
         Ok(())
     }
 
@@ -127,21 +107,21 @@ impl<A: Device + Drop, S: Device + Drop> Line<A, S> {
     }
 
     /// An event of a device.
-    pub fn step(&mut self, device: usize, event: Event) -> Result<(), RunFault> {
+    pub fn step(&mut self, device: usize, event: Event) -> Result<(), SettlingRunFault> {
         let receipt = self.receipt(device, event)?;
         self.mail.hand_out(device, &receipt.answer)?;
         Ok(push(&mut self.receipts, receipt)?)
     }
 
     fn receipt(&mut self, device: usize, event: Event) -> Result<Receipt, BookFault> {
-        match device.checked_sub(1) {
-            None => self.adapter.step(event),
-            Some(scanner) => stepped(self.scanners.get_mut(scanner), event),
+        match self.books.get_mut(device) {
+            None => Err(BookFault::TraceFull),
+            Some(book) => book.step(event),
         }
     }
 
     /// What waits for a device.
-    pub fn take_mail(&mut self, device: usize) -> Result<(), RunFault> {
+    pub fn take_mail(&mut self, device: usize) -> Result<(), SettlingRunFault> {
         for event in self.mail.take(device) {
             self.step(device, event)?;
         }
@@ -149,31 +129,29 @@ impl<A: Device + Drop, S: Device + Drop> Line<A, S> {
     }
 
     /// What waits for a device, and then an event of its application, or time.
-    pub fn turn(&mut self, device: usize, event: Event) -> Result<(), RunFault> {
+    pub fn turn(&mut self, device: usize, event: Event) -> Result<(), SettlingRunFault> {
         self.take_mail(device)?;
         self.step(device, event)
     }
 
     /// Ends the present segment of each book.
-    pub fn rotate(&mut self) -> Result<(), RunFault> {
-        keep(&mut self.segments, 0, rotated(&mut self.adapter)?)?;
-        for (place, scanner) in self.scanners.iter_mut().enumerate() {
-            keep(&mut self.segments, place.wrapping_add(1), rotated(scanner)?)?;
+    pub fn rotate(&mut self) -> Result<(), SettlingRunFault> {
+        for (device, book) in self.books.iter_mut().enumerate() {
+            keep(&mut self.segments, device, rotated(book)?)?;
         }
         Ok(())
     }
 
     /// Ends the line.
-    pub fn account(&mut self) -> Result<Account, RunFault>
-        requires adapter { A.ADAPTER ≡ true }
-        requires scanner { S.ADAPTER ≡ false }
+    pub fn account(&mut self) -> Result<Account, SettlingRunFault>
+        requires accepts { AcceptsAll D.accepts }
     {
         self.rotate()?;
         let segments = mem::replace(&mut self.segments, Vec::new(self.alloc));
         let mut histories = Vec::new(self.alloc);
         let mut device: usize = 0;
         for segments in segments {
-            let history = history_of::<A, S>(self.alloc, device, segments)?;
+            let history = history_of::<D>(self.alloc, device, segments)?;
             push(&mut histories, history)?;
             device = device.wrapping_add(1);
         }

@@ -1,6 +1,6 @@
 //! A book under a lock, which goes on under another one.
 
-use crate::fault::RunFault;
+use crate::fault::SettlingRunFault;
 use crate::line::{book_of, rotated};
 use cip_tables::{Device, Event};
 use device_lock::{Book, LockedDevice, Receipt};
@@ -8,7 +8,7 @@ use line_devices::adapter_config;
 use std::alloc::Global;
 use std::sync::Wait;
 
-fn print_place(rt: &impl Print, receipt: Option<Receipt>) -> Result<(), RunFault> {
+fn print_place(rt: &impl Print, receipt: Option<Receipt>) -> Result<(), SettlingRunFault> {
     match receipt {
         None => println!(rt; "no receipt")?,
         Some(receipt) => {
@@ -21,28 +21,31 @@ fn print_place(rt: &impl Print, receipt: Option<Receipt>) -> Result<(), RunFault
     Ok(())
 }
 
-fn print_ticks<A: Device + Drop, R: Print + Wait>(
+fn print_ticks<D: Device + Drop, R: Print + Wait>(
     rt: &R,
-    device: &LockedDevice<A>,
-) -> Result<(), RunFault> {
+    device: &LockedDevice<D>,
+) -> Result<(), SettlingRunFault> {
     print_place(rt, Some(device.step(rt, Event::Tick { ms: 1 })?))?;
     print_place(rt, device.step_if(rt, Event::Tick { ms: 1 }, || false)?)?;
     print_place(rt, device.step_if(rt, Event::Tick { ms: 1 }, || true)?)
 }
 
 // Ticks of a book under a lock, which is then handed back.
-fn print_locked<A: Device + Drop, R: Print + Wait>(
+fn print_locked<D: Device + Drop, R: Print + Wait>(
     rt: &R,
-    book: Book<A>,
-) -> Result<Book<A>, RunFault> {
+    book: Book<D>,
+) -> Result<Book<D>, SettlingRunFault> {
     let device = LockedDevice::new(book);
     print_ticks(rt, &device)?;
     Ok(device.into_book())
 }
 
 /// Prints where events stand in a book that is locked, begins a new segment, and is locked again.
-pub fn print_all<A: Device + Drop, R: Print + Wait>(rt: &R, alloc: Global) -> Result<(), RunFault> {
-    let mut book = print_locked(rt, book_of::<A>(alloc, adapter_config(alloc)?)?)?;
+pub fn print_all<D: Device + Drop, R: Print + Wait>(
+    rt: &R,
+    alloc: Global,
+) -> Result<(), SettlingRunFault> {
+    let mut book = print_locked(rt, book_of::<D>(alloc, adapter_config(alloc)?)?)?;
     let _segment = rotated(&mut book)?;
     let _book = print_locked(rt, book)?;
     Ok(())

@@ -13,16 +13,21 @@ mod mail;
 mod times;
 
 use adapter_engine::FastAdapter;
-use fault::RunFault;
+use cip_tables::AnyDevice;
+use fault::SettlingRunFault;
 use scanner_engine::FastScanner;
 use std::env;
 
-fn main(rt: HostRuntime) -> Result<(), RunFault> {
+/// The device of a profile of either kind.
+type FastDevice = AnyDevice<FastAdapter, FastScanner>;
+
+#[tactic(auto, using(cip_tables::specs::AnyDevices::both_accept_all))]
+fn main(rt: HostRuntime) -> Result<(), SettlingRunFault> {
     let mut args = env::args(&rt)?;
     let _program = args.next();
     if args.next().is_some() {
-        return times::print_time::<FastAdapter, FastScanner, _>(&rt, rt.alloc());
+        return times::print_time::<FastDevice, _>(&rt, rt.alloc());
     }
-    cases::print_all::<FastAdapter, FastScanner>(&rt, rt.alloc())?;
-    locked::print_all::<FastAdapter, _>(&rt, rt.alloc())
+    cases::print_all::<FastDevice>(&rt, rt.alloc())?;
+    locked::print_all::<FastDevice, _>(&rt, rt.alloc())
 }

@@ -1,11 +1,11 @@
 //! How long an account takes to settle.
 
-ghost use Rattle.std.specs.Prelude.{◌≡◌, true, false};
+ghost use Rattle.cip_tables.specs.Step.{AcceptsAll};
 
 use crate::accounts::Account;
 use crate::cases::{start, turns};
-use crate::fault::RunFault;
-use crate::line::Line;
+use crate::fault::SettlingRunFault;
+use crate::line::BookLine;
 use cip_tables::Device;
 use std::alloc::Global;
 use std::io;
@@ -19,27 +19,25 @@ fn millis(rt: &impl CpuClock) -> io::Result<u64> {
     Ok(u64::try_from(rt.thread_cpu_time()?.as_millis()).unwrap_or(u64::MAX))
 }
 
-fn account<A: Device + Drop, S: Device + Drop>(alloc: Global) -> Result<Account, RunFault>
-    requires adapter { A.ADAPTER ≡ true }
-    requires scanner { S.ADAPTER ≡ false }
+fn account<D: Device + Drop>(alloc: Global) -> Result<Account, SettlingRunFault>
+    requires accepts { AcceptsAll D.accepts }
 {
-    let mut line = Line::<A, S>::new(alloc, SCANNERS)?;
+    let mut line = BookLine::<D>::new(alloc, SCANNERS)?;
     start(&mut line)?;
     turns(alloc, &mut line, TURNS)?;
     line.account()
 }
 
 /// Prints how long the account of nine devices at 10,000 turns takes to settle.
-pub fn print_time<A: Device + Drop, S: Device + Drop, R: Print + CpuClock>(
+pub fn print_time<D: Device + Drop, R: Print + CpuClock>(
     rt: &R,
     alloc: Global,
-) -> Result<(), RunFault>
-    requires adapter { A.ADAPTER ≡ true }
-    requires scanner { S.ADAPTER ≡ false }
+) -> Result<(), SettlingRunFault>
+    requires accepts { AcceptsAll D.accepts }
 {
-    let account = account::<A, S>(alloc)?;
+    let account = account::<D>(alloc)?;
     let start = millis(rt)?;
-    account.print::<A, S>(rt, alloc, "nine devices at 10,000 turns")?;
+    account.print::<D>(rt, alloc, "nine devices at 10,000 turns")?;
     let taken = millis(rt)?.wrapping_sub(start);
     println!(rt; "{} receipts, {taken} ms", account.receipts.len())?;
     Ok(())

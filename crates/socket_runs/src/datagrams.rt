@@ -1,7 +1,7 @@
 //! Datagrams of the longest points, and a peer that refuses datagrams.
 
 use crate::fault::SocketFault;
-use crate::host::{AdapterHost, POINT_BYTES, Received, write};
+use crate::host::{AdapterHost, POINT_BYTES, PeerReception, write};
 use crate::peers::{print_answer, registers};
 use std::net::{Net, TcpListener, TcpStream};
 use std::rt::Clock;
@@ -47,7 +47,7 @@ fn opens<R: Clock + Drop>(
     if !registers(host, peer)? || write(peer, &OPEN) != Some(OPEN.len()) {
         return Ok(false);
     }
-    Ok(host.received(peer, OPENED_BYTES)? == Received::Enough)
+    Ok(host.received(peer, OPENED_BYTES)? == PeerReception::Enough)
 }
 
 /// Whether the adapter applies an output of 1,400 bytes.

@@ -24,7 +24,7 @@ pub const INPUT: u32 = 100;
 
 /// What a peer receives.
 #[derive(Clone, Copy, PartialEq, Eq)]
-pub enum Received {
+pub enum PeerReception {
     Nothing,
     /// As many bytes as it waits for, at least.
     Enough,
@@ -105,20 +105,24 @@ impl<R: Clock + Drop> AdapterHost<R> {
     }
 
     /// What the peer receives, if it waits for this many bytes.
-    pub fn received(&mut self, peer: &TcpStream, least: usize) -> Result<Received, SocketFault> {
+    pub fn received(
+        &mut self,
+        peer: &TcpStream,
+        least: usize,
+    ) -> Result<PeerReception, SocketFault> {
         let mut count = 0usize;
         for _ in 0..MOST_TURNS {
             self.loop_device.turn()?;
             match read(peer) {
-                Some(0) => return Ok(Received::End),
+                Some(0) => return Ok(PeerReception::End),
                 Some(more) => count = count.saturating_add(more),
                 None => {}
             }
             if count >= least {
-                return Ok(Received::Enough);
+                return Ok(PeerReception::Enough);
             }
         }
-        Ok(Received::Nothing)
+        Ok(PeerReception::Nothing)
     }
 }
 

@@ -1,7 +1,7 @@
 //! Peers that misbehave.
 
 use crate::fault::SocketFault;
-use crate::host::{AdapterHost, Received, write};
+use crate::host::{AdapterHost, PeerReception, write};
 use std::net::{Net, TcpListener, TcpStream, UdpSocket};
 use std::rt::Clock;
 
@@ -36,7 +36,7 @@ pub fn registers<R: Clock + Drop>(
     if write(peer, &REGISTER) != Some(REGISTER.len()) {
         return Ok(false);
     }
-    Ok(host.received(peer, REGISTER.len())? == Received::Enough)
+    Ok(host.received(peer, REGISTER.len())? == PeerReception::Enough)
 }
 
 /// Half a message, and then the end: the next peer gets a session.
@@ -64,7 +64,7 @@ where
         }
         host.turns(1)?;
     }
-    Ok(host.received(&peer, REGISTER.len())? == Received::Enough)
+    Ok(host.received(&peer, REGISTER.len())? == PeerReception::Enough)
 }
 
 /// A message that is too long ends its stream.
@@ -74,7 +74,7 @@ where
 {
     let peer = host.peer()?;
     let written = write(&peer, &TOO_LONG);
-    Ok(written == Some(4) && host.received(&peer, 1)? == Received::End)
+    Ok(written == Some(4) && host.received(&peer, 1)? == PeerReception::End)
 }
 
 /// Whether a peer gets a session while another one floods the adapter, before each of these turns, with messages over
@@ -178,7 +178,7 @@ where
         }
     }
     let one_more = host.peer()?;
-    if host.received(&one_more, 1)? != Received::End {
+    if host.received(&one_more, 1)? != PeerReception::End {
         return Ok(false);
     }
     drop(first);

@@ -8,7 +8,7 @@ use std::alloc::AllocError;
 use std::io;
 use thiserror::Error;
 use trace_text::TraceFault;
-use trace_words::LineFault;
+use trace_words::TextFault;
 
 /// Why the program ends early.
 #[derive(Debug, Drop, Error)]
@@ -53,11 +53,11 @@ impl From<ProfileFault> for StoredRunFault {
     }
 }
 
-impl From<LineFault> for StoredRunFault {
-    fn from(fault: LineFault) -> StoredRunFault {
+impl From<TextFault> for StoredRunFault {
+    fn from(fault: TextFault) -> StoredRunFault {
         match fault {
-            LineFault::Bad => StoredRunFault::Line,
-            LineFault::OutOfMemory => StoredRunFault::OutOfMemory,
+            TextFault::Bad => StoredRunFault::Line,
+            TextFault::OutOfMemory => StoredRunFault::OutOfMemory,
         }
     }
 }

@@ -22,8 +22,14 @@ mod shared;
 mod stories;
 mod text;
 
+use adapter_engine::FastAdapter;
+use cip_tables::AnyDevice;
 use devices::{ADAPTER, FIRST, SECOND};
 use fault::StoredRunFault;
+use scanner_engine::FastScanner;
+
+/// The fast device of a profile of either kind.
+type FastDevice = AnyDevice<FastAdapter, FastScanner>;
 
 fn main(rt: HostRuntime) -> Result<(), StoredRunFault> {
     stories::print_run(&rt, "race.story", &[ADAPTER, FIRST, SECOND])?;

@@ -1,11 +1,10 @@
 //! Devices of which no segment is made.
 
+use crate::FastDevice;
 use crate::devices::{ADAPTER, FIRST, config, configs};
 use crate::fault::StoredRunFault;
-use adapter_engine::FastAdapter;
 use cip_tables::{Config, Profile};
 use cip_types::OutOfMemory;
-use scanner_engine::FastScanner;
 use segment_world::World;
 use std::alloc::Global;
 
@@ -14,8 +13,9 @@ const NEIGHBOUR: &[u8] =
     b"scanner 33 192.168.1.20 4660 305419897 2000 3000\nslot 192.168.1.10 exclusive 151 150 100 4 4 10000 10000 2 p2p - -\n";
 
 /// Prints why no segment is made of these devices.
+#[tactic(auto, using(cip_tables::specs::AnyDevices::both_accept_all))]
 fn print_fault(rt: &impl Print, alloc: Global, configs: Vec<Config>) -> Result<(), StoredRunFault> {
-    match World::<FastAdapter, FastScanner>::new(alloc, configs) {
+    match World::<FastDevice>::new(alloc, configs) {
         Ok(_) => Err(StoredRunFault::Differs),
         Err(fault) => Ok(println!(rt; "{fault}")?),
     }

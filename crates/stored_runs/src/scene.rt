@@ -1,6 +1,6 @@
 //! Devices on a segment, and the story of what happens to them.
 
-ghost use Rattle.std.specs.Prelude.{◌≡◌, true, false};
+ghost use Rattle.cip_tables.specs.Step.{AcceptsAll};
 
 use crate::devices::configs;
 use crate::fault::StoredRunFault;
@@ -9,7 +9,7 @@ use cip_tables::{Answer, Device, Outcome};
 use cip_types::OutOfMemory;
 use segment_world::{Act, World};
 use std::alloc::Global;
-use trace_outcomes::write_outcome;
+use trace_lines::write_outcome;
 
 /// How many events each of three devices has had.
 #[derive(Clone, Copy)]
@@ -41,9 +41,9 @@ impl Counts {
 
 /// A segment, and the lines of its acts.
 #[derive(Drop)]
-pub struct Scene<A: Device + Drop, S: Device + Drop> {
+pub struct Scene<D: Device + Drop> {
     alloc: Global,
-    world: World<A, S>,
+    world: World<D>,
     events: Counts,
     story: String,
 }
@@ -54,11 +54,10 @@ fn lines_of(alloc: Global, number: u64, answer: Answer) -> Result<String, OutOfM
     write_outcome(alloc, number, &outcome)
 }
 
-impl<A: Device + Drop, S: Device + Drop> Scene<A, S> {
+impl<D: Device + Drop> Scene<D> {
     /// A segment of devices of these profiles, at most three.
     pub fn new(alloc: Global, texts: &[&[u8]]) -> Result<Self, StoredRunFault>
-        requires adapter { A.ADAPTER ≡ true }
-        requires scanner { S.ADAPTER ≡ false }
+        requires accepts { AcceptsAll D.accepts }
     {
         let world = World::new(alloc, configs(alloc, texts)?)?;
         Ok(Scene {

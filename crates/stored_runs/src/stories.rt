@@ -9,18 +9,18 @@
 //!
 //! A line that begins with `# ` is printed as it is.
 
-ghost use Rattle.std.specs.Prelude.{◌≡◌, true, false};
+ghost use Rattle.std.specs.Prelude.{true};
+ghost use Rattle.cip_tables.specs.Step.{AcceptsAll};
 
+use crate::FastDevice;
 use crate::fault::StoredRunFault;
 use crate::scene::Scene;
-use adapter_engine::FastAdapter;
 use cip_tables::Device;
-use plain_engine::{PlainAdapter, PlainScanner};
-use scanner_engine::FastScanner;
+use plain_engine::PlainDevice;
 use segment_world::{Act, Call, Direction};
 use std::alloc::Global;
 use std::fs::{self, Files};
-use trace_words::{LineFault, Words};
+use trace_words::{TextFault, Words};
 
 /// The place of a device among the profiles of its segment.
 fn place_of(name: &str) -> u32 {
@@ -32,13 +32,13 @@ fn place_of(name: &str) -> u32 {
     }
 }
 
-fn write_of(alloc: Global, words: &mut Words<'_>) -> Result<Call, LineFault> {
+fn write_of(alloc: Global, words: &mut Words<'_>) -> Result<Call, TextFault> {
     let point = words.u32()?;
     let bytes = words.bytes(alloc)?;
     Ok(Call::Write { point, bytes })
 }
 
-fn call_of(alloc: Global, word: &str, words: &mut Words<'_>) -> Result<Call, LineFault> {
+fn call_of(alloc: Global, word: &str, words: &mut Words<'_>) -> Result<Call, TextFault> {
     match word {
         "start" => Ok(Call::Start { slot: words.u32()? }),
         "run" => Ok(Call::Mode { run: true }),
@@ -47,16 +47,16 @@ fn call_of(alloc: Global, word: &str, words: &mut Words<'_>) -> Result<Call, Lin
         }),
         "write" => write_of(alloc, words),
         "tick" => Ok(Call::Tick { ms: words.u32()? }),
-        _ => Err(LineFault::Bad),
+        _ => Err(TextFault::Bad),
     }
 }
 
-fn frame_of(direction: Direction, words: &mut Words<'_>) -> Result<Act, LineFault> {
+fn frame_of(direction: Direction, words: &mut Words<'_>) -> Result<Act, TextFault> {
     let stream = words.u16()?;
     Ok(Act::NextFrame { stream, direction })
 }
 
-fn act_of(alloc: Global, device: u32, words: &mut Words<'_>) -> Result<Act, LineFault> {
+fn act_of(alloc: Global, device: u32, words: &mut Words<'_>) -> Result<Act, TextFault> {
     match words.word()? {
         "opens" => Ok(Act::OpenStream {
             from: device,
@@ -78,8 +78,8 @@ fn act_of(alloc: Global, device: u32, words: &mut Words<'_>) -> Result<Act, Line
     }
 }
 
-fn act<A: Device + Drop, S: Device + Drop>(
-    scene: &mut Scene<A, S>,
+fn act<D: Device + Drop>(
+    scene: &mut Scene<D>,
     alloc: Global,
     line: &str,
 ) -> Result<(), StoredRunFault> {
@@ -89,8 +89,8 @@ fn act<A: Device + Drop, S: Device + Drop>(
     Ok(scene.act(name, place_of(name), &act)?)
 }
 
-fn play<A: Device + Drop, S: Device + Drop>(
-    scene: &mut Scene<A, S>,
+fn play<D: Device + Drop>(
+    scene: &mut Scene<D>,
     alloc: Global,
     text: &[u8],
 ) -> Result<(), StoredRunFault> {
@@ -107,15 +107,14 @@ fn play<A: Device + Drop, S: Device + Drop>(
 }
 
 /// The lines of a story that devices of these profiles play, at most three.
-fn lines_of_story<A: Device + Drop, S: Device + Drop>(
+fn lines_of_story<D: Device + Drop>(
     alloc: Global,
     text: &[u8],
     profiles: &[&[u8]],
 ) -> Result<String, StoredRunFault>
-    requires adapter { A.ADAPTER ≡ true }
-    requires scanner { S.ADAPTER ≡ false }
+    requires accepts { AcceptsAll D.accepts }
 {
-    let mut scene: Scene<A, S> = Scene::new(alloc, profiles)?;
+    let mut scene: Scene<D> = Scene::new(alloc, profiles)?;
     let played = play(&mut scene, alloc, text);
     let story = scene.into_story();
     played?;
@@ -124,18 +123,15 @@ fn lines_of_story<A: Device + Drop, S: Device + Drop>(
 
 /// Plays the story of this file with plain and with fast devices of these profiles, at most three. Prints what each device
 /// answers, which is the same for both.
+#[tactic(auto, using(cip_tables::specs::AnyDevices::both_accept_all))]
 pub fn print_run<R: AllocGlobal + Files + Print>(
     rt: &R,
     name: &str,
     profiles: &[&[u8]],
 ) -> Result<(), StoredRunFault> {
     let text = fs::read(rt, name)?;
-    let plain = lines_of_story::<PlainAdapter, PlainScanner>(
-        rt.alloc(),
-        text.as_slice(),
-        profiles,
-    )?;
-    let fast = lines_of_story::<FastAdapter, FastScanner>(rt.alloc(), text.as_slice(), profiles)?;
+    let plain = lines_of_story::<PlainDevice>(rt.alloc(), text.as_slice(), profiles)?;
+    let fast = lines_of_story::<FastDevice>(rt.alloc(), text.as_slice(), profiles)?;
     if plain.as_str() != fast.as_str() {
         return Err(StoredRunFault::Differs);
     }
