@@ -85,6 +85,8 @@ BAD_PROFILES = [
      "bad profile 3: line 4: word 12: slot 2 is listen-only, and a listen-only slot is multicast"),
     (scanner(*[slot()] * 65, slot(kind="listen", out_len=0)),
      "bad profile 3: line 66: slot 64 is one too many, and a scanner has 1 to 64 slots"),
+    (scanner(*[slot()] * 64, slot(kind="listen", out_len=0)),
+     "bad profile 3: line 66: slot 64 is one too many, and a scanner has 1 to 64 slots"),
     (scanner(slot(), "\n", slot(cast="multicast"), "# the same input\n", slot(kind="input", out_len=0, cast="multicast")),
      "bad profile 4: line 6: word 6: slot 2 takes point 100 of 10.0.0.1 by multicast, and so does slot 1 of line 4"),
     # a scanner: lengths

@@ -35,10 +35,10 @@ static int counts_from(int first, const int *numbers, size_t count)
 /* Each enumerator has the number that the library gives it, so that no two are exchanged. */
 static void check_numbers(void)
 {
-    static const int statuses[] = {EIP_DONE,          EIP_REFUSED_NO_MEMORY, EIP_TICK_TOO_LONG,   EIP_CLOCK_END,
-                                   EIP_NO_SUCH_POINT, EIP_WRONG_LENGTH,      EIP_NO_SUCH_SLOT,    EIP_NOT_ALLOWED_NOW,
-                                   EIP_KEPT_NO_ROOM,  EIP_KEPT_NO_MEMORY,    EIP_NO_ANSWER,       EIP_BAD_LINE,
-                                   EIP_BAD_PROFILE,   EIP_NO_INQUIRY,        EIP_LONG_NAME};
+    static const int events[] = {EIP_DONE,          EIP_REFUSED_NO_MEMORY, EIP_TICK_TOO_LONG,   EIP_CLOCK_END,
+                                 EIP_NO_SUCH_POINT, EIP_WRONG_LENGTH,      EIP_NO_SUCH_SLOT,    EIP_NOT_ALLOWED_NOW,
+                                 EIP_KEPT_NO_ROOM};
+    static const int others[] = {EIP_NO_ANSWER, EIP_BAD_LINE, EIP_BAD_PROFILE, EIP_NO_INQUIRY, EIP_LONG_NAME};
     static const int deliveries[] = {EIP_APPLIED, EIP_IDLE,       EIP_HEARTBEAT,  EIP_DUPLICATE,
                                      EIP_OLD,     EIP_UNKNOWN_ID, EIP_WRONG_SIZE, EIP_MALFORMED};
     static const int verdicts[] = {EIP_ITEM_DONE, EIP_ITEM_BAD_FRAME, EIP_ITEM_IGNORED, EIP_ITEM_VALUE, EIP_ITEM_DELIVERED};
@@ -48,7 +48,8 @@ static void check_numbers(void)
                                   EIP_ITEM_REPLACED, EIP_ITEM_STREAM_CLOSED, EIP_ITEM_SLOT,    EIP_ITEM_NO_IDS};
     static const int reasons[] = {EIP_ITEM_REFUSED_ENCAP, EIP_ITEM_UNREADABLE, EIP_ITEM_REFUSED, EIP_ITEM_OTHER_TRIAD,
                                   EIP_ITEM_OTHER_ID,      EIP_ITEM_OTHER_API,  EIP_ITEM_MISMATCH};
-    check(counts_from(0, statuses, sizeof statuses / sizeof *statuses), "the numbers of the statuses");
+    check(counts_from(0, events, sizeof events / sizeof *events), "the numbers of the statuses of events");
+    check(counts_from(10, others, sizeof others / sizeof *others), "the numbers of the other statuses");
     check(EIP_NULL == 20 && EIP_IN_USE == 21, "the numbers of the header's own statuses");
     check(counts_from(0, deliveries, sizeof deliveries / sizeof *deliveries), "the numbers of the deliveries");
     check(counts_from(1, verdicts, sizeof verdicts / sizeof *verdicts), "the numbers of the verdicts");
@@ -106,7 +107,7 @@ static void check_null(eip_device *device)
     enum eip_delivery delivery = EIP_IDLE;
     eip_device other = {0};
     uint64_t number = 7;
-    uint8_t out[64];
+    uint8_t out[64] = {0};
     size_t size = 77, i;
     for (i = 0; i < sizeof lengths / sizeof *lengths; i++) {
         size_t len = lengths[i];
@@ -116,6 +117,7 @@ static void check_null(eip_device *device)
         check(eip_datagram(device, 1, NULL, len, &delivery) == EIP_NULL && delivery == EIP_IDLE, "a datagram NULL");
         check(eip_write(device, 100, NULL, len, out, sizeof out, &size) == EIP_NULL, "a value NULL");
         check(eip_tick(device, 1, NULL, len, &size) == EIP_NULL, "room NULL of any length");
+        check(eip_write(device, 100, out, 4, NULL, len, &size) == EIP_NULL, "room NULL of any length beside a value");
     }
     check(size == 77, "a size after calls with NULL");
     check(eip_datagram(device, 1, NULL, 0, &delivery) == EIP_DONE && delivery == EIP_MALFORMED, "a datagram of no bytes");
@@ -136,6 +138,7 @@ static void check_in_use(eip_device *device)
 static void check_walk(void)
 {
     static const uint8_t answer[EIP_ITEM_HEAD] = {EIP_ITEM_DONE};
+    static const uint8_t longer[EIP_ITEM_HEAD] = {EIP_ITEM_DONE, [20] = 1}, longest[EIP_ITEM_HEAD] = {EIP_ITEM_DONE, [24] = 1};
     static const size_t beyond[] = {1, EIP_ITEM_HEAD, EIP_ITEM_HEAD + 1, SIZE_MAX};
     eip_item item;
     size_t at = 0, i;
@@ -144,6 +147,8 @@ static void check_walk(void)
     check(!eip_next(answer, sizeof answer, NULL, &item), "a place NULL");
     check(!eip_next(answer, sizeof answer, &at, NULL) && !at, "an item NULL");
     check(!eip_next(answer, sizeof answer - 1, &at, &item) && !at, "an answer that is cut short");
+    check(!eip_next(longer, sizeof longer, &at, &item) && !at, "an item whose data are cut short");
+    check(!eip_next(longest, sizeof longest, &at, &item) && !at, "an item of 2^32 bytes of data");
     for (i = 0; i < sizeof beyond / sizeof *beyond; i++) {
         at = beyond[i];
         check(!eip_next(answer, sizeof answer, &at, &item) && at == beyond[i], "a place behind the answer");
@@ -193,6 +198,7 @@ static void check_inquiries(void)
     check(eip_inquiry(&pump, message, 24, out, sizeof out, &size) == EIP_DONE && size == 64, "no name");
     check(eip_inquiry(&pump, NULL, 24, out, sizeof out, &size) == EIP_NULL, "an inquiry NULL");
     check(eip_inquiry(&pump, message, 24, NULL, 1, &size) == EIP_NULL, "room NULL for an inquiry");
+    check(eip_inquiry(&pump, message, 24, NULL, SIZE_MAX, &size) == EIP_NULL, "the longest room NULL for an inquiry");
     check(eip_inquiry(&pump, message, 24, out, sizeof out, NULL) == EIP_NULL, "a size NULL for an inquiry");
     check(eip_inquiry(NULL, message, 24, out, sizeof out, &size) == EIP_NULL, "an identity NULL");
     pump.name = NULL;

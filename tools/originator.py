@@ -112,11 +112,13 @@ class Connection:
     def open(self):
         rpi = self.args.rpi_ms * 1000
         out = 6 + self.args.out_len if self.kind == EXCLUSIVE else 2
-        words = (0x4800 | out, self.to_originator << 13 | 0x0800 | 2 + self.args.in_len)
+        sizes, flags = (out, 2 + self.args.in_len), (0x4800, self.to_originator << 13 | 0x0800)
+        large = max(sizes) > 511  # Large_Forward_Open: the flags are 16 bits above a size of 16 bits
+        words = [flag << 16 * large | size for flag, size in zip(flags, sizes)]
         path = self.path()
         body = bytes([10, 250]) + struct.pack("<II", 0, self.asked_id) + self.triad + bytes([2, 0, 0, 0])
-        body += struct.pack("<IHIH", rpi, words[0], rpi, words[1]) + bytes([0x01, len(path) // 2]) + path
-        return self.session.request(bytes([0x54, 2, 0x20, 6, 0x24, 1]) + body)
+        body += struct.pack("<IIII" if large else "<IHIH", rpi, words[0], rpi, words[1]) + bytes([0x01, len(path) // 2]) + path
+        return self.session.request(bytes([0x5B if large else 0x54, 2, 0x20, 6, 0x24, 1]) + body)
 
     def establish(self):
         general, extended, data, items = self.open()

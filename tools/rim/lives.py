@@ -148,6 +148,8 @@ def asked(bench, command, to, host="peer", broadcast=False, seconds=3.0):
     with bench.network.inside(host), socket.socket(socket.AF_INET, socket.SOCK_DGRAM) as udp:
         if broadcast:
             udp.setsockopt(socket.SOL_SOCKET, socket.SO_BROADCAST, 1)
+            if not bench.network.own:
+                udp.setsockopt(socket.SOL_SOCKET, socket.SO_BINDTODEVICE, b"lo\0")
         udp.bind((bench.address[host], 0))
         udp.settimeout(seconds)
         udp.sendto(struct.pack("<HHII8sI", command, 0, 0, 0, b"whoami12", 0), (to, 44818))
@@ -200,9 +202,8 @@ def run_identity(bench):
     sure(interfaces == [], "ListServices and ListInterfaces are answered over UDP")
     here = identity(bench, bench.network.broadcast, broadcast=True)
     sure(here is not None and here[0] == address, "a directed broadcast is answered")
-    if bench.network.own:
-        here = identity(bench, "255.255.255.255", broadcast=True)
-        sure(here is not None and here[0] == address, "a broadcast to 255.255.255.255 is answered")
+    here = identity(bench, "255.255.255.255", broadcast=True)
+    sure(here is not None and here[0] == address, "a broadcast to 255.255.255.255 is answered")
     need(adapter.end() == 0, "the adapter ends with status 0")
 
 
@@ -236,9 +237,11 @@ def run_version(bench):
 
 def run_script(bench):
     """bin/eip_station is killed: the program ends, and its port is free."""
-    for name in "bin", "crates/eip_station/out":
+    for name in "bin", "tools", "crates/eip_station/out", "crates/eip_station/src":
         os.makedirs(bench.file(name), exist_ok=True)
-    shutil.copy(f"{TOP}/bin/eip_station", bench.file("bin/eip_station"))
+    for name in "bin/eip_station", "tools/built":
+        shutil.copy(f"{TOP}/{name}", bench.file(name))
+    bench.write("crates.txt", "eip_station:\n")
     program = bench.file("crates/eip_station/out/eip_station")
     shutil.copy(bench.program, program)
     words = [*bench.network.at("adapter"), bench.file("bin/eip_station"), "adapter", bench.file("adapter.profile")]

@@ -103,6 +103,33 @@ def run_closed(bench):
     bench.clear()
 
 
+def run_broken_output(bench):
+    """The reader of standard output ends, and another one comes: it gets nothing of what is printed behind the failure."""
+    path = bench.file("broken.fifo")
+    os.mkfifo(path)
+    reader, writer = os.open(path, os.O_RDONLY | os.O_NONBLOCK), os.open(path, os.O_WRONLY)
+    adapter = bench.adapter(log="broken_out", out=writer)
+    os.close(writer)
+    watch = Originator(bench)
+    told(adapter, watch, "01020304")
+    need(os.read(reader, 65536) != b"", "what it prints is read")
+    os.close(reader)
+    told(adapter, watch, "05060708")
+    reader = os.open(path, os.O_RDONLY | os.O_NONBLOCK)
+    told(adapter, watch, "0a0b0c0d")
+    with contextlib.suppress(BlockingIOError):
+        need(os.read(reader, 65536) == b"", "a print that failed is the last one")
+    os.close(reader)
+    sure(adapter.end() == 0, "the reader of standard output has ended: nothing more is printed, and the adapter goes on")
+
+
+def told(adapter, watch, value):
+    """Calls are performed, and the writer of their outcomes has had its time."""
+    adapter.call("read 150", f"write 100 {value}")
+    wait(lambda: watch.read(100) == value, "the calls are performed")
+    time.sleep(0.3)
+
+
 def run_unread_record(bench):
     """A record that nobody takes ends; the device goes on."""
     bench.write("large.profile", LARGE)
@@ -124,6 +151,10 @@ def run_full_disks(bench):
 
     ends_alone(bench, "the disk of the record becomes full", bench.file("disk.trace"), "disk", ["read 101"] * 400, before=limit)
     replays(bench, "the record that a full disk ended", bench.file("disk.trace"))
+    words = [bench.program, "adapter", bench.file("large.profile"), "--record", "/dev/full"]
+    done = run(*bench.network.at("adapter"), *words, stdin=subprocess.DEVNULL)
+    need(done.stderr.decode().splitlines().count(ENDED) == 1, f"a record that ends behind its last event is told in a line, and not {done.stderr}")
+    sure(done.returncode == 6, f"a record that a full disk refuses as its station ends has status {done.returncode}")
 
 
 def ends_alone(bench, what, record, log, calls, **how):

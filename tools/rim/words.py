@@ -1,9 +1,9 @@
 """What a station says of itself, and of what it is given."""
 
-import re, subprocess, time
+import contextlib, re, select, socket, subprocess, time
 from bad_profiles import BAD_PROFILES, BAD_PROFILE_LINES
 from rim.host import Station, holds, listens, need, run, sure, wait
-from rim.peers import INPUT_ONLY, POINT_TO_POINT, Originator, Silent, Target
+from rim.peers import INPUT_ONLY, MULTICAST, POINT_TO_POINT, Originator, Silent, Target
 
 CALLS = ["write POINT HEX", "read POINT", "mode run", "mode idle", "start SLOT", "stop SLOT"]
 MUTE = "scanner 32 {owner} 1 101 1000 1000\nslot {adapter} input - 152 100 0 4 10000 10000 2 multicast - -\n"
@@ -97,6 +97,36 @@ def run_quiet(bench):
     said = station.said()
     sure(len(said) == 1 and "is no call" in said[0], f"--quiet: a start and streams print nothing, a wrong call does: {said}")
     bench.clear()
+
+
+def run_destinations(bench):
+    """--peer-udp names the port of all datagrams, --multicast sends those of a group once, to its address."""
+    peer, adapter = bench.address["peer"], bench.address["adapter"]
+    with bench.network.inside("peer"), contextlib.ExitStack() as sockets:
+        usual, named, group = [sockets.enter_context(socket.socket(socket.AF_INET, socket.SOCK_DGRAM)) for _ in range(3)]
+        usual.bind((peer, 2222))
+        named.bind((peer, 2230))
+        station = bench.adapter("--peer-udp", "2230", log="peer_port")
+        Originator(bench).open(INPUT_ONLY, POINT_TO_POINT)
+        sure(arrives(named, adapter) and not arrives(usual, adapter, 0.3), "--peer-udp 2230: datagrams go to this port, and not to 2222")
+        need(station.end() == 0, "it ends with status 0")
+        bench.clear()
+        station = bench.adapter("--multicast", log="to_groups")
+        connection = Originator(bench).open(INPUT_ONLY, MULTICAST)
+        group.bind((connection.group, 2222))
+        group.setsockopt(socket.IPPROTO_IP, socket.IP_ADD_MEMBERSHIP, socket.inet_aton(connection.group) + socket.inet_aton(peer))
+        sure(arrives(group, adapter) and not arrives(usual, adapter, 0.3), f"--multicast: datagrams go to the group {connection.group} alone")
+        need(station.end() == 0, "it ends with status 0")
+    bench.clear()
+
+
+def arrives(udp, source, seconds=5.0):
+    """Whether a datagram of this address arrives."""
+    if not select.select([udp], [], [], seconds)[0]:
+        return False
+    got, (address, _) = udp.recvfrom(65536)
+    need(address == source, f"a datagram of {len(got)} bytes comes from {address}, and not from {source}")
+    return True
 
 
 def run_profiles(bench):
