@@ -1,6 +1,6 @@
 """What the sockets of a station are set to, what passes them, and how often the system is asked for what came."""
 
-import contextlib, ctypes, os, resource, select, socket, struct, threading, time
+import contextlib, ctypes, errno, os, resource, select, socket, struct, threading, time
 from rim.host import PRESENT, Station, need, sure, wait
 from rim.peers import INPUT_ONLY, MULTICAST, REGISTER, Originator, Silent, Target, served
 
@@ -8,20 +8,23 @@ LONG = "adapter 16 {adapter} 255.255.255.0 1 12 7 2 3\noutput 150 1400 zero zero
 LENGTHS = {"out_len": 1400, "in_len": 1400}
 NOTHING = bytes(24)  # NOP, which has no answer
 PIDFD_GETFD = 438  # the number of the system's call on most machines; Python has no name for it
+REFUSED = {errno.EPERM, errno.ENOSYS}  # what a system says that does not lend a socket of a child
 IP_RECVTTL = 12  # the number of the option on Linux; Python has no name for it
 MOST_WAKES = 200  # of an idle station in two seconds: one that asks each millisecond wakes 2,000 times
 RETRY = 1.0  # seconds from a session that is refused to the next stream
 
 
 def streams_of(station):
-    """Copies of a station's open streams, which share their options."""
+    """Copies of a station's open streams, which share their options; None where the system lends no socket of a child."""
     system, process = ctypes.CDLL(None, use_errno=True), os.pidfd_open(station.process.pid)
     found = []
     for fd in map(int, os.listdir(f"/proc/{station.process.pid}/fd")):
         with contextlib.suppress(OSError):
             if os.readlink(f"/proc/{station.process.pid}/fd/{fd}").startswith("socket:"):
                 copy = system.syscall(PIDFD_GETFD, process, fd, 0)
-                need(copy >= 0, f"the system lends a socket of its child: {os.strerror(ctypes.get_errno())}")
+                if copy < 0 and ctypes.get_errno() in REFUSED:
+                    return None
+                need(copy >= 0, f"a socket of a child is lent: {os.strerror(ctypes.get_errno())}")
                 found.append(socket.socket(fileno=copy))
     os.close(process)
     return [it for it in found if it.type == socket.SOCK_STREAM and is_joined(it)]
@@ -36,6 +39,9 @@ def is_joined(stream):
 
 def sends_at_once(station):
     streams = streams_of(station)
+    if streams is None:
+        print("options: the system lends no socket of a child, so nobody looks whether streams send at once")
+        return True
     return bool(streams) and all(it.getsockopt(socket.IPPROTO_TCP, socket.TCP_NODELAY) for it in streams)
 
 
