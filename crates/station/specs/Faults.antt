@@ -15,7 +15,7 @@ end_after (run.Port port.Send) = None
 end_after (run.Step step.OutOfMemory) = Some station.OutOfMemory
 end_after (run.Step fault) = Some station.Clock
 
--- one failure of the port more: after 1,000 in a row the station ends
+-- one failure of the port more: the one that follows 1,000 in a row ends the station
 abbrev pub counted : ℕ → Result ℕ EarlyEnd
 counted failures = if nat_le 1000 failures then Err station.Port else Ok (failures + 1)
 

@@ -8,7 +8,7 @@ use cip_types::OutOfMemory;
 use thiserror::Error;
 use udp_runner::{PortFault, RunFault};
 
-/// After so many turns in a row that failed at the port a station ends.
+/// A station goes on after so many turns in a row that failed at the port, and ends at the next one.
 const MOST_FAILURES: u32 = 1_000;
 
 /// Why a station ends before its time.
@@ -76,7 +76,7 @@ pub(crate) fn failures_after_call(
     }
 }
 
-/// One failure more. The fault: `Port` after 1,000.
+/// One failure more. The fault: `Port` at the one that follows 1,000.
 fn counted(failures: u32) -> Result<u32, EarlyEnd>
     ensures { result ≡ counted failures }
 {

@@ -32,11 +32,6 @@ ends value (word ∷ words) = None
 abbrev pub refuses : {A : Type 0} → Reader A
 refuses words = None
 
--- a value, with nothing read, where there is one
-abbrev pub perhaps : {A : Type 0} → Option A → Reader A
-perhaps None = refuses
-perhaps (Some value) = gives value
-
 -- words, each with its value
 abbrev pub Meanings : Type 0 → Type 0
 Meanings A = List (List ℕ × A)
