@@ -8,17 +8,10 @@ use Rattle.std.specs.Option.{option_eq}
 use Rattle.std.specs.Cmp.{booleans_Decides}
 use Rattle.std.specs.Cmp.Lexicographic.{pointwise_decides}
 use Rattle.std.proofs.lemmas.Bool.Decides.{Decides-eqb, Decides-and, Decides-like}
-use Rattle.cip_types.specs.declared.names.Ms.{Ms}
-use Rattle.cip_types.specs.declared.names.Triad.{Triad}
 use Rattle.cip_types.specs.declared.names.Identity.{Identity}
-use Rattle.cip_types.specs.declared.names.Node.{Node}
-use Rattle.cip_types.specs.declared.names.ConnId.{ConnId}
-use Rattle.cip_netparams.specs.declared.Trigger.{Trigger}
-use Rattle.cip_productions.specs.declared.kind.Kind.{Kind}
 use Rattle.adapter_table.specs.declared.row.State.{State}
-use Rattle.cip_productions.specs.declared.production.Production.{Production}
 use Rattle.adapter_table.specs.declared.row.Connection.{Connection}
-use Rattle.cip_productions.specs.declared.acceptance.Accepted.{Accepted}
+use Rattle.adapter_table.specs.declared.row.Mode.{Mode}
 use Rattle.adapter_table.specs.declared.profile.Action.{Action}
 use Rattle.adapter_table.specs.declared.profile.OutputPoint.{OutputPoint}
 use Rattle.adapter_table.specs.declared.profile.InputPoint.{InputPoint}
@@ -26,45 +19,25 @@ use Rattle.adapter_table.specs.declared.profile.Profile.{Profile}
 use Rattle.adapter_table.specs.declared.table.PointValue.{PointValue}
 use Rattle.adapter_table.specs.declared.table.Stream.{Stream}
 use Rattle.adapter_table.specs.declared.table.AdapterTable.{AdapterTable}
-use Rattle.cip_types.specs.contracts.names.MsPartialEq.TheImpl as ms
-use Rattle.cip_types.specs.contracts.names.NodePartialEq.TheImpl as node
-use Rattle.cip_types.specs.contracts.names.ConnIdPartialEq.TheImpl as id
-use Rattle.cip_types.specs.contracts.names.TriadPartialEq.TheImpl as triad
 use Rattle.cip_types.specs.contracts.names.IdentityPartialEq.TheImpl as identity
-use Rattle.cip_netparams.specs.contracts.TriggerPartialEq.TheImpl as trigger
 use Rattle.adapter_table.specs.contracts.profile.ActionPartialEq.TheImpl as action
 use Rattle.adapter_table.specs.contracts.profile.OutputPointPartialEq.TheImpl as output
 use Rattle.adapter_table.specs.contracts.profile.InputPointPartialEq.TheImpl as input
 use Rattle.adapter_table.specs.contracts.profile.ProfilePartialEq.TheImpl as profile
-use Rattle.cip_productions.specs.contracts.kind.KindPartialEq.TheImpl as kind
 use Rattle.adapter_table.specs.contracts.row.State.{the_row as state_row}
 use Rattle.adapter_table.specs.contracts.row.StatePartialEq.TheImpl as state
-use Rattle.cip_productions.specs.contracts.production.ProductionPartialEq.TheImpl as production
-use Rattle.cip_productions.specs.contracts.acceptance.AcceptedPartialEq.TheImpl as accepted
+use Rattle.adapter_table.specs.contracts.row.ModePartialEq.TheImpl as mode
 use Rattle.adapter_table.specs.contracts.row.ConnectionPartialEq.TheImpl as connection
 use Rattle.adapter_table.specs.contracts.table.PointValuePartialEq.TheImpl as value
 use Rattle.adapter_table.specs.contracts.table.StreamPartialEq.TheImpl as stream
 use Rattle.adapter_table.specs.contracts.table.AdapterTablePartialEq.TheImpl as adapter
+use Rattle.cip_productions.specs.Lemmas.EqualLemmas.{kind_decides, last_decides, production_decides}
+use Rattle.cip_events.specs.Lemmas.EqualLemmas.{ms_decides, node_decides, id_decides, triad_decides}
 
 -- ---- times, addresses, ids
 
-ms_decides : (a b : Ms) → Decides ((ms.ghosts).eq a b) (a ≡ b)
-ms_decides a b = search rules
-
-node_decides : (a b : Node) → Decides ((node.ghosts).eq a b) (a ≡ b)
-node_decides a b = search rules
-
-id_decides : (a b : ConnId) → Decides ((id.ghosts).eq a b) (a ≡ b)
-id_decides a b = search rules
-
-triad_decides : (a b : Triad) → Decides ((triad.ghosts).eq a b) (a ≡ b)
-triad_decides a b = search rules
-
 identity_decides : (a b : Identity) → Decides ((identity.ghosts).eq a b) (a ≡ b)
 identity_decides a b = search rules
-
-trigger_decides : (a b : Trigger) → Decides ((trigger.ghosts).eq a b) (a ≡ b)
-trigger_decides a b = search rules
 
 -- ---- points
 
@@ -82,30 +55,8 @@ config_decides a b = search rules
 
 -- ---- connections
 
-kind_decides : (a b : Kind) → Decides ((kind.ghosts).eq a b) (a ≡ b)
-kind_decides a b = search rules
-
-accepted_decides : (a b : Accepted) → Decides ((accepted.ghosts).eq a b) (a ≡ b)
-accepted_decides a b = search rules
-
-last_decides : (a b : Option Accepted) → Decides (option_eq (accepted.ghosts).eq a b) (a ≡ b)
-last_decides a b = search rules
-
-time_decides : (a b : Option Ms) → Decides (option_eq (ms.ghosts).eq a b) (a ≡ b)
-time_decides a b = search rules
-
-production_decides : (a b : Production) → Decides ((production.ghosts).eq a b) (a ≡ b)
-production_decides a b =
-    Decides-like ((production.ghosts).eq a b) (λ p. search rules) (λ e. search rules)
-    (Decides-and _ _ (Decides-eqb a.producer b.producer)
-    (Decides-and _ _ (Decides-eqb a.sequence b.sequence)
-    (Decides-and _ _ (Decides-eqb a.count b.count)
-    (Decides-and _ _ (booleans_Decides a.written b.written)
-    (Decides-and _ _ (ms_decides a.due b.due)
-    (Decides-and _ _ (node_decides a.address b.address)
-    (Decides-and _ _ (trigger_decides a.trigger b.trigger)
-    (Decides-and _ _ (Decides-eqb a.inhibit b.inhibit)
-    (time_decides a.last b.last)))))))))
+mode_decides : (a b : Option Mode) → Decides (option_eq (mode.ghosts).eq a b) (a ≡ b)
+mode_decides a b = search rules
 
 state_decides : (a b : State) → Decides ((state.ghosts).eq a b) (a ≡ b)
 state_decides a b = search (rules, production_decides)
@@ -127,8 +78,9 @@ connection_decides P states d decides a b =
     (Decides-and _ _ (booleans_Decides a.multicast b.multicast)
     (Decides-and _ _ (Decides-eqb a.opening b.opening)
     (Decides-and _ _ (last_decides a.last b.last)
+    (Decides-and _ _ (mode_decides a.mode b.mode)
     (Decides-and _ _ (ms_decides a.deadline b.deadline)
-    (decides a.state b.state)))))))))))))))
+    (decides a.state b.state))))))))))))))))
 
 -- ---- tables
 

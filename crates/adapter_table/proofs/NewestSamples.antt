@@ -39,6 +39,7 @@ opened_fifth kind consumed = record {
   multicast = false;
   opening = 5;
   last = Some (record { number = 7; count = 3 });
+  mode = None;
   deadline = record { 0 = 10000 };
   state = TimedOut;
 }

@@ -13,35 +13,35 @@ use Rattle.cip_datagram.specs.Header.{header_at}
 use Rattle.cip_datagram.specs.Reading.{datagram_reading}
 use Rattle.cip_events.specs.declared.event.Delivery.{Delivery}
 use Rattle.cip_events.specs.declared.event.Delivery.TheVariants.{Duplicate, Heartbeat, Old, WrongSize}
-use Rattle.cip_events.specs.declared.event.Event.TheVariants.{Request, StreamOpened, Frame, StreamCut, Datagram, Write, Read, Tick}
+use Rattle.cip_events.specs.declared.event.Event.TheVariants.{Datagram, Write, Tick}
 use Rattle.cip_events.specs.Answers.{is_accepted}
 use Rattle.cip_fwdopen.specs.Open.{OpenFields}
 use Rattle.cip_productions.specs.declared.acceptance.Accepted.{Accepted}
 use Rattle.cip_productions.specs.Acceptance.{accepts_sequence, is_duplicate}
 use Rattle.cip_productions.specs.Kinds.{is_owner}
-use Rattle.cip_router.specs.Requests.{router_request_reading}
 use Rattle.adapter_table.specs.declared.profile.Profile.{Profile}
 use Rattle.adapter_table.specs.Connections.{Row}
 use Rattle.adapter_table.specs.declared.row.State.{State}
 use Rattle.adapter_table.specs.declared.row.State.TheVariants.{TimedOut}
 use Rattle.adapter_table.specs.declared.table.AdapterTable.{AdapterTable}
 use Rattle.adapter_table.specs.Rows.{is_established, has_triad, Each, written_state, written_row}
-use Rattle.adapter_table.specs.Points.{bytes_at}
 use Rattle.adapter_table.specs.Checks.{Admitted}
-use Rattle.adapter_table.specs.Opening.{connection_id, opened_row, opened_table, is_replaced}
+use Rattle.cip_types.specs.Ids.{connection_id}
+use Rattle.adapter_table.specs.Opening.{opened_row, opened_table, is_replaced}
 use Rattle.adapter_table.specs.Closing.{without_triad, stays, closed_table}
 use Rattle.adapter_table.specs.Streams.{with_stream, without_stream, registered_table}
 use Rattle.adapter_table.specs.Datagrams.{is_for, expected_len, run_bit, moded, accepted_delivery, row_delivery, accepted_row, accepted_if_for, accepted_table, delivered, found_datagram, datagram_of, received}
 use Rattle.adapter_table.specs.Productions.{produced_row, changed_state, changed_row}
-use Rattle.adapter_table.specs.Requests.{Next, requested}
+use Rattle.adapter_table.specs.Requests.{Next}
 use Rattle.adapter_table.specs.Ticks.{has_expired, expired_row, expired_rows, clocked_table, expired_table, produced_table}
-use Rattle.adapter_table.specs.Step.{read, read_of, written_table, changed_table}
+use Rattle.adapter_table.specs.Step.{written_table, changed_table}
 use Rattle.adapter_table.specs.Sound.{IdsAreDrawn, IsSound, OpensBefore}
 use Rattle.adapter_table.specs.Newest.{Acceptance, is_applied, acceptance_of, accepted_found, accepted_read, EachAfter, last_accepted, HasNewerNumber, HasOtherCount, IsAppliedNew, IsNotAgain, RemembersLast, TableRemembers}
 use Rattle.adapter_table.specs.Laws.{StepsAcceptAfter, RefusalsAcceptNothing}
 use Rattle.adapter_table.specs.EachLemmas.{each_filter, each_append, each_map, each_found, each_both, each_changed, two_weak, two_found}
-use Rattle.adapter_table.specs.Lemmas.RequestLemmas.{RequestsDo, answered_does, frame_does, next_is, IsStreamed, streamed_is, cut_does}
+use Rattle.adapter_table.specs.Lemmas.RequestLemmas.{RequestsDo, next_is}
 use Rattle.adapter_table.specs.Lemmas.EffectLemmas.{IsWrite, write_is, IsTick, tick_is}
+use Rattle.adapter_table.specs.Lemmas.ControlLemmas.{control_does}
 
 -- ---- what an accepted datagram is
 
@@ -172,7 +172,7 @@ same_back a b is = λ same. sym (is (sym same))
 
 -- the O->T id is that of its opening
 abbrev IsDrawnId : Profile → Row → Type 0
-IsDrawnId profile row = row.o_t_id ≡ connection_id profile row.opening
+IsDrawnId profile row = row.o_t_id ≡ connection_id profile.incarnation row.opening
 
 drawn_ids : (profile : Profile) (next_id : ℕ) (rows : List Row) → IdsAreDrawn profile next_id rows → Each (IsDrawnId profile) rows
 drawn_ids profile next_id [] drawn = tt
@@ -285,29 +285,14 @@ remembers_tick opening last t ms next is remembers = subst (λ (n : Next). Table
 remembers_write : (opening : ℕ) (last : Option Accepted) (t : AdapterTable) (point : ℕ) (bytes : List ℕ) (next : Next) → IsWrite t point bytes next → TableRemembers opening last t → TableRemembers opening last next.1
 remembers_write opening last t point bytes next is remembers = subst (λ (n : Next). TableRemembers opening last n.1) is.said (remembers_written opening last t point bytes remembers)
 
-remembers_streamed : (opening : ℕ) (last : Option Accepted) (t : AdapterTable) (number : ℕ) (peer : Node) (next : Next) → IsStreamed t number peer next → TableRemembers opening last t → TableRemembers opening last next.1
-remembers_streamed opening last t number peer next is remembers = subst (λ (n : Next). TableRemembers opening last n.1) is.said (remembers_with opening last t number peer remembers)
-
-remembers_read : (opening : ℕ) (last : Option Accepted) (t : AdapterTable) (found : Option (List ℕ)) (next : Next) → read_of t found ≡ Ok next → TableRemembers opening last t → TableRemembers opening last next.1
-remembers_read opening last t None next is remembers = absurd cc
-remembers_read opening last t (Some bytes) next is remembers = subst (λ (n : Next). TableRemembers opening last n.1) (next_is _ _ is) remembers
-
 steps_accept : (R : Option Accepted → Acceptance → Type 0) → OfAccepted R → StepsAcceptAfter R
-unfolding requested received read
-steps_accept R holds opening last t (Request peer bytes) next is sound remembers =
-    (tt, subst (λ (n : Next). TableRemembers opening last n.1) (next_is _ _ is) (answered_does (λ t next. TableRemembers opening last t → TableRemembers opening last next) (requests_remember opening last) t peer (router_request_reading bytes) remembers))
-steps_accept R holds opening last t (StreamOpened number peer) next is sound remembers = (tt, remembers_streamed opening last t number peer next (streamed_is t number peer next is) remembers)
-steps_accept R holds opening last t (Frame number bytes) next is sound remembers =
-    (tt, frame_does (λ t next. TableRemembers opening last t → TableRemembers opening last next) (requests_remember opening last) t number bytes next is remembers)
-steps_accept R holds opening last t (StreamCut number) next is sound remembers =
-    (tt, cut_does (λ t next. TableRemembers opening last t → TableRemembers opening last next) (requests_remember opening last) t number next is remembers)
+unfolding received
 steps_accept R holds opening last t (Datagram peer bytes) next is sound remembers =
     subst (λ (n : Next). Goes R opening last (accepted_read opening t peer (datagram_reading bytes)) n.1) (next_is _ _ is)
     (goes_read R holds opening last t peer (datagram_reading bytes) sound remembers)
 steps_accept R holds opening last t (Write point bytes) next is sound remembers = (tt, remembers_write opening last t point bytes next (write_is t point bytes next is) remembers)
-steps_accept R holds opening last t (Read point) next is sound remembers = (tt, remembers_read opening last t (bytes_at t.values point) next is remembers)
 steps_accept R holds opening last t (Tick ms) next is sound remembers = (tt, remembers_tick opening last t ms next (tick_is t ms next is) remembers)
-steps_accept R holds opening last t other next is sound remembers = absurd cc
+steps_accept R holds opening last t other next is sound remembers = (tt, control_does (λ t next. TableRemembers opening last t → TableRemembers opening last next) (requests_remember opening last) (λ t number peer free. remembers_with opening last t number peer) t other next refl is remembers)
 
 pub steps_accept_newer : StepsAcceptAfter HasNewerNumber
 steps_accept_newer = steps_accept HasNewerNumber (λ profile row d is. newer_than row.last (acceptance_of d (row_delivery profile row d)) (accepted_newer (length d.payload == expected_len profile row) (accepts_sequence row.last d.sequence) (accepted_delivery row d) is))

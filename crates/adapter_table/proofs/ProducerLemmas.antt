@@ -7,7 +7,7 @@ use Rattle.adapter_table.specs.Connections.{Row}
 use Rattle.adapter_table.specs.declared.row.State.TheVariants.{TimedOut}
 use Rattle.adapter_table.specs.Rows.{is_established, is_member, Each}
 use Rattle.adapter_table.specs.Productions.{producer_of}
-use Rattle.adapter_table.specs.Opening.{connection_id}
+use Rattle.cip_types.specs.Ids.{connection_id}
 use Rattle.adapter_table.specs.Ticks.{has_expired, expired_row, expired_rows}
 use Rattle.adapter_table.specs.Sound.{IdsAreDrawn, SharesProducer, OpensBefore, ProducerIsDrawn, SingleHasItsOwn, MulticastIdIsDrawn, ShareInGroup, ProducersAreSound}
 use Rattle.adapter_table.specs.EachLemmas.{each_filter, each_append, each_map, each_found, each_weak, two_filter, two_append, two_map, two_found}
@@ -122,7 +122,7 @@ producers_later profile next_id later rows more sound = record {
 -- the group that it joins
 pub data Produces (profile : Profile) (next_id next : ℕ) (rows : List Row) (new : Row) : Type 0 where
   is_single : new.multicast ≡ false → producer_of new.state ≡ next_id → Produces profile next_id next rows new
-  is_first : producer_of new.state ≡ next_id → new.t_o_id ≡ connection_id profile (next_id + 1) → next_id + 1 < next → new.multicast ≡ true → Produces profile next_id next rows new
+  is_first : producer_of new.state ≡ next_id → new.t_o_id ≡ connection_id profile.incarnation (next_id + 1) → next_id + 1 < next → new.multicast ≡ true → Produces profile next_id next rows new
   is_joiner : (m : Row) → new.multicast ≡ true → find (is_member new.produced) rows ≡ Some m → SharesProducer new m → Produces profile next_id next rows new
 
 -- it is opened now
@@ -185,7 +185,7 @@ begins profile next_id next rows new is (is_first own id left many) ids sound =
     record {
       drawn = λ lives. (omega arith, omega arith);
       single = λ lives alone. own ∙ sym is.opening;
-      multicast = λ lives many'. (id ∙ ap (λ (n : ℕ). connection_id profile (n + 1)) (sym own), omega arith);
+      multicast = λ lives many'. (id ∙ ap (λ (n : ℕ). connection_id profile.incarnation (n + 1)) (sym own), omega arith);
       share = each_weak (ProducerIsDrawn next_id) (λ row. ShareInGroup row new) (own_share next_id new own) rows sound.are_drawn;
     }
 begins profile next_id next rows new is (is_joiner m many found shares) ids sound =
@@ -201,7 +201,7 @@ begins profile next_id next rows new is (is_joiner m many found shares) ids soun
     record {
       drawn = λ lives. (omega arith, omega arith);
       single = λ lives alone. absurd cc;
-      multicast = λ lives many'. (shares.id ∙ named.0 ∙ ap (λ (n : ℕ). connection_id profile (n + 1)) (sym same), omega arith);
+      multicast = λ lives many'. (shares.id ∙ named.0 ∙ ap (λ (n : ℕ). connection_id profile.incarnation (n + 1)) (sym same), omega arith);
       share =
           each_weak (λ row. ShareInGroup row m) (λ row. ShareInGroup row new) (joined_share new m many (sym (produced_is new.produced m member)) parts.0 shares) rows
           (two_found ShareInGroup back (is_member new.produced) rows m found (itself new.produced m member) sound.shared);

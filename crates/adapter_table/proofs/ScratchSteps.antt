@@ -9,7 +9,7 @@ use Rattle.cip_datagram.specs.Reading.{datagram_reading}
 use Rattle.cip_events.specs.declared.event.Delivery.{Delivery}
 use Rattle.cip_events.specs.declared.event.Delivery.TheVariants.{Applied, Idle, Heartbeat, Duplicate, Old, UnknownId, WrongSize, Malformed}
 use Rattle.cip_events.specs.declared.event.Event.{Event}
-use Rattle.cip_events.specs.declared.event.Event.TheVariants.{Request, StreamOpened, Frame, StreamCut, Datagram, Write, Read, Tick}
+use Rattle.cip_events.specs.declared.event.Event.TheVariants.{Datagram, Write, Tick}
 use Rattle.adapter_table.specs.declared.profile.InputPoint.{InputPoint}
 use Rattle.adapter_table.specs.declared.profile.OutputPoint.{OutputPoint}
 use Rattle.adapter_table.specs.Connections.{Row}
@@ -17,12 +17,11 @@ use Rattle.adapter_table.specs.declared.table.AdapterTable.{AdapterTable}
 use Rattle.adapter_table.specs.Profiles.{as_point, is_at, is_output_at}
 use Rattle.adapter_table.specs.Points.{data_points, put_value, bytes_at}
 use Rattle.adapter_table.specs.Rows.{written_row}
-use Rattle.cip_router.specs.Requests.{router_request_reading}
-use Rattle.adapter_table.specs.Requests.{Next, requested}
+use Rattle.adapter_table.specs.Requests.{Next}
 use Rattle.adapter_table.specs.Datagrams.{is_for, row_delivery, accepted_if_for, accepted_table, judged_datagram, found_datagram, datagram_of, received}
 use Rattle.adapter_table.specs.Productions.{changed_row}
 use Rattle.adapter_table.specs.Ticks.{clocked_table, expired, expired_table, produced_table}
-use Rattle.adapter_table.specs.Step.{adapter_step, read, read_of, written_table, changed_table}
+use Rattle.adapter_table.specs.Step.{adapter_step, written_table, changed_table}
 use Rattle.adapter_table.specs.Shapes.{IsShaped}
 use Rattle.adapter_table.specs.Whole.{IsWhole}
 use Rattle.adapter_table.specs.Scratch.{or_else, left_lost, left_accepted, accepted_by, read_accepted, is_lost, lost, left_at}
@@ -33,10 +32,11 @@ use Rattle.adapter_table.specs.Lemmas.ValueLemmas.{put_beside, zeros_at}
 use Rattle.adapter_table.specs.Lemmas.DriverLemmas.{same_owner}
 use Rattle.adapter_table.specs.Lemmas.LikeLemmas.{any_driver_kept, written_keeps, changed_keeps, fed_keeps}
 use Rattle.adapter_table.specs.Lemmas.FedLemmas.{fed_value}
-use Rattle.adapter_table.specs.Lemmas.RequestLemmas.{answered_does, frame_does, next_is, IsStreamed, streamed_is, cut_does}
+use Rattle.adapter_table.specs.Lemmas.RequestLemmas.{next_is}
 use Rattle.adapter_table.specs.Lemmas.EffectLemmas.{IsWrite, write_is, IsTick, tick_is}
-use Rattle.adapter_table.proofs.ServedLemmas.{LosesOnly, unlost, loses_nothing, loses_with, requests_lose}
+use Rattle.adapter_table.proofs.ServedLemmas.{LosesOnly, unlost, loses_with, requests_lose}
 use Rattle.adapter_table.proofs.ExpiryLemmas.{one_expired, owner_expired, expired_value}
+use Rattle.adapter_table.specs.Lemmas.ControlLemmas.{control_does}
 
 -- what an event leaves at each output, from the bytes that it held
 abbrev LeavesBytes : AdapterTable → Event → AdapterTable → Type 0
@@ -127,27 +127,15 @@ leaves_datagram t next peer bytes feeds = λ point output point_bytes is holds.
 
 -- ---- an event
 
-leaves_read : (t : AdapterTable) (point : ℕ) (found : Option (List ℕ)) (next : Next) → read_of t found ≡ Ok next → LeavesBytes t (Read point) next.1
-leaves_read t point None next is = absurd cc
-leaves_read t point (Some bytes) next is = subst (λ (n : Next). LeavesBytes t (Read point) n.1) (next_is _ _ is) (loses_nothing t)
-
-leaves_streamed : (t : AdapterTable) (number : ℕ) (peer : Node) (next : Next) → IsStreamed t number peer next → LeavesBytes t (StreamOpened number peer) next.1
-leaves_streamed t number peer next is = subst (λ (n : Next). LeavesBytes t (StreamOpened number peer) n.1) is.said (loses_with t number peer)
-
 -- each event that has a step
 leaves_bytes : (t : AdapterTable) (event : Event) (next : Next) → adapter_step t event ≡ Ok next → IsWhole t → LeavesBytes t event next.1
-unfolding requested received read
-leaves_bytes t (Request peer bytes) next is whole = subst (λ (n : Next). LeavesBytes t (Request peer bytes) n.1) (next_is _ _ is) (answered_does (λ t next. IsWhole t → LosesOnly t next) requests_lose t peer (router_request_reading bytes) whole)
-leaves_bytes t (StreamOpened number peer) next is whole = leaves_streamed t number peer next (streamed_is t number peer next is)
-leaves_bytes t (Frame number bytes) next is whole = frame_does (λ t next. IsWhole t → LosesOnly t next) requests_lose t number bytes next is whole
-leaves_bytes t (StreamCut number) next is whole = cut_does (λ t next. IsWhole t → LosesOnly t next) requests_lose t number next is whole
+unfolding received
 leaves_bytes t (Datagram peer bytes) next is whole =
     subst (λ (n : Next). LeavesBytes t (Datagram peer bytes) n.1) (next_is _ _ is)
     (leaves_datagram t (datagram_of t peer (datagram_reading bytes)).1 peer bytes (feeds_read t peer (datagram_reading bytes) whole.shaped))
 leaves_bytes t (Write point bytes) next is whole = leaves_write t point bytes next (write_is t point bytes next is) whole.shaped
-leaves_bytes t (Read point) next is whole = leaves_read t point (bytes_at t.values point) next is
 leaves_bytes t (Tick ms) next is whole = leaves_tick t ms next (tick_is t ms next is) whole
-leaves_bytes t other next is whole = absurd cc
+leaves_bytes t other next is whole = control_does (λ t next. IsWhole t → LosesOnly t next) requests_lose (λ t number peer free whole. loses_with t number peer) t other next refl is whole
 
 -- ---- from what each output held, which it does
 

@@ -1,6 +1,5 @@
 -- Connections stay within the limits of their adapter.
-use Rattle.std.proofs.Common.{◌≡◌, ◌≤◌, ◌<◌, ℕ, ◌+◌, ◌*◌, ◌^◌, ◌==◌, nat_lt, nat_le, Bool, true, false, cond, not, List, [], ◌∷◌, length, Option, Some, None, Ok, refl, sym, ap, ◌∙◌, arith, lit<, le_trans, leb-true}
-use Rattle.std.proofs.Math.Nat.{pow-le-pow_right, mul-le-mul_left, mul-le-mul_right}
+use Rattle.std.proofs.Common.{◌≡◌, ◌≤◌, ◌<◌, ℕ, ◌+◌, ◌^◌, ◌==◌, nat_lt, nat_le, Bool, true, false, cond, not, List, [], ◌∷◌, length, Option, Some, None, Ok, refl, sym, ap, ◌∙◌, arith, leb-true}
 use Rattle.std.specs.Prelude.{IsTrue}
 use Rattle.std.specs.Option.{option_map}
 use Rattle.std.proofs.lemmas.Bool.{not-false, and_parts, or_parts}
@@ -9,7 +8,8 @@ use Rattle.cip_types.specs.declared.names.Node.{Node}
 use Rattle.cip_types.specs.declared.names.Ms.{Ms}
 use Rattle.cip_netparams.specs.declared.Trigger.{Trigger}
 use Rattle.cip_netparams.specs.declared.Trigger.TheVariants.{Cyclic, ChangeOfState}
-use Rattle.cip_netparams.specs.Rate.{is_interval, interval_ms, timeout}
+use Rattle.cip_netparams.specs.Rate.{is_interval, interval_ms}
+use Rattle.cip_netparams.specs.Timeouts.{timeout_fits}
 use Rattle.cip_datagram.specs.Datagram.{DatagramFields}
 use Rattle.cip_fwdopen.specs.Open.{OpenFields}
 use Rattle.adapter_table.specs.declared.profile.InputPoint.{InputPoint}
@@ -92,11 +92,6 @@ multiplier_fits m h = grind (arith, nat_tests)
 
 pub interval_fits : (rpi : ℕ) → IsTrue (is_interval rpi) → interval_ms rpi ≤ 10000
 interval_fits rpi is = grind (arith, nat_tests)
-
-timeout_fits : (multiplier api : ℕ) → multiplier ≤ 7 → api ≤ 10000 → timeout multiplier api ≤ 5120000
-timeout_fits multiplier api few short =
-    let power : 2 ^ multiplier ≤ 2 ^ 7 = pow-le-pow_right (lit< tt) few in
-    le_trans (mul-le-mul_right api (mul-le-mul_left 4 power)) (mul-le-mul_left (4 * 2 ^ 7) short)
 
 pub is_timed : (t : AdapterTable) (request : OpenFields) (admitted : Admitted) → admission t request ≡ Ok admitted → IsTimed t request admitted
 is_timed t request admitted e =

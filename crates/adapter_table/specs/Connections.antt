@@ -22,6 +22,7 @@ with_state state c = record {
   multicast = c.multicast;
   opening = c.opening;
   last = c.last;
+  mode = c.mode;
   deadline = c.deadline;
   state = state;
 }

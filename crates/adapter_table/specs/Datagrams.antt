@@ -14,6 +14,8 @@ use Rattle.cip_events.specs.declared.event.Verdict.TheVariants.{Delivered}
 use Rattle.adapter_table.specs.declared.profile.OutputPoint.{OutputPoint}
 use Rattle.adapter_table.specs.declared.profile.Profile.{Profile}
 use Rattle.adapter_table.specs.declared.row.Connection.{Connection}
+use Rattle.adapter_table.specs.declared.row.Mode.{Mode}
+use Rattle.adapter_table.specs.declared.row.Mode.TheVariants as mode
 use Rattle.adapter_table.specs.Connections.{Row}
 use Rattle.adapter_table.specs.declared.table.PointValue.{PointValue}
 use Rattle.adapter_table.specs.declared.table.AdapterTable.{AdapterTable}
@@ -68,10 +70,22 @@ row_delivery profile row d = if length d.payload == expected_len profile row the
 abbrev pub later_deadline : {P : Type 0} → Ms → Connection P → Ms
 later_deadline clock row = record { 0 = clock.0 + row.watchdog.0 }
 
--- the datagram is the last that the connection accepted, and its watchdog begins again
+-- the mode of the newest data, after a datagram of this delivery; all but Applied and Idle bring no new data
+abbrev pub mode_after : Delivery → Option Mode → Option Mode
+mode_after Applied before = Some mode.Run
+mode_after Idle before = Some mode.Idle
+mode_after Heartbeat before = before
+mode_after Duplicate before = before
+mode_after Old before = before
+mode_after UnknownId before = before
+mode_after WrongSize before = before
+mode_after Malformed before = before
+
+-- the datagram is the last that the connection accepted, its data say the mode, and its watchdog begins again
 abbrev pub accepted_row : {P : Type 0} → Ms → DatagramFields → Connection P → Connection P
 accepted_row clock d row = record row {
   last = Some (record { number = d.sequence; count = d.count });
+  mode = mode_after (accepted_delivery row d) row.mode;
   deadline = later_deadline clock row;
 }
 

@@ -5,6 +5,9 @@ pub mod GroupLemmas
 pub mod SupportLemmas
 pub mod LikeLemmas
 pub mod RequestLemmas
+pub mod PassiveLemmas
+pub mod PlainLemmas
+pub mod ControlLemmas
 pub mod EffectLemmas
 pub mod ValueLemmas
 pub mod DriverLemmas

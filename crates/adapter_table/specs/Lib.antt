@@ -10,6 +10,7 @@ pub mod Productions
 pub mod Profiles
 pub mod Requests
 pub mod Rows
+pub mod States
 pub mod Shapes
 pub mod Streams
 pub mod Ticks

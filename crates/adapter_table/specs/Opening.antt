@@ -1,13 +1,13 @@
 -- Opening a connection: which connection it replaces, the new one, and the table after it
 -- (Volume 1, chapter 3, Forward_Open, connection ids and first watchdog; Volume 2, chapter 3, multicast
 -- address allocation).
-use Rattle.std.specs.Prelude.{ℕ, ◌+◌, ◌-◌, ◌%◌, ◌*◌, ◌^◌, ◌==◌, nat_le, Bool, true, false, if◌then◌else◌, List, [], ◌∷◌, ◌++◌, length, find, Option, Some, None}
+use Rattle.std.specs.Prelude.{ℕ, ◌+◌, ◌-◌, ◌%◌, ◌*◌, ◌==◌, nat_le, Bool, true, false, if◌then◌else◌, List, [], ◌∷◌, ◌++◌, length, find, Option, Some, None}
 use Rattle.std.specs.Option.{option_map}
 use Rattle.std.specs.List.{list_any, position_or_len}
 use Rattle.cip_types.specs.declared.names.Triad.{Triad}
 use Rattle.cip_types.specs.declared.names.Node.{Node}
+use Rattle.cip_types.specs.Ids.{connection_id}
 use Rattle.cip_types.specs.declared.names.ConnId.{ConnId}
-use Rattle.cip_netparams.specs.declared.Trigger.{Trigger}
 use Rattle.cip_fwdopen.specs.Open.{OpenFields}
 use Rattle.cip_fwdopen.specs.declared.reply.Opened.{Opened}
 use Rattle.cip_events.specs.declared.event.Notice.{Notice}
@@ -24,6 +24,7 @@ use Rattle.adapter_table.specs.Profiles.{host_id, is_at}
 use Rattle.adapter_table.specs.Points.{put_value}
 use Rattle.adapter_table.specs.Rows.{most_rows, has_triad, is_timed_out, others}
 use Rattle.adapter_table.specs.Checks.{Admitted, drawn_ids}
+use Rattle.cip_productions.specs.Productions.{first_production}
 use Rattle.cip_productions.specs.Watchdog.{first_deadline}
 
 -- THE CONNECTION THAT IS REPLACED
@@ -54,10 +55,6 @@ replaced_triad rows triad = option_map triad_of (find (is_replaced rows triad) r
 
 -- THE NEW CONNECTION
 
--- the byte that begins a device's ids, and a counter
-abbrev pub connection_id : Profile → ℕ → ConnId
-connection_id profile counter = record { 0 = profile.incarnation * 2 ^ 24 + counter }
-
 -- the multicast addresses of a device begin at 239.192.1.0, 32 for each host id; each input has the one of its index
 abbrev pub multicast_address : Profile → ℕ → Node
 multicast_address profile point = record {
@@ -68,22 +65,9 @@ multicast_address profile point = record {
 abbrev pub address_of : Profile → Node → Bool → ℕ → Node
 address_of profile peer multicast point = if multicast then multicast_address profile point else peer
 
--- the producer that a new connection starts: its data are new, and it is due at once
-abbrev pub new_production : AdapterTable → Node → Trigger → ℕ → Production
-new_production t address trigger inhibit = record {
-  producer = t.next_id;
-  sequence = 1;
-  count = 0;
-  written = true;
-  due = t.clock;
-  address = address;
-  trigger = trigger;
-  inhibit = inhibit;
-  last = None;
-}
-
+-- the producer that a new connection starts
 abbrev pub opened_production : AdapterTable → Node → Admitted → Production
-opened_production t peer admitted = new_production t (address_of t.profile peer admitted.multicast admitted.produced) admitted.trigger admitted.inhibit
+opened_production t peer admitted = first_production t.clock t.next_id (address_of t.profile peer admitted.multicast admitted.produced) admitted.trigger admitted.inhibit
 
 -- a joining connection shares the producer of its group; another connection starts one
 abbrev pub opened_state : AdapterTable → Node → Admitted → Option Row → State
@@ -93,7 +77,7 @@ opened_state t peer admitted (Some member) = member.state
 -- A joining connection has the T->O id of its group. For a new group the adapter chooses the id, the second that it
 -- draws; for a point to point connection the originator chooses it.
 abbrev pub opened_t_o_id : AdapterTable → OpenFields → Bool → Option Row → ConnId
-opened_t_o_id t request multicast None = if multicast then connection_id t.profile (t.next_id + 1) else request.t_o_id
+opened_t_o_id t request multicast None = if multicast then connection_id t.profile.incarnation (t.next_id + 1) else request.t_o_id
 opened_t_o_id t request multicast (Some member) = member.t_o_id
 
 -- the connection that an admitted request opens
@@ -104,7 +88,7 @@ opened_row t peer request admitted = record {
   kind = admitted.kind;
   consumed = admitted.consumed;
   produced = admitted.produced;
-  o_t_id = connection_id t.profile t.next_id;
+  o_t_id = connection_id t.profile.incarnation t.next_id;
   t_o_id = opened_t_o_id t request admitted.multicast admitted.group;
   o_t_api_ms = admitted.o_t_api_ms;
   t_o_api_ms = admitted.t_o_api_ms;
@@ -112,6 +96,7 @@ opened_row t peer request admitted = record {
   multicast = admitted.multicast;
   opening = t.next_id;
   last = None;
+  mode = None;
   deadline = first_deadline t.clock admitted.watchdog.0;
   state = opened_state t peer admitted admitted.group;
 }

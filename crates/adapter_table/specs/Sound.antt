@@ -7,7 +7,7 @@ use Rattle.adapter_table.specs.Connections.{Row}
 use Rattle.adapter_table.specs.declared.table.Stream.{Stream}
 use Rattle.adapter_table.specs.declared.table.AdapterTable.{AdapterTable}
 use Rattle.adapter_table.specs.Rows.{most_rows, has_triad, drivers, is_established, is_unsupported, is_member, Each, EachTwo}
-use Rattle.adapter_table.specs.Opening.{connection_id}
+use Rattle.cip_types.specs.Ids.{connection_id}
 use Rattle.adapter_table.specs.Productions.{producer_of}
 use Rattle.adapter_table.specs.Streams.{most_streams, is_stream}
 
@@ -27,7 +27,7 @@ IdsDiffer (row ∷ rows) = (list_any (has_o_t_id row.o_t_id) rows ≡ false) × 
 -- each O->T id is the device's, and its counter, which is the opening number, is below the next one
 abbrev pub IdsAreDrawn : Profile → ℕ → List Row → Type 0
 IdsAreDrawn profile next_id [] = Unit {0}
-IdsAreDrawn profile next_id (row ∷ rows) = (row.o_t_id ≡ connection_id profile row.opening) × (row.opening < next_id) × IdsAreDrawn profile next_id rows
+IdsAreDrawn profile next_id (row ∷ rows) = (row.o_t_id ≡ connection_id profile.incarnation row.opening) × (row.opening < next_id) × IdsAreDrawn profile next_id rows
 
 -- an output has at most one established exclusive owner
 abbrev pub HasOneOwner : List Row → Type 0
@@ -85,7 +85,7 @@ SinglesHaveTheirOwn rows = Each SingleHasItsOwn rows
 abbrev pub MulticastIdIsDrawn : Profile → ℕ → Row → Type 0
 MulticastIdIsDrawn profile next_id row =
     is_established row ≡ true → row.multicast ≡ true →
-    (row.t_o_id ≡ connection_id profile (producer_of row.state + 1)) × (producer_of row.state + 1 < next_id)
+    (row.t_o_id ≡ connection_id profile.incarnation (producer_of row.state + 1)) × (producer_of row.state + 1 < next_id)
 
 abbrev pub MulticastIdsAreDrawn : Profile → ℕ → List Row → Type 0
 MulticastIdsAreDrawn profile next_id rows = Each (MulticastIdIsDrawn profile next_id) rows

@@ -3,11 +3,11 @@
 ghost use Rattle.std.specs.Prelude.{◌≡◌, ◌≤◌, ◌+◌, ◌==◌, ◌^◌};
 ghost use Rattle.cip_datagram.specs.Datagram.{view_datagram};
 ghost use Rattle.cip_datagram.specs.Header.{header_at};
-ghost use Rattle.adapter_table.specs.Datagrams.{is_for, expected_len, run_data, owned_delivery, row_delivery, accepted_row, accepted_if_for};
+ghost use Rattle.adapter_table.specs.Datagrams.{is_for, expected_len, run_data, owned_delivery, accepted_delivery, row_delivery, mode_after, accepted_row, accepted_if_for};
 ghost use Rattle.adapter_table.specs.Judging.{IsJudged, judged_delivery};
 
 use crate::profile::Profile;
-use crate::row::{Connection, Row};
+use crate::row::{Connection, Mode, Row};
 use crate::rows::is_established;
 use cip_datagram::{Datagram, read_header};
 use cip_events::Delivery;
@@ -86,6 +86,17 @@ fn judge_owned<'a, P>(row: &Connection<P>, datagram: &Datagram<'a>) -> Judgement
     }
 }
 
+/// The judgement of a datagram that a connection accepts.
+fn judge_accepted<'a, P>(row: &Connection<P>, datagram: &Datagram<'a>) -> Judgement<'a>
+    ensures { IsJudged (accepted_delivery row.now (view_datagram datagram.now))
+        (run_data (header_at (view_datagram datagram.now).payload)) result }
+{
+    if row.kind != Kind::ExclusiveOwner {
+        return Judgement::Heartbeat;
+    }
+    judge_owned(row, datagram)
+}
+
 /// The judgement of a datagram that is for a connection. It is refused if it has another size than the connection's
 /// (`WrongSize`), then if its number is not newer than the last accepted one (`Old`); otherwise it is accepted. Takes
 /// no memory.
@@ -105,22 +116,32 @@ pub fn judge<'a, P>(
     if !accepts_sequence(row.last, datagram.sequence) {
         return Judgement::Old;
     }
-    if row.kind != Kind::ExclusiveOwner {
-        return Judgement::Heartbeat;
+    judge_accepted(row, datagram)
+}
+
+/// The mode of the newest data, after a datagram of this delivery.
+fn mode_after(delivery: Delivery, before: Option<Mode>) -> Option<Mode>
+    ensures { result ≡ mode_after delivery before }
+{
+    match delivery {
+        Delivery::Applied => Some(Mode::Run),
+        Delivery::Idle => Some(Mode::Idle),
+        _ => before,
     }
-    judge_owned(row, datagram)
 }
 
 impl<P> Connection<P> {
-    /// The connection accepts a datagram: it keeps the datagram's number and count, and its watchdog begins again.
-    /// Takes no memory.
+    /// The connection accepts a datagram that is judged so: it keeps the datagram's number and count, and the mode of
+    /// its data, and its watchdog begins again. Takes no memory.
     ///
-    /// Volume 1, chapter 3, inactivity watchdog.
-    pub fn accept(&mut self, clock: Ms, datagram: &Datagram<'_>)
+    /// Volume 1, chapter 3, inactivity watchdog and run/idle.
+    pub fn accept(&mut self, clock: Ms, datagram: &Datagram<'_>, judgement: &Judgement<'_>)
+        requires judged { judged_delivery judgement.now ≡ accepted_delivery self.old (view_datagram datagram.now) }
         requires waits { self.old.watchdog.0 ≤ 5120000 }
         requires time { clock.0 ≤ 2 ^ 48 }
         ensures { self.new ≡ accepted_row clock (view_datagram datagram.now) self.old }
     {
+        self.mode = mode_after(judgement.delivery(), self.mode);
         self.last = Some(Accepted {
             number: datagram.sequence,
             count: datagram.count,
@@ -136,6 +157,7 @@ pub fn accept_if_for(row: &mut Row, clock: Ms, peer: Node, datagram: &Datagram<'
     ensures { row.new ≡ accepted_if_for clock peer (view_datagram datagram.now) row.old }
 {
     if is_for(row, peer, datagram.connection) {
-        row.accept(clock, datagram);
+        let judgement = judge_accepted(row, datagram);
+        row.accept(clock, datagram, &judgement);
     }
 }

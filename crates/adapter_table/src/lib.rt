@@ -10,6 +10,7 @@ pub mod laws;
 mod producing;
 mod profile;
 mod profile_check;
+mod report;
 mod row;
 mod rows;
 mod table;
@@ -22,7 +23,8 @@ pub use producing::{
     produces_on_change, written_row,
 };
 pub use profile::{Action, InputPoint, OutputPoint, Profile};
-pub use row::{Connection, Row, State};
+pub use report::{ConnectionReport, ConsumerCounts, consumes, report_of};
+pub use row::{Connection, Mode, Row, State};
 pub use rows::{
     drives, has_triad, holds_triad, is_established, is_member, is_supported, is_timed_out, supports,
 };

@@ -15,9 +15,22 @@ pub enum State {
     TimedOut,
 }
 
+/// The mode of an originator, by the run/idle header of its data.
+///
+/// Volume 1, chapter 3, real time formats.
+#[derive(Clone, Copy, PartialEq, Eq)]
+pub enum Mode {
+    /// It is idle: its data are not used.
+    Idle,
+    /// It runs: the output takes its data.
+    Run,
+}
+
 /// One connection: its triad and peer, its application type and points, its ids, its actual packet intervals in
 /// milliseconds and the time-out of its inactivity watchdog, the number of its opening, the last datagram that it
-/// accepted, its deadline, and what is known of its production.
+/// accepted, the mode of the newest data that it accepted, its deadline, and what is known of its production.
+///
+/// The mode is None before the first datagram, and of a connection without O->T data. A duplicate brings no new data.
 ///
 /// Volume 1, chapter 3, connection object attributes.
 #[derive(Clone, Copy, PartialEq, Eq)]
@@ -35,6 +48,7 @@ pub struct Connection<P> {
     pub multicast: bool,
     pub opening: u32,
     pub last: Option<Accepted>,
+    pub mode: Option<Mode>,
     pub deadline: Ms,
     pub state: P,
 }
@@ -58,6 +72,7 @@ impl<P> Connection<P> {
             multicast: self.multicast,
             opening: self.opening,
             last: self.last,
+            mode: self.mode,
             deadline: self.deadline,
             state,
         }

@@ -3,6 +3,7 @@
 use crate::profile::Profile;
 use crate::row::Row;
 use cip_types::{Items, Ms, Node};
+use open_streams::Numbered;
 
 /// The bytes of a point.
 #[derive(PartialEq, Drop)]
@@ -19,6 +20,14 @@ pub struct Stream {
     pub number: u16,
     pub peer: Node,
     pub registered: bool,
+}
+
+impl Numbered for Stream {
+    ghost number = { λ stream. stream.number };
+
+    fn number(&self) -> u16 {
+        self.number
+    }
 }
 
 /// An adapter: its profile, its connections in opening order, the bytes of its points, its clock, the counter

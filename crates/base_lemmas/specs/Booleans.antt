@@ -1,5 +1,5 @@
 -- Booleans whose one part is known.
-use Rattle.std.proofs.Common.{◌≡◌, Bool, true, false, not, ◌&&◌, ◌||◌, refl}
+use Rattle.std.proofs.Common.{◌≡◌, Bool, true, false, cond, not, ◌&&◌, ◌||◌, refl}
 
 pub and_none : (b : Bool) → (b && false) ≡ false
 and_none true = refl
@@ -18,3 +18,8 @@ pub not_alone : (a b : Bool) → (a ≡ true → b ≡ true) → (a && not b) �
 not_alone true true implies = refl
 not_alone true false implies = absurd (let both : false ≡ true = implies refl in cc)
 not_alone false b implies = refl
+
+-- what holds of both values holds of the one that a test takes
+pub either : {A : Type 0} (P : A → Type 0) (b : Bool) (x y : A) → P x → P y → P (cond b x y)
+either P true x y first second = first
+either P false x y first second = second

@@ -3,12 +3,6 @@ use Rattle.std.proofs.Common.{◌≡◌, rules}
 use Rattle.std.specs.Bool.{Decides}
 use Rattle.std.specs.Cmp.Lexicographic.{pointwise_decides}
 use Rattle.std.proofs.lemmas.Bool.Decides.{Decides-eqb, Decides-and, Decides-like}
-use Rattle.cip_types.specs.declared.names.Triad.{Triad}
-use Rattle.cip_types.specs.declared.names.Node.{Node}
-use Rattle.cip_types.specs.declared.names.ConnId.{ConnId}
-use Rattle.cip_types.specs.contracts.names.NodePartialEq.TheImpl as node
-use Rattle.cip_types.specs.contracts.names.ConnIdPartialEq.TheImpl as id
-use Rattle.cip_types.specs.contracts.names.TriadPartialEq.TheImpl as triad
 use Rattle.cip_events.specs.declared.event.Recipient.{Recipient}
 use Rattle.cip_events.specs.declared.event.Frame.{Frame}
 use Rattle.cip_events.specs.declared.event.OutgoingDatagram.{OutgoingDatagram}
@@ -23,15 +17,7 @@ use Rattle.cip_events.specs.contracts.event.DeliveryPartialEq.TheImpl as deliver
 use Rattle.cip_events.specs.contracts.event.VerdictPartialEq.TheImpl as verdict
 use Rattle.cip_events.specs.contracts.event.NoticePartialEq.TheImpl as notice
 use Rattle.cip_events.specs.contracts.event.AnswerPartialEq.TheImpl as answer
-
-node_decides : (a b : Node) → Decides ((node.ghosts).eq a b) (a ≡ b)
-node_decides a b = search rules
-
-id_decides : (a b : ConnId) → Decides ((id.ghosts).eq a b) (a ≡ b)
-id_decides a b = search rules
-
-triad_decides : (a b : Triad) → Decides ((triad.ghosts).eq a b) (a ≡ b)
-triad_decides a b = search rules
+use Rattle.cip_events.specs.Lemmas.EqualLemmas.{node_decides, id_decides, triad_decides}
 
 recipient_decides : (a b : Recipient) → Decides ((recipient.ghosts).eq a b) (a ≡ b)
 recipient_decides a b = search rules

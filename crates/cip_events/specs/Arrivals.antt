@@ -1,4 +1,5 @@
--- What arrives at a device from outside: over a stream, or as a class 1 datagram.
+-- What arrives at a device from outside: over a stream, or as a class 1 datagram. Which events its own application makes.
+use Rattle.std.specs.Prelude.{Bool, true, false}
 use Rattle.cip_events.specs.declared.arrival.Arrival.{Arrival}
 use Rattle.cip_events.specs.declared.arrival.Arrival.TheVariants as arrival
 use Rattle.cip_events.specs.declared.event.Event.{Event}
@@ -10,3 +11,12 @@ arrival_event (arrival.Opened stream peer) = event.StreamOpened stream peer
 arrival_event (arrival.Frame stream bytes) = event.Frame stream bytes
 arrival_event (arrival.Cut stream) = event.StreamCut stream
 arrival_event (arrival.Datagram peer bytes) = event.Datagram peer bytes
+
+-- the event is a call of the device's own application, or a tick
+abbrev pub is_own : Event → Bool
+is_own (event.Request peer bytes) = false
+is_own (event.StreamOpened stream peer) = false
+is_own (event.Frame stream bytes) = false
+is_own (event.StreamCut stream) = false
+is_own (event.Datagram peer bytes) = false
+is_own other = true

@@ -5,3 +5,6 @@ pub mod Clock
 pub mod Kept
 pub mod Outcomes
 pub mod Phases
+pub mod Outputs
+pub mod Transmission
+pub mod Lemmas

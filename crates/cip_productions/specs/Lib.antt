@@ -2,3 +2,5 @@ pub mod Acceptance
 pub mod Watchdog
 pub mod Productions
 pub mod Kinds
+pub mod Ages
+pub mod Lemmas

@@ -12,6 +12,22 @@ use Rattle.cip_events.specs.declared.event.OutgoingDatagram.{OutgoingDatagram}
 use Rattle.cip_productions.specs.declared.production.Production.{Production}
 use Rattle.cip_productions.specs.declared.production.Producer.{Producer}
 
+-- THE FIRST STATE OF A PRODUCER
+
+-- the production that a new connection starts: its data are new, and it is due at once
+abbrev pub first_production : Ms → ℕ → Node → Trigger → ℕ → Production
+first_production clock producer address trigger inhibit = record {
+  producer = producer;
+  sequence = 1;
+  count = 0;
+  written = true;
+  due = clock;
+  address = address;
+  trigger = trigger;
+  inhibit = inhibit;
+  last = None;
+}
+
 -- THE NEXT STATE OF A PRODUCER
 
 -- the count of the next datagram, which rises with new data

@@ -3,12 +3,16 @@
 #![tactic(auto)]
 
 mod acceptance;
+mod age;
+mod beginning;
 mod kind;
 mod outgoing;
 mod producing;
 mod production;
 
 pub use acceptance::{Accepted, accepts_sequence, is_duplicate};
+pub use age::{Age, age_of};
+pub use beginning::{first_deadline, first_production};
 pub use kind::Kind;
 pub use outgoing::{by_due, by_number, same_producer, sent_by};
 pub use producing::{

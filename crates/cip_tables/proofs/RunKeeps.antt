@@ -17,9 +17,9 @@ use Rattle.scanner_table.specs.declared.table.ScannerTable.{ScannerTable}
 use Rattle.scanner_table.specs.Effects.{Next as ScannerNext}
 use Rattle.scanner_table.specs.Profiles.{profile_fault as scanner_profile_fault}
 use Rattle.scanner_table.specs.Step.{scanner_step, scanner_table}
-use Rattle.scanner_whole.specs.Whole.{IsWholeScanner}
-use Rattle.scanner_whole.specs.Counters.{CountsOn}
-use Rattle.scanner_whole.specs.Runs.{StepsLead as ScannersLead}
+use Rattle.scanner_table.specs.Whole.{IsWholeScanner}
+use Rattle.scanner_table.specs.Counters.{CountsOn}
+use Rattle.scanner_table.specs.Runs.{StepsLead as ScannersLead}
 use Rattle.cip_tables.specs.declared.table.Config.{Config}
 use Rattle.cip_tables.specs.declared.table.Config.TheVariants as config
 use Rattle.cip_tables.specs.declared.table.DeviceTable.{DeviceTable}

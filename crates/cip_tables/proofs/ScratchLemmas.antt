@@ -22,7 +22,7 @@ use Rattle.cip_tables.specs.Run.{Runs, table_of, performed}
 use Rattle.cip_tables.specs.Whole.{IsWholeDevice}
 use Rattle.cip_tables.specs.Scratch.{touched, last_touched, outputs_of, OutputsAreFromScratch, FreshOutputsAreFromScratch}
 use Rattle.scanner_table.specs.Step.{scanner_table}
-use Rattle.scanner_whole.specs.Whole.{IsWholeScanner}
+use Rattle.scanner_table.specs.Whole.{IsWholeScanner}
 use Rattle.cip_tables.proofs.RunKeeps.{InAdapter, InDevice, ScannersKeep, none_keep, all_keep, ok_is, follows_keeps, run_keeps}
 
 -- the laws of an adapter's steps

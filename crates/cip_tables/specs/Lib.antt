@@ -8,3 +8,4 @@ pub mod Run
 pub mod Newest
 pub mod FollowLaws
 pub mod RunLaws
+pub mod States

@@ -9,7 +9,7 @@ use Rattle.cip_tables.specs.Step.{opening_table, config_fault}
 use Rattle.cip_events.specs.Outcomes.{Outcome}
 use Rattle.cip_tables.specs.Run.{Runs}
 use Rattle.adapter_table.specs.Whole.{IsWhole}
-use Rattle.scanner_whole.specs.Whole.{IsWholeScanner}
+use Rattle.scanner_table.specs.Whole.{IsWholeScanner}
 
 abbrev pub IsWholeDevice : DeviceTable → Type 0
 IsWholeDevice (Adapter t) = IsWhole t

@@ -3,8 +3,11 @@
 use crate::copy::TableCopy;
 use crate::device::Device;
 use crate::table::Config;
+use crate::totals::DeviceTotals;
+use adapter_table::{ConnectionReport, ConsumerCounts};
 use cip_events::{Delivery, Event, NewFault, Outcome, StepFault};
 use cip_types::{Ms, Node, OutOfMemory};
+use scanner_table::SlotReport;
 use std::alloc::Global;
 
 /// An adapter of one type or a scanner of another, as its configuration says. Contracts see it as its table.
@@ -78,6 +81,41 @@ impl<A: Device, S: Device> Device for AnyDevice<A, S> {
         match self {
             AnyDevice::Adapter(device) => device.copy(),
             AnyDevice::Scanner(device) => device.copy(),
+        }
+    }
+
+    fn owner(&self, output: u32) -> Option<ConnectionReport> {
+        match self {
+            AnyDevice::Adapter(device) => device.owner(output),
+            AnyDevice::Scanner(device) => device.owner(output),
+        }
+    }
+
+    fn consumers(&self, input: u32) -> ConsumerCounts {
+        match self {
+            AnyDevice::Adapter(device) => device.consumers(input),
+            AnyDevice::Scanner(device) => device.consumers(input),
+        }
+    }
+
+    fn connection(&self, place: u32) -> Option<ConnectionReport> {
+        match self {
+            AnyDevice::Adapter(device) => device.connection(place),
+            AnyDevice::Scanner(device) => device.connection(place),
+        }
+    }
+
+    fn slot(&self, number: u32) -> Option<SlotReport> {
+        match self {
+            AnyDevice::Adapter(device) => device.slot(number),
+            AnyDevice::Scanner(device) => device.slot(number),
+        }
+    }
+
+    fn totals(&self) -> DeviceTotals {
+        match self {
+            AnyDevice::Adapter(device) => device.totals(),
+            AnyDevice::Scanner(device) => device.totals(),
         }
     }
 

@@ -4,14 +4,13 @@ ghost use Rattle.std.specs.Prelude.{◌≡◌, ◌≤◌, ◌↔◌, IfOk, IsTru
 ghost use Rattle.cip_tables.specs.declared.table.DeviceTable.{DeviceTable};
 ghost use Rattle.cip_tables.specs.declared.table.DeviceTable.TheVariants.{Adapter, Scanner};
 ghost use Rattle.adapter_table.specs.Whole.{IsWhole};
-ghost use Rattle.scanner_whole.specs.Whole.{IsWholeScanner};
+ghost use Rattle.scanner_table.specs.Whole.{IsWholeScanner};
 ghost use Rattle.cip_tables.specs.Whole.{IsWholeDevice, next_id_of, with_next_id};
 
 use crate::table::{Config, DeviceTable};
 use adapter_table::AdapterTable;
 use cip_types::OutOfMemory;
-use scanner_table::ScannerTable;
-use scanner_whole::later_counters_keep_tables_whole;
+use scanner_table::{ScannerTable, later_counters_keep_tables_whole};
 use std::alloc::Global;
 use std::marker::Model;
 

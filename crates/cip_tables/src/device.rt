@@ -4,6 +4,7 @@ ghost use Rattle.std.specs.Prelude.{◌≡◌, ◌≢◌, ◌≤◌, Bool, false
 ghost use Rattle.cip_tables.specs.declared.table.Config.{Config};
 ghost use Rattle.cip_tables.specs.declared.table.DeviceTable.{DeviceTable};
 ghost use Rattle.cip_tables.specs.Step.{step, opening_table, config_fault, bytes_in, produces_at_once, no_such, is_datagram};
+ghost use Rattle.cip_tables.specs.States.{owner_in, consumers_in, connection_in, slot_in, totals_of};
 ghost use Rattle.cip_tables.specs.Wakes.{IsQuietFor, due_in};
 ghost use Rattle.cip_events.specs.Answers.{plain_answer, value_answer};
 ghost use Rattle.cip_events.specs.Clock.{longest_tick};
@@ -15,10 +16,11 @@ ghost use Rattle.cip_events.specs.Faults.{IsRefusedAs};
 
 use crate::copy::TableCopy;
 use crate::table::Config;
-use adapter_table::laws;
+use crate::totals::DeviceTotals;
+use adapter_table::{ConnectionReport, ConsumerCounts, laws};
 use cip_events::{Delivery, Event, NewFault, Outcome, StepFault, Verdict};
 use cip_types::{Ms, Node, OutOfMemory};
-use scanner_whole::steps_keep_tables_whole;
+use scanner_table::{SlotReport, steps_keep_tables_whole};
 use std::alloc::Global;
 
 /// A device: an adapter or a scanner. Contracts see it as its table, and each method follows the step of that table.
@@ -76,6 +78,30 @@ pub trait Device {
     /// Copies the present table. `OutOfMemory` is the only error.
     fn copy(&self) -> Result<TableCopy, OutOfMemory>
         ensures { IfOk result (λ copy. copy ≡ table self.now) };
+
+    /// The owner of an output of an adapter: its peer, its kind, the mode of its newest data, and their age. None if
+    /// no connection owns it, and at a scanner. Takes no memory.
+    fn owner(&self, output: u32) -> Option<ConnectionReport>
+        ensures { result ≡ owner_in (table self.now) output };
+
+    /// How many established connections consume an input of an adapter, by their kinds. None do at a scanner. Takes no
+    /// memory.
+    fn consumers(&self, input: u32) -> ConsumerCounts
+        ensures { result ≡ consumers_in (table self.now) input };
+
+    /// The connection of an adapter at a place of the opening order, from 0 on, timed-out ones included. None behind
+    /// the last one, and at a scanner. Takes no memory.
+    fn connection(&self, place: u32) -> Option<ConnectionReport>
+        ensures { result ≡ connection_in (table self.now) place };
+
+    /// The state of a scanner's slot, and of an established one the packet intervals and the age of its data. None if
+    /// there is no such slot, and at an adapter. Takes no memory.
+    fn slot(&self, number: u32) -> Option<SlotReport>
+        ensures { result ≡ slot_in (table self.now) number };
+
+    /// How many streams, sessions and connections there are, and how many connection ids are left. Takes no memory.
+    fn totals(&self) -> DeviceTotals
+        ensures { result ≡ totals_of (table self.now) };
 
     /// Returns in how many milliseconds something is due, if only time passes: a connection times out, a production
     /// is due, a slot opens or gives up a request. 0 if it is due now; at most the longest tick, 60,000 milliseconds.

@@ -1,5 +1,5 @@
 //! Laws of every run of a device. A law call does nothing; its contract states the law. The laws of scanners are in
-//! `scanner_whole::runs`, above this crate.
+//! `scanner_table::runs`, above this crate.
 //!
 //! Unless a law says otherwise, it holds of every adapter's table that a run reaches: a run from a whole table, and
 //! a run from a fresh device of any configuration.
@@ -15,7 +15,7 @@ ghost use Rattle.adapter_table.specs.Streams.{most_streams};
 ghost use Rattle.adapter_table.specs.Sound.{IsSound, HasOneOwner, TriadsDiffer, IdsDiffer, IdsAreDrawn, ListenersAreSupported, GroupsAgree, StreamsDiffer, OpeningsRise, ProducersAreDrawn, SinglesHaveTheirOwn, GroupsAloneShare, MulticastIdsAreDrawn};
 
 use adapter_table::laws;
-use scanner_whole::{fresh_tables_are_whole, steps_keep_tables_whole};
+use scanner_table::{fresh_tables_are_whole, steps_keep_tables_whole};
 
 /// Every table is sound. A sound table has all the properties that the laws of single properties below name.
 pub fn tables_are_sound()
@@ -121,7 +121,7 @@ pub fn next_id_never_falls()
     ensures run { RunsCountOn }
 {
     laws::counters_never_fall();
-    scanner_whole::counters_never_fall();
+    scanner_table::counters_never_fall();
 }
 
 /// There are at most 16 open streams.

@@ -8,17 +8,18 @@ mod copy;
 mod device;
 pub mod laws;
 mod table;
+mod totals;
 
 pub use adapter_table::{
-    Action, AdapterTable, Admission, ConsumedPoint, InputPoint, OutputPoint, PointValue, Profile,
-    Row, State, Stream,
+    Action, AdapterTable, Admission, ConnectionReport, ConsumedPoint, ConsumerCounts, InputPoint,
+    Mode, OutputPoint, PointValue, Profile, Row, State, Stream,
 };
 pub use any_device::AnyDevice;
 pub use cip_events::{
     Answer, Consumers, Delivery, Event, Frame, NewFault, Notice, Outcome, OutgoingDatagram,
     ProfileFault, Reason, Recipient, SmallBytes, StepFault, Verdict,
 };
-pub use cip_productions::{Accepted, Kind, Production};
+pub use cip_productions::{Accepted, Age, Kind, Production};
 pub use cip_router::{
     Command, EncapStatus, Refusal, Reply, RouterRequest, Status, read_router_request,
 };
@@ -26,6 +27,7 @@ pub use copy::TableCopy;
 pub use device::{Device, run};
 pub use scanner_table::{
     PendingClose, PendingOpen, ScannerProfile, ScannerTable, Session, Slot, SlotConfig,
-    SlotConnection, SlotState, Stage, TargetStream,
+    SlotConnection, SlotReport, SlotState, Stage, TargetReport, TargetStream,
 };
 pub use table::{Config, DeviceTable};
+pub use totals::DeviceTotals;

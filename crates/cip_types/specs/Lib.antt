@@ -9,3 +9,4 @@ pub mod PartLaws
 pub mod TextLaws
 pub mod Indices
 pub mod Firsts
+pub mod Ids

@@ -1,15 +1,19 @@
-//! The numbers, identities and limits that the crates of the line share, and the little-endian fields of their
-//! formats.
+//! The numbers, identities and limits that the crates of the line share, the little-endian fields of their formats, lists
+//! as values, and sorting by an order of the caller.
 #![tactic(auto)]
 
 pub mod circle;
 pub mod fields;
+pub mod ids;
 pub mod items;
 pub mod limits;
 pub mod memory;
 pub mod names;
+mod order;
 
 pub use circle::{newer32, same16};
+pub use ids::connection_id;
 pub use items::Items;
 pub use memory::OutOfMemory;
 pub use names::{ConnId, Fault, Identity, Mismatch, Ms, Node, Triad};
+pub use order::{Order, sorted};

@@ -7,15 +7,7 @@ use Rattle.std.specs.Option.{option_eq}
 use Rattle.std.specs.Cmp.{booleans_Decides}
 use Rattle.std.specs.Cmp.Lexicographic.{pointwise_decides}
 use Rattle.std.proofs.lemmas.Bool.Decides.{Decides-eqb, Decides-and, Decides-like}
-use Rattle.cip_types.specs.declared.names.Ms.{Ms}
-use Rattle.cip_types.specs.declared.names.Triad.{Triad}
-use Rattle.cip_types.specs.declared.names.Node.{Node}
-use Rattle.cip_types.specs.declared.names.ConnId.{ConnId}
-use Rattle.cip_netparams.specs.declared.Trigger.{Trigger}
 use Rattle.cip_epath.specs.declared.key.ElectronicKey.{ElectronicKey}
-use Rattle.cip_productions.specs.declared.kind.Kind.{Kind}
-use Rattle.cip_productions.specs.declared.production.Production.{Production}
-use Rattle.cip_productions.specs.declared.acceptance.Accepted.{Accepted}
 use Rattle.conn_state.specs.declared.names.Link.{Link}
 use Rattle.conn_state.specs.declared.names.Requested.{Requested}
 use Rattle.scanner_table.specs.declared.profile.SlotConfig.{SlotConfig}
@@ -28,15 +20,7 @@ use Rattle.scanner_table.specs.declared.slot.Slot.{Slot}
 use Rattle.scanner_table.specs.declared.table.Stage.{Stage}
 use Rattle.scanner_table.specs.declared.table.TargetStream.{TargetStream}
 use Rattle.scanner_table.specs.declared.table.ScannerTable.{ScannerTable}
-use Rattle.cip_types.specs.contracts.names.MsPartialEq.TheImpl as ms
-use Rattle.cip_types.specs.contracts.names.NodePartialEq.TheImpl as node
-use Rattle.cip_types.specs.contracts.names.ConnIdPartialEq.TheImpl as id
-use Rattle.cip_types.specs.contracts.names.TriadPartialEq.TheImpl as triad
-use Rattle.cip_netparams.specs.contracts.TriggerPartialEq.TheImpl as trigger
 use Rattle.cip_epath.specs.contracts.key.ElectronicKeyPartialEq.TheImpl as key
-use Rattle.cip_productions.specs.contracts.kind.KindPartialEq.TheImpl as kind
-use Rattle.cip_productions.specs.contracts.production.ProductionPartialEq.TheImpl as production
-use Rattle.cip_productions.specs.contracts.acceptance.AcceptedPartialEq.TheImpl as accepted
 use Rattle.conn_state.specs.contracts.names.LinkPartialEq.TheImpl as link
 use Rattle.conn_state.specs.contracts.names.RequestedPartialEq.TheImpl as desired_up
 use Rattle.scanner_table.specs.contracts.profile.SlotConfigPartialEq.TheImpl as config
@@ -49,26 +33,10 @@ use Rattle.scanner_table.specs.contracts.slot.SlotPartialEq.TheImpl as slot
 use Rattle.scanner_table.specs.contracts.table.StagePartialEq.TheImpl as stage
 use Rattle.scanner_table.specs.contracts.table.TargetStreamPartialEq.TheImpl as stream
 use Rattle.scanner_table.specs.contracts.table.ScannerTablePartialEq.TheImpl as table
+use Rattle.cip_productions.specs.Lemmas.EqualLemmas.{trigger_decides, kind_decides, last_decides, production_decides}
+use Rattle.cip_events.specs.Lemmas.EqualLemmas.{ms_decides, node_decides}
 
 -- ---- times, addresses, ids
-
-ms_decides : (a b : Ms) → Decides ((ms.ghosts).eq a b) (a ≡ b)
-ms_decides a b = search rules
-
-node_decides : (a b : Node) → Decides ((node.ghosts).eq a b) (a ≡ b)
-node_decides a b = search rules
-
-id_decides : (a b : ConnId) → Decides ((id.ghosts).eq a b) (a ≡ b)
-id_decides a b = search rules
-
-triad_decides : (a b : Triad) → Decides ((triad.ghosts).eq a b) (a ≡ b)
-triad_decides a b = search rules
-
-trigger_decides : (a b : Trigger) → Decides ((trigger.ghosts).eq a b) (a ≡ b)
-trigger_decides a b = search rules
-
-kind_decides : (a b : Kind) → Decides ((kind.ghosts).eq a b) (a ≡ b)
-kind_decides a b = search rules
 
 link_decides : (a b : Link) → Decides ((link.ghosts).eq a b) (a ≡ b)
 link_decides a b = search rules
@@ -151,28 +119,6 @@ profile_decides a b =
 
 -- ---- slots
 
-accepted_decides : (a b : Accepted) → Decides ((accepted.ghosts).eq a b) (a ≡ b)
-accepted_decides a b = search rules
-
-last_decides : (a b : Option Accepted) → Decides (option_eq (accepted.ghosts).eq a b) (a ≡ b)
-last_decides a b = search rules
-
-time_decides : (a b : Option Ms) → Decides (option_eq (ms.ghosts).eq a b) (a ≡ b)
-time_decides a b = search rules
-
-production_decides : (a b : Production) → Decides ((production.ghosts).eq a b) (a ≡ b)
-production_decides a b =
-    Decides-like ((production.ghosts).eq a b) (λ p. search rules) (λ e. search rules)
-    (Decides-and _ _ (Decides-eqb a.producer b.producer)
-    (Decides-and _ _ (Decides-eqb a.sequence b.sequence)
-    (Decides-and _ _ (Decides-eqb a.count b.count)
-    (Decides-and _ _ (booleans_Decides a.written b.written)
-    (Decides-and _ _ (ms_decides a.due b.due)
-    (Decides-and _ _ (node_decides a.address b.address)
-    (Decides-and _ _ (trigger_decides a.trigger b.trigger)
-    (Decides-and _ _ (Decides-eqb a.inhibit b.inhibit)
-    (time_decides a.last b.last)))))))))
-
 opening_decides : (a b : PendingOpen) → Decides ((opening.ghosts).eq a b) (a ≡ b)
 opening_decides a b =
     Decides-like ((opening.ghosts).eq a b) (λ p. search rules) (λ e. search rules)
@@ -185,9 +131,10 @@ connection_decides a b =
     (Decides-and _ _ (link_decides a.link b.link)
     (Decides-and _ _ (Decides-eqb a.o_t_api_ms b.o_t_api_ms)
     (Decides-and _ _ (Decides-eqb a.t_o_api_ms b.t_o_api_ms)
+    (Decides-and _ _ (ms_decides a.watchdog b.watchdog)
     (Decides-and _ _ (last_decides a.last b.last)
     (Decides-and _ _ (ms_decides a.deadline b.deadline)
-    (production_decides a.production b.production)))))))
+    (production_decides a.production b.production))))))))
 
 closing_decides : (a b : PendingClose) → Decides ((closing.ghosts).eq a b) (a ≡ b)
 closing_decides a b =

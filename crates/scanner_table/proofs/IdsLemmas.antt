@@ -14,7 +14,7 @@ use Rattle.scanner_table.specs.declared.slot.SlotState.{SlotState}
 use Rattle.scanner_table.specs.declared.slot.SlotState.TheVariants.{Idle, Opening, Established, TimedOut, Closing}
 use Rattle.scanner_table.specs.Slots.{IndexedSlot, indexed_from, is_with}
 use Rattle.scanner_table.specs.Replies.{state_consumes, uses_id}
-use Rattle.scanner_table.specs.Whole.{states_clash, clashes, IdsDiffer}
+use Rattle.scanner_table.specs.WellFormed.{states_clash, clashes, IdsDiffer}
 
 -- ---- states that have no more than they had
 

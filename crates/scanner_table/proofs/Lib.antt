@@ -9,3 +9,6 @@ mod CheckSamples
 mod WholeLemmas
 mod WholeSteps
 mod WholeTicks
+mod CounterSteps
+mod OwnSteps
+mod ProducerSteps

@@ -8,7 +8,7 @@ use Rattle.scanner_table.specs.declared.slot.Slot.{Slot}
 use Rattle.scanner_table.specs.declared.slot.SlotState.{SlotState}
 use Rattle.scanner_table.specs.declared.slot.SlotState.TheVariants.{Idle, Opening, Established, TimedOut, Closing}
 use Rattle.scanner_table.specs.Encapsulation.{waits_for}
-use Rattle.scanner_table.specs.Whole.{FitsState, SlotsFit, states_share, shares_request, RequestsDiffer}
+use Rattle.scanner_table.specs.WellFormed.{FitsState, SlotsFit, states_share, shares_request, RequestsDiffer}
 
 -- the new state waits for nothing, or for what the old one waits for
 pub record Quieter (old new : SlotState) : Type 0 where

@@ -16,7 +16,7 @@ use Rattle.scanner_table.specs.declared.table.TargetStream.{TargetStream}
 use Rattle.scanner_table.specs.Slots.{IndexedSlot, indexed_from, indexed_slots, with_slot}
 use Rattle.scanner_table.specs.Sessions.{is_stream, is_to, staged_stream}
 use Rattle.scanner_table.specs.Effects.{Effect, on_each, nothing}
-use Rattle.scanner_table.specs.Whole.{FitsState, FitsSlot, SlotsFit, IdsDiffer, RequestsDiffer, StreamsDiffer, IsWellFormed}
+use Rattle.scanner_table.specs.WellFormed.{FitsState, FitsSlot, SlotsFit, IdsDiffer, RequestsDiffer, StreamsDiffer, IsWellFormed}
 
 -- ---- later tables
 
@@ -29,7 +29,7 @@ state_later r s k l desired_up (TimedOut link) up on fits = fits
 state_later r s k l desired_up (Closing c) up on fits = (fits.0, omega (arith, fits.1))
 
 pub slot_later : (r s k l : ℕ) (config : SlotConfig) (slot : Slot) → r ≤ s → k ≤ l → FitsSlot r k config slot → FitsSlot s l config slot
-slot_later r s k l config slot up on fits = record { output = fits.output; image = fits.image; state = state_later r s k l slot.desired_up slot.state up on fits.state }
+slot_later r s k l config slot up on fits = record { output = fits.output; image = fits.image; state = state_later r s k l slot.desired_up slot.state up on fits.state; watchdog = fits.watchdog }
 
 pub slots_later : (r s k l : ℕ) (configs : List SlotConfig) (slots : List Slot) → r ≤ s → k ≤ l → SlotsFit r k configs slots → SlotsFit s l configs slots
 slots_later r s k l [] [] up on fit = tt

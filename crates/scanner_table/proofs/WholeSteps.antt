@@ -49,7 +49,7 @@ use Rattle.scanner_table.specs.Closing.{idle_slot, given_up_state, given_up, tar
 use Rattle.scanner_table.specs.Encapsulation.{registering_on, ignored, stream_opened, cut_of, stream_cut, is_registered, session_begun, session_failed, registered, is_awaiting, replied, replied_to, reported, frame_answer, frame_of, frame}
 use Rattle.scanner_table.specs.Datagrams.{delivered, is_for, accepted_connection, accepted_table, accepted, sized, state_received, received_at, received_as, received}
 use Rattle.scanner_table.specs.Points.{stop_of, stop}
-use Rattle.scanner_table.specs.Whole.{RequestsDiffer, IdsDiffer, FitsState, FitsSlot, IsWellFormed}
+use Rattle.scanner_table.specs.WellFormed.{RequestsDiffer, IdsDiffer, FitsState, FitsSlot, IsWellFormed, IsWatched}
 use Rattle.scanner_table.proofs.IdsLemmas.{Weaker, idle_weaker, opening_weaker, closing_weaker, linked_weaker, all_set, differ_weaker, differ_established}
 use Rattle.scanner_table.proofs.RequestLemmas.{Quieter, WaitsFor, idle_quieter, established_quieter, set_quieter, differ_quieter, differ_numbered}
 use Rattle.scanner_table.proofs.WholeLemmas.{IsNow, each_now, slots_later, IsAt, Each, each_filter, each_found, each_at, whole_with, Keeps, keeps_nothing, KeepsAt, keeps_each, Any, each_any, each_passes, few_with, differ_with, few_left, differ_left, differ_staged}
@@ -79,6 +79,7 @@ idle_fits t indexed slot at output image state = record {
   output = rw output at.fits.output;
   image = rw image at.fits.image;
   state = rw state tt;
+  watchdog = rw state tt;
 }
 
 keeps_resigned : (reported : List Notice) (t : ScannerTable) (indexed : IndexedSlot) → IsWellFormed t → IsAt t indexed → Keeps t (changed t indexed (resigned indexed.slot) reported)
@@ -148,7 +149,7 @@ keeps_requested t indexed slot reported left whole at fits weaker waits = record
 -- ---- openings
 
 opening_fits : (t : ScannerTable) (indexed : IndexedSlot) → IsAt t indexed → indexed.slot.desired_up ≡ true → FitsSlot (t.next_request + 1) t.clock.0 indexed.config (opening_slot t indexed)
-opening_fits t indexed at desired_up = record { output = at.fits.output; image = at.fits.image; state = (desired_up, omega arith) }
+opening_fits t indexed at desired_up = record { output = at.fits.output; image = at.fits.image; state = (desired_up, omega arith); watchdog = tt }
 
 keeps_open_requested : (t : ScannerTable) (indexed : IndexedSlot) (session : Session) → can_open t indexed.config ≡ true → IsWellFormed t → IsAt t indexed → indexed.slot.desired_up ≡ true → Keeps t (open_requested t indexed session)
 keeps_open_requested t indexed session can whole at desired_up =
@@ -207,6 +208,7 @@ established_fits t indexed o success at fits intervals =
       output = at.fits.output;
       image = length-replicate indexed.config.in_len 0;
       state = (fits.0, record { opening = fits.1; o_t_api_ms = interval_fits success.o_t_api_us both.0; t_o_api_ms = interval_fits success.t_o_api_us both.1; due = omega arith });
+      watchdog = refl;
     }
 
 is_clear : (a x y c : Bool) → cond a (Some mismatch.Triad) (cond (not (x && y)) (Some mismatch.Id) (cond (not c) (Some mismatch.Api) None)) ≡ None → y ≡ true
@@ -257,7 +259,7 @@ keeps_lost target t whole =
     keeps_each Any given_up keeps_given (filter (is_with target) (indexed_slots t)) t whole (each_filter (IsAt t) (is_with target) (indexed_slots t) (each_at t whole)) (each_any _)
 
 closing_fits : (t : ScannerTable) (indexed : IndexedSlot) (c : SlotConnection) → IsAt t indexed → FitsSlot (t.next_request + 1) t.clock.0 indexed.config (closing_slot t c indexed.slot)
-closing_fits t indexed c at = record { output = at.fits.output; image = at.fits.image; state = (refl, omega arith) }
+closing_fits t indexed c at = record { output = at.fits.output; image = at.fits.image; state = (refl, omega arith); watchdog = tt }
 
 close_step : (b : Bool) (t : ScannerTable) (indexed : IndexedSlot) (c : SlotConnection) (session : Session) → has_request t ≡ b → IsWellFormed t → IsAt t indexed → Keeps t (cond b (close_requested t indexed c session) (exhausted t indexed))
 close_step true t indexed c session left whole at =
@@ -426,10 +428,10 @@ quiet_same t indexed slot state same quieter whole =
 
 accepted_fits : (t : ScannerTable) (indexed : IndexedSlot) (d : DatagramFields) (c : SlotConnection) (bytes : List ℕ) → IsAt t indexed → FitsState t.next_request t.clock.0 indexed.slot.desired_up (Established c) → length bytes ≡ indexed.config.in_len → IsSame t indexed (Established c) → IsWellFormed t → IsWellFormed (accepted_table t indexed d c bytes)
 accepted_fits t indexed d c bytes at fits long now whole =
-    whole_with t indexed (record indexed.slot { state = Established (accepted_connection t.clock indexed.config.mult d c); image = bytes }) whole at.config
-    (record { output = at.fits.output; image = long; state = (fits.0, record { opening = fits.1.opening; o_t_api_ms = fits.1.o_t_api_ms; t_o_api_ms = fits.1.t_o_api_ms; due = fits.1.due }) })
-    (differ_same t indexed (record indexed.slot { state = Established (accepted_connection t.clock indexed.config.mult d c); image = bytes }) (Established c) now (linked_weaker c (accepted_connection t.clock indexed.config.mult d c) refl) whole)
-    (quiet_set t indexed (record indexed.slot { state = Established (accepted_connection t.clock indexed.config.mult d c); image = bytes }) whole (λ old. established_quieter old (accepted_connection t.clock indexed.config.mult d c)))
+    whole_with t indexed (record indexed.slot { state = Established (accepted_connection t.clock d c); image = bytes }) whole at.config
+    (record { output = at.fits.output; image = long; state = (fits.0, record { opening = fits.1.opening; o_t_api_ms = fits.1.o_t_api_ms; t_o_api_ms = fits.1.t_o_api_ms; due = fits.1.due }); watchdog = subst (IsWatched indexed.config.mult) now.stands at.fits.watchdog })
+    (differ_same t indexed (record indexed.slot { state = Established (accepted_connection t.clock d c); image = bytes }) (Established c) now (linked_weaker c (accepted_connection t.clock d c) refl) whole)
+    (quiet_set t indexed (record indexed.slot { state = Established (accepted_connection t.clock d c); image = bytes }) whole (λ old. established_quieter old (accepted_connection t.clock d c)))
 
 accepted_step : (b : Bool) (t : ScannerTable) (indexed : IndexedSlot) (d : DatagramFields) (c : SlotConnection) → IsAt t indexed → FitsState t.next_request t.clock.0 indexed.slot.desired_up (Established c) → length d.payload ≡ indexed.config.in_len → IsSame t indexed (Established c) → IsWellFormed t → IsWellFormed (cond b (delivered Duplicate (accepted_table t indexed d c indexed.slot.image)) (delivered Applied (accepted_table t indexed d c d.payload))).1
 accepted_step true t indexed d c at fits long now whole = accepted_fits t indexed d c indexed.slot.image at fits at.fits.image now whole

@@ -9,7 +9,7 @@ use Rattle.cip_types.specs.Order.{inserted, in_order}
 use Rattle.cip_netparams.specs.declared.Trigger.{Trigger}
 use Rattle.cip_netparams.specs.declared.Trigger.TheVariants.{Cyclic, ChangeOfState}
 use Rattle.cip_events.specs.declared.event.Event.{Event}
-use Rattle.cip_events.specs.declared.event.Event.TheVariants.{StreamOpened, Frame, StreamCut, Datagram, Write, Read, Tick, Mode, Start, Stop}
+use Rattle.cip_events.specs.declared.event.Event.TheVariants.{StreamOpened, Frame, StreamCut, Datagram, Write, Tick, Mode, Start, Stop}
 use Rattle.cip_events.specs.declared.event.StepFault.TheVariants as fault
 use Rattle.cip_events.specs.Clock.{longest_tick, clock_end}
 use Rattle.cip_productions.specs.Kinds.{is_owner}
@@ -29,13 +29,14 @@ use Rattle.scanner_table.specs.Replies.{failed_slot}
 use Rattle.scanner_table.specs.Closing.{given_up}
 use Rattle.scanner_table.specs.Productions.{written_connection, produced_connection, written_state, state_is_due, produced_state, produced_slot, produced_table}
 use Rattle.scanner_table.specs.Ticks.{by_deadline, has_expired, expired_slots, expired_state, expired, all_expired, is_overdue, all_given_up, clocked_table, advanced, ticked, tick}
-use Rattle.scanner_table.specs.Points.{output_slot, output_written, write_length, write_at, write, read_at, read, same_mode, moded_slot, moded_table, mode, desired_slot, started, start_state, start_at, start}
+use Rattle.scanner_table.specs.Points.{output_slot, output_written, write_length, write_at, write, same_mode, moded_slot, moded_table, mode, desired_slot, started, start_state, start_at, start}
 use Rattle.scanner_table.specs.Step.{scanner_step, fresh_slot, scanner_table}
-use Rattle.scanner_table.specs.Whole.{RequestsDiffer, shares_request, clashes, IdsDiffer, FitsState, FitsSlot, SlotsFit, IsWellFormed}
+use Rattle.scanner_table.specs.WellFormed.{RequestsDiffer, shares_request, clashes, IdsDiffer, FitsState, FitsSlot, SlotsFit, IsWellFormed, IsWatched}
 use Rattle.scanner_table.proofs.IdsLemmas.{Weaker, idle_weaker, timed_out_weaker, same_weaker, linked_weaker, AllWeaker, all_set, all_map, differ_weaker}
 use Rattle.scanner_table.proofs.RequestLemmas.{Quieter, AllQuieter, idle_quieter, established_quieter, timed_out_quieter, same_quieter, set_quieter, map_quieter, differ_quieter}
 use Rattle.scanner_table.proofs.WholeLemmas.{IsNow, each_now, slots_later, later_later, IsAt, Each, each_filter, each_found, each_at, whole_with, Keeps, keeps_nothing, keeps_each, Any, each_any}
 use Rattle.scanner_table.proofs.WholeSteps.{quiet_same, differ_same, keeps_changed, keeps_opened, keeps_ready, keeps_given, LeavesWhole, state_fits, stop_whole, streamed_whole, cut_whole, frame_whole, received_whole}
+use Rattle.scanner_table.specs.Lemmas.PassiveLemmas.{passive_holds}
 
 -- ---- expiries and answers that do not come
 
@@ -53,7 +54,7 @@ each_in_order P before [] all = tt
 each_in_order P before (indexed ∷ rest) all = each_inserted P before indexed (in_order before rest) all.0 (each_in_order P before rest all.1)
 
 expired_fits : (t : ScannerTable) (indexed : IndexedSlot) (c : SlotConnection) → indexed.slot.state ≡ Established c → IsAt t indexed → FitsSlot t.next_request t.clock.0 indexed.config (failed_slot t (TimedOut c.link) indexed.slot)
-expired_fits t indexed c is at = record { output = at.fits.output; image = at.fits.image; state = (state_fits t indexed (Established c) is at).0 }
+expired_fits t indexed c is at = record { output = at.fits.output; image = at.fits.image; state = (state_fits t indexed (Established c) is at).0; watchdog = tt }
 
 keeps_expired_state : (t : ScannerTable) (indexed : IndexedSlot) (state : SlotState) → indexed.slot.state ≡ state → IsWellFormed t → IsAt t indexed → Keeps t (expired_state t indexed state)
 keeps_expired_state t indexed Idle is whole at = keeps_nothing t whole
@@ -107,8 +108,15 @@ produced_fits r clock desired_up (Established c) due fits = (
 produced_fits r clock desired_up (TimedOut link) due fits = fits
 produced_fits r clock desired_up (Closing c) due fits = fits
 
+produced_watched : (mult : ℕ) (clock : Ms) (state : SlotState) → IsWatched mult state → IsWatched mult (produced_state clock state)
+produced_watched mult clock Idle is = tt
+produced_watched mult clock (Opening o) is = tt
+produced_watched mult clock (Established c) is = is
+produced_watched mult clock (TimedOut link) is = tt
+produced_watched mult clock (Closing c) is = tt
+
 due_step : (b : Bool) (r : ℕ) (clock : Ms) (config : SlotConfig) (slot : Slot) → state_is_due clock slot.state ≡ b → FitsSlot r clock.0 config slot → FitsSlot r clock.0 config (cond b (record slot { state = produced_state clock slot.state }) slot)
-due_step true r clock config slot due fits = record { output = fits.output; image = fits.image; state = produced_fits r clock slot.desired_up slot.state due fits.state }
+due_step true r clock config slot due fits = record { output = fits.output; image = fits.image; state = produced_fits r clock slot.desired_up slot.state due fits.state; watchdog = produced_watched config.mult clock slot.state fits.watchdog }
 due_step false r clock config slot due fits = fits
 
 slots_produced : (r : ℕ) (clock : Ms) (configs : List SlotConfig) (slots : List Slot) → SlotsFit r clock.0 configs slots → SlotsFit r clock.0 configs (map (produced_slot clock) slots)
@@ -205,6 +213,13 @@ written_fits r k desired_up (Established c) fits = (fits.0, record { opening = f
 written_fits r k desired_up (TimedOut link) fits = fits
 written_fits r k desired_up (Closing c) fits = fits
 
+written_watched : (mult : ℕ) (state : SlotState) → IsWatched mult state → IsWatched mult (written_state state)
+written_watched mult Idle is = tt
+written_watched mult (Opening o) is = tt
+written_watched mult (Established c) is = is
+written_watched mult (TimedOut link) is = tt
+written_watched mult (Closing c) is = tt
+
 written_weaker : (state : SlotState) → Weaker state (written_state state)
 written_weaker Idle = same_weaker Idle
 written_weaker (Opening o) = same_weaker (Opening o)
@@ -222,7 +237,7 @@ written_quieter (Closing c) = same_quieter (Closing c)
 length_step : (b : Bool) (t : ScannerTable) (indexed : IndexedSlot) (bytes : List ℕ) → (length bytes == indexed.config.out_len) ≡ b → IsWellFormed t → IsAt t indexed → IsNow t indexed → LeavesWhole (cond b (Ok (output_written t indexed bytes)) (Err fault.WrongLength))
 length_step true t indexed bytes is whole at now =
     whole_with t indexed (output_slot bytes indexed.slot) whole at.config
-    (record { output = eqb-true (length bytes) indexed.config.out_len is; image = at.fits.image; state = written_fits t.next_request t.clock.0 indexed.slot.desired_up indexed.slot.state at.fits.state })
+    (record { output = eqb-true (length bytes) indexed.config.out_len is; image = at.fits.image; state = written_fits t.next_request t.clock.0 indexed.slot.desired_up indexed.slot.state at.fits.state; watchdog = written_watched indexed.config.mult indexed.slot.state at.fits.watchdog })
     (differ_same t indexed (output_slot bytes indexed.slot) indexed.slot.state (record { now = now; stands = refl }) (written_weaker indexed.slot.state) whole)
     (quiet_same t indexed (output_slot bytes indexed.slot) indexed.slot.state (record { now = now; stands = refl }) (written_quieter indexed.slot.state) whole)
 length_step false t indexed bytes is whole at now = tt
@@ -239,16 +254,8 @@ write_whole : (t : ScannerTable) (number : ℕ) (bytes : List ℕ) → IsWellFor
 unfolding write
 write_whole t number bytes whole = write_at_whole t number bytes (slot_at t number) refl whole
 
-read_at_whole : (t : ScannerTable) (found : Option IndexedSlot) → IsWellFormed t → LeavesWhole (read_at t found)
-read_at_whole t None whole = tt
-read_at_whole t (Some indexed) whole = whole
-
-read_whole : (t : ScannerTable) (number : ℕ) → IsWellFormed t → LeavesWhole (read t number)
-unfolding read
-read_whole t number whole = read_at_whole t (slot_at t number) whole
-
 moded_step : (b : Bool) (r k : ℕ) (config : SlotConfig) (slot : Slot) → FitsSlot r k config slot → FitsSlot r k config (cond b (record slot { state = written_state slot.state }) slot)
-moded_step true r k config slot fits = record { output = fits.output; image = fits.image; state = written_fits r k slot.desired_up slot.state fits.state }
+moded_step true r k config slot fits = record { output = fits.output; image = fits.image; state = written_fits r k slot.desired_up slot.state fits.state; watchdog = written_watched config.mult slot.state fits.watchdog }
 moded_step false r k config slot fits = fits
 
 slots_moded : (r k number : ℕ) (configs : List SlotConfig) (slots : List Slot) → SlotsFit r k configs slots → SlotsFit r k configs (map moded_slot (indexed_from number configs slots))
@@ -303,7 +310,7 @@ mode_whole t run whole = mode_step (same_mode run t.run) t run whole
 -- ---- starts
 
 desired_fits : (t : ScannerTable) (indexed : IndexedSlot) → indexed.slot.state ≡ Idle → IsAt t indexed → FitsSlot t.next_request t.clock.0 indexed.config (desired_slot t indexed.slot)
-desired_fits t indexed is at = record { output = at.fits.output; image = at.fits.image; state = rw is tt }
+desired_fits t indexed is at = record { output = at.fits.output; image = at.fits.image; state = rw is tt; watchdog = rw is tt }
 
 started_differ : (t : ScannerTable) (indexed : IndexedSlot) → indexed.slot.state ≡ Idle → IsWellFormed t → IdsDiffer (indexed_from 0 t.profile.slots (slice_set t.slots indexed.number (desired_slot t indexed.slot)))
 started_differ t indexed is whole =
@@ -351,16 +358,15 @@ step_whole t (Frame stream bytes) whole = frame_whole t stream bytes whole
 step_whole t (StreamCut stream) whole = cut_whole t stream whole
 step_whole t (Datagram peer bytes) whole = received_whole t peer bytes whole
 step_whole t (Write point bytes) whole = write_whole t point bytes whole
-step_whole t (Read point) whole = read_whole t point whole
 step_whole t (Tick ms) whole = tick_whole t ms whole
 step_whole t (Mode run) whole = mode_whole t run whole
 step_whole t (Start slot) whole = start_whole t slot whole
 step_whole t (Stop slot) whole = stop_whole t slot whole
-step_whole t other whole = tt
+step_whole t other whole = passive_holds LeavesWhole t (λ why. tt) (λ verdict. whole) other refl
 
 fresh_fit : (configs : List SlotConfig) → SlotsFit 1 0 configs (map fresh_slot configs)
 fresh_fit [] = tt
-fresh_fit (config ∷ configs) = (record { output = length-replicate config.out_len 0; image = length-replicate config.in_len 0; state = tt }, fresh_fit configs)
+fresh_fit (config ∷ configs) = (record { output = length-replicate config.out_len 0; image = length-replicate config.in_len 0; state = tt; watchdog = tt }, fresh_fit configs)
 
 none_fresh : (n m : ℕ) (config : SlotConfig) (configs : List SlotConfig) → list_any (clashes (record { number = n; config = config; slot = fresh_slot config })) (indexed_from m configs (map fresh_slot configs)) ≡ false
 none_fresh n m config [] = refl

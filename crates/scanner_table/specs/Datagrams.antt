@@ -3,7 +3,6 @@
 use Rattle.std.specs.Prelude.{ℕ, ◌==◌, ◌&&◌, Bool, if◌then◌else◌, List, length, find, Option, Some, None, Result, Ok, Err}
 use Rattle.cip_types.specs.declared.names.Node.{Node}
 use Rattle.cip_types.specs.declared.names.Ms.{Ms}
-use Rattle.cip_netparams.specs.Rate.{timeout}
 use Rattle.cip_datagram.specs.declared.datagram.DatagramFault.{DatagramFault}
 use Rattle.cip_datagram.specs.Datagram.{DatagramFields}
 use Rattle.cip_datagram.specs.Reading.{datagram_reading}
@@ -26,16 +25,16 @@ abbrev pub is_for : Node → ℕ → IndexedSlot → Bool
 is_for peer id indexed = is_with peer indexed && state_consumes (record { 0 = id }) indexed.slot.state
 
 -- the connection records the datagram as its last accepted one, and starts its watchdog anew
-abbrev pub accepted_connection : Ms → ℕ → DatagramFields → SlotConnection → SlotConnection
-accepted_connection clock mult d c = record c {
+abbrev pub accepted_connection : Ms → DatagramFields → SlotConnection → SlotConnection
+accepted_connection clock d c = record c {
   last = Some (record { number = d.sequence; count = d.count });
-  deadline = later clock (timeout mult c.t_o_api_ms);
+  deadline = later clock c.watchdog.0;
 }
 
 -- the table after an accepted datagram, with these bytes as the slot's image
 abbrev pub accepted_table : ScannerTable → IndexedSlot → DatagramFields → SlotConnection → List ℕ → ScannerTable
 accepted_table t indexed d c bytes =
-    with_slot t indexed.number (record indexed.slot { state = Established (accepted_connection t.clock indexed.config.mult d c); image = bytes })
+    with_slot t indexed.number (record indexed.slot { state = Established (accepted_connection t.clock d c); image = bytes })
 
 abbrev pub delivered : Delivery → ScannerTable → Next
 delivered delivery t = (plain_answer (Delivered delivery), t)

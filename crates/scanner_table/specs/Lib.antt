@@ -12,4 +12,12 @@ pub mod Productions
 pub mod Ticks
 pub mod Points
 pub mod Step
+pub mod WellFormed
+pub mod Runs
+pub mod Counters
+pub mod Drawn
+pub mod Producers
+pub mod Waiting
 pub mod Whole
+pub mod States
+pub mod Lemmas

@@ -1,6 +1,6 @@
 -- Replies to a Forward_Open: how the scanner reads one, and what it does to the slot (Volume 1, chapter 3, Forward_Open
 -- service, successful and unsuccessful response; Volume 2, chapter 2, SendRRData).
-use Rattle.std.specs.Prelude.{ℕ, ◌==◌, ◌&&◌, not, Bool, true, false, if◌then◌else◌, [], ◌∷◌, replicate, Option, Some, None, Result, Ok, Err}
+use Rattle.std.specs.Prelude.{ℕ, ◌==◌, ◌&&◌, not, Bool, false, if◌then◌else◌, [], ◌∷◌, replicate, Option, Some, None, Result, Ok, Err}
 use Rattle.std.specs.List.{list_any}
 use Rattle.cip_types.specs.Cases.{first_case}
 use Rattle.cip_types.specs.declared.names.ConnId.{ConnId}
@@ -21,7 +21,7 @@ use Rattle.cip_encap.specs.PacketReading.{packet_reading}
 use Rattle.cip_events.specs.declared.event.Notice.TheVariants as notice
 use Rattle.cip_events.specs.declared.event.Reason.{Reason}
 use Rattle.cip_events.specs.declared.event.Reason.TheVariants as reason
-use Rattle.cip_productions.specs.declared.production.Production.{Production}
+use Rattle.cip_productions.specs.Productions.{first_production}
 use Rattle.cip_productions.specs.Watchdog.{first_deadline}
 use Rattle.conn_state.specs.Answers.{answer_tests, link_of}
 use Rattle.scanner_table.specs.declared.slot.SlotConnection.{SlotConnection}
@@ -73,30 +73,18 @@ uses_id number target id indexed = not (is_numbered number indexed) && (is_with 
 abbrev pub is_id_free : ScannerTable → IndexedSlot → ConnId → Bool
 is_id_free t indexed id = not (list_any (uses_id indexed.number indexed.config.target id) (indexed_slots t))
 
--- the producer of a new connection: it is cyclic, has new data, and is due at once
-abbrev pub new_production : ScannerTable → IndexedSlot → Production
-new_production t indexed = record {
-  producer = indexed.number;
-  sequence = 1;
-  count = 0;
-  written = true;
-  due = t.clock;
-  address = indexed.config.target;
-  trigger = Cyclic;
-  inhibit = 0;
-  last = None;
-}
-
--- the connection that a successful reply opens, with the actual packet intervals of the reply
+-- the connection that a successful reply opens, with the actual packet intervals of the reply: its watchdog is that of the
+-- T->O interval, and its producer is cyclic
 abbrev pub new_connection : ScannerTable → IndexedSlot → pending.PendingOpen → made.Opened → SlotConnection
 new_connection t indexed opening opened = record {
   opening = opening.request;
   link = link_of opening.requested opened;
   o_t_api_ms = interval_ms opened.o_t_api_us;
   t_o_api_ms = interval_ms opened.t_o_api_us;
+  watchdog = record { 0 = timeout indexed.config.mult (interval_ms opened.t_o_api_us) };
   last = None;
   deadline = first_deadline t.clock (timeout indexed.config.mult (interval_ms opened.t_o_api_us));
-  production = new_production t indexed;
+  production = first_production t.clock indexed.number indexed.config.target Cyclic 0;
 }
 
 -- the slot with its new connection, and an image of zeros

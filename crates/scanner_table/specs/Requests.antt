@@ -1,7 +1,8 @@
 -- The requests that a scanner sends to its targets, and their messages (Volume 1, chapter 3, Forward_Open,
 -- Large_Forward_Open and Forward_Close services; Volume 2, chapter 2, RegisterSession and SendRRData).
-use Rattle.std.specs.Prelude.{ℕ, ◌+◌, ◌*◌, ◌/◌, ◌^◌, ◌==◌, ◌||◌, nat_lt, Bool, false, if◌then◌else◌, List, [], ◌∷◌, ◌++◌, length, Option, Some, None}
+use Rattle.std.specs.Prelude.{ℕ, ◌+◌, ◌/◌, ◌==◌, ◌||◌, nat_lt, Bool, false, if◌then◌else◌, List, [], ◌∷◌, ◌++◌, length, Option, Some, None}
 use Rattle.std.specs.Option.{option_map}
+use Rattle.cip_types.specs.Ids.{connection_id}
 use Rattle.cip_types.specs.declared.names.ConnId.{ConnId}
 use Rattle.cip_types.specs.declared.names.Triad.{Triad}
 use Rattle.cip_netparams.specs.declared.NetParams.{NetParams}
@@ -24,7 +25,6 @@ use Rattle.cip_productions.specs.Kinds.{is_owner}
 use Rattle.cip_router.specs.Frames.{protocol_text}
 use Rattle.conn_state.specs.declared.names.Requested.{Requested}
 use Rattle.scanner_table.specs.declared.profile.SlotConfig.{SlotConfig}
-use Rattle.scanner_table.specs.declared.profile.ScannerProfile.{ScannerProfile}
 use Rattle.scanner_table.specs.declared.table.ScannerTable.{ScannerTable}
 use Rattle.scanner_table.specs.declared.table.Session.{Session}
 
@@ -70,17 +70,13 @@ slot_path config = record {
   segment = segment_of config.config_data;
 }
 
--- the incarnation as the high byte, and the counter as the low 24 bits
-abbrev pub connection_id : ScannerProfile → ℕ → ConnId
-connection_id profile counter = record { 0 = profile.incarnation * 2 ^ 24 + counter }
-
 -- the triad of the next opening: the next serial number, and the scanner's vendor id and serial number
 abbrev pub next_triad : ScannerTable → Triad
 next_triad t = record { serial = t.next_serial; vendor = t.profile.vendor; originator = t.profile.serial }
 
 -- the consumer chooses the id of a point to point connection, and the producer a multicast one
 abbrev pub next_t_o_id : ScannerTable → SlotConfig → Option ConnId
-next_t_o_id t config = if config.multicast then None else Some (connection_id t.profile t.next_id)
+next_t_o_id t config = if config.multicast then None else Some (connection_id t.profile.incarnation t.next_id)
 
 -- the triad and the id that the next opening of a slot asks for
 abbrev pub next_requested : ScannerTable → SlotConfig → Requested

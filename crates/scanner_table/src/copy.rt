@@ -1,7 +1,7 @@
 //! Copies of profiles and tables, and a table with a later counter for connection ids.
 
 ghost use Rattle.std.specs.Prelude.{◌≡◌, ◌≤◌, ◌↔◌, IfOk, IsTrue};
-ghost use Rattle.scanner_table.specs.Whole.{IsWellFormed};
+ghost use Rattle.scanner_table.specs.WellFormed.{IsWellFormed};
 
 use crate::profile::{ScannerProfile, SlotConfig};
 use crate::slot::Slot;

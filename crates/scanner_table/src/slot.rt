@@ -28,6 +28,11 @@ pub struct SlotConnection {
     pub o_t_api_ms: u32,
     /// The actual packet interval from target to scanner, in milliseconds.
     pub t_o_api_ms: u32,
+    /// The time without an accepted datagram after which the connection times out: that of the timeout multiplier and the
+    /// T->O packet interval.
+    ///
+    /// Volume 1, chapter 3, inactivity watchdog.
+    pub watchdog: Ms,
     /// The sequence number and the count of the datagram that was accepted last.
     pub last: Option<Accepted>,
     /// The time at which the connection times out, unless a datagram is accepted before.

@@ -3,6 +3,7 @@
 use crate::profile::ScannerProfile;
 use crate::slot::Slot;
 use cip_types::{Items, Ms, Node};
+use open_streams::Numbered;
 
 /// The state of the session on a stream.
 ///
@@ -26,6 +27,14 @@ pub struct TargetStream {
     pub peer: Node,
     /// The state of the session on the stream.
     pub stage: Stage,
+}
+
+impl Numbered for TargetStream {
+    ghost number = { λ stream. stream.number };
+
+    fn number(&self) -> u16 {
+        self.number
+    }
 }
 
 /// A registered session.

@@ -7,23 +7,22 @@ use Rattle.cip_datagram.specs.Datagram.{DatagramFields}
 use Rattle.cip_datagram.specs.Reading.{datagram_reading}
 use Rattle.cip_events.specs.declared.event.Delivery.{Delivery}
 use Rattle.cip_events.specs.declared.event.Event.{Event}
-use Rattle.cip_events.specs.declared.event.Event.TheVariants.{Request, StreamOpened, Frame, StreamCut, Datagram, Write, Read, Tick}
+use Rattle.cip_events.specs.declared.event.Event.TheVariants.{Datagram, Write, Tick}
 use Rattle.cip_events.specs.declared.event.StepFault.{StepFault}
 use Rattle.cip_events.specs.declared.event.StepFault.TheVariants.{TickTooLong, ClockEnd, WrongLength}
 use Rattle.adapter_table.specs.declared.profile.InputPoint.{InputPoint}
 use Rattle.adapter_table.specs.Connections.{Row}
 use Rattle.adapter_table.specs.declared.table.AdapterTable.{AdapterTable}
 use Rattle.adapter_table.specs.Profiles.{is_at}
-use Rattle.adapter_table.specs.Points.{bytes_at}
-use Rattle.cip_router.specs.Requests.{router_request_reading}
-use Rattle.adapter_table.specs.Requests.{Next, requested}
+use Rattle.adapter_table.specs.Requests.{Next}
 use Rattle.adapter_table.specs.Datagrams.{delivered, found_datagram, datagram_of, received, row_delivery, accepted_table, is_for}
 use Rattle.cip_events.specs.Answers.{is_accepted}
 use Rattle.cip_events.specs.Clock.{longest_tick, clock_end}
 use Rattle.adapter_table.specs.Ticks.{clocked_table, advanced, tick}
-use Rattle.adapter_table.specs.Step.{adapter_step, read, read_of, write, write_of, written_table, written}
+use Rattle.adapter_table.specs.Step.{adapter_step, write, write_of, written_table, written}
 use Rattle.adapter_table.specs.Laws.{EffectsKeep}
-use Rattle.adapter_table.specs.Lemmas.RequestLemmas.{RequestsDo, answered_does, frame_does, next_is, IsStreamed, streamed_is, cut_does}
+use Rattle.adapter_table.specs.Lemmas.RequestLemmas.{RequestsDo, next_is}
+use Rattle.adapter_table.specs.Lemmas.ControlLemmas.{control_does}
 
 -- ---- a step that gives an answer
 
@@ -90,21 +89,9 @@ keeps_write P keep t point bytes next is holds = subst (λ (n : Next). P n.1) is
 keeps_tick : (P : AdapterTable → Type 0) → EffectsKeep P → (t : AdapterTable) (ms : ℕ) (next : Next) → IsTick t ms next → P t → P next.1
 keeps_tick P keep t ms next is holds = subst (λ (n : Next). P n.1) is.said (keep.advanced t ms is.in_time holds)
 
-keeps_streamed : (P : AdapterTable → Type 0) → EffectsKeep P → (t : AdapterTable) (number : ℕ) (peer : Node) (next : Next) → IsStreamed t number peer next → P t → P next.1
-keeps_streamed P keep t number peer next is holds = subst (λ (n : Next). P n.1) is.said (keep.streamed t number peer is.free holds)
-
-keeps_read : (P : AdapterTable → Type 0) (t : AdapterTable) (found : Option (List ℕ)) (next : Next) → read_of t found ≡ Ok next → P t → P next.1
-keeps_read P t None next is holds = absurd cc
-keeps_read P t (Some bytes) next is holds = subst (λ (n : Next). P n.1) (next_is _ _ is) holds
-
 pub adapter_keeps : (P : AdapterTable → Type 0) → EffectsKeep P → (t : AdapterTable) (event : Event) (next : Next) → adapter_step t event ≡ Ok next → P t → P next.1
-unfolding requested received read
-adapter_keeps P keep t (Request peer bytes) next is holds = subst (λ (n : Next). P n.1) (next_is _ _ is) (answered_does (λ t next. P t → P next) (requests_keep P keep) t peer (router_request_reading bytes) holds)
-adapter_keeps P keep t (StreamOpened number peer) next is holds = keeps_streamed P keep t number peer next (streamed_is t number peer next is) holds
-adapter_keeps P keep t (Frame number bytes) next is holds = frame_does (λ t next. P t → P next) (requests_keep P keep) t number bytes next is holds
-adapter_keeps P keep t (StreamCut number) next is holds = cut_does (λ t next. P t → P next) (requests_keep P keep) t number next is holds
+unfolding received
 adapter_keeps P keep t (Datagram peer bytes) next is holds = subst (λ (n : Next). P n.1) (next_is _ _ is) (keeps_datagram P keep t peer (datagram_reading bytes) holds)
 adapter_keeps P keep t (Write point bytes) next is holds = keeps_write P keep t point bytes next (write_is t point bytes next is) holds
-adapter_keeps P keep t (Read point) next is holds = keeps_read P t (bytes_at t.values point) next is holds
 adapter_keeps P keep t (Tick ms) next is holds = keeps_tick P keep t ms next (tick_is t ms next is) holds
-adapter_keeps P keep t other next is holds = absurd cc
+adapter_keeps P keep t other next is holds = control_does (λ t next. P t → P next) (requests_keep P keep) keep.streamed t other next refl is holds

@@ -11,7 +11,8 @@ use Rattle.cip_types.specs.declared.names.ConnId.{ConnId}
 use Rattle.adapter_table.specs.declared.profile.Profile.{Profile}
 use Rattle.adapter_table.specs.Connections.{Row}
 use Rattle.adapter_table.specs.Rows.{same_triad, has_triad, drives, drivers, others, is_timed_out}
-use Rattle.adapter_table.specs.Opening.{connection_id, is_opened_as, is_replaced_by}
+use Rattle.cip_types.specs.Ids.{connection_id}
+use Rattle.adapter_table.specs.Opening.{is_opened_as, is_replaced_by}
 use Rattle.adapter_table.specs.Sound.{TriadsDiffer, has_o_t_id, IdsDiffer, IdsAreDrawn}
 
 -- ---- some are taken out
@@ -84,13 +85,13 @@ triads_append (row ∷ rows) new differ none =
 -- ---- ids
 
 -- the next id is that of no row
-next_is_new : (profile : Profile) (next_id : ℕ) (rows : List Row) → IdsAreDrawn profile next_id rows → list_any (has_o_t_id (connection_id profile next_id)) rows ≡ false
+next_is_new : (profile : Profile) (next_id : ℕ) (rows : List Row) → IdsAreDrawn profile next_id rows → list_any (has_o_t_id (connection_id profile.incarnation next_id)) rows ≡ false
 next_is_new profile next_id [] drawn = refl
 next_is_new profile next_id (row ∷ rows) drawn =
     let rest = next_is_new profile next_id rows drawn.2 in
     let here : row.o_t_id.0 ≡ profile.incarnation * 2 ^ 24 + row.opening = ap (λ (id : ConnId). id.0) drawn.0 in
     let below : row.opening < next_id = drawn.1 in
-    let other : has_o_t_id (connection_id profile next_id) row ≡ false = grind (arith, nat_tests) in
+    let other : has_o_t_id (connection_id profile.incarnation next_id) row ≡ false = grind (arith, nat_tests) in
     rw other rest
 
 other_id : (a b : ConnId) → (a.0 == b.0) ≡ false → (b.0 == a.0) ≡ false
@@ -104,7 +105,7 @@ ids_append (row ∷ rows) new differ none =
 
 -- a row with the next id
 pub record IsDrawn (profile : Profile) (next_id : ℕ) (new : Row) : Type 0 where
-  pub id : new.o_t_id ≡ connection_id profile next_id
+  pub id : new.o_t_id ≡ connection_id profile.incarnation next_id
   pub opening : new.opening ≡ next_id
 
 pub drawn_new : (profile : Profile) (next_id : ℕ) (rows : List Row) (new : Row) → IsDrawn profile next_id new → IdsAreDrawn profile next_id rows → list_any (has_o_t_id new.o_t_id) rows ≡ false
@@ -113,7 +114,7 @@ drawn_new profile next_id rows new is drawn = rw is.id (next_is_new profile next
 pub drawn_append : (profile : Profile) (next_id next : ℕ) (rows : List Row) (new : Row) → next_id < next → IsDrawn profile next_id new → IdsAreDrawn profile next_id rows → IdsAreDrawn profile next (rows ++ new ∷ [])
 drawn_append profile next_id next [] new more is drawn =
     let opening = is.opening in
-    (is.id ∙ ap (connection_id profile) (sym is.opening), omega arith, tt)
+    (is.id ∙ ap (connection_id profile.incarnation) (sym is.opening), omega arith, tt)
 drawn_append profile next_id next (row ∷ rows) new more is drawn =
     let below : row.opening < next_id = drawn.1 in
     (drawn.0, omega arith, drawn_append profile next_id next rows new more is drawn.2)

@@ -1,5 +1,5 @@
 use Rattle.scanner_table.specs.declared.table.ScannerTable.{ScannerTable}
-use Rattle.scanner_whole.specs.Whole.{IsWholeScanner}
+use Rattle.scanner_table.specs.Whole.{IsWholeScanner}
 use Rattle.cip_tables.specs.Whole.{next_id_of}
 use Rattle.std.proofs.Common.{◌≤◌, subst, sym, rules}
 use Rattle.cip_tables.proofs.RunKeeps.{later_scanner}

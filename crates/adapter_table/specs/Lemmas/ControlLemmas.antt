@@ -1,0 +1,37 @@
+-- Events that bring neither data nor time: requests, streams, and all that leave the table as it is. What one open, one close
+-- and each change of a stream do, each such event does.
+use Rattle.std.proofs.Common.{◌≡◌, ℕ, Bool, true, false, Ok, refl, subst}
+use Rattle.cip_types.specs.declared.names.Node.{Node}
+use Rattle.cip_events.specs.declared.event.Event.{Event}
+use Rattle.cip_events.specs.declared.event.Event.TheVariants.{Request, StreamOpened, Frame, StreamCut, Datagram, Write, Tick}
+use Rattle.cip_router.specs.Requests.{router_request_reading}
+use Rattle.adapter_table.specs.declared.table.AdapterTable.{AdapterTable}
+use Rattle.adapter_table.specs.Requests.{Next, requested}
+use Rattle.adapter_table.specs.Streams.{is_taken, with_stream}
+use Rattle.adapter_table.specs.Step.{adapter_step}
+use Rattle.adapter_table.specs.Lemmas.PassiveLemmas.{passive_is}
+use Rattle.adapter_table.specs.Lemmas.RequestLemmas.{RequestsDo, answered_does, frame_does, next_is, streamed_is, cut_does}
+
+-- the event brings data or time: a datagram, a write or a tick
+abbrev pub brings_data : Event → Bool
+brings_data (Datagram peer bytes) = true
+brings_data (Write point bytes) = true
+brings_data (Tick ms) = true
+brings_data other = false
+
+-- a new stream makes it too
+abbrev pub StreamsDo : (AdapterTable → AdapterTable → Type 0) → Type 0
+StreamsDo R = (t : AdapterTable) (number : ℕ) (peer : Node) → is_taken t.streams number ≡ false → R t (with_stream t number peer)
+
+pub control_does : (R : AdapterTable → AdapterTable → Type 0) → RequestsDo R → StreamsDo R → (t : AdapterTable) (event : Event) (next : Next) → brings_data event ≡ false → adapter_step t event ≡ Ok next → R t next.1
+unfolding requested
+control_does R does streams t (Request peer bytes) next none is = subst (λ (n : Next). R t n.1) (next_is _ _ is) (answered_does R does t peer (router_request_reading bytes))
+control_does R does streams t (StreamOpened number peer) next none is =
+    let streamed = streamed_is t number peer next is in
+    subst (λ (n : Next). R t n.1) streamed.said (streams t number peer streamed.free)
+control_does R does streams t (Frame number bytes) next none is = frame_does R does t number bytes next is
+control_does R does streams t (StreamCut number) next none is = cut_does R does t number next is
+control_does R does streams t (Datagram peer bytes) next none is = absurd (let e = none in cc)
+control_does R does streams t (Write point bytes) next none is = absurd (let e = none in cc)
+control_does R does streams t (Tick ms) next none is = absurd (let e = none in cc)
+control_does R does streams t other next none is = subst (λ (n : Next). R t n.1) (passive_is t other next refl is).said (does.stays t)

@@ -1,0 +1,340 @@
+-- All numbers of the slots stay below the next ones, and no two slots have one id.
+use Rattle.std.proofs.Common.{◌≡◌, ◌≢◌, ◌≤◌, ℕ, ◌+◌, ◌*◌, ◌^◌, Bool, true, false, cond, ◌==◌, slice_get, slice_set, Option, Some, None, refl, sym, ◌∙◌, ap, subst, arith, eqb-true}
+use Rattle.std.proofs.lemmas.Bool.Decides.{nat_tests}
+use Rattle.std.proofs.lemmas.Option.{same_Some}
+use Rattle.std.proofs.lemmas.Bool.{eqb-false}
+use Rattle.cip_types.specs.declared.names.ConnId.{ConnId}
+use Rattle.cip_types.specs.declared.names.Ms.{Ms}
+use Rattle.cip_fwdopen.specs.declared.reply.Opened as made
+use Rattle.cip_productions.specs.Kinds.{is_owner}
+use Rattle.conn_state.specs.declared.names.Link.{Link}
+use Rattle.conn_state.specs.Answers.{is_requested_id}
+use Rattle.scanner_table.specs.declared.profile.ScannerProfile.{ScannerProfile}
+use Rattle.scanner_table.specs.declared.profile.SlotConfig.{SlotConfig}
+use Rattle.scanner_table.specs.declared.slot.PendingOpen as pending
+use Rattle.scanner_table.specs.declared.slot.Slot.{Slot}
+use Rattle.scanner_table.specs.declared.slot.SlotState.{SlotState}
+use Rattle.scanner_table.specs.declared.slot.SlotState.TheVariants.{Idle, Opening, Established, TimedOut, Closing}
+use Rattle.scanner_table.specs.declared.table.ScannerTable.{ScannerTable}
+use Rattle.scanner_table.specs.Slots.{IndexedSlot, with_slot}
+use Rattle.cip_types.specs.Ids.{connection_id}
+use Rattle.scanner_table.specs.Effects.{counted}
+use Rattle.scanner_table.specs.Opening.{drawn, opening_slot}
+use Rattle.scanner_table.specs.Replies.{new_connection, established_slot, failed_slot}
+use Rattle.scanner_table.specs.Closing.{closing_slot}
+use Rattle.scanner_table.specs.Datagrams.{accepted_connection}
+use Rattle.scanner_table.specs.Points.{output_slot, moded_slot, moded_table}
+use Rattle.scanner_table.specs.Productions.{written_state, state_is_due, produced_state, produced_slot, produced_table}
+use Rattle.scanner_table.specs.Ticks.{clocked_table}
+use Rattle.scanner_table.specs.Step.{scanner_table}
+use Rattle.scanner_table.specs.Runs.{StepsKeep, IsLaw}
+use Rattle.scanner_table.specs.Drawn.{IsDrawn, WantsDrawn, LinkIsDrawn, StateIsDrawn, NumbersAreDrawn, drawn_id, IdsAreOwn, NumbersAreOwn}
+use Rattle.scanner_table.specs.Lemmas.SlotLookups.{get_same, get_other, Stands, indexed_at, slot_is, slot_stands}
+use Rattle.scanner_table.specs.Lemmas.Moves.{Kept, KeptAlways}
+use Rattle.scanner_table.specs.Lemmas.Events.{steps_lead, law_of}
+use Rattle.scanner_table.specs.Lemmas.Slotwise.{Later, set_later, counted_later, Relation, StaysSo, SlotwiseAlways, Goes, stays_goes, set_goes, moded_goes, produced_goes, goes_always, Property, Stays, was_of, of_each_slot}
+use Rattle.scanner_table.specs.Lemmas.FreshSlots.{fresh_rests}
+
+-- ---- numbers are allocated
+
+abbrev Drawn : Property
+Drawn t number config slot = StateIsDrawn t.profile t.next_id t.next_request config.multicast slot.state
+
+drawn_later_id : (profile other : ScannerProfile) (n m : ℕ) (id : ConnId) → other ≡ profile → n ≤ m → IsDrawn profile 0 n id → IsDrawn other 0 m id
+drawn_later_id profile other n m id same up drawn = record { counter = drawn.counter; is = drawn.is ∙ ap (λ (p : ScannerProfile). connection_id p.incarnation drawn.counter) (sym same); begins = omega arith; ends = omega (arith, drawn.ends) }
+
+wants_on : (profile other : ScannerProfile) (n m : ℕ) (multicast : Bool) (requested : Option ConnId) → other ≡ profile → n ≤ m → WantsDrawn profile 0 n multicast requested → WantsDrawn other 0 m multicast requested
+wants_on profile other n m true None same up wants = tt
+wants_on profile other n m true (Some id) same up wants = absurd wants
+wants_on profile other n m false None same up wants = absurd wants
+wants_on profile other n m false (Some id) same up wants = drawn_later_id profile other n m id same up wants
+
+link_on : (profile other : ScannerProfile) (n m : ℕ) (multicast : Bool) (link : Link) → other ≡ profile → n ≤ m → LinkIsDrawn profile n multicast link → LinkIsDrawn other m multicast link
+link_on profile other n m true link same up drawn = tt
+link_on profile other n m false link same up drawn = drawn_later_id profile other n m link.t_o_id same up drawn
+
+state_on : (profile other : ScannerProfile) (n m r s : ℕ) (multicast : Bool) (state : SlotState) → other ≡ profile → n ≤ m → r ≤ s → StateIsDrawn profile n r multicast state → StateIsDrawn other m s multicast state
+state_on profile other n m r s multicast Idle same up on drawn = tt
+state_on profile other n m r s multicast (Opening o) same up on drawn = (omega (arith, drawn.0), wants_on profile other n m multicast o.requested.t_o_id same up drawn.1)
+state_on profile other n m r s multicast (Established c) same up on drawn = (omega (arith, drawn.0), link_on profile other n m multicast c.link same up drawn.1)
+state_on profile other n m r s multicast (TimedOut link) same up on drawn = link_on profile other n m multicast link same up drawn
+state_on profile other n m r s multicast (Closing c) same up on drawn = (omega (arith, drawn.0), link_on profile other n m multicast c.link same up drawn.1)
+
+wants_next : (profile : ScannerProfile) (n : ℕ) (multicast : Bool) → WantsDrawn profile 0 (cond multicast n (n + 1)) multicast (cond multicast None (Some (connection_id profile.incarnation n)))
+wants_next profile n true = tt
+wants_next profile n false = record { counter = n; is = refl; begins = omega arith; ends = omega arith }
+
+same_id : (a b : ConnId) → (a.0 == b.0) ≡ true → a ≡ b
+same_id a b is = let same : a.0 ≡ b.0 = grind (arith, nat_tests) in ap (λ (n : ℕ). let id : ConnId = record { 0 = n } in id) same
+
+link_made : (profile : ScannerProfile) (n : ℕ) (multicast : Bool) (requested : Option ConnId) (id : ConnId) → is_requested_id requested id ≡ true → WantsDrawn profile 0 n multicast requested → cond multicast (Unit {0}) (IsDrawn profile 0 n id)
+link_made profile n true requested id is wants = tt
+link_made profile n false None id is wants = absurd wants
+link_made profile n false (Some requested) id is wants = subst (IsDrawn profile 0 n) (same_id requested id is) wants
+
+link_is : (profile : ScannerProfile) (n : ℕ) (multicast : Bool) (link : Link) → cond multicast (Unit {0}) (IsDrawn profile 0 n link.t_o_id) → LinkIsDrawn profile n multicast link
+link_is profile n true link drawn = tt
+link_is profile n false link drawn = drawn
+
+state_is : (t : ScannerTable) (multicast : Bool) (state other : SlotState) → state ≡ other → StateIsDrawn t.profile t.next_id t.next_request multicast state → StateIsDrawn t.profile t.next_id t.next_request multicast other
+state_is t multicast state other same drawn = subst (StateIsDrawn t.profile t.next_id t.next_request multicast) same drawn
+
+written_drawn : (t : ScannerTable) (multicast : Bool) (state : SlotState) → StateIsDrawn t.profile t.next_id t.next_request multicast state → StateIsDrawn t.profile t.next_id t.next_request multicast (written_state state)
+written_drawn t multicast Idle drawn = tt
+written_drawn t multicast (Opening o) drawn = drawn
+written_drawn t multicast (Established c) drawn = drawn
+written_drawn t multicast (TimedOut link) drawn = drawn
+written_drawn t multicast (Closing c) drawn = drawn
+
+produced_drawn : (t : ScannerTable) (multicast : Bool) (state : SlotState) → StateIsDrawn t.profile t.next_id t.next_request multicast state → StateIsDrawn t.profile t.next_id t.next_request multicast (produced_state t.clock state)
+produced_drawn t multicast Idle drawn = tt
+produced_drawn t multicast (Opening o) drawn = drawn
+produced_drawn t multicast (Established c) drawn = drawn
+produced_drawn t multicast (TimedOut link) drawn = drawn
+produced_drawn t multicast (Closing c) drawn = drawn
+
+due_drawn : (b : Bool) (t : ScannerTable) (multicast : Bool) (slot : Slot) → StateIsDrawn t.profile t.next_id t.next_request multicast slot.state → StateIsDrawn t.profile t.next_id t.next_request multicast (cond b (record slot { state = produced_state t.clock slot.state }) slot).state
+due_drawn true t multicast slot drawn = produced_drawn t multicast slot.state drawn
+due_drawn false t multicast slot drawn = drawn
+
+table_drawn : (t : ScannerTable) (number : ℕ) (config : SlotConfig) (slot : Slot) → Drawn t number config slot → Drawn (produced_table t) number config (produced_slot t.clock slot)
+unfolding produced_table
+table_drawn t number config slot drawn = due_drawn (state_is_due t.clock slot.state) t config.multicast slot drawn
+
+moded_drawn : (b : Bool) (t : ScannerTable) (multicast : Bool) (slot : Slot) → StateIsDrawn t.profile t.next_id t.next_request multicast slot.state → StateIsDrawn t.profile t.next_id t.next_request multicast (cond b (record slot { state = written_state slot.state }) slot).state
+moded_drawn true t multicast slot drawn = written_drawn t multicast slot.state drawn
+moded_drawn false t multicast slot drawn = drawn
+
+idle_drawn : (t : ScannerTable) (multicast : Bool) (state : SlotState) → state ≡ Idle → StateIsDrawn t.profile t.next_id t.next_request multicast state
+idle_drawn t multicast state is = rw is tt
+
+drawn_always : SlotwiseAlways (Stays Drawn)
+drawn_always = record {
+  widely = record {
+    stays = λ t u number config slot later drawn. state_on t.profile u.profile t.next_id u.next_id t.next_request u.next_request config.multicast slot.state later.profile later.ids later.requests drawn;
+    after = λ t u v number config a b c first next before behind drawn. behind (before drawn);
+    opening = λ t indexed closed_before drawn. (omega arith, wants_next t.profile t.next_id indexed.config.multicast);
+    idling = λ t indexed slot idle drawn. idle_drawn t indexed.config.multicast slot.state idle.state;
+    timing_out = λ t indexed c is drawn. (state_is t indexed.config.multicast indexed.slot.state (Established c) is drawn).1;
+    closing = λ t indexed c is drawn. (omega arith, (state_is t indexed.config.multicast indexed.slot.state (Established c) is drawn).1);
+    producing = table_drawn;
+    moding = λ t run indexed drawn. moded_drawn (is_owner indexed.config.kind) t indexed.config.multicast indexed.slot drawn;
+  };
+  establishing = λ t indexed o success is requested drawn.
+      let was = state_is t indexed.config.multicast indexed.slot.state (Opening o) is drawn in
+      (was.0, link_is t.profile t.next_id indexed.config.multicast (new_connection t indexed o success).link (link_made t.profile t.next_id indexed.config.multicast o.requested.t_o_id success.t_o_id requested was.1));
+  writing = λ t indexed bytes drawn. written_drawn t indexed.config.multicast indexed.slot.state drawn;
+  accepting = λ t indexed d c bytes is drawn. state_is t indexed.config.multicast indexed.slot.state (Established c) is.established drawn;
+}
+
+drawn_goes : KeptAlways (Goes (Stays Drawn))
+drawn_goes = goes_always (Stays Drawn) drawn_always
+
+numbers_stay : (t u : ScannerTable) → Goes (Stays Drawn) t u → NumbersAreDrawn t → NumbersAreDrawn u
+numbers_stay t u goes drawn = of_each_slot Drawn t u goes drawn
+
+-- ---- ids are own
+
+-- the id of a slot of a configuration
+abbrev slot_id : SlotConfig → SlotState → Option ConnId
+slot_id config state = cond config.multicast None (drawn_id state)
+
+-- no two slots have one id
+abbrev Own : ScannerTable → Type 0
+Own t = (a b : IndexedSlot) (id : ConnId) → a.number ≢ b.number → Stands t a → Stands t b → slot_id a.config a.slot.state ≡ Some id → slot_id b.config b.slot.state ≢ Some id
+
+own_ids : (t : ScannerTable) → Own t → IdsAreOwn t
+own_ids t own = λ a b id apart first second. own a b id apart (slot_is t a.number a first).stands (slot_is t b.number b second).stands
+
+ids_own : (t : ScannerTable) → IdsAreOwn t → Own t
+ids_own t own = λ a b id apart first second. own a b id apart (slot_stands t a first) (slot_stands t b second)
+
+-- a slot that keeps its numbers has no id but the one that it had
+abbrev IdStays : Relation
+IdStays t u number config was now = Drawn t number config was → (id : ConnId) → slot_id config now.state ≡ Some id → slot_id config was.state ≡ Some id
+
+id_stays : StaysSo IdStays
+id_stays t u number config slot later = λ drawn id is. is
+
+own_where : (t u : ScannerTable) → Goes IdStays t u → NumbersAreDrawn t → Own t → Own u
+own_where t u goes drawn own a b id apart first second = λ is other.
+    let was = was_of IdStays t u a goes first in
+    let had = was_of IdStays t u b goes second in
+    let before = indexed_at a.number a.config was.slot in
+    let behind = indexed_at b.number b.config had.slot in
+    own before behind id apart was.stands had.stands
+    (was.holds (drawn a.number before (slot_stands t before was.stands)) id is)
+    (had.holds (drawn b.number behind (slot_stands t behind had.stands)) id other)
+
+-- ids are own in the later table
+record Owns (t u : ScannerTable) : Type 0 where
+  goes : Goes (Stays Drawn) t u
+  own : NumbersAreDrawn t → Own t → Own u
+
+owns_by : (t u : ScannerTable) → Goes (Stays Drawn) t u → Goes IdStays t u → Owns t u
+owns_by t u goes stays = record { goes = goes; own = own_where t u stays }
+
+owns_after : (t u v : ScannerTable) → Owns t u → Owns u v → Owns t v
+owns_after t u v first next = record {
+  goes = drawn_goes.widely.slots.after t u v first.goes next.goes;
+  own = λ drawn own. next.own (numbers_stay t u first.goes drawn) (first.own drawn own);
+}
+
+-- ---- an opening has an id of its own
+
+-- the slot is another one than the slot that opens, and stays as it was
+others_stand : (t : ScannerTable) (indexed other : IndexedSlot) → other.number ≢ indexed.number → Stands (with_slot (counted (drawn t indexed.config)) indexed.number (opening_slot t indexed)) other → Stands t other
+others_stand t indexed other apart stands = record { config = stands.config; slot = sym (get_other indexed.number other.number t.slots (opening_slot t indexed) apart) ∙ stands.slot }
+
+next_id_is : (t : ScannerTable) (multicast : Bool) (id : ConnId) → cond multicast None (cond multicast None (Some (connection_id t.profile.incarnation t.next_id))) ≡ Some id → id ≡ connection_id t.profile.incarnation t.next_id
+next_id_is t true id is = absurd cc
+next_id_is t false id is = sym (same_Some (connection_id t.profile.incarnation t.next_id) id is)
+
+-- the id of the slot that opens is the next one
+opened_id : (t : ScannerTable) (indexed other : IndexedSlot) (id : ConnId) → Stands t indexed → other.number ≡ indexed.number → Stands (with_slot (counted (drawn t indexed.config)) indexed.number (opening_slot t indexed)) other → slot_id other.config other.slot.state ≡ Some id → id ≡ connection_id t.profile.incarnation t.next_id
+opened_id t indexed other id there same stands is =
+    let config : indexed.config ≡ other.config = same_Some indexed.config other.config (sym there.config ∙ subst (λ (n : ℕ). slice_get t.profile.slots n ≡ Some other.config) same stands.config) in
+    let now : slice_get (slice_set t.slots indexed.number (opening_slot t indexed)) indexed.number ≡ Some other.slot = subst (λ (n : ℕ). slice_get (slice_set t.slots indexed.number (opening_slot t indexed)) n ≡ Some other.slot) same stands.slot in
+    let slot : opening_slot t indexed ≡ other.slot = same_Some (opening_slot t indexed) other.slot (sym (get_same indexed.number t.slots (opening_slot t indexed) indexed.slot there.slot) ∙ now) in
+    next_id_is t indexed.config.multicast id
+    (subst (λ (c : SlotConfig). slot_id c (opening_slot t indexed).state ≡ Some id) (sym config)
+    (subst (λ (s : Slot). slot_id other.config s.state ≡ Some id) (sym slot) is))
+
+drawn_below : (t : ScannerTable) (multicast : Bool) (state : SlotState) (id : ConnId) → StateIsDrawn t.profile t.next_id t.next_request multicast state → cond multicast None (drawn_id state) ≡ Some id → IsDrawn t.profile 0 t.next_id id
+drawn_below t true state id drawn is = absurd cc
+drawn_below t false Idle id drawn is = absurd cc
+drawn_below t false (Opening o) id drawn is = below o.requested.t_o_id is drawn.1 where
+  below : (requested : Option ConnId) → requested ≡ Some id → WantsDrawn t.profile 0 t.next_id false requested → IsDrawn t.profile 0 t.next_id id
+  below None none wants = absurd wants
+  below (Some other) same wants = subst (IsDrawn t.profile 0 t.next_id) (same_Some other id same) wants
+drawn_below t false (Established c) id drawn is = subst (IsDrawn t.profile 0 t.next_id) (same_Some c.link.t_o_id id is) drawn.1
+drawn_below t false (TimedOut link) id drawn is = subst (IsDrawn t.profile 0 t.next_id) (same_Some link.t_o_id id is) drawn
+drawn_below t false (Closing c) id drawn is = subst (IsDrawn t.profile 0 t.next_id) (same_Some c.link.t_o_id id is) drawn.1
+
+not_drawn : (profile : ScannerProfile) (next : ℕ) (id : ConnId) → id ≡ connection_id profile.incarnation next → IsDrawn profile 0 next id → ⊥
+not_drawn profile next id is drawn =
+    let same : profile.incarnation * 2 ^ 24 + drawn.counter ≡ profile.incarnation * 2 ^ 24 + next = ap (λ (i : ConnId). i.0) (sym drawn.is ∙ is) in
+    absurd (omega (arith, same, drawn.ends))
+
+opening_owns : (t : ScannerTable) (indexed : IndexedSlot) → Stands t indexed → NumbersAreDrawn t → Own t → Own (with_slot (counted (drawn t indexed.config)) indexed.number (opening_slot t indexed))
+opening_owns t indexed there all own a b id apart first second is other = step (a.number == indexed.number) (b.number == indexed.number) refl refl where
+  step : (x y : Bool) → (a.number == indexed.number) ≡ x → (b.number == indexed.number) ≡ y → ⊥
+  step true true one two = apart (eqb-true a.number indexed.number one ∙ sym (eqb-true b.number indexed.number two))
+  step true false one two =
+      let stands = others_stand t indexed b (eqb-false b.number indexed.number two) second in
+      not_drawn t.profile t.next_id id (opened_id t indexed a id there (eqb-true a.number indexed.number one) first is)
+      (drawn_below t b.config.multicast b.slot.state id (all b.number b (slot_stands t b stands)) other)
+  step false true one two =
+      let stands = others_stand t indexed a (eqb-false a.number indexed.number one) first in
+      not_drawn t.profile t.next_id id (opened_id t indexed b id there (eqb-true b.number indexed.number two) second other)
+      (drawn_below t a.config.multicast a.slot.state id (all a.number a (slot_stands t a stands)) is)
+  step false false one two =
+      own a b id apart (others_stand t indexed a (eqb-false a.number indexed.number one) first) (others_stand t indexed b (eqb-false b.number indexed.number two) second) is other
+
+-- ---- the id of one slot
+
+no_id : (multicast : Bool) (state : SlotState) (id : ConnId) → state ≡ Idle → cond multicast None (drawn_id state) ≡ Some id → ⊥
+no_id true state id idle is = absurd cc
+no_id false Idle id idle is = absurd cc
+no_id false (Opening o) id idle is = absurd cc
+no_id false (Established c) id idle is = absurd cc
+no_id false (TimedOut link) id idle is = absurd cc
+no_id false (Closing c) id idle is = absurd cc
+
+-- the state before had this id
+same_state_id : (config : SlotConfig) (state other next : SlotState) (id : ConnId) → state ≡ other → drawn_id other ≡ drawn_id next → slot_id config next ≡ Some id → slot_id config state ≡ Some id
+same_state_id config state other next id same ids is = ap (λ (x : Option ConnId). cond config.multicast None x) (ap drawn_id same ∙ ids) ∙ is
+
+written_id : (state : SlotState) → drawn_id state ≡ drawn_id (written_state state)
+written_id Idle = refl
+written_id (Opening o) = refl
+written_id (Established c) = refl
+written_id (TimedOut link) = refl
+written_id (Closing c) = refl
+
+produced_id : (clock : Ms) (state : SlotState) → drawn_id state ≡ drawn_id (produced_state clock state)
+produced_id clock Idle = refl
+produced_id clock (Opening o) = refl
+produced_id clock (Established c) = refl
+produced_id clock (TimedOut link) = refl
+produced_id clock (Closing c) = refl
+
+due_id : (b : Bool) (clock : Ms) (slot : Slot) → drawn_id slot.state ≡ drawn_id (cond b (record slot { state = produced_state clock slot.state }) slot).state
+due_id true clock slot = produced_id clock slot.state
+due_id false clock slot = refl
+
+moded_id : (b : Bool) (slot : Slot) → drawn_id slot.state ≡ drawn_id (cond b (record slot { state = written_state slot.state }) slot).state
+moded_id true slot = written_id slot.state
+moded_id false slot = refl
+
+success_id : (t : ScannerTable) (multicast : Bool) (requested : Option ConnId) (made_id id : ConnId) → is_requested_id requested made_id ≡ true → WantsDrawn t.profile 0 t.next_id multicast requested → cond multicast None (Some made_id) ≡ Some id → cond multicast None requested ≡ Some id
+success_id t true requested made_id id is wants same = absurd cc
+success_id t false None made_id id is wants same = absurd wants
+success_id t false (Some requested) made_id id is wants same = ap (λ (x : ConnId). Some x) (same_id requested made_id is) ∙ same
+
+-- the slot's id stays, and its numbers were allocated
+set_owns : (t u : ScannerTable) (indexed : IndexedSlot) (slot : Slot) → Goes (Stays Drawn) t (with_slot u indexed.number slot) → Later t (with_slot u indexed.number slot) → u.slots ≡ t.slots → Stands t indexed → IdStays t (with_slot u indexed.number slot) indexed.number indexed.config indexed.slot slot → Owns t (with_slot u indexed.number slot)
+set_owns t u indexed slot goes later same stands stays = owns_by t (with_slot u indexed.number slot) goes (set_goes IdStays id_stays t u indexed slot later same stands stays)
+
+owns_kept : Kept Owns
+owns_kept = record {
+  same = λ t. owns_by t t (drawn_goes.widely.slots.same t) (stays_goes IdStays id_stays t t (drawn_goes.widely.slots.same t).later refl);
+  after = owns_after;
+  opening = λ t indexed stands closed_before. record { goes = drawn_goes.widely.slots.opening t indexed stands closed_before; own = opening_owns t indexed stands };
+  idling = λ t indexed slot stands idle. set_owns t t indexed slot (drawn_goes.widely.slots.idling t indexed slot stands idle) (set_later t indexed.number slot) refl stands (λ drawn id is. absurd (no_id indexed.config.multicast slot.state id idle.state is));
+  timing_out = λ t indexed c stands is.
+      let slot = failed_slot t (TimedOut c.link) indexed.slot in
+      set_owns t t indexed slot (drawn_goes.widely.slots.timing_out t indexed c stands is) (set_later t indexed.number slot) refl stands (λ drawn id. same_state_id indexed.config indexed.slot.state (Established c) slot.state id is refl);
+  closing = λ t indexed c stands is.
+      let slot = closing_slot t c indexed.slot in
+      set_owns t (counted t) indexed slot (drawn_goes.widely.slots.closing t indexed c stands is) (counted_later t indexed.number slot) refl stands (λ drawn id. same_state_id indexed.config indexed.slot.state (Established c) slot.state id is refl);
+}
+
+produced_owns : (t : ScannerTable) → Owns t (produced_table t)
+produced_owns t = owns_by t (produced_table t) (drawn_goes.widely.producing t)
+    (produced_goes IdStays (λ u number config slot drawn id. same_state_id config slot.state slot.state (produced_slot u.clock slot).state id refl (due_id (state_is_due u.clock slot.state) u.clock slot)) t)
+
+moded_owns : (t : ScannerTable) (run : Bool) → Owns t (moded_table t run)
+moded_owns t run = owns_by t (moded_table t run) (drawn_goes.widely.moding t run)
+    (moded_goes IdStays (λ u mode indexed drawn id. same_state_id indexed.config indexed.slot.state indexed.slot.state (moded_slot indexed).state id refl (moded_id (is_owner indexed.config.kind) indexed.slot)) t run)
+
+established_owns : (t : ScannerTable) (indexed : IndexedSlot) (o : pending.PendingOpen) (success : made.Opened) → Stands t indexed → indexed.slot.state ≡ Opening o → is_requested_id o.requested.t_o_id success.t_o_id ≡ true → Owns t (with_slot t indexed.number (established_slot indexed (new_connection t indexed o success)))
+established_owns t indexed o success stands is requested =
+    let slot = established_slot indexed (new_connection t indexed o success) in
+    set_owns t t indexed slot (drawn_goes.establishing t indexed o success stands is requested) (set_later t indexed.number slot) refl stands
+    (λ drawn id same. same_state_id indexed.config indexed.slot.state (Opening o) (Opening o) id is refl
+    (success_id t indexed.config.multicast o.requested.t_o_id success.t_o_id id requested (state_is t indexed.config.multicast indexed.slot.state (Opening o) is drawn).1 same))
+
+owns_always : KeptAlways Owns
+owns_always = record {
+  widely = record {
+    slots = owns_kept;
+    streams = λ t streams. owns_by t (record t { streams = streams }) (drawn_goes.widely.streams t streams) (stays_goes IdStays id_stays t (record t { streams = streams }) (drawn_goes.widely.streams t streams).later refl);
+    clocked = λ t ms. owns_by t (clocked_table t ms) (drawn_goes.widely.clocked t ms) (stays_goes IdStays id_stays t (clocked_table t ms) (drawn_goes.widely.clocked t ms).later refl);
+    producing = produced_owns;
+    moding = moded_owns;
+  };
+  establishing = established_owns;
+  writing = λ t indexed bytes stands.
+      let slot = output_slot bytes indexed.slot in
+      set_owns t t indexed slot (drawn_goes.writing t indexed bytes stands) (set_later t indexed.number slot) refl stands (λ drawn id. same_state_id indexed.config indexed.slot.state indexed.slot.state slot.state id refl (written_id indexed.slot.state));
+  accepting = λ t indexed d c bytes stands is.
+      let slot : Slot = record indexed.slot { state = Established (accepted_connection t.clock d c); image = bytes } in
+      set_owns t t indexed slot (drawn_goes.accepting t indexed d c bytes stands is) (set_later t indexed.number slot) refl stands (λ drawn id. same_state_id indexed.config indexed.slot.state (Established c) slot.state id is.established refl);
+}
+
+pub steps_own : StepsKeep NumbersAreOwn
+steps_own t event next is own =
+    let does = steps_lead Owns owns_always t event next is in
+    record { drawn = numbers_stay t next.1 does.goes own.drawn; own = own_ids next.1 (does.own own.drawn (ids_own t own.own)) }
+
+-- ---- fresh scanners
+
+fresh_own : (profile : ScannerProfile) → NumbersAreOwn (scanner_table profile)
+fresh_own profile = record {
+  drawn = λ number indexed is. idle_drawn (scanner_table profile) indexed.config.multicast indexed.slot.state (fresh_rests profile number indexed is);
+  own = λ a b id apart first second is. absurd (no_id a.config.multicast a.slot.state id (fresh_rests profile a.number a first) is);
+}
+
+pub numbers_law : IsLaw NumbersAreOwn
+numbers_law = law_of NumbersAreOwn steps_own fresh_own

@@ -1,5 +1,0 @@
-use Rattle.scanner_table.proofs.WholeTicks.{advancing_whole}
-use Rattle.scanner_table.proofs.laws.advancing_keeps_tables_whole.Goals as goal
-
-pub returns : goal.returns
-returns c = advancing_whole

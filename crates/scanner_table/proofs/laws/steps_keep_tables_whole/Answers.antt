@@ -1,5 +1,0 @@
-use Rattle.scanner_table.proofs.WholeTicks.{step_whole}
-use Rattle.scanner_table.proofs.laws.steps_keep_tables_whole.Goals as goal
-
-pub returns : goal.returns
-returns c = step_whole

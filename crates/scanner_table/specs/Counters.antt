@@ -1,0 +1,19 @@
+-- The counters of a scanner, which never fall.
+use Rattle.std.specs.Prelude.{◌≡◌, ◌≤◌, length}
+use Rattle.scanner_table.specs.declared.table.ScannerTable.{ScannerTable}
+use Rattle.scanner_table.specs.WellFormed.{IsWellFormed}
+
+-- the table has a slot for each of the profile's
+abbrev pub IsFull : ScannerTable → Type 0
+IsFull t = length t.slots ≡ length t.profile.slots
+
+-- the profile stays, and so does the number of slots, if there is one for each of the profile's; neither counter falls
+pub record CountsOn (old new : ScannerTable) : Type 0 where
+  pub profile : new.profile ≡ old.profile
+  pub slots : IsFull old → length new.slots ≡ length old.slots
+  pub ids : old.next_id ≤ new.next_id
+  pub requests : old.next_request ≤ new.next_request
+
+-- a whole table has all its slots
+abbrev pub WholeTablesAreFull : Type 0
+WholeTablesAreFull = (t : ScannerTable) → IsWellFormed t → IsFull t

@@ -1,3 +1,0 @@
-mod CounterSteps
-mod OwnSteps
-mod ProducerSteps

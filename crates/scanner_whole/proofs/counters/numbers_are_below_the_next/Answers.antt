@@ -1,5 +1,0 @@
-use Rattle.scanner_whole.proofs.OwnSteps.{numbers_law}
-use Rattle.scanner_whole.proofs.counters.numbers_are_below_the_next.Goals as goal
-
-pub returns : goal.returns
-returns c = numbers_law

@@ -1,7 +1,0 @@
-pub mod Runs
-pub mod Counters
-pub mod Drawn
-pub mod Producers
-pub mod Waiting
-pub mod Whole
-pub mod Lemmas
