@@ -25,8 +25,8 @@ use Rattle.cip_tables.specs.declared.table.DeviceTable.{DeviceTable}
 use Rattle.cip_tables.specs.declared.table.DeviceTable.TheVariants.{Adapter}
 use Rattle.cip_tables.specs.Step.{step, as_adapter}
 use Rattle.cip_tables.specs.Wakes.{never, connection_due, connections_due, clocked}
-use Rattle.device_laws.specs.Lemmas.Lists.{all_more}
-use Rattle.device_laws.proofs.Emptied.{none_ordered, none_mapped, none_joined, none_first, none_kept, all_kept, none_made}
+use Rattle.device_laws.specs.Lemmas.Lists.{all_more, all_kept}
+use Rattle.device_laws.proofs.Emptied.{none_ordered, none_mapped, none_joined, none_first, none_kept, none_made}
 
 -- ---- connections that wait
 

@@ -25,17 +25,18 @@ use Rattle.scanner_table.specs.declared.profile.SlotConfig.{SlotConfig}
 use Rattle.scanner_table.specs.declared.slot.SlotState.{SlotState}
 use Rattle.scanner_table.specs.declared.slot.SlotState.TheVariants.{Idle, Opening, Established, TimedOut, Closing}
 use Rattle.scanner_table.specs.declared.table.ScannerTable.{ScannerTable}
-use Rattle.scanner_table.specs.Requests.{connection_id, next_t_o_id, id_or_zero}
+use Rattle.cip_types.specs.Ids.{connection_id}
+use Rattle.scanner_table.specs.Requests.{next_t_o_id, id_or_zero}
 use Rattle.scanner_table.specs.Effects.{Next as ScannerNext}
 use Rattle.scanner_table.specs.Replies.{packet_answer, command_answer, open_answer}
 use Rattle.scanner_table.specs.Slots.{IndexedSlot, indexed_slots}
 use Rattle.scanner_table.specs.Step.{scanner_step}
-use Rattle.scanner_laws.specs.Newest.{came_from}
+use Rattle.device_laws.specs.Newest.{came_from}
 use Rattle.cip_tables.specs.declared.table.DeviceTable.{DeviceTable}
 use Rattle.cip_tables.specs.declared.table.DeviceTable.TheVariants.{Adapter, Scanner}
 use Rattle.cip_tables.specs.Step.{DeviceNext, as_adapter, as_scanner, step}
 use Rattle.cip_tables.specs.Whole.{IsWholeDevice, next_id_of}
-use Rattle.device_laws.specs.Sizes.{IsSmall, AnswersAreSmall}
+use Rattle.answer_sizes.specs.Sizes.{IsSmall, AnswersAreSmall}
 use Rattle.device_laws.specs.Ids.{ReplyIds, PacketIds, MessageIds, FrameIds, AnswerIds, RowIds, IdsFromTo, EventIds, RequestedId, LinkIds, StateIds, Replied}
 use Rattle.device_laws.specs.Carrying.{Passes, TableIds, StepsCarryIds, IsFrom, WantsFrom, StateFrom, StepsKeepFrom, Stands, IsAnswered, StateCame, SlotCame, RepliesEstablish}
 use Rattle.device_laws.specs.Lemmas.Texts.{either, same_again, Cuts}
@@ -84,7 +85,7 @@ replied_ids P t happens config request success replied ids =
     let packet : PacketIds P (packet_reading replied.message.payload) = subst (MessageIds P) replied.reads frame in
     subst (ReplyIds P) replied.success_is (reported_ids P replied.large replied.message packet)
 
-requested_drawn : (P : ℕ → Type 0) (t now : ScannerTable) (config : SlotConfig) (to : ℕ) (multicast : Bool) → config.multicast ≡ multicast → CanDraw t to now config → IdsFromTo P t.profile.incarnation t.next_id to → RequestedId P (cond multicast None (Some (connection_id now.profile now.next_id)))
+requested_drawn : (P : ℕ → Type 0) (t now : ScannerTable) (config : SlotConfig) (to : ℕ) (multicast : Bool) → config.multicast ≡ multicast → CanDraw t to now config → IdsFromTo P t.profile.incarnation t.next_id to → RequestedId P (cond multicast None (Some (connection_id now.profile.incarnation now.next_id)))
 requested_drawn P t now config to true is can drawn = tt
 requested_drawn P t now config to false is can drawn =
     let under = can.left is in
@@ -161,12 +162,12 @@ scanner_keeps back few G t happens a next is whole kept slots =
 abbrev From : ScannerProfile → ℕ → ℕ → OfSlots
 From profile request first number config state = config.multicast ≡ false → StateFrom profile request first state
 
-wants_from : (t now : ScannerTable) (config : SlotConfig) (to first : ℕ) (multicast : Bool) → config.multicast ≡ multicast → multicast ≡ false → CanDraw t to now config → first ≤ t.next_id → to ≤ 2 ^ 24 → WantsFrom t.profile first (cond multicast None (Some (connection_id now.profile now.next_id)))
+wants_from : (t now : ScannerTable) (config : SlotConfig) (to first : ℕ) (multicast : Bool) → config.multicast ≡ multicast → multicast ≡ false → CanDraw t to now config → first ≤ t.next_id → to ≤ 2 ^ 24 → WantsFrom t.profile first (cond multicast None (Some (connection_id now.profile.incarnation now.next_id)))
 wants_from t now config to first true is single can below in_range = absurd cc
 wants_from t now config to first false is single can below in_range =
     let under = can.left is in
     let counts = can.counts in
-    record { counter = now.next_id; is = ap (λ (p : ScannerProfile). connection_id p now.next_id) counts.profile; begins = omega (arith, below, counts.ids); ends = omega (arith, under, in_range) }
+    record { counter = now.next_id; is = ap (λ (p : ScannerProfile). connection_id p.incarnation now.next_id) counts.profile; begins = omega (arith, below, counts.ids); ends = omega (arith, under, in_range) }
 
 id_same : (a b : ConnId) → (a.0 == b.0) ≡ true → a ≡ b
 id_same a b is = let e : a.0 ≡ b.0 = grind (arith, nat_tests) in ap (λ (n : ℕ). conn n) e where

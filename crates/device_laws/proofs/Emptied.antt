@@ -36,14 +36,6 @@ none_kept p x xs is = split (p x) refl is
     split true here is = absurd cc
     split false here is = (here, is)
 
-pub all_kept : {X : Type 0} (p : X → Bool) (xs : List X) → AllByRecursion (λ x. p x ≡ true) (filter p xs)
-all_kept p [] = tt
-all_kept p (x ∷ xs) = split (p x) refl (all_kept p xs)
-  where
-    split : (b : Bool) → p x ≡ b → AllByRecursion (λ x. p x ≡ true) (filter p xs) → AllByRecursion (λ x. p x ≡ true) (cond b (x ∷ filter p xs) (filter p xs))
-    split true here rest = (here, rest)
-    split false here rest = rest
-
 made_of : {X Y : Type 0} (h : X → Option Y) (x : X) (xs : List X) (o : Option Y) → h x ≡ o → is_some (h x) ≡ true → filter_map h (x ∷ xs) ≡ [] → x ∷ xs ≡ []
 made_of h x xs None is some none = absurd (let e : is_some (h x) ≡ false = rw is refl in let f : true ≡ false = rw (← some) e in cc)
 made_of h x xs (Some y) is some none = absurd (let e : y ∷ filter_map h xs ≡ [] = rw (← none, is) refl in cc)

@@ -1,12 +1,3 @@
-mod Few
-mod Answers
-mod AdapterFrames
-mod AdapterDatagrams
-mod AdapterAnswers
-mod ScannerRequests
-mod ScannerFrames
-mod ScannerDatagrams
-mod ScannerAnswers
 mod OneOwner
 mod OwnerEffects
 mod OwnerSteps
@@ -16,3 +7,22 @@ pub mod Carrying
 pub mod Emptied
 pub mod AdapterDue
 pub mod ScannerDue
+pub mod Framing
+pub mod Answering
+pub mod Requests
+pub mod OwnIds
+pub mod RequestedRows
+pub mod SentStreams
+pub mod ScannerSending
+pub mod SentTexts
+pub mod Values
+mod DrawnSteps
+mod RisingNumbers
+mod ScratchSteps
+mod NewestSteps
+mod DeadlineSteps
+mod RunLemmas
+mod SlotLemmas
+mod SmallTables
+mod LawSamples
+mod OwnerReports

@@ -1,5 +1,5 @@
 -- Each step leaves an output its owner, unless a notice of its answer reports that the owner has ended.
-use Rattle.std.proofs.Common.{◌≡◌, ℕ, ◌+◌, ◌==◌, nat_lt, Bool, true, false, cond, not, List, [], ◌∷◌, length, find, Option, Some, None, Result, Ok, Err, refl, subst}
+use Rattle.std.proofs.Common.{◌≡◌, ℕ, ◌+◌, ◌==◌, nat_lt, Bool, true, false, not, List, [], ◌∷◌, length, find, Option, Some, None, Result, Ok, Err, refl, subst}
 use Rattle.std.specs.List.{list_any}
 use Rattle.std.specs.Result.{result_ok}
 use Rattle.std.specs.Str.{bytes_eq}
@@ -12,7 +12,7 @@ use Rattle.cip_encap.specs.Packet.{PacketFields}
 use Rattle.cip_encap.specs.PacketReading.{packet_reading}
 use Rattle.cip_epath.specs.Reading.{path_reading}
 use Rattle.cip_events.specs.declared.event.Event.{Event}
-use Rattle.cip_events.specs.declared.event.Event.TheVariants.{Request, StreamOpened, Frame, StreamCut, Datagram, Write, Read, Tick}
+use Rattle.cip_events.specs.declared.event.Event.TheVariants.{Request, StreamOpened, Frame, StreamCut, Datagram, Write, Tick}
 use Rattle.cip_events.specs.declared.event.Notice.TheVariants.{StreamClosed}
 use Rattle.cip_events.specs.declared.event.StepFault.{StepFault}
 use Rattle.cip_events.specs.declared.event.StepFault.TheVariants.{NotAllowedNow, TickTooLong, ClockEnd, WrongLength}
@@ -43,15 +43,12 @@ use Rattle.adapter_table.specs.Streams.{is_stream, is_taken, with_stream, withou
 use Rattle.adapter_table.specs.Encapsulation.{Handled, refusal, unanswered, session_begun, session_ended, register_session, request_replied, packet_replied, handled, frame_answer, frame_of, frame}
 use Rattle.adapter_table.specs.Datagrams.{is_for, row_delivery, accepted_table, delivered, found_datagram, datagram_of, received}
 use Rattle.adapter_table.specs.Ticks.{clocked_table, advanced, tick}
-use Rattle.adapter_table.specs.Step.{adapter_step, read, read_of, write, write_of, written, written_table}
+use Rattle.adapter_table.specs.Step.{adapter_step, write, write_of, written, written_table}
 use Rattle.adapter_table.specs.Whole.{IsWhole}
 use Rattle.adapter_table.specs.Laws.{EffectsKeep}
 use Rattle.device_laws.proofs.OwnerEffects.{KeepsOwner, unchanged, keeps_fed, keeps_written, keeps_closed, keeps_opened, keeps_advanced}
-
--- a choice between two things that keep it
-either : {A : Type 0} (P : A → Type 0) (b : Bool) (x y : A) → P x → P y → P (cond b x y)
-either P true x y first second = first
-either P false x y first second = second
+use Rattle.adapter_table.specs.Lemmas.PassiveLemmas.{passive_holds}
+use Rattle.base_lemmas.specs.Booleans.{either}
 
 -- ---- an opening that is admitted
 
@@ -194,10 +191,6 @@ ok_written point t input bytes None = tt
 ok_written point t input bytes (Some there) =
     either (OkKeeps point t) (length bytes == there.len) (Ok (written (written_table t input bytes) input bytes)) (Err WrongLength) (keeps_written point t input bytes []) tt
 
-ok_read : (point : ℕ) (t : AdapterTable) (found : Option (List ℕ)) → OkKeeps point t (read_of t found)
-ok_read point t None = tt
-ok_read point t (Some bytes) = unchanged point t []
-
 ok_ticked : (point : ℕ) (t : AdapterTable) (ms : ℕ) → OkKeeps point t (tick t ms)
 unfolding tick
 ok_ticked point t ms =
@@ -205,7 +198,7 @@ ok_ticked point t ms =
     (either (OkKeeps point t) (nat_lt clock_end (t.clock.0 + ms)) (Err ClockEnd) (Ok (advanced (clocked_table t ms))) tt (keeps_advanced point t ms))
 
 ok_step : (point : ℕ) (t : AdapterTable) → OpeningsKeep point t → (event : Event) → OkKeeps point t (adapter_step t event)
-unfolding requested received read write frame stream_cut stream_opened with_stream
+unfolding requested received write frame stream_cut stream_opened with_stream
 ok_step point t opens (Request peer bytes) = keeps_answered point t peer (served t peer (router_request_reading bytes)) (keeps_served point t opens peer (router_request_reading bytes))
 ok_step point t opens (StreamOpened number peer) =
     either (OkKeeps point t) (is_taken t.streams number) (Err NotAllowedNow) (Ok (plain_answer Done, with_stream t number peer)) tt (unchanged point t [])
@@ -213,9 +206,8 @@ ok_step point t opens (Frame number bytes) = ok_framed point t opens bytes (find
 ok_step point t opens (StreamCut number) = ok_cut point t (find (is_stream number) t.streams)
 ok_step point t opens (Datagram peer bytes) = keeps_datagram point t peer (datagram_reading bytes)
 ok_step point t opens (Write input bytes) = ok_written point t input bytes (find (is_at input) t.profile.inputs)
-ok_step point t opens (Read other) = ok_read point t (bytes_at t.values other)
 ok_step point t opens (Tick ms) = ok_ticked point t ms
-ok_step point t opens other = tt
+ok_step point t opens other = passive_holds (OkKeeps point t) t (λ why. tt) (λ verdict. unchanged point t []) other refl
 
 -- each step from a whole table that gives an answer keeps the owner, unless the answer reports its end
 pub step_keeps : EffectsKeep IsWhole → (point : ℕ) (t : AdapterTable) (event : Event) (next : Next) → IsWhole t → adapter_step t event ≡ Ok next → KeepsOwner point t next.0.notices next.1

@@ -28,9 +28,9 @@ use Rattle.scanner_table.specs.Ticks.{has_expired, state_has_expired, by_deadlin
 use Rattle.cip_tables.specs.declared.table.DeviceTable.TheVariants.{Scanner}
 use Rattle.cip_tables.specs.Step.{step, as_scanner}
 use Rattle.cip_tables.specs.Wakes.{never, has_session, state_due, slot_due, slots_due, clocked}
-use Rattle.device_laws.specs.Lemmas.Lists.{all_more, all_ordered}
+use Rattle.device_laws.specs.Lemmas.Lists.{all_more, all_ordered, all_kept}
 use Rattle.device_laws.proofs.AdapterDue.{later, answer_of}
-use Rattle.device_laws.proofs.Emptied.{none_ordered, none_mapped, none_joined, none_kept, all_kept, none_made}
+use Rattle.device_laws.proofs.Emptied.{none_ordered, none_mapped, none_joined, none_kept, none_made}
 
 -- ---- slots that wait
 

@@ -12,10 +12,10 @@ use Rattle.scanner_table.specs.declared.slot.PendingOpen as pending
 use Rattle.scanner_table.specs.declared.slot.SlotState.{SlotState}
 use Rattle.scanner_table.specs.declared.slot.SlotState.TheVariants.{Idle, Opening, Established, TimedOut, Closing}
 use Rattle.scanner_table.specs.declared.table.ScannerTable.{ScannerTable}
-use Rattle.scanner_table.specs.Requests.{connection_id}
+use Rattle.cip_types.specs.Ids.{connection_id}
 use Rattle.scanner_table.specs.Slots.{IndexedSlot, indexed_slots}
 use Rattle.scanner_table.specs.Step.{scanner_step}
-use Rattle.scanner_laws.specs.Newest.{came_from}
+use Rattle.device_laws.specs.Newest.{came_from}
 use Rattle.cip_tables.specs.declared.table.DeviceTable.{DeviceTable}
 use Rattle.cip_tables.specs.declared.table.DeviceTable.TheVariants.{Adapter, Scanner}
 use Rattle.cip_tables.specs.Step.{step, incarnation_of}
@@ -53,7 +53,7 @@ StepsCarryIds =
 -- the id has the scanner's incarnation, and a counter of 24 bits from this one on
 pub record IsFrom (profile : ScannerProfile) (first : ℕ) (id : ConnId) : Type 0 where
   pub counter : ℕ
-  pub is : id ≡ connection_id profile counter
+  pub is : id ≡ connection_id profile.incarnation counter
   pub begins : first ≤ counter
   pub ends : counter < 2 ^ 24
 

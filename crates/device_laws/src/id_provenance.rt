@@ -2,7 +2,7 @@
 
 ghost use Rattle.device_laws.specs.Carrying.{StepsCarryIds, StepsKeepFrom, RepliesEstablish};
 
-use crate::answer_bounds::answers_are_small;
+use answer_sizes::answers_are_small;
 use cip_encap::reads_back;
 
 /// A step brings up no connection id of its own, except the next ids of its counter: each id of the next table and

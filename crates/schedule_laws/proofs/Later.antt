@@ -17,7 +17,7 @@ use Rattle.adapter_table.specs.Connections.{Row}
 use Rattle.adapter_table.specs.declared.table.AdapterTable.{AdapterTable}
 use Rattle.adapter_table.specs.Datagrams.{is_for}
 use Rattle.adapter_table.specs.Newest.{Acceptance, was_opened_as, accepted_found, accepted_read}
-use Rattle.adapter_table.specs.Opening.{connection_id}
+use Rattle.cip_types.specs.Ids.{connection_id}
 use Rattle.adapter_table.specs.Productions.{producer_of}
 use Rattle.adapter_table.specs.Rows.{Each, is_established}
 use Rattle.adapter_table.specs.Sound.{IdsAreDrawn as RowIdsAreDrawn, MulticastIdIsDrawn}
@@ -25,7 +25,7 @@ use Rattle.cip_tables.specs.declared.table.DeviceTable.{DeviceTable}
 use Rattle.cip_tables.specs.declared.table.DeviceTable.TheVariants.{Adapter, Scanner}
 use Rattle.cip_tables.specs.Step.{incarnation_of, step}
 use Rattle.cip_tables.specs.Whole.{IsWholeDevice, next_id_of}
-use Rattle.sent_log.specs.Log.{Sent}
+use Rattle.segment_traffic.specs.Log.{Sent}
 use Rattle.segment_world.specs.declared.act.Act.{Act}
 use Rattle.segment_world.specs.declared.act.ActFault.{ActFault}
 use Rattle.segment_world.specs.World.{World, ReportedEvent, Happened, happens}
@@ -79,14 +79,14 @@ opened_or_later t opening false = true
 abbrev opened_from : ℕ → AdapterTable → Openings
 opened_from device t e opening = opened_or_later t opening (e == device)
 
-adapter_same : (a b : AdapterTable) → Adapter a ≡ Adapter b → a ≡ b
+pub adapter_same : (a b : AdapterTable) → Adapter a ≡ Adapter b → a ≡ b
 adapter_same a b is = ap (λ (x : DeviceTable). adapter_or x) is where
   adapter_or : DeviceTable → AdapterTable
   adapter_or (Adapter x) = x
   adapter_or (Scanner x) = a
 
 abbrev HasDrawnId : Profile → ℕ → Row → Type 0
-HasDrawnId profile next row = (row.o_t_id ≡ connection_id profile row.opening) × (row.opening < next)
+HasDrawnId profile next row = (row.o_t_id ≡ connection_id profile.incarnation row.opening) × (row.opening < next)
 
 found_step : (P : Row → Type 0) (b : Bool) (first row : Row) (rest : Option Row) → cond b (Some first) rest ≡ Some row → P first → (rest ≡ Some row → P row) → P row
 found_step P true first row rest is here more = let same : first ≡ row = cc in subst P same here

@@ -4,7 +4,7 @@ use Rattle.std.proofs.Common.{◌≡◌, ◌≢◌, ◌≤◌, ℕ, suc, ◌+◌
 use Rattle.std.specs.List.{AllByRecursion}
 use Rattle.std.proofs.lemmas.Bool.{and_parts, false_from_ne_true}
 use Rattle.std.proofs.lemmas.Option.{same_Some}
-use Rattle.scanner_laws.specs.Lemmas.Stepping.{device_stepped}
+use Rattle.device_laws.specs.Lemmas.Stepping.{device_stepped, ok_inside}
 use Rattle.cip_types.specs.declared.names.ConnId.{ConnId}
 use Rattle.cip_types.specs.declared.names.Node.{Node}
 use Rattle.cip_events.specs.declared.event.Answer.{Answer}
@@ -21,7 +21,7 @@ use Rattle.scanner_table.specs.Datagrams.{is_for}
 use Rattle.scanner_table.specs.Replies.{state_consumes}
 use Rattle.scanner_table.specs.Slots.{IndexedSlot, indexed_from, indexed_slots, is_with}
 use Rattle.scanner_table.specs.Step.{scanner_step}
-use Rattle.scanner_table.specs.Whole.{FitsState, SlotsFit}
+use Rattle.scanner_table.specs.WellFormed.{FitsState, SlotsFit}
 use Rattle.cip_tables.specs.declared.table.DeviceTable.{DeviceTable}
 use Rattle.cip_tables.specs.declared.table.DeviceTable.TheVariants.{Adapter, Scanner}
 use Rattle.cip_tables.specs.Run.{table_of}
@@ -29,22 +29,19 @@ use Rattle.adapter_table.specs.declared.table.AdapterTable.{AdapterTable}
 use Rattle.adapter_table.specs.Requests.{Next}
 use Rattle.adapter_table.specs.Step.{adapter_step}
 use Rattle.cip_tables.specs.Step.{DeviceNext, as_adapter, step}
-use Rattle.cip_tables.specs.Whole.{IsWholeDevice, next_id_of, RunsKeepWhole}
+use Rattle.cip_tables.specs.Whole.{IsWholeDevice, RunsKeepWhole}
 use Rattle.segment_world.specs.Story.{is_of}
 use Rattle.device_laws.specs.Carrying.{IsFrom, StateFrom, SlotFrom, SlotsFrom, StepsKeepFrom, RepliesEstablish}
 use Rattle.schedule_laws.specs.Stories.{led_by, led_to}
 use Rattle.schedule_laws.specs.Ids.{LaterSlotsTakeNoneOfIt, RepliesEstablishTheirOwn}
 use Rattle.schedule_laws.proofs.Reporting.{Answers, AnswersIf, Reports, led_both, reports_rest, reports_first, is_run, outcomes_of, story_leads}
-use Rattle.schedule_laws.specs.Lemmas.Drawing.{StepLaws}
+use Rattle.schedule_laws.specs.Lemmas.Drawing.{StepLaws, whole_in_range}
 use Rattle.schedule_laws.proofs.Later.{all_contains, unsent, StepsKeepIt, runs_kept, at_moment}
 
 -- ---- the scanner's step
 
 abbrev ok_of : DeviceNext → Result DeviceNext StepFault
 ok_of n = Ok n
-
-ok_inside : (x y : DeviceNext) → ok_of x ≡ ok_of y → x ≡ y
-ok_inside x y e = cc
 
 -- ---- slots that are opened later
 
@@ -66,17 +63,13 @@ abbrev GoesOn : ScannerProfile → ℕ → ℕ → DeviceTable → Type 0
 GoesOn profile request first (Scanner u) = (u.profile ≡ profile) × (first ≤ u.next_id) × SlotsFrom profile request first u
 GoesOn profile request first (Adapter a) = Unit {0}
 
-whole_ids : (u : DeviceTable) → IsWholeDevice u → next_id_of u ≤ 16777216
-whole_ids (Adapter u) whole = whole.sound.ids_are_left
-whole_ids (Scanner u) whole = whole.table.ids
-
 goes_scanner : StepLaws → StepsKeepFrom → (profile : ScannerProfile) (request first : ℕ) (t u : ScannerTable) (happens : Event) (a : Answer) → scanner_step t happens ≡ Ok (a, u) → IsWholeDevice (Scanner t) → IsWholeDevice (Scanner u) → GoesOn profile request first (Scanner t) → GoesOn profile request first (Scanner u)
 goes_scanner laws keeps profile request first t u happens a is whole whole_u goes =
     let counts = laws.scanners t happens (a, u) is in
     let before = goes.0 in
     let from = goes.1 in
     let slots : SlotsFrom t.profile request first t = subst (λ (p : ScannerProfile). SlotsFrom p request first t) (sym before) goes.2 in
-    let in_range = whole_ids (Scanner u) whole_u in
+    let in_range = whole_in_range (Scanner u) whole_u in
     let now = keeps request first t happens a u is whole from (omega (arith, in_range)) slots in
     (counts.profile ∙ before, omega (arith, from, counts.ids), subst (λ (p : ScannerProfile). SlotsFrom p request first u) before now)
 

@@ -1,6 +1,32 @@
--- Lemmas that crates above cite: what one act does to the devices of a network, and what a schedule keeps.
+-- Lemmas that laws here and crates above cite: what one act does to the devices of a network, what a schedule keeps, what an act adds
+-- to a chronicle, and whom its ids, numbers and streams name.
 pub mod Lists
 pub mod Moves
 pub mod Carrying
 pub mod Tests
 pub mod Drawing
+pub mod SentTexts
+pub mod ProducedActs
+pub mod Beginning
+pub mod ActEvents
+pub mod AdapterNewest
+pub mod ScannerNewest
+pub mod Deliveries
+pub mod NewestSteps
+pub mod NewestActs
+pub mod RisingIndexes
+pub mod Found
+pub mod StreamActs
+pub mod Entries
+pub mod AdapterNames
+pub mod ScannerNames
+pub mod NameActs
+pub mod Addresses
+pub mod AcceptedOpenings
+pub mod OpeningActs
+pub mod AdapterProducers
+pub mod OneProducer
+pub mod Numbers
+pub mod ApartIds
+pub mod Acts
+pub mod Stories

@@ -1,17 +1,40 @@
 //! Laws of every schedule of acts on a simulated network of many devices, in whatever order the acts deliver datagrams
-//! and frames. A law call does nothing; its contract states the law, over the definitions of `segment_world` alone.
+//! and frames. A law call does nothing; its contract states the law.
+//!
+//! Owners and ids are here at the root, over the definitions of `segment_world` alone. `slot_openings` says whose an opening
+//! number is. `order`, `devices` and `made_once` are the laws of order, over a chronicle beside the schedule; `points` says what
+//! outputs and images hold, `connections` which points a connection joins.
 #![tactic(auto)]
 
 ghost use Rattle.schedule_laws.specs.Owners.{OwnersFollow, OpenedOwnersFollow};
 ghost use Rattle.schedule_laws.specs.Ids.{SchedulesKeepIdsDrawn, OpeningWorldsHaveIdsDrawn, IdsToComeAreUnsent, LaterConnectionsAcceptNoneOfIt, LaterSlotsTakeNoneOfIt, LaterGroupsSentNoneOfIt, RepliesEstablishTheirOwn};
 
+mod connections;
+mod devices;
+mod made_once;
+mod order;
+mod points;
+mod slot_openings;
+
 use adapter_table::laws as adapters;
 use cip_tables::laws as tables;
+pub use connections::connections_join_points;
 use device_laws::{
-    ids_are_carried, ids_are_drawn_with_openings, owners_follow_one_another as owners_of_runs,
+    counters_never_fall, ids_are_carried, ids_are_drawn_with_openings,
+    owners_follow_one_another as owners_of_runs,
     replies_establish_their_own_slot as replies_of_steps,
 };
-use scanner_laws::counters_never_fall;
+pub use devices::{devices_stand, streams_follow_their_marks};
+pub use made_once::{an_id_opens_one_connection, ids_are_used_once};
+pub use order::{
+    accepted_indexes_rise, an_id_names_one_opening, an_id_names_one_producer, ids_name_openings,
+    one_opening_is_accepted, outputs_are_as_written, productions_are_numbered,
+};
+pub use points::{
+    accepted_data_were_written, applied_outputs_are_in_order, images_are_in_order,
+    images_hold_accepted_data,
+};
+pub use slot_openings::an_opening_number_names_one_slot;
 
 /// Between data of two connections that were applied to one output of an adapter, the first connection was closed or
 /// timed out at that adapter.

@@ -7,18 +7,18 @@ use Rattle.device_lock.specs.Histories.{HistoryValue}
 use Rattle.segment_world.specs.declared.act.Act.{Act}
 use Rattle.segment_world.specs.Configs.{world_fault}
 use Rattle.schedule_laws.specs.Ids.{AreBytes}
-use Rattle.schedule_order.specs.Chronicle.{Chronicle}
-use Rattle.schedule_order.specs.Devices.{DevicesStand}
-use Rattle.schedule_order.specs.Indexes.{IsWellProduced}
-use Rattle.schedule_order.specs.MadeOnce.{IdsAreUsedOnce, OneConnectionHasIt}
-use Rattle.schedule_order.specs.Marks.{StreamsFollowMarks}
-use Rattle.schedule_order.specs.Names.{IdsNameOpenings, OneOpeningHasTheId}
-use Rattle.schedule_order.specs.Order.{IsChronicle, KeepsHalfCircle, OutputsAreWritten}
-use Rattle.schedule_order.specs.Producers.{IdsNameOneProducer}
-use Rattle.schedule_points.specs.Images.{ImagesAreInOrder, ImagesWereGathered}
-use Rattle.schedule_points.specs.Outputs.{OutputsAreInOrder}
-use Rattle.settling.specs.Histories.{configs_of, events_of_all}
-use Rattle.settling.specs.Schedules.{Projects}
+use Rattle.schedule_laws.specs.Chronicle.{Chronicle}
+use Rattle.schedule_laws.specs.Devices.{DevicesStand}
+use Rattle.schedule_laws.specs.Indexes.{IsWellProduced}
+use Rattle.schedule_laws.specs.MadeOnce.{IdsAreUsedOnce, OneConnectionHasIt}
+use Rattle.schedule_laws.specs.Marks.{StreamsFollowMarks}
+use Rattle.schedule_laws.specs.Names.{IdsNameOpenings, OneOpeningHasTheId}
+use Rattle.schedule_laws.specs.Order.{IsChronicle, KeepsHalfCircle, OutputsAreWritten}
+use Rattle.schedule_laws.specs.Producers.{IdsNameOneProducer}
+use Rattle.schedule_laws.specs.Images.{ImagesAreInOrder, ImagesWereGathered}
+use Rattle.schedule_laws.specs.Outputs.{OutputsAreInOrder}
+use Rattle.schedule_search.specs.Histories.{configs_of, events_of_all}
+use Rattle.schedule_search.specs.Schedules.{Projects}
 use Rattle.settling.specs.Settlings.{AllStand, SettlesAll}
 
 -- THE CHRONICLE

@@ -4,13 +4,11 @@
 
 ghost use Rattle.settled_laws.specs.Settled.{SchedulesHaveChronicles, SettledLinesAreInOrder};
 
-use schedule_order::{
-    an_id_names_one_opening, an_id_names_one_producer, an_id_opens_one_connection, devices_stand,
-    ids_are_used_once, ids_name_openings, outputs_are_as_written, productions_are_numbered,
-    streams_follow_their_marks,
-};
-use schedule_points::{
-    applied_outputs_are_in_order, images_are_in_order, images_hold_accepted_data,
+use schedule_laws::{
+    an_id_names_one_opening, an_id_names_one_producer, an_id_opens_one_connection,
+    applied_outputs_are_in_order, devices_stand, ids_are_used_once, ids_name_openings,
+    images_are_in_order, images_hold_accepted_data, outputs_are_as_written,
+    productions_are_numbered, streams_follow_their_marks,
 };
 
 /// A schedule that settles histories and receipts has a chronicle. In its story the events of each device are the device's

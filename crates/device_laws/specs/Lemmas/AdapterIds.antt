@@ -71,12 +71,13 @@ use Rattle.adapter_table.specs.Requests.{Next, Served, judged_open, admitted_ope
 use Rattle.adapter_table.specs.Streams.{is_stream, is_taken, with_stream, without_stream, has_session, registered_table, stream_opened, cut_of, stream_cut}
 use Rattle.adapter_table.specs.Encapsulation.{Handled, refusal, unanswered, session_begun, session_ended, register_session, request_replied, packet_replied, handled, reply_frames, framed, frame_answer, frame_of, frame}
 use Rattle.adapter_table.specs.Ticks.{has_expired, expired_row, expired_rows, clocked_table, expired_table, produced_table, advanced, tick}
-use Rattle.adapter_table.specs.Step.{read_of, read, written_table, changed_table, written, write_of, write, adapter_step}
-use Rattle.device_laws.specs.Sizes.{IsShortFrame, IsSmall}
+use Rattle.adapter_table.specs.Step.{written_table, changed_table, written, write_of, write, adapter_step}
+use Rattle.answer_sizes.specs.Sizes.{IsShortFrame, IsSmall}
 use Rattle.device_laws.specs.Ids.{RequestIds, PayloadIds, PacketIds, MessageIds, FrameIds, HasFrameIds, HasDatagramId, AnswerIds, RowIds, FromTo, IdsFromTo, EventIds}
 use Rattle.device_laws.specs.Lemmas.Lists.{all_both, all_more, all_filtered, all_mapped, all_found, all_ordered, all_firsts, all_made}
 use Rattle.device_laws.specs.Lemmas.Texts.{either, Cuts, message_ids, packet_ids, datagram_id}
 use Rattle.device_laws.specs.Lemmas.Payloads.{opened_ids, closed_ids, got_ids, refused_ids}
+use Rattle.adapter_table.specs.Lemmas.PassiveLemmas.{passive_holds}
 
 abbrev pub RowsHold : (P Q : ℕ → Type 0) → List Row → Type 0
 RowsHold P Q rows = AllByRecursion (RowIds P Q) rows
@@ -403,12 +404,8 @@ unfolding without_stream
 cut_holds P Q to t None rows = tt
 cut_holds P Q to t (Some stream) rows = (λ below small. (record { frames = tt; datagrams = tt }, rows))
 
-reads_hold : (P Q : ℕ → Type 0) (to : ℕ) (t : AdapterTable) (found : Option (List ℕ)) → RowsHold P Q t.rows → OkHolds P Q to (read_of t found)
-reads_hold P Q to t None rows = tt
-reads_hold P Q to t (Some bytes) rows = (λ below small. (record { frames = tt; datagrams = tt }, rows))
-
 pub adapter_holds : ItemsReadBack → (P Q : ℕ → Type 0) → Cuts P → (to : ℕ) (t : AdapterTable) (happens : Event) → HasDrawn P Q t to → EventIds P happens → RowsHold P Q t.rows → OkHolds P Q to (adapter_step t happens)
-unfolding received read write frame stream_cut stream_opened with_stream
+unfolding received write frame stream_cut stream_opened with_stream
 adapter_holds back P Q cuts to t (event.Request peer bytes) drawn ids rows = absurd ids
 adapter_holds back P Q cuts to t (event.StreamOpened number peer) drawn ids rows =
     either (OkHolds P Q to) (is_taken t.streams number) (Err NotAllowedNow) (Ok (plain_answer Done, with_stream t number peer)) tt (λ below small. (record { frames = tt; datagrams = tt }, rows))
@@ -416,6 +413,5 @@ adapter_holds back P Q cuts to t (event.Frame number bytes) drawn ids rows = fra
 adapter_holds back P Q cuts to t (event.StreamCut number) drawn ids rows = cut_holds P Q to t (find (is_stream number) t.streams) rows
 adapter_holds back P Q cuts to t (event.Datagram peer bytes) drawn ids rows = datagram_holds P Q to t peer (datagram_reading bytes) rows
 adapter_holds back P Q cuts to t (event.Write point bytes) drawn ids rows = found_write P Q cuts to t point bytes (find (is_at point) t.profile.inputs) rows
-adapter_holds back P Q cuts to t (event.Read point) drawn ids rows = reads_hold P Q to t (bytes_at t.values point) rows
 adapter_holds back P Q cuts to t (event.Tick ms) drawn ids rows = tick_holds P Q cuts to t ms rows
-adapter_holds back P Q cuts to t other drawn ids rows = tt
+adapter_holds back P Q cuts to t other drawn ids rows = passive_holds (OkHolds P Q to) t (λ why. tt) (λ verdict below small. (record { frames = tt; datagrams = tt }, rows)) other refl

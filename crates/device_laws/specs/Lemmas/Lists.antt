@@ -1,5 +1,5 @@
 -- What holds of each element of a list holds of each of what filters, orders and maps make of it.
-use Rattle.std.proofs.Common.{◌≡◌, Bool, List, [], ◌∷◌, ◌++◌, map, filter, find, Option, Some, None, refl}
+use Rattle.std.proofs.Common.{◌≡◌, Bool, true, false, cond, List, [], ◌∷◌, ◌++◌, map, filter, find, Option, Some, None, refl}
 use Rattle.std.specs.List.{AllByRecursion, filter_map}
 use Rattle.std.specs.Option.{IfSome}
 use Rattle.cip_types.specs.Order.{inserted, in_order, differs, first_of_each}
@@ -18,6 +18,14 @@ all_filtered P p [] all = tt
 all_filtered P p (x ∷ xs) all =
     let rest = all_filtered P p xs all.1 in
     either (AllByRecursion P) (p x) (x ∷ filter p xs) (filter p xs) (all.0, rest) rest
+
+pub all_kept : {X : Type 0} (p : X → Bool) (xs : List X) → AllByRecursion (λ x. p x ≡ true) (filter p xs)
+all_kept p [] = tt
+all_kept p (x ∷ xs) = split (p x) refl (all_kept p xs)
+  where
+    split : (b : Bool) → p x ≡ b → AllByRecursion (λ x. p x ≡ true) (filter p xs) → AllByRecursion (λ x. p x ≡ true) (cond b (x ∷ filter p xs) (filter p xs))
+    split true here rest = (here, rest)
+    split false here rest = rest
 
 pub all_mapped : {X Y : Type 0} (P : X → Type 0) (Q : Y → Type 0) (f : X → Y) → ((x : X) → P x → Q (f x)) → (xs : List X) → AllByRecursion P xs → AllByRecursion Q (map f xs)
 all_mapped P Q f makes [] all = tt

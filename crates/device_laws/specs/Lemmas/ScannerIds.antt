@@ -45,20 +45,21 @@ use Rattle.scanner_table.specs.Datagrams.{is_for, accepted_connection, accepted_
 use Rattle.scanner_table.specs.Effects.{Next, Effect, changed, counted, done}
 use Rattle.scanner_table.specs.Encapsulation.{registering_on, stream_opened, cut_of, stream_cut, is_registered, session_begun, session_failed, registered, ignored, waits_for, is_awaiting, replied, replied_to, reported, frame_answer, frame_of, frame}
 use Rattle.scanner_table.specs.Opening.{has_request, exhausted, resigned}
-use Rattle.scanner_table.specs.Points.{write_length, write_at, write, output_written, output_slot, read_at, read, same_mode, moded_slot, moded_table, mode, desired_slot, started, start_state, start_at, start, stop_of, stop}
+use Rattle.scanner_table.specs.Points.{write_length, write_at, write, output_written, output_slot, same_mode, moded_slot, moded_table, mode, desired_slot, started, start_state, start_at, start, stop_of, stop}
 use Rattle.scanner_table.specs.Productions.{written_state, state_production, slot_production, state_is_due, is_due, by_due, due_slots, due_productions, produced_state, produced_slot, produced_table}
 use Rattle.scanner_table.specs.Replies.{open_answer, answered}
 use Rattle.scanner_table.specs.Sessions.{is_stream, is_taken, without_stream, with_stage, session_with}
 use Rattle.scanner_table.specs.Slots.{IndexedSlot, indexed_slots, is_numbered, slot_at, is_with, with_slot}
 use Rattle.scanner_table.specs.Step.{scanner_step}
 use Rattle.scanner_table.specs.Ticks.{clocked_table, advanced, ticked, tick}
-use Rattle.device_laws.specs.Sizes.{IsShortFrame, IsSmall}
+use Rattle.answer_sizes.specs.Sizes.{IsShortFrame, IsSmall}
 use Rattle.device_laws.specs.Ids.{PacketIds, HasFrameIds, HasDatagramId, AnswerIds}
 use Rattle.device_laws.specs.Lemmas.Lists.{all_filtered, all_found, all_made, all_mapped, all_ordered}
 use Rattle.device_laws.specs.Lemmas.Texts.{either, Cuts, message_ids, packet_ids, datagram_id}
 use Rattle.device_laws.specs.Lemmas.Payloads.{request_ids, close_request_ids}
 use Rattle.device_laws.specs.Lemmas.AdapterIds.{plain_protocol, few_bytes}
 use Rattle.device_laws.specs.Lemmas.Slots.{OfSlots, SlotHolds, SlotsHold, IsSlotOf, all_slots, with_slot_holds, mapped_indexed, mapped_slots, Kept, RequestId, SentId, RequestIdsHold, EffectHolds, same_counts, changed_counts, changed_holds, opened_holds, target_holds, lost_holds, advanced_holds, SaysSo, answered_holds}
+use Rattle.scanner_table.specs.Lemmas.PassiveLemmas.{passive_holds}
 
 -- ---- requests that are sent
 
@@ -177,8 +178,8 @@ cut_holds back G P cuts to t happens kept (Some stream) slots =
 
 accepted_holds : (G : OfSlots) (to : ℕ) (t : ScannerTable) (happens : Event) → Kept G t to happens → (indexed : IndexedSlot) (d : DatagramFields) (c : SlotConnection) (bytes : List ℕ) → SlotsHold G t → slice_get t.profile.slots indexed.number ≡ Some indexed.config → G indexed.number indexed.config (Established c) → SlotsHold G (accepted_table t indexed d c bytes)
 accepted_holds G to t happens kept indexed d c bytes slots there is =
-    with_slot_holds G t.profile.slots t indexed (record indexed.slot { state = Established (accepted_connection t.clock indexed.config.mult d c); image = bytes }) refl there
-    (kept.goes_on indexed.number indexed.config c (accepted_connection t.clock indexed.config.mult d c) refl refl is) slots
+    with_slot_holds G t.profile.slots t indexed (record indexed.slot { state = Established (accepted_connection t.clock d c); image = bytes }) refl there
+    (kept.goes_on indexed.number indexed.config c (accepted_connection t.clock d c) refl refl is) slots
 
 connected_holds : (G : OfSlots) (P : ℕ → Type 0) (to : ℕ) (t : ScannerTable) (happens : Event) → Kept G t to happens → (indexed : IndexedSlot) (d : DatagramFields) (c : SlotConnection) → SlotsHold G t → slice_get t.profile.slots indexed.number ≡ Some indexed.config → G indexed.number indexed.config (Established c) → NextHolds G P to (connected t indexed d c)
 connected_holds G P to t happens kept indexed d c slots there is =
@@ -222,10 +223,6 @@ write_holds G P to t happens kept bytes (Some indexed) is_slot slots =
     (λ below small.
     (record { frames = tt; datagrams = tt }, with_slot_holds G t.profile.slots t indexed (output_slot bytes indexed.slot) refl is_slot.there (written_holds G to t happens kept indexed.number indexed.config indexed.slot.state is_slot.holds) slots))
     tt) tt
-
-read_holds : (G : OfSlots) (P : ℕ → Type 0) (to : ℕ) (t : ScannerTable) (found : Option IndexedSlot) → SlotsHold G t → OkHolds G P to (read_at t found)
-read_holds G P to t None slots = tt
-read_holds G P to t (Some indexed) slots = λ below small. (record { frames = tt; datagrams = tt }, slots)
 
 mode_holds : (G : OfSlots) (P : ℕ → Type 0) (to : ℕ) (t : ScannerTable) (happens : Event) → Kept G t to happens → (run : Bool) → SlotsHold G t → NextHolds G P to (mode t run)
 unfolding mode
@@ -338,15 +335,14 @@ opens_hold back G P cuts to t number target slots =
     (done_holds back G P cuts to (registering_on t number target) (λ below. record { slots = slots; sent = (tt, tt) }))
 
 pub scanner_holds : ItemsReadBack → (G : OfSlots) (P : ℕ → Type 0) → Cuts P → Sends G P → (to : ℕ) (t : ScannerTable) (happens : Event) → Kept G t to happens → RequestIdsHold P t to → SlotsHold G t → OkHolds G P to (scanner_step t happens)
-unfolding received frame stream_cut write read start stop
+unfolding received frame stream_cut write start stop
 scanner_holds back G P cuts sends to t (event.StreamOpened number peer) kept requested_ids slots = opens_hold back G P cuts to t number peer slots
 scanner_holds back G P cuts sends to t (event.Frame number bytes) kept requested_ids slots = frame_holds back G P cuts to t number bytes kept requested_ids (find (is_stream number) t.streams) refl slots
 scanner_holds back G P cuts sends to t (event.StreamCut number) kept requested_ids slots = cut_holds back G P cuts to t (event.StreamCut number) kept (find (is_stream number) t.streams) slots
 scanner_holds back G P cuts sends to t (event.Datagram peer bytes) kept requested_ids slots = received_holds G P to t (event.Datagram peer bytes) kept peer (datagram_reading bytes) slots
 scanner_holds back G P cuts sends to t (event.Write point bytes) kept requested_ids slots = write_holds G P to t (event.Write point bytes) kept bytes (slot_at t point) (found_slot G t (is_numbered point) slots) slots
-scanner_holds back G P cuts sends to t (event.Read point) kept requested_ids slots = read_holds G P to t (slot_at t point) slots
 scanner_holds back G P cuts sends to t (event.Tick ms) kept requested_ids slots = tick_holds back G P cuts sends to t (event.Tick ms) kept requested_ids ms slots
 scanner_holds back G P cuts sends to t (event.Mode run) kept requested_ids slots = mode_holds G P to t (event.Mode run) kept run slots
 scanner_holds back G P cuts sends to t (event.Start number) kept requested_ids slots = start_holds back G P cuts to t (event.Start number) kept requested_ids (slot_at t number) (found_slot G t (is_numbered number) slots) slots
 scanner_holds back G P cuts sends to t (event.Stop number) kept requested_ids slots = stop_holds back G P cuts to t (event.Stop number) kept (slot_at t number) (found_slot G t (is_numbered number) slots) slots
-scanner_holds back G P cuts sends to t other kept requested_ids slots = tt
+scanner_holds back G P cuts sends to t other kept requested_ids slots = passive_holds (OkHolds G P to) t (λ why. tt) (λ verdict below small. (record { frames = tt; datagrams = tt }, slots)) other refl

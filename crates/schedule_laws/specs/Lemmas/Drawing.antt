@@ -16,8 +16,8 @@ use Rattle.scanner_table.specs.declared.profile.ScannerProfile.{ScannerProfile}
 use Rattle.scanner_table.specs.declared.table.ScannerTable.{ScannerTable}
 use Rattle.scanner_table.specs.Effects.{Next as ScannerNext}
 use Rattle.scanner_table.specs.Step.{scanner_step}
-use Rattle.scanner_whole.specs.Counters.{CountsOn}
-use Rattle.scanner_whole.specs.Runs.{StepsLead}
+use Rattle.scanner_table.specs.Counters.{CountsOn}
+use Rattle.scanner_table.specs.Runs.{StepsLead}
 use Rattle.cip_tables.specs.declared.table.DeviceTable.{DeviceTable}
 use Rattle.cip_tables.specs.declared.table.DeviceTable.TheVariants.{Adapter, Scanner}
 use Rattle.cip_tables.specs.Step.{DeviceNext, as_adapter, as_scanner, step, incarnation_of}
@@ -93,7 +93,7 @@ unfolding step
 step_same laws (Adapter t) happens a u is = adapter_same laws t happens a u (adapter_step t happens) refl is
 step_same laws (Scanner t) happens a u is = scanner_same laws t happens a u (scanner_step t happens) refl is
 
-whole_in_range : (u : DeviceTable) → IsWholeDevice u → next_id_of u ≤ 16777216
+pub whole_in_range : (u : DeviceTable) → IsWholeDevice u → next_id_of u ≤ 16777216
 whole_in_range (Adapter u) whole = whole.sound.ids_are_left
 whole_in_range (Scanner u) whole = whole.table.ids
 

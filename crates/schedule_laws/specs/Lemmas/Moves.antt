@@ -14,19 +14,20 @@ use Rattle.cip_events.specs.declared.event.StepFault.{StepFault}
 use Rattle.cip_types.specs.declared.names.Node.{Node}
 use Rattle.cip_tables.specs.declared.table.DeviceTable.{DeviceTable}
 use Rattle.cip_tables.specs.Step.{DeviceNext, step}
-use Rattle.sent_log.specs.Log.{Sent}
-use Rattle.stream_queues.specs.declared.direction.Direction.{Direction}
-use Rattle.stream_queues.specs.declared.direction.Direction.TheVariants.{Forth, Back}
-use Rattle.stream_queues.specs.Streams.{QueueItem, Opening, Queued, Ending, Side, Stream, side_of, receiver, sender, way_from, changed, with_stream, queued, sent_along, sent_over, frame_sent, frames_sent, ended_side, cut_stream, closed_along, closed_by, notice_applied, notices_applied, answered, without_first, taken_from, fresh_stream}
+use Rattle.segment_traffic.specs.Log.{Sent}
+use Rattle.segment_traffic.specs.declared.direction.Direction.{Direction}
+use Rattle.segment_traffic.specs.declared.direction.Direction.TheVariants.{Forth, Back}
+use Rattle.segment_traffic.specs.Streams.{QueueItem, Opening, Queued, Ending, Side, Stream, side_of, receiver, sender, way_from, changed, with_stream, queued, sent_along, sent_over, frame_sent, frames_sent, ended_side, cut_stream, closed_along, closed_by, notice_applied, notices_applied, answered, without_first, taken_from, fresh_stream}
 use Rattle.segment_world.specs.declared.act.Act.{Act}
 use Rattle.segment_world.specs.declared.act.Act.TheVariants.{Local, Deliver, NextFrame, OpenStream, CutStream}
 use Rattle.segment_world.specs.declared.act.Call.{Call}
-use Rattle.segment_world.specs.declared.act.Call.TheVariants as call
 use Rattle.segment_world.specs.declared.act.ActFault.{ActFault}
 use Rattle.segment_world.specs.World.{World, ReportedEvent, fan_out, event_at_device, event_at_table, after_device_step, event_of_call, delivered, event_of_item, node_at, taken, taken_at, are_two, opened_if, cut_if, cut_at, happens}
 use Rattle.segment_world.specs.Story.{Story, goes_on, reports, runs}
 use Rattle.schedule_laws.specs.Ids.{ItemHolds, SideHolds, StreamHolds, StreamsHold}
 use Rattle.schedule_laws.specs.Lemmas.Lists.{all_both, all_set, all_get}
+use Rattle.cip_events.specs.Arrivals.{is_own}
+use Rattle.segment_world.specs.Lemmas.CallLemmas.{call_is_own}
 
 -- QUEUED FRAMES
 
@@ -148,13 +149,13 @@ to_moves Q w streams device event (Some t) at queued holds = so_moves Q w stream
 comes_moves : (Q : List ℕ → Type 0) (w : World) (streams : List Stream) (device : ℕ) (event : Event) → StreamsHold Q streams → EventHolds Q event → IfOk (event_at_device device event (record w { streams = streams })) (Moves Q w)
 comes_moves Q w streams device event queued holds = to_moves Q w streams device event (slice_get w.tables device) refl queued holds
 
+own_holds : (Q : List ℕ → Type 0) (e : Event) → is_own e ≡ true → EventHolds Q e
+own_holds Q (Request peer bytes) own = absurd (let e = own in cc)
+own_holds Q (Frame stream bytes) own = absurd (let e = own in cc)
+own_holds Q other own = tt
+
 called_holds : (Q : List ℕ → Type 0) (c : Call) → EventHolds Q (event_of_call c)
-called_holds Q (call.Write point bytes) = tt
-called_holds Q (call.Read point) = tt
-called_holds Q (call.Mode run) = tt
-called_holds Q (call.Start slot) = tt
-called_holds Q (call.Stop slot) = tt
-called_holds Q (call.Tick ms) = tt
+called_holds Q c = own_holds Q (event_of_call c) (call_is_own c)
 
 delivered_moves : (Q : List ℕ → Type 0) (device : ℕ) (w : World) (t : Option DeviceTable) (sent : Option Sent) → StreamsHold Q w.streams → IfOk (delivered device w t sent) (Moves Q w)
 delivered_moves Q device w None sent queued = tt

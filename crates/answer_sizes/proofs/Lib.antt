@@ -1,0 +1,9 @@
+mod Few
+mod Answers
+mod AdapterFrames
+mod AdapterDatagrams
+mod AdapterAnswers
+mod ScannerRequests
+mod ScannerFrames
+mod ScannerDatagrams
+mod ScannerAnswers

@@ -1,0 +1,173 @@
+-- A scanner's answers are small.
+use Rattle.std.proofs.Common.{◌≡◌, ◌≤◌, ℕ, ◌+◌, ◌^◌, ◌==◌, nat_lt, Bool, true, false, cond, List, [], map, find, Option, Some, None, Result, Ok, Err, refl, sym, subst, arith}
+use Rattle.std.proofs.lemmas.Bool.Decides.{nat_tests}
+use Rattle.std.specs.Option.{IfSome}
+use Rattle.cip_types.specs.declared.names.Node.{Node}
+use Rattle.cip_encap.specs.declared.message.EncapFault.{EncapFault}
+use Rattle.cip_encap.specs.Message.{MessageFields}
+use Rattle.cip_encap.specs.Reading.{message_reading}
+use Rattle.cip_events.specs.declared.event.Event.{Event}
+use Rattle.cip_events.specs.declared.event.Event.TheVariants as event
+use Rattle.cip_events.specs.declared.event.OutgoingDatagram.{OutgoingDatagram}
+use Rattle.cip_events.specs.declared.event.StepFault.TheVariants as fault
+use Rattle.cip_events.specs.declared.event.Verdict.TheVariants.{Done, BadFrame, Ignored}
+use Rattle.cip_events.specs.Clock.{longest_tick, clock_end}
+use Rattle.cip_productions.specs.Productions.{sent}
+use Rattle.scanner_table.specs.declared.slot.SlotState.{SlotState}
+use Rattle.scanner_table.specs.declared.slot.SlotState.TheVariants.{Idle, Opening, Established, Closing}
+use Rattle.scanner_table.specs.declared.table.ScannerTable.{ScannerTable}
+use Rattle.scanner_table.specs.declared.table.Stage.{Stage}
+use Rattle.scanner_table.specs.declared.table.Stage.TheVariants.{Waiting, Up, Unused}
+use Rattle.scanner_table.specs.declared.table.TargetStream.{TargetStream}
+use Rattle.scanner_table.specs.Requests.{is_large, sent_frame}
+use Rattle.scanner_table.specs.Closing.{idle_slot, target_lost, slot_resigned, closed_within, stopped, stopped_at}
+use Rattle.scanner_table.specs.Effects.{Next, Effect, changed, sent_answer, done}
+use Rattle.scanner_table.specs.Encapsulation.{registering_on, stream_opened, cut_of, stream_cut, is_registered, session_begun, session_failed, registered, ignored, is_awaiting, replied, replied_to, reported, frame_answer, frame_of, frame}
+use Rattle.scanner_table.specs.Points.{desired_slot, started, start_state, start_at, start, stop_of, stop}
+use Rattle.scanner_table.specs.Productions.{due_productions}
+use Rattle.scanner_table.specs.Profiles.{profile_fault}
+use Rattle.scanner_table.specs.Replies.{open_answer, answered}
+use Rattle.scanner_table.specs.Sessions.{is_stream, is_taken, without_stream, with_stage, session_with}
+use Rattle.scanner_table.specs.Slots.{IndexedSlot, indexed_slots, slot_at, is_numbered, with_slot}
+use Rattle.scanner_table.specs.Step.{scanner_step}
+use Rattle.scanner_table.specs.Ticks.{clocked_table, advanced, ticked, tick}
+use Rattle.scanner_table.specs.WellFormed.{IsWellFormed}
+use Rattle.answer_sizes.specs.Sizes.{IsShortFrame, IsShortDatagram, IsSmall}
+use Rattle.answer_sizes.proofs.Answers.{both_small, plain_small, AnswersSmall}
+use Rattle.answer_sizes.proofs.Few.{Few, few_none, few_one, few_most, few_mapped, each_found, either}
+use Rattle.answer_sizes.proofs.ScannerDatagrams.{due_few}
+use Rattle.answer_sizes.proofs.ScannerFrames.{HasShortRequests, SendsRequests, few_slots, opened_sends, target_sends, closed_sends, IsQuiet, lost_quiet, answered_quiet, advanced_sends}
+use Rattle.answer_sizes.proofs.ScannerRequests.{IsShortRequest, registration_short}
+use Rattle.scanner_table.specs.Lemmas.SlotEventLemmas.{slots_hold}
+
+-- ---- answers of effects
+
+abbrev NextSmall : Next → Type 0
+NextSmall next = IsSmall next.0
+
+effect_small : (effect : Effect) (datagrams : List OutgoingDatagram) → SendsRequests 64 effect → Few 64 IsShortDatagram datagrams → IsSmall (sent_answer effect datagrams)
+effect_small effect datagrams few_requests few =
+    both_small (map sent_frame effect.sent) datagrams Done effect.notices (few_mapped 64 IsShortRequest IsShortFrame sent_frame (λ request short. short) effect.sent few_requests) few
+
+done_small : (effect : Effect) → SendsRequests 64 effect → IsSmall (done effect).0
+done_small effect few_requests = effect_small effect [] few_requests (few_none 64 IsShortDatagram)
+
+once_small : (effect : Effect) → SendsRequests 1 effect → IsSmall (done effect).0
+once_small effect few_requests = done_small effect (few_most 64 1 IsShortRequest effect.sent (omega arith) few_requests)
+
+quiet_small : (t : ScannerTable) (effect : Effect) → IsQuiet t effect → IsSmall (done effect).0
+quiet_small t effect quiet = done_small effect (subst (Few 64 IsShortRequest) (sym quiet.silent) (few_none 64 IsShortRequest))
+
+-- ---- streams and messages
+
+opened_small : (t : ScannerTable) (number : ℕ) (target : Node) → AnswersSmall (stream_opened t number target)
+unfolding stream_opened
+opened_small t number target =
+    either (AnswersSmall {T = ScannerTable}) (is_taken t.streams number target) (Err fault.NotAllowedNow) (Ok (done (registering_on t number target))) tt (once_small (registering_on t number target) (few_one 1 IsShortRequest _ (omega arith) (registration_short number)))
+
+cuts_small : (t : ScannerTable) (found : Option TargetStream) → AnswersSmall (cut_of t found)
+cuts_small t None = tt
+cuts_small t (Some stream) = quiet_small (without_stream t stream.number) (target_lost stream.peer (without_stream t stream.number)) (lost_quiet stream.peer (without_stream t stream.number))
+
+cut_small : (t : ScannerTable) (number : ℕ) → AnswersSmall (stream_cut t number)
+unfolding stream_cut
+cut_small t number = cuts_small t (find (is_stream number) t.streams)
+
+registered_sends : (t : ScannerTable) (stream : TargetStream) (m : MessageFields) → profile_fault t.profile ≡ None → SendsRequests 64 (registered t stream m)
+registered_sends t stream m none =
+    either (SendsRequests 64) (is_registered m) (session_begun t stream m.session) (session_failed t stream) (target_sends stream.peer (with_stage t stream.number (Up m.session)) none) (few_none 64 IsShortRequest)
+
+replied_small : (t : ScannerTable) (indexed : IndexedSlot) (m : MessageFields) (state : SlotState) → IsSmall (replied t indexed m state).0
+replied_small t indexed m (Opening o) = quiet_small t (answered t indexed o (open_answer (is_large indexed.config) m)) (answered_quiet t indexed o (open_answer (is_large indexed.config) m))
+replied_small t indexed m (Closing c) = done_small (changed t indexed (idle_slot indexed.slot) []) (few_none 64 IsShortRequest)
+replied_small t indexed m other = plain_small Ignored
+
+awaited_small : (t : ScannerTable) (m : MessageFields) (found : Option IndexedSlot) → IsSmall (replied_to t m found).0
+awaited_small t m None = plain_small Ignored
+awaited_small t m (Some indexed) = replied_small t indexed m indexed.slot.state
+
+reported_small : (t : ScannerTable) (stream : TargetStream) (m : MessageFields) (stage : Stage) → profile_fault t.profile ≡ None → IsSmall (reported t stream m stage).0
+reported_small t stream m Waiting none = either NextSmall (m.context == 0) (done (registered t stream m)) (ignored t) (done_small (registered t stream m) (registered_sends t stream m none)) (plain_small Ignored)
+reported_small t stream m (Up handle) none = awaited_small t m (find (is_awaiting stream.peer m.context) (indexed_slots t))
+reported_small t stream m Unused none = plain_small Ignored
+
+message_small : (t : ScannerTable) (stream : TargetStream) (reading : Result MessageFields EncapFault) → profile_fault t.profile ≡ None → IsSmall (frame_answer t stream reading).0
+message_small t stream (Err why) none = plain_small BadFrame
+message_small t stream (Ok m) none = reported_small t stream m stream.stage none
+
+found_small : (t : ScannerTable) (bytes : List ℕ) (found : Option TargetStream) → profile_fault t.profile ≡ None → AnswersSmall (frame_of t bytes found)
+found_small t bytes None none = tt
+found_small t bytes (Some stream) none = message_small t stream (message_reading bytes) none
+
+frame_small : (t : ScannerTable) (number : ℕ) (bytes : List ℕ) → profile_fault t.profile ≡ None → AnswersSmall (frame t number bytes)
+unfolding frame
+frame_small t number bytes none = found_small t bytes (find (is_stream number) t.streams) none
+
+-- ---- datagrams
+
+-- ---- the application
+
+-- ---- starts and stops
+
+state_started : (t : ScannerTable) (indexed : IndexedSlot) (state : SlotState) → HasShortRequests indexed → AnswersSmall (start_state t indexed state)
+state_started t indexed Idle few =
+    let slot = desired_slot t indexed.slot in
+    either (AnswersSmall {T = ScannerTable}) indexed.slot.desired_up (Err fault.NotAllowedNow) (Ok (done (started t indexed slot))) tt (once_small (started t indexed slot) (opened_sends (with_slot t indexed.number slot) (record indexed { slot = slot }) few))
+state_started t indexed other few = tt
+
+state_stopped : (t : ScannerTable) (indexed : IndexedSlot) (state : SlotState) → HasShortRequests indexed → AnswersSmall (stop_of (stopped t indexed state))
+state_stopped t indexed Idle few = either (λ said. AnswersSmall (stop_of said)) indexed.slot.desired_up (Ok (slot_resigned t indexed)) (Err fault.NotAllowedNow) (done_small (slot_resigned t indexed) (few_none 64 IsShortRequest)) tt
+state_stopped t indexed (Established c) few = once_small (closed_within t indexed c (session_with t indexed.config.target)) (closed_sends t indexed c (session_with t indexed.config.target) few)
+state_stopped t indexed (Closing c) few = tt
+state_stopped t indexed other few = done_small (slot_resigned t indexed) (few_none 64 IsShortRequest)
+
+-- the slot that the lookup found has short requests
+found_sends : (t : ScannerTable) (number : ℕ) → profile_fault t.profile ≡ None → IfSome (slot_at t number) HasShortRequests
+found_sends t number none = each_found HasShortRequests (is_numbered number) (indexed_slots t) (few_slots t none).each
+
+starts_small : (t : ScannerTable) (found : Option IndexedSlot) → IfSome found HasShortRequests → AnswersSmall (start_at t found)
+starts_small t None few = tt
+starts_small t (Some indexed) few = state_started t indexed indexed.slot.state few
+
+start_small : (t : ScannerTable) (number : ℕ) → profile_fault t.profile ≡ None → AnswersSmall (start t number)
+unfolding start
+start_small t number none = starts_small t (slot_at t number) (found_sends t number none)
+
+stops_small : (t : ScannerTable) (found : Option IndexedSlot) → IfSome found HasShortRequests → AnswersSmall (stop_of (stopped_at t found))
+stops_small t None few = tt
+stops_small t (Some indexed) few = state_stopped t indexed indexed.slot.state few
+
+stop_small : (t : ScannerTable) (number : ℕ) → profile_fault t.profile ≡ None → AnswersSmall (stop t number)
+unfolding stop
+stop_small t number none = stops_small t (slot_at t number) (found_sends t number none)
+
+-- ---- a tick
+
+-- the part of a tick before its productions keeps a table whole
+abbrev pub AdvancesWhole : Type 0
+AdvancesWhole = (t : ScannerTable) (ms : ℕ) → t.clock.0 + ms ≤ 2 ^ 48 → IsWellFormed t → IsWellFormed (advanced (clocked_table t ms)).table
+
+within : (n : ℕ) → nat_lt clock_end n ≡ false → n ≤ 2 ^ 48
+within n is = grind (arith, nat_tests)
+
+tick_step : (a b : Bool) → AdvancesWhole → (t : ScannerTable) (ms : ℕ) → nat_lt clock_end (t.clock.0 + ms) ≡ b → IsWellFormed t → AnswersSmall (cond a (Err fault.TickTooLong) (cond b (Err fault.ClockEnd) (Ok (ticked (advanced (clocked_table t ms))))))
+tick_step true b advance t ms is whole = tt
+tick_step false true advance t ms is whole = tt
+tick_step false false advance t ms is whole =
+    let effect = advanced (clocked_table t ms) in
+    effect_small effect (map sent (due_productions effect.table)) (advanced_sends (clocked_table t ms) whole.faultless) (due_few effect.table (advance t ms (within (t.clock.0 + ms) is) whole))
+
+tick_small : AdvancesWhole → (t : ScannerTable) (ms : ℕ) → IsWellFormed t → AnswersSmall (tick t ms)
+unfolding tick
+tick_small advance t ms whole = tick_step (nat_lt longest_tick ms) (nat_lt clock_end (t.clock.0 + ms)) advance t ms refl whole
+
+-- ---- the step
+
+pub scanner_small : AdvancesWhole → (t : ScannerTable) (happens : Event) → IsWellFormed t → AnswersSmall (scanner_step t happens)
+scanner_small advance t (event.StreamOpened stream peer) whole = opened_small t stream peer
+scanner_small advance t (event.Frame stream bytes) whole = frame_small t stream bytes whole.faultless
+scanner_small advance t (event.StreamCut stream) whole = cut_small t stream
+scanner_small advance t (event.Tick ms) whole = tick_small advance t ms whole
+scanner_small advance t (event.Start slot) whole = start_small t slot whole.faultless
+scanner_small advance t (event.Stop slot) whole = stop_small t slot whole.faultless
+scanner_small advance t other whole = slots_hold (λ said. AnswersSmall said) t (λ why. tt) (λ verdict u of. plain_small verdict) other refl

@@ -1,0 +1,359 @@
+-- A step of a scanner: what its requests ask for, and which streams its table has.
+use Rattle.cip_events.specs.Answers.{plain_answer}
+use Rattle.std.proofs.Common.{◌≡◌, ◌⊎◌, inl, inr, ◌<◌, ◌≤◌, ℕ, suc, ◌+◌, ◌==◌, ◌&&◌, ◌||◌, nat_le, nat_lt, Bool, true, false, cond, List, [], ◌∷◌, filter, find, Option, Some, None, Result, Ok, Err, IfOk, refl, sym, ◌∙◌, ap, subst, arith}
+use Rattle.std.specs.List.{AllByRecursion, Contains, list_all}
+use Rattle.std.proofs.lemmas.Bool.{and_parts, or_parts}
+use Rattle.std.proofs.lemmas.Bool.Decides.{nat_tests}
+use Rattle.cip_types.specs.Cases.{first_case}
+use Rattle.cip_types.specs.declared.names.Mismatch.{Mismatch}
+use Rattle.cip_types.specs.declared.names.Node.{Node}
+use Rattle.cip_encap.specs.declared.message.EncapFault.{EncapFault}
+use Rattle.cip_encap.specs.Message.{MessageFields}
+use Rattle.cip_encap.specs.Reading.{message_reading}
+use Rattle.cip_encap.specs.ReadsBack.{ItemsReadBack}
+use Rattle.cip_events.specs.declared.event.Event.{Event}
+use Rattle.cip_events.specs.declared.event.Event.TheVariants as event
+use Rattle.cip_events.specs.declared.event.Reason.{Reason}
+use Rattle.cip_events.specs.declared.event.StepFault.{StepFault}
+use Rattle.cip_events.specs.declared.event.StepFault.TheVariants as fault
+use Rattle.cip_events.specs.Clock.{longest_tick, clock_end}
+use Rattle.cip_fwdopen.specs.declared.reply.Opened as made
+use Rattle.cip_fwdopen.specs.declared.reply.OpenAnswer.{OpenAnswer}
+use Rattle.cip_fwdopen.specs.declared.reply.OpenAnswer.TheVariants as answer
+use Rattle.conn_state.specs.Answers.{answer_tests}
+use Rattle.scanner_table.specs.declared.profile.ScannerProfile.{ScannerProfile}
+use Rattle.scanner_table.specs.declared.profile.SlotConfig.{SlotConfig}
+use Rattle.scanner_table.specs.declared.slot.SlotConnection.{SlotConnection}
+use Rattle.scanner_table.specs.declared.slot.PendingOpen as pending
+use Rattle.scanner_table.specs.declared.slot.Slot.{Slot}
+use Rattle.scanner_table.specs.declared.slot.SlotState.{SlotState}
+use Rattle.scanner_table.specs.declared.slot.SlotState.TheVariants.{Idle, Opening, Established, TimedOut, Closing}
+use Rattle.scanner_table.specs.declared.table.ScannerTable.{ScannerTable}
+use Rattle.scanner_table.specs.declared.table.Session.{Session}
+use Rattle.scanner_table.specs.declared.table.Stage.{Stage}
+use Rattle.scanner_table.specs.declared.table.Stage.TheVariants.{Waiting, Up, Unused}
+use Rattle.scanner_table.specs.declared.table.TargetStream.{TargetStream}
+use Rattle.scanner_table.specs.Requests.{o_t_size, t_o_size, is_large, next_requested, open_fields}
+use Rattle.scanner_table.specs.Closing.{idle_slot, given_up_state, given_up, target_lost, close_requested, closed_within, stopped, stopped_at, slot_resigned}
+use Rattle.scanner_table.specs.Effects.{Next, Effect, and_then, on_each, changed, done}
+use Rattle.scanner_table.specs.Encapsulation.{registering_on, stream_opened, cut_of, stream_cut, is_registered, session_begun, session_failed, registered, ignored, is_awaiting, replied, replied_to, reported, frame_answer, frame_of, frame}
+use Rattle.scanner_table.specs.Opening.{has_request, has_id, can_open, open_requested, exhausted, opened_within, opened, is_ready_slot, ready_slots, ready_opened, target_opened}
+use Rattle.scanner_table.specs.Points.{desired_slot, started, start_state, start_at, start, stop_of, stop}
+use Rattle.scanner_table.specs.Productions.{produced_table}
+use Rattle.scanner_table.specs.Profiles.{is_point_len, is_out_len, is_config, has_lengths, profile_fault}
+use Rattle.scanner_table.specs.Replies.{is_id_free, judged_success, open_answer, answered}
+use Rattle.scanner_table.specs.Sessions.{is_stream, is_other_stream, is_taken, with_stream, without_stream, staged_stream, with_stage, session_with}
+use Rattle.scanner_table.specs.Slots.{IndexedSlot, indexed_from, indexed_slots, slot_at, is_numbered, is_with, with_slot}
+use Rattle.scanner_table.specs.Step.{scanner_step}
+use Rattle.scanner_table.specs.Ticks.{clocked_table, expired_state, expired, expired_slots, all_expired, is_overdue, all_given_up, advanced, ticked, tick}
+use Rattle.cip_tables.specs.declared.table.DeviceTable.TheVariants.{Scanner}
+use Rattle.cip_tables.specs.Step.{as_scanner, step}
+use Rattle.answer_sizes.specs.Sizes.{IsSmall, AnswersAreSmall}
+use Rattle.device_laws.specs.Lemmas.Lists.{all_both, all_filtered, all_mapped, all_more, all_found}
+use Rattle.device_laws.specs.Lemmas.Texts.{either}
+use Rattle.std.specs.Option.{IfSome}
+use Rattle.device_laws.specs.OwnIds.{IsDrawnId, FrameAsks, ScannersAskOwnIds}
+use Rattle.device_laws.specs.TargetStreams.{StreamCame, StreamsComeWithEvents}
+use Rattle.device_laws.specs.Lemmas.RequestTexts.{SizeFits, IsMulticast, SentAsks, requests_ask}
+use Rattle.device_laws.specs.Lemmas.RowIds.{all_contained}
+use Rattle.answer_sizes.specs.Lemmas.SlotLengths.{has_all_lengths, point_short, small_size}
+use Rattle.scanner_table.specs.Lemmas.SlotEventLemmas.{slots_hold}
+
+-- ---- slots of a profile without a fault
+
+abbrev IsShort : IndexedSlot → Type 0
+IsShort indexed = indexed.config.in_len ≤ 1400
+
+config_short : (config : SlotConfig) → has_lengths config ≡ true → config.in_len ≤ 1400
+config_short config is = point_short config.in_len (and_parts (is_point_len config.in_len) (is_out_len config.kind config.out_len && is_config config.config config.config_data) is).0
+
+from_short : (number : ℕ) (configs : List SlotConfig) (slots : List Slot) → list_all has_lengths configs ≡ true → AllByRecursion IsShort (indexed_from number configs slots)
+from_short number [] slots all = tt
+from_short number (config ∷ configs) [] all = tt
+from_short number (config ∷ configs) (slot ∷ slots) all =
+    let parts = and_parts (has_lengths config) (list_all has_lengths configs) all in
+    (config_short config parts.0, from_short (suc number) configs slots parts.1)
+
+slots_short : (t : ScannerTable) → profile_fault t.profile ≡ None → AllByRecursion IsShort (indexed_slots t)
+slots_short t none = from_short 0 t.profile.slots t.slots (has_all_lengths t.profile none)
+
+-- ---- effects
+
+-- the effect's requests ask so, and it leaves profile and streams
+record Asks (profile : ScannerProfile) (streams : List TargetStream) (effect : Effect) : Type 0 where
+  sent : AllByRecursion (SentAsks profile) effect.sent
+  profile_is : effect.table.profile ≡ profile
+  streams_are : effect.table.streams ≡ streams
+
+asks_then : (profile : ScannerProfile) (streams : List TargetStream) (first : Effect) (next : ScannerTable → Effect) → Asks profile streams first → Asks profile first.table.streams (next first.table) → Asks profile streams (and_then first next)
+asks_then profile streams first next one two = record {
+  sent = all_both (SentAsks profile) first.sent (next first.table).sent one.sent two.sent;
+  profile_is = two.profile_is;
+  streams_are = two.streams_are ∙ one.streams_are;
+}
+
+each_asks : (profile : ScannerProfile) (effect : ScannerTable → IndexedSlot → Effect) → ((now : ScannerTable) (indexed : IndexedSlot) → now.profile ≡ profile → IsShort indexed → Asks profile now.streams (effect now indexed)) → (all : List IndexedSlot) (now : ScannerTable) → now.profile ≡ profile → AllByRecursion IsShort all → Asks profile now.streams (on_each effect all now)
+each_asks profile effect asks [] now same few = record { sent = tt; profile_is = same; streams_are = refl }
+each_asks profile effect asks (indexed ∷ rest) now same few =
+    let one = asks now indexed same few.0 in
+    asks_then profile now.streams (effect now indexed) (on_each effect rest) one (each_asks profile effect asks rest (effect now indexed).table one.profile_is few.1)
+
+each_quiet : (profile : ScannerProfile) (effect : ScannerTable → IndexedSlot → Effect) → ((now : ScannerTable) (indexed : IndexedSlot) → now.profile ≡ profile → Asks profile now.streams (effect now indexed)) → (all : List IndexedSlot) (now : ScannerTable) → now.profile ≡ profile → Asks profile now.streams (on_each effect all now)
+each_quiet profile effect asks [] now same = record { sent = tt; profile_is = same; streams_are = refl }
+each_quiet profile effect asks (indexed ∷ rest) now same =
+    let one = asks now indexed same in
+    asks_then profile now.streams (effect now indexed) (on_each effect rest) one (each_quiet profile effect asks rest (effect now indexed).table one.profile_is)
+
+-- ---- a request to open
+
+fits_large : (config : SlotConfig) → config.in_len ≤ 1400 → SizeFits true (t_o_size config)
+fits_large config short = omega (arith, short)
+
+size_fits : (large : Bool) (config : SlotConfig) → is_large config ≡ large → config.in_len ≤ 1400 → SizeFits large (t_o_size config)
+size_fits true config is short = fits_large config short
+size_fits false config is short = small_size (t_o_size config) (or_parts (nat_lt 511 (o_t_size config)) (nat_lt 511 (t_o_size config)) is).1
+
+id_left : (n : ℕ) → nat_le n 16777215 ≡ true → n < 16777216
+id_left n is = grind (arith, nat_tests)
+
+asks_of : (multicast : Bool) (profile : ScannerProfile) (now : ScannerTable) (config : SlotConfig) → config.multicast ≡ multicast → now.profile ≡ profile → config.in_len ≤ 1400 → (multicast || nat_le now.next_id 16777215) ≡ true → IsMulticast (is_large config) (open_fields config (next_requested now config)) ⊎ IsDrawnId profile (open_fields config (next_requested now config)).t_o_id.0
+asks_of true profile now config is same short left = inl (record { size = t_o_size config; fits = size_fits (is_large config) config refl short; params = rw is refl })
+asks_of false profile now config is same short left = inr (record { counter = now.next_id; is = rw (is, same) refl; ends = id_left now.next_id left })
+
+within_step : (b : Bool) (profile : ScannerProfile) (now : ScannerTable) (indexed : IndexedSlot) (session : Session) → can_open now indexed.config ≡ b → now.profile ≡ profile → IsShort indexed → Asks profile now.streams (cond b (open_requested now indexed session) (exhausted now indexed))
+within_step true profile now indexed session is same short =
+    let left = (and_parts (has_request now) (has_id now indexed.config) is).1 in
+    record { sent = (asks_of indexed.config.multicast profile now indexed.config refl same short left, tt); profile_is = same; streams_are = refl }
+within_step false profile now indexed session is same short = record { sent = tt; profile_is = same; streams_are = refl }
+
+within_asks : (profile : ScannerProfile) (now : ScannerTable) (indexed : IndexedSlot) (session : Option Session) → now.profile ≡ profile → IsShort indexed → Asks profile now.streams (opened_within now indexed session)
+within_asks profile now indexed None same short = record { sent = tt; profile_is = same; streams_are = refl }
+within_asks profile now indexed (Some session) same short = within_step (can_open now indexed.config) profile now indexed session refl same short
+
+opened_asks : (profile : ScannerProfile) (now : ScannerTable) (indexed : IndexedSlot) → now.profile ≡ profile → IsShort indexed → Asks profile now.streams (opened now indexed)
+unfolding opened
+opened_asks profile now indexed same short = within_asks profile now indexed (session_with now indexed.config.target) same short
+
+none_wrong : (profile : ScannerProfile) (now : ScannerTable) → now.profile ≡ profile → profile_fault profile ≡ None → profile_fault now.profile ≡ None
+none_wrong profile now same none = ap profile_fault same ∙ none
+
+ready_short : (profile : ScannerProfile) (now : ScannerTable) → now.profile ≡ profile → profile_fault profile ≡ None → AllByRecursion IsShort (ready_slots now)
+ready_short profile now same none = all_filtered IsShort (is_ready_slot now.clock) (indexed_slots now) (slots_short now (none_wrong profile now same none))
+
+ready_asks : (profile : ScannerProfile) (now : ScannerTable) → profile_fault profile ≡ None → now.profile ≡ profile → Asks profile now.streams (ready_opened now)
+unfolding ready_opened
+ready_asks profile now none same = each_asks profile opened (opened_asks profile) (ready_slots now) now same (ready_short profile now same none)
+
+target_asks : (profile : ScannerProfile) (target : Node) (now : ScannerTable) → profile_fault profile ≡ None → now.profile ≡ profile → Asks profile now.streams (target_opened target now)
+unfolding target_opened
+target_asks profile target now none same =
+    each_asks profile opened (opened_asks profile) (filter (is_with target) (ready_slots now)) now same (all_filtered IsShort (is_with target) (ready_slots now) (ready_short profile now same none))
+
+-- ---- effects without a request to open
+
+given_asks : (profile : ScannerProfile) (now : ScannerTable) (indexed : IndexedSlot) (state : SlotState) → now.profile ≡ profile → Asks profile now.streams (given_up_state now indexed state)
+given_asks profile now indexed (Opening o) same = record { sent = tt; profile_is = same; streams_are = refl }
+given_asks profile now indexed other same = record { sent = tt; profile_is = same; streams_are = refl }
+
+expired_asks : (profile : ScannerProfile) (now : ScannerTable) (indexed : IndexedSlot) (state : SlotState) → now.profile ≡ profile → Asks profile now.streams (expired_state now indexed state)
+expired_asks profile now indexed (Established c) same = record { sent = tt; profile_is = same; streams_are = refl }
+expired_asks profile now indexed other same = record { sent = tt; profile_is = same; streams_are = refl }
+
+lost_asks : (profile : ScannerProfile) (target : Node) (now : ScannerTable) → now.profile ≡ profile → Asks profile now.streams (target_lost target now)
+unfolding target_lost
+lost_asks profile target now same = each_quiet profile given_up (λ u indexed is. given_asks profile u indexed indexed.slot.state is) (filter (is_with target) (indexed_slots now)) now same
+
+all_expired_asks : (profile : ScannerProfile) (now : ScannerTable) → now.profile ≡ profile → Asks profile now.streams (all_expired now)
+unfolding all_expired
+all_expired_asks profile now same = each_quiet profile expired (λ u indexed is. expired_asks profile u indexed indexed.slot.state is) (expired_slots now) now same
+
+all_given_asks : (profile : ScannerProfile) (now : ScannerTable) → now.profile ≡ profile → Asks profile now.streams (all_given_up now)
+unfolding all_given_up
+all_given_asks profile now same = each_quiet profile given_up (λ u indexed is. given_asks profile u indexed indexed.slot.state is) (filter (is_overdue now.clock) (indexed_slots now)) now same
+
+advanced_asks : (profile : ScannerProfile) (now : ScannerTable) → profile_fault profile ≡ None → now.profile ≡ profile → Asks profile now.streams (advanced now)
+advanced_asks profile now none same =
+    let one = all_expired_asks profile now same in
+    let two = all_given_asks profile (all_expired now).table one.profile_is in
+    let both = asks_then profile now.streams (all_expired now) all_given_up one two in
+    asks_then profile now.streams (and_then (all_expired now) all_given_up) ready_opened both (ready_asks profile (all_given_up (all_expired now).table).table none two.profile_is)
+
+success_asks : (t : ScannerTable) (indexed : IndexedSlot) (o : pending.PendingOpen) (success : made.Opened) (why : Option Mismatch) → Asks t.profile t.streams (judged_success t indexed o success why)
+success_asks t indexed o success None = record { sent = tt; profile_is = refl; streams_are = refl }
+success_asks t indexed o success (Some why) = record { sent = tt; profile_is = refl; streams_are = refl }
+
+answered_asks : (t : ScannerTable) (indexed : IndexedSlot) (o : pending.PendingOpen) (says : Result OpenAnswer Reason) → Asks t.profile t.streams (answered t indexed o says)
+unfolding answered
+answered_asks t indexed o (Err why) = record { sent = tt; profile_is = refl; streams_are = refl }
+answered_asks t indexed o (Ok (answer.Refused r)) = record { sent = tt; profile_is = refl; streams_are = refl }
+answered_asks t indexed o (Ok (answer.Opened success)) = success_asks t indexed o success (first_case (answer_tests o.requested success (is_id_free t indexed success.t_o_id)))
+
+closed_asks : (t : ScannerTable) (indexed : IndexedSlot) (c : SlotConnection) (session : Option Session) → Asks t.profile t.streams (closed_within t indexed c session)
+closed_asks t indexed c None = record { sent = tt; profile_is = refl; streams_are = refl }
+closed_asks t indexed c (Some session) =
+    either (Asks t.profile t.streams) (has_request t) (close_requested t indexed c session) (exhausted t indexed)
+    (record { sent = (tt, tt); profile_is = refl; streams_are = refl }) (record { sent = tt; profile_is = refl; streams_are = refl })
+
+-- ---- streams
+
+were_open : (t : ScannerTable) (happens : Event) → AllByRecursion (StreamCame t happens) t.streams
+were_open t happens = all_more (Contains t.streams) (StreamCame t happens) (λ s there. inl (record { old = s; there = there; number = refl; peer = refl })) t.streams (all_contained t.streams [] t.streams refl)
+
+were_staged : (t : ScannerTable) (happens : Event) (number : ℕ) (stage : Stage) → AllByRecursion (StreamCame t happens) (with_stage t number stage).streams
+were_staged t happens number stage =
+    all_mapped (Contains t.streams) (StreamCame t happens) (staged_stream number stage)
+    (λ s there. either (StreamCame t happens) (is_stream number s) (record s { stage = stage }) s (inl (record { old = s; there = there; number = refl; peer = refl })) (inl (record { old = s; there = there; number = refl; peer = refl })))
+    t.streams (all_contained t.streams [] t.streams refl)
+
+were_left : (t : ScannerTable) (happens : Event) (number : ℕ) → AllByRecursion (StreamCame t happens) (without_stream t number).streams
+were_left t happens number = all_filtered (StreamCame t happens) (is_other_stream number) t.streams (were_open t happens)
+
+-- ---- an answer
+
+-- what its frames ask for, if they are short, and the streams of the next table
+record NextAsks (t : ScannerTable) (happens : Event) (next : Next) : Type 0 where
+  frames : t.profile.incarnation ≤ 255 → IsSmall next.0 → AllByRecursion (FrameAsks t.profile) next.0.frames
+  streams : AllByRecursion (StreamCame t happens) next.1.streams
+
+abbrev OkAsks : ScannerTable → Event → Result Next StepFault → Type 0
+OkAsks t happens said = IfOk said (NextAsks t happens)
+
+-- nothing is sent, and the streams stay
+quiet_next : (t : ScannerTable) (happens : Event) (next : Next) → next.0.frames ≡ [] → next.1.streams ≡ t.streams → NextAsks t happens next
+quiet_next t happens next none same = record {
+  frames = λ byte small. subst (AllByRecursion (FrameAsks t.profile)) (sym none) tt;
+  streams = subst (AllByRecursion (StreamCame t happens)) (sym same) (were_open t happens);
+}
+
+done_asks : ItemsReadBack → (t : ScannerTable) (happens : Event) (streams : List TargetStream) (effect : Effect) → Asks t.profile streams effect → AllByRecursion (StreamCame t happens) streams → NextAsks t happens (done effect)
+done_asks back t happens streams effect asks came = record {
+  frames = λ byte small. requests_ask back t.profile byte effect.sent asks.sent small.short_frames;
+  streams = subst (AllByRecursion (StreamCame t happens)) (sym asks.streams_are) came;
+}
+
+own_asks : ItemsReadBack → (t : ScannerTable) (happens : Event) (effect : Effect) → Asks t.profile t.streams effect → NextAsks t happens (done effect)
+own_asks back t happens effect asks = done_asks back t happens t.streams effect asks (were_open t happens)
+
+-- ---- messages
+
+replied_asks : ItemsReadBack → (t : ScannerTable) (happens : Event) (indexed : IndexedSlot) (m : MessageFields) (state : SlotState) → NextAsks t happens (replied t indexed m state)
+replied_asks back t happens indexed m (Opening o) = own_asks back t happens (answered t indexed o (open_answer (is_large indexed.config) m)) (answered_asks t indexed o (open_answer (is_large indexed.config) m))
+replied_asks back t happens indexed m (Closing c) = own_asks back t happens (changed t indexed (idle_slot indexed.slot) []) (record { sent = tt; profile_is = refl; streams_are = refl })
+replied_asks back t happens indexed m Idle = quiet_next t happens (ignored t) refl refl
+replied_asks back t happens indexed m (Established c) = quiet_next t happens (ignored t) refl refl
+replied_asks back t happens indexed m (TimedOut link) = quiet_next t happens (ignored t) refl refl
+
+awaited_asks : ItemsReadBack → (t : ScannerTable) (happens : Event) (m : MessageFields) (found : Option IndexedSlot) → NextAsks t happens (replied_to t m found)
+awaited_asks back t happens m None = quiet_next t happens (ignored t) refl refl
+awaited_asks back t happens m (Some indexed) = replied_asks back t happens indexed m indexed.slot.state
+
+registered_asks : ItemsReadBack → (t : ScannerTable) (happens : Event) (stream : TargetStream) (m : MessageFields) → profile_fault t.profile ≡ None → NextAsks t happens (done (registered t stream m))
+registered_asks back t happens stream m none =
+    either (λ (e : Effect). NextAsks t happens (done e)) (is_registered m) (session_begun t stream m.session) (session_failed t stream)
+    (done_asks back t happens (with_stage t stream.number (Up m.session)).streams (session_begun t stream m.session)
+    (target_asks t.profile stream.peer (with_stage t stream.number (Up m.session)) none refl) (were_staged t happens stream.number (Up m.session)))
+    (done_asks back t happens (with_stage t stream.number Unused).streams (session_failed t stream) (record { sent = tt; profile_is = refl; streams_are = refl }) (were_staged t happens stream.number Unused))
+
+message_asks : ItemsReadBack → (t : ScannerTable) (happens : Event) (stream : TargetStream) (m : MessageFields) (stage : Stage) → profile_fault t.profile ≡ None → NextAsks t happens (reported t stream m stage)
+message_asks back t happens stream m Waiting none =
+    either (NextAsks t happens) (m.context == 0) (done (registered t stream m)) (ignored t) (registered_asks back t happens stream m none) (quiet_next t happens (ignored t) refl refl)
+message_asks back t happens stream m (Up handle) none = awaited_asks back t happens m (find (is_awaiting stream.peer m.context) (indexed_slots t))
+message_asks back t happens stream m Unused none = quiet_next t happens (ignored t) refl refl
+
+answer_asks : ItemsReadBack → (t : ScannerTable) (happens : Event) (stream : TargetStream) (reading : Result MessageFields EncapFault) → profile_fault t.profile ≡ None → NextAsks t happens (frame_answer t stream reading)
+answer_asks back t happens stream (Err why) none = quiet_next t happens (frame_answer t stream (Err why)) refl refl
+answer_asks back t happens stream (Ok m) none = message_asks back t happens stream m stream.stage none
+
+frame_of_asks : ItemsReadBack → (t : ScannerTable) (happens : Event) (bytes : List ℕ) (found : Option TargetStream) → profile_fault t.profile ≡ None → OkAsks t happens (frame_of t bytes found)
+frame_of_asks back t happens bytes None none = tt
+frame_of_asks back t happens bytes (Some stream) none = answer_asks back t happens stream (message_reading bytes) none
+
+cut_asks : ItemsReadBack → (t : ScannerTable) (happens : Event) (found : Option TargetStream) → OkAsks t happens (cut_of t found)
+cut_asks back t happens None = tt
+cut_asks back t happens (Some stream) =
+    done_asks back t happens (without_stream t stream.number).streams (target_lost stream.peer (without_stream t stream.number))
+    (lost_asks t.profile stream.peer (without_stream t stream.number) refl) (were_left t happens stream.number)
+
+-- ---- datagrams
+
+-- ---- the application
+
+started_asks : ItemsReadBack → (t : ScannerTable) (happens : Event) (indexed : IndexedSlot) (state : SlotState) → IsShort indexed → OkAsks t happens (start_state t indexed state)
+started_asks back t happens indexed Idle short =
+    let slot = desired_slot t indexed.slot in
+    either (OkAsks t happens) indexed.slot.desired_up (Err fault.NotAllowedNow) (Ok (done (started t indexed (desired_slot t indexed.slot)))) tt
+    (own_asks back t happens (started t indexed slot) (opened_asks t.profile (with_slot t indexed.number slot) (record indexed { slot = slot }) refl short))
+started_asks back t happens indexed (Opening o) short = tt
+started_asks back t happens indexed (Established c) short = tt
+started_asks back t happens indexed (TimedOut link) short = tt
+started_asks back t happens indexed (Closing c) short = tt
+
+start_asks : ItemsReadBack → (t : ScannerTable) (happens : Event) (found : Option IndexedSlot) → IfSome found IsShort → OkAsks t happens (start_at t found)
+start_asks back t happens None short = tt
+start_asks back t happens (Some indexed) short = started_asks back t happens indexed indexed.slot.state short
+
+resigned_asks : ItemsReadBack → (t : ScannerTable) (happens : Event) (indexed : IndexedSlot) → NextAsks t happens (done (slot_resigned t indexed))
+resigned_asks back t happens indexed = own_asks back t happens (slot_resigned t indexed) (record { sent = tt; profile_is = refl; streams_are = refl })
+
+stopped_asks : ItemsReadBack → (t : ScannerTable) (happens : Event) (indexed : IndexedSlot) (state : SlotState) → OkAsks t happens (stop_of (stopped t indexed state))
+stopped_asks back t happens indexed Idle = either (λ said. OkAsks t happens (stop_of said)) indexed.slot.desired_up (Ok (slot_resigned t indexed)) (Err fault.NotAllowedNow) (resigned_asks back t happens indexed) tt
+stopped_asks back t happens indexed (Opening o) = resigned_asks back t happens indexed
+stopped_asks back t happens indexed (Established c) =
+    own_asks back t happens (closed_within t indexed c (session_with t indexed.config.target)) (closed_asks t indexed c (session_with t indexed.config.target))
+stopped_asks back t happens indexed (TimedOut link) = resigned_asks back t happens indexed
+stopped_asks back t happens indexed (Closing c) = tt
+
+stop_asks : ItemsReadBack → (t : ScannerTable) (happens : Event) (found : Option IndexedSlot) → OkAsks t happens (stop_of (stopped_at t found))
+stop_asks back t happens None = tt
+stop_asks back t happens (Some indexed) = stopped_asks back t happens indexed indexed.slot.state
+
+-- ---- a tick
+
+ticked_asks : ItemsReadBack → (t : ScannerTable) (happens : Event) (effect : Effect) → Asks t.profile t.streams effect → NextAsks t happens (ticked effect)
+unfolding produced_table
+ticked_asks back t happens effect asks = record {
+  frames = λ byte small. requests_ask back t.profile byte effect.sent asks.sent small.short_frames;
+  streams = subst (AllByRecursion (StreamCame t happens)) (sym asks.streams_are) (were_open t happens);
+}
+
+tick_asks : ItemsReadBack → (t : ScannerTable) (happens : Event) (ms : ℕ) → profile_fault t.profile ≡ None → OkAsks t happens (tick t ms)
+unfolding tick
+tick_asks back t happens ms none =
+    either (OkAsks t happens) (nat_lt longest_tick ms) (Err fault.TickTooLong) _ tt
+    (either (OkAsks t happens) (nat_lt clock_end (t.clock.0 + ms)) (Err fault.ClockEnd) (Ok (ticked (advanced (clocked_table t ms)))) tt
+    (ticked_asks back t happens (advanced (clocked_table t ms)) (advanced_asks t.profile (clocked_table t ms) none refl)))
+
+-- ---- the step
+
+opens_ask : ItemsReadBack → (t : ScannerTable) (number : ℕ) (target : Node) → OkAsks t (event.StreamOpened number target) (stream_opened t number target)
+unfolding stream_opened
+opens_ask back t number target =
+    let happens = event.StreamOpened number target in
+    either (OkAsks t happens) (is_taken t.streams number target) (Err fault.NotAllowedNow) (Ok (done (registering_on t number target))) tt
+    (done_asks back t happens (with_stream t number target).streams (registering_on t number target) (record { sent = (tt, tt); profile_is = refl; streams_are = refl })
+    (all_both (StreamCame t happens) t.streams _ (were_open t happens) (inr refl, tt)))
+
+found_short : (t : ScannerTable) (number : ℕ) → profile_fault t.profile ≡ None → IfSome (slot_at t number) IsShort
+found_short t number none = all_found IsShort (is_numbered number) (indexed_slots t) (slots_short t none)
+
+step_asks : ItemsReadBack → (t : ScannerTable) (happens : Event) → profile_fault t.profile ≡ None → OkAsks t happens (scanner_step t happens)
+unfolding frame stream_cut start stop
+step_asks back t (event.StreamOpened number peer) none = opens_ask back t number peer
+step_asks back t (event.Frame number bytes) none = frame_of_asks back t (event.Frame number bytes) bytes (find (is_stream number) t.streams) none
+step_asks back t (event.StreamCut number) none = cut_asks back t (event.StreamCut number) (find (is_stream number) t.streams)
+step_asks back t (event.Tick ms) none = tick_asks back t (event.Tick ms) ms none
+step_asks back t (event.Start number) none = start_asks back t (event.Start number) (slot_at t number) (found_short t number none)
+step_asks back t (event.Stop number) none = stop_asks back t (event.Stop number) (slot_at t number)
+step_asks back t other none = slots_hold (OkAsks t other) t (λ why. tt) (λ verdict u of. quiet_next t other (plain_answer verdict, u) refl of.streams) other refl
+
+pub scanners_ask : ItemsReadBack → AnswersAreSmall → ScannersAskOwnIds
+unfolding step
+scanners_ask back few t happens answer next is whole byte =
+    let small = few (Scanner t) happens answer (Scanner next) whole (ap as_scanner is) in
+    let asks : NextAsks t happens (answer, next) = subst (OkAsks t happens) is (step_asks back t happens whole.table.faultless) in
+    asks.frames byte small
+
+pub streams_come : ItemsReadBack → StreamsComeWithEvents
+streams_come back t happens answer next is whole =
+    let asks : NextAsks t happens (answer, next) = subst (OkAsks t happens) is (step_asks back t happens whole.table.faultless) in
+    asks.streams

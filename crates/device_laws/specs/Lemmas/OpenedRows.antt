@@ -1,0 +1,137 @@
+-- What holds of each connection of an adapter holds after a frame, if it holds of the connection that the frame opens.
+use Rattle.std.proofs.Common.{◌≡◌, ℕ, ◌==◌, not, Bool, List, [], ◌∷◌, length, find, Option, Some, None, Result, Ok, Err, IfOk, refl}
+use Rattle.std.specs.List.{AllByRecursion}
+use Rattle.std.specs.Option.{IfSome}
+use Rattle.std.specs.Str.{bytes_eq}
+use Rattle.cip_types.specs.declared.names.Node.{Node}
+use Rattle.cip_types.specs.Texts.{Tailed}
+use Rattle.cip_encap.specs.declared.message.EncapFault.{EncapFault}
+use Rattle.cip_encap.specs.declared.packet.ItemFault.{ItemFault}
+use Rattle.cip_encap.specs.Message.{MessageFields}
+use Rattle.cip_encap.specs.Packet.{PacketFields}
+use Rattle.cip_encap.specs.PacketReading.{packet_reading}
+use Rattle.cip_encap.specs.Reading.{message_reading}
+use Rattle.cip_events.specs.declared.event.Verdict.TheVariants.{BadFrame}
+use Rattle.cip_events.specs.Answers.{plain_answer}
+use Rattle.cip_fwdopen.specs.Close.{CloseFields}
+use Rattle.cip_fwdopen.specs.Open.{OpenFields}
+use Rattle.cip_router.specs.declared.command.Command.{Command}
+use Rattle.cip_router.specs.declared.command.Command.TheVariants as command
+use Rattle.cip_router.specs.declared.command.EncapStatus.TheVariants as encap
+use Rattle.cip_router.specs.declared.refusal.Refusal.{Refusal}
+use Rattle.cip_router.specs.declared.refusal.Status.TheVariants as status
+use Rattle.cip_router.specs.Requests.{RouterRequestFields, nothing, refused, closing, assembly, opening, router_request_reading}
+use Rattle.cip_router.specs.Commands.{command_of, is_silent}
+use Rattle.cip_router.specs.Frames.{RequestHeader, request_header_of, request_header_in, wrong_length_of, frame_fields, protocol_text, frame_reading}
+use Rattle.cip_router.specs.Replies.{got}
+use Rattle.adapter_table.specs.declared.table.AdapterTable.{AdapterTable}
+use Rattle.adapter_table.specs.declared.table.Stream.{Stream}
+use Rattle.adapter_table.specs.Checks.{Admitted, admission}
+use Rattle.adapter_table.specs.Closing.{stays, without_triad, closed_table}
+use Rattle.adapter_table.specs.Connections.{Row}
+use Rattle.adapter_table.specs.Encapsulation.{Handled, refusal, unanswered, session_begun, session_ended, register_session, request_replied, packet_replied, handled, framed, frame_answer, frame_of}
+use Rattle.adapter_table.specs.Opening.{opened_row, opened_table}
+use Rattle.adapter_table.specs.Points.{bytes_at}
+use Rattle.adapter_table.specs.Requests.{Next, Served, judged_open, admitted_open, served_open, close_of, served_close, is_value_attribute, router_refusal, assembly_of, served_assembly, served}
+use Rattle.adapter_table.specs.Rows.{has_triad}
+use Rattle.adapter_table.specs.Streams.{without_stream, has_session, registered_table}
+use Rattle.device_laws.specs.Lemmas.Lists.{all_both, all_filtered}
+use Rattle.device_laws.specs.Lemmas.Texts.{either}
+
+-- ---- what holds of a request that opens
+
+-- it holds of each connection that a request to open makes
+abbrev pub Makes : (Row → Type 0) → AdapterTable → RouterRequestFields → Type 0
+Makes O t requested = (large : Bool) (request : OpenFields) → requested ≡ opening large request → (peer : Node) (admitted : Admitted) → admission t request ≡ Ok admitted → O (opened_row t peer request admitted)
+
+abbrev pub RowsAre : (Row → Type 0) → AdapterTable → Type 0
+RowsAre O t = AllByRecursion O t.rows
+
+open_rows : (O : Row → Type 0) (t : AdapterTable) (peer : Node) (large : Bool) (request : OpenFields) (said : Result Admitted Refusal) → admission t request ≡ said → ((admitted : Admitted) → admission t request ≡ Ok admitted → O (opened_row t peer request admitted)) → RowsAre O t → RowsAre O (judged_open t peer large request said).table
+unfolding admitted_open opened_table
+open_rows O t peer large request (Err why) is makes rows = rows
+open_rows O t peer large request (Ok admitted) is makes rows = all_both O _ (opened_row t peer request admitted ∷ []) (all_filtered O _ t.rows rows) (makes admitted is, tt)
+
+close_rows : (O : Row → Type 0) (t : AdapterTable) (request : CloseFields) (found : Option Row) → RowsAre O t → RowsAre O (close_of t request found).table
+unfolding closed_table
+close_rows O t request None rows = rows
+close_rows O t request (Some row) rows = all_filtered O (stays (without_triad row.triad t.rows)) (without_triad row.triad t.rows) (all_filtered O _ t.rows rows)
+
+abbrev ServedRows : (Row → Type 0) → Served → Type 0
+ServedRows O s = RowsAre O s.table
+
+assembly_rows : (O : Row → Type 0) (t : AdapterTable) (service : ℕ) (attribute : Option ℕ) (body : List ℕ) (found : Option (List ℕ)) → RowsAre O t → ServedRows O (assembly_of t service attribute body found)
+assembly_rows O t service attribute body None rows = rows
+assembly_rows O t service attribute body (Some value) rows =
+    let all : Served = record { reply = got value; address = None; notices = []; table = t } in
+    either (ServedRows O) (not (service == 0x0E)) _ _ rows
+    (either (ServedRows O) (not (is_value_attribute attribute)) _ _ rows
+    (either (ServedRows O) (not (length body == 0)) (router_refusal t service status.TooMuchData) all rows rows))
+
+served_rows : (O : Row → Type 0) (t : AdapterTable) (peer : Node) (requested : RouterRequestFields) → Makes O t requested → RowsAre O t → IfSome (served t peer requested) (ServedRows O)
+unfolding served_open served_close served_assembly
+served_rows O t peer nothing makes rows = tt
+served_rows O t peer (refused service why) makes rows = rows
+served_rows O t peer (closing request) makes rows = close_rows O t request (find (has_triad request.triad) t.rows) rows
+served_rows O t peer (assembly service instance attribute body) makes rows = assembly_rows O t service attribute body (bytes_at t.values instance) rows
+served_rows O t peer (opening large request) makes rows = open_rows O t peer large request (admission t request) refl (makes large request refl peer) rows
+
+-- ---- a frame
+
+abbrev HandledRows : (Row → Type 0) → Handled → Type 0
+HandledRows O done = RowsAre O done.table
+
+registered_rows : (O : Row → Type 0) (t : AdapterTable) (number : ℕ) → RowsAre O t → RowsAre O (registered_table t number)
+unfolding registered_table
+registered_rows O t number rows = rows
+
+pub without_rows : (O : Row → Type 0) (t : AdapterTable) (number : ℕ) → RowsAre O t → RowsAre O (without_stream t number)
+unfolding without_stream
+without_rows O t number rows = rows
+
+register_rows : (O : Row → Type 0) (t : AdapterTable) (stream : Stream) (body : List ℕ) → RowsAre O t → HandledRows O (register_session t stream body)
+register_rows O t stream body rows =
+    either (HandledRows O) (not (length body == 4)) _ _ rows
+    (either (HandledRows O) (not (bytes_eq body protocol_text)) _ _ rows
+    (either (HandledRows O) stream.registered (refusal t encap.InvalidCommand) (session_begun t stream) rows (registered_rows O t stream.number rows)))
+
+replied_rows : (O : Row → Type 0) (t : AdapterTable) (s : Option Served) → IfSome s (ServedRows O) → RowsAre O t → HandledRows O (request_replied t s)
+replied_rows O t None goes rows = rows
+replied_rows O t (Some s) goes rows = goes
+
+abbrev pub PacketMakes : (Row → Type 0) → AdapterTable → Result PacketFields ItemFault → Type 0
+PacketMakes O t reading = (packet : PacketFields) → reading ≡ Ok packet → Makes O t (router_request_reading packet.payload)
+
+packet_rows : (O : Row → Type 0) (t : AdapterTable) (peer : Node) (reading : Result PacketFields ItemFault) → PacketMakes O t reading → RowsAre O t → HandledRows O (packet_replied t peer reading)
+packet_rows O t peer (Err why) makes rows = rows
+packet_rows O t peer (Ok packet) makes rows = replied_rows O t (served t peer (router_request_reading packet.payload)) (served_rows O t peer (router_request_reading packet.payload) (makes packet refl) rows) rows
+
+handled_rows : (O : Row → Type 0) (t : AdapterTable) (stream : Stream) (echo : RequestHeader) (body : List ℕ) (requested : Command) → PacketMakes O t (packet_reading body) → RowsAre O t → HandledRows O (handled t stream echo body requested)
+unfolding handled
+handled_rows O t stream echo body command.Nop makes rows = rows
+handled_rows O t stream echo body command.ListServices makes rows = rows
+handled_rows O t stream echo body command.RegisterSession makes rows = register_rows O t stream body rows
+handled_rows O t stream echo body command.UnregisterSession makes rows =
+    either (HandledRows O) (has_session stream echo.session) (session_ended t stream) (unanswered t) (without_rows O t stream.number rows) rows
+handled_rows O t stream echo body command.SendRrData makes rows = either (HandledRows O) (has_session stream echo.session) _ _ (packet_rows O t stream.peer (packet_reading body) makes rows) rows
+handled_rows O t stream echo body command.Other makes rows = rows
+
+abbrev pub NextRows : (Row → Type 0) → Next → Type 0
+NextRows O next = RowsAre O next.1
+
+wrong_length_rows : (O : Row → Type 0) (t : AdapterTable) (stream : Stream) (header : Option Tailed) → RowsAre O t → NextRows O (frame_answer t stream (wrong_length_of header))
+wrong_length_rows O t stream None rows = rows
+wrong_length_rows O t stream (Some h) rows =
+    either (NextRows O) (is_silent (command_of (request_header_in h.0).command)) (plain_answer BadFrame, t) (framed stream.number (request_header_in h.0) (refusal t encap.InvalidLength)) rows rows
+
+abbrev pub MessageMakes : (Row → Type 0) → AdapterTable → Result MessageFields EncapFault → Type 0
+MessageMakes O t reading = (m : MessageFields) → reading ≡ Ok m → PacketMakes O t (packet_reading m.payload)
+
+message_rows : (O : Row → Type 0) (t : AdapterTable) (stream : Stream) (header : Option Tailed) (reading : Result MessageFields EncapFault) → MessageMakes O t reading → RowsAre O t → NextRows O (frame_answer t stream (frame_fields header reading))
+message_rows O t stream header (Err why) makes rows = wrong_length_rows O t stream header rows
+message_rows O t stream header (Ok m) makes rows = handled_rows O t stream (request_header_of m) m.payload (command_of m.command) (makes m refl) rows
+
+pub frame_rows : (O : Row → Type 0) (t : AdapterTable) (bytes : List ℕ) (found : Option Stream) → MessageMakes O t (message_reading bytes) → RowsAre O t → IfOk (frame_of t bytes found) (NextRows O)
+unfolding frame_reading
+frame_rows O t bytes None makes rows = tt
+frame_rows O t bytes (Some stream) makes rows = message_rows O t stream _ (message_reading bytes) makes rows

@@ -1,0 +1,93 @@
+-- What an adapter serves: the reply of a success is that of the connection which the request opened.
+use Rattle.std.proofs.Common.{◌≡◌, ℕ, ◌*◌, ◌==◌, not, Bool, true, false, List, [], ◌∷◌, ◌++◌, length, find, Option, Some, None, Result, Ok, Err, refl}
+use Rattle.std.specs.Int.{w32}
+use Rattle.std.specs.List.{AllByRecursion}
+use Rattle.std.specs.Option.{IfSome}
+use Rattle.device_laws.specs.Lemmas.AdapterIds.{nonzero}
+use Rattle.base_lemmas.specs.Numbers.{less_other, number_same}
+use Rattle.cip_types.specs.declared.names.Node.{Node}
+use Rattle.cip_fwdopen.specs.Open.{OpenFields}
+use Rattle.cip_fwdopen.specs.Close.{CloseFields}
+use Rattle.cip_fwdopen.specs.declared.reply.Opened.{Opened}
+use Rattle.cip_router.specs.declared.refusal.Refusal.{Refusal}
+use Rattle.cip_router.specs.declared.refusal.Status.TheVariants as status
+use Rattle.cip_router.specs.Requests.{RouterRequestFields, nothing, refused, closing, assembly, opening}
+use Rattle.cip_router.specs.Replies.{got}
+use Rattle.adapter_table.specs.declared.profile.Profile.{Profile}
+use Rattle.adapter_table.specs.Connections.{Row}
+use Rattle.adapter_table.specs.declared.table.AdapterTable.{AdapterTable}
+use Rattle.adapter_table.specs.Checks.{Admitted, admission}
+use Rattle.adapter_table.specs.Newest.{was_opened_as}
+use Rattle.adapter_table.specs.Opening.{opened_row, opened_table}
+use Rattle.adapter_table.specs.Points.{bytes_at}
+use Rattle.adapter_table.specs.Requests.{Served, judged_open, admitted_open, served_open, close_of, served_close, is_value_attribute, router_refusal, assembly_of, served_assembly, served}
+use Rattle.adapter_table.specs.Rows.{has_triad}
+use Rattle.adapter_table.specs.Sound.{IdsAreDrawn}
+use Rattle.device_laws.specs.Lemmas.Lists.{all_filtered}
+use Rattle.device_laws.specs.Lemmas.Texts.{either}
+use Rattle.device_laws.specs.Frames.{again}
+use Rattle.device_laws.specs.Lemmas.ReplyTexts.{ReplyHolds}
+
+-- the success has the ids and the packet intervals of the connection that is new in the next table
+pub record IsOfRow (t next : AdapterTable) (opened : Opened) : Type 0 where
+  pub row : Row
+  pub new : find (was_opened_as t.next_id) next.rows ≡ Some row
+  pub o_t : opened.o_t_id.0 ≡ again w32 row.o_t_id.0
+  pub t_o : opened.t_o_id.0 ≡ again w32 row.t_o_id.0
+  pub o_t_api : opened.o_t_api_us ≡ again w32 (1000 * row.o_t_api_ms)
+  pub t_o_api : opened.t_o_api_us ≡ again w32 (1000 * row.t_o_api_ms)
+
+abbrev pub ServedHas : AdapterTable → Served → Type 0
+ServedHas t s = ReplyHolds (IsOfRow t s.table) s.reply
+
+-- ---- the new connection stands behind all others
+
+abbrev IsBelow : ℕ → Row → Type 0
+IsBelow next row = was_opened_as next row ≡ false
+
+all_below : (profile : Profile) (next : ℕ) (rows : List Row) → IdsAreDrawn profile next rows → AllByRecursion (IsBelow next) rows
+all_below profile next [] drawn = tt
+all_below profile next (row ∷ rows) drawn = (less_other row.opening next drawn.1, all_below profile next rows drawn.2)
+
+find_last : (p : Row → Bool) (rows : List Row) (row : Row) → AllByRecursion (λ r. p r ≡ false) rows → p row ≡ true → find p (rows ++ row ∷ []) ≡ Some row
+find_last p [] row none is = rw is refl
+find_last p (r ∷ rows) row none is = rw (none.0) (find_last p rows row none.1 is)
+
+pub new_row_found : (t : AdapterTable) (peer : Node) (request : OpenFields) (admitted : Admitted) → IdsAreDrawn t.profile t.next_id t.rows → find (was_opened_as t.next_id) (opened_table t (opened_row t peer request admitted) admitted).rows ≡ Some (opened_row t peer request admitted)
+unfolding opened_table opened_row
+new_row_found t peer request admitted drawn =
+    find_last (was_opened_as t.next_id) _ (opened_row t peer request admitted) (all_filtered (IsBelow t.next_id) _ t.rows (all_below t.profile t.next_id t.rows drawn)) (number_same t.next_id)
+
+-- ---- what is served
+
+open_has : (t : AdapterTable) (peer : Node) (large : Bool) (request : OpenFields) (said : Result Admitted Refusal) → IdsAreDrawn t.profile t.next_id t.rows → ServedHas t (judged_open t peer large request said)
+unfolding admitted_open
+open_has t peer large request (Err why) drawn = refl
+open_has t peer large request (Ok admitted) drawn = λ read ids. record {
+  row = opened_row t peer request admitted;
+  new = new_row_found t peer request admitted drawn;
+  o_t = ids.o_t_is;
+  t_o = ids.t_o_is;
+  o_t_api = ids.o_t_api_is;
+  t_o_api = ids.t_o_api_is;
+}
+
+close_has : (t : AdapterTable) (request : CloseFields) (found : Option Row) → ServedHas t (close_of t request found)
+close_has t request None = refl
+close_has t request (Some row) = tt
+
+assembly_has : (t : AdapterTable) (service : ℕ) (attribute : Option ℕ) (body : List ℕ) (found : Option (List ℕ)) → ServedHas t (assembly_of t service attribute body found)
+assembly_has t service attribute body None = nonzero status.PathDestination
+assembly_has t service attribute body (Some value) =
+    let all : Served = record { reply = got value; address = None; notices = []; table = t } in
+    either (ServedHas t) (not (service == 0x0E)) _ _ (nonzero status.Service)
+    (either (ServedHas t) (not (is_value_attribute attribute)) _ _ (nonzero status.Attribute)
+    (either (ServedHas t) (not (length body == 0)) (router_refusal t service status.TooMuchData) all (nonzero status.TooMuchData) tt))
+
+pub served_has : (t : AdapterTable) (peer : Node) (requested : RouterRequestFields) → IdsAreDrawn t.profile t.next_id t.rows → IfSome (served t peer requested) (ServedHas t)
+unfolding served_open served_close served_assembly
+served_has t peer nothing drawn = tt
+served_has t peer (refused service why) drawn = nonzero why
+served_has t peer (closing request) drawn = close_has t request (find (has_triad request.triad) t.rows)
+served_has t peer (assembly service instance attribute body) drawn = assembly_has t service attribute body (bytes_at t.values instance)
+served_has t peer (opening large request) drawn = open_has t peer large request (admission t request) drawn

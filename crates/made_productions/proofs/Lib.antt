@@ -1,3 +1,0 @@
-pub mod ScannerSending
-pub mod SentTexts
-pub mod Values

@@ -1,4 +1,0 @@
-mod SmallScanner
-mod Scanners
-mod Adapters
-mod Wakes

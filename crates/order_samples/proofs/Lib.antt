@@ -1,5 +1,0 @@
-mod OwnerSamples
-mod GroupSamples
-mod OrderSamples
-mod CircleSamples
-mod OnceSamples

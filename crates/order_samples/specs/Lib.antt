@@ -1,4 +1,0 @@
-pub mod Playing
-pub mod Schedules
-pub mod Stories
-pub mod Oracle

@@ -1,6 +1,0 @@
-pub mod Framing
-pub mod Answering
-pub mod Requests
-pub mod OwnIds
-pub mod RequestedRows
-pub mod SentStreams

@@ -1,5 +1,0 @@
-use Rattle.reply_ids.proofs.RequestedRows.{new_rows_requested}
-use Rattle.reply_ids.proofs.asking.new_connections_are_requested.Goals as goal
-
-pub returns : goal.returns
-returns c = new_rows_requested

@@ -1,5 +1,0 @@
-use Rattle.reply_ids.specs.Lemmas.RequestedIds.{scanners_ask}
-use Rattle.reply_ids.proofs.asking.scanners_ask_once.Goals as goal
-
-pub returns : goal.returns
-returns c = scanners_ask c.reads_back.ensures.items c.answers_are_small.ensures

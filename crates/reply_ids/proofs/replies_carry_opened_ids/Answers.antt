@@ -1,5 +1,0 @@
-use Rattle.reply_ids.proofs.Answering.{replies_carry}
-use Rattle.reply_ids.proofs.replies_carry_opened_ids.Goals as goal
-
-pub returns : goal.returns
-returns c = replies_carry c.reads_back.ensures.items c.answers_are_small.ensures

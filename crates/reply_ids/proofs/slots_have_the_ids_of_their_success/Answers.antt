@@ -1,5 +1,0 @@
-use Rattle.reply_ids.specs.Lemmas.Slots.{slots_have_ids}
-use Rattle.reply_ids.proofs.slots_have_the_ids_of_their_success.Goals as goal
-
-pub returns : goal.returns
-returns c = slots_have_ids c.reads_back.ensures.items c.answers_are_small.ensures

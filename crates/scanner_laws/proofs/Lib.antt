@@ -1,9 +1,0 @@
-mod DrawnSteps
-mod RisingNumbers
-mod ScratchSteps
-mod NewestSteps
-mod DeadlineSteps
-mod RunLemmas
-mod SlotLemmas
-mod SmallTables
-mod LawSamples

@@ -1,5 +1,0 @@
-use Rattle.scanner_laws.proofs.NewestSteps.{steps_apply_new, events_apply_new}
-use Rattle.scanner_laws.proofs.accepted.applied_data_are_new.Goals as goal
-
-pub returns : goal.returns
-returns c = record { step = steps_apply_new; events = events_apply_new }

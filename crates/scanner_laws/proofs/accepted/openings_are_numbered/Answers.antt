@@ -1,5 +1,0 @@
-use Rattle.scanner_laws.proofs.NewestSteps.{numbered_law, whole_numbered}
-use Rattle.scanner_laws.proofs.accepted.openings_are_numbered.Goals as goal
-
-pub returns : goal.returns
-returns c = record { law = numbered_law; whole = whole_numbered }

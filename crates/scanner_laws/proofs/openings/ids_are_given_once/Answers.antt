@@ -1,5 +1,0 @@
-use Rattle.scanner_laws.proofs.RisingNumbers.{ids_given_once}
-use Rattle.scanner_laws.proofs.openings.ids_are_given_once.Goals as goal
-
-pub returns : goal.returns
-returns c = ids_given_once

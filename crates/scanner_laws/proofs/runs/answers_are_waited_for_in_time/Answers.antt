@@ -1,6 +1,0 @@
-use Rattle.scanner_whole.specs.Waiting.{SlotsWaitInTime}
-use Rattle.scanner_laws.proofs.RunLemmas.{over_scanners}
-use Rattle.scanner_laws.proofs.runs.answers_are_waited_for_in_time.Goals as goal
-
-pub returns : goal.returns
-returns c = over_scanners SlotsWaitInTime (λ t whole. whole.waits) c.tables_are_whole.ensures

@@ -1,6 +1,0 @@
-use Rattle.std.proofs.Common.{◌≤◌, length}
-use Rattle.scanner_laws.proofs.RunLemmas.{over_scanners}
-use Rattle.scanner_laws.proofs.runs.at_most_16_streams.Goals as goal
-
-pub returns : goal.returns
-returns c = over_scanners (λ t. length t.streams ≤ 16) (λ t whole. whole.table.few_streams) c.tables_are_whole.ensures

@@ -1,6 +1,0 @@
-use Rattle.std.proofs.Common.{◌≤◌}
-use Rattle.scanner_laws.proofs.RunLemmas.{over_scanners}
-use Rattle.scanner_laws.proofs.runs.ids_end.Goals as goal
-
-pub returns : goal.returns
-returns c = over_scanners (λ t. t.next_id ≤ 16777216) (λ t whole. whole.table.ids) c.tables_are_whole.ensures

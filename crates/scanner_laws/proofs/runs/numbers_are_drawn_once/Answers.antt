@@ -1,6 +1,0 @@
-use Rattle.scanner_whole.specs.Drawn.{NumbersAreOwn}
-use Rattle.scanner_laws.proofs.RunLemmas.{over_scanners}
-use Rattle.scanner_laws.proofs.runs.numbers_are_drawn_once.Goals as goal
-
-pub returns : goal.returns
-returns c = over_scanners NumbersAreOwn (λ t whole. whole.numbers) c.tables_are_whole.ensures

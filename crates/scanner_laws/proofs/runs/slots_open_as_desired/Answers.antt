@@ -1,8 +1,0 @@
-use Rattle.scanner_table.specs.Slots.{indexed_slots}
-use Rattle.scanner_laws.specs.Scanners.{EachSlot, IsOpenAsDesired}
-use Rattle.scanner_laws.proofs.SlotLemmas.{each_opens_as_desired}
-use Rattle.scanner_laws.proofs.RunLemmas.{over_scanners}
-use Rattle.scanner_laws.proofs.runs.slots_open_as_desired.Goals as goal
-
-pub returns : goal.returns
-returns c = over_scanners (λ t. EachSlot IsOpenAsDesired (indexed_slots t)) (λ t whole. each_opens_as_desired t whole.table) c.tables_are_whole.ensures

@@ -1,6 +1,0 @@
-use Rattle.scanner_whole.specs.Producers.{SlotsProduceAsThemselves}
-use Rattle.scanner_laws.proofs.RunLemmas.{over_scanners}
-use Rattle.scanner_laws.proofs.runs.slots_produce_as_themselves.Goals as goal
-
-pub returns : goal.returns
-returns c = over_scanners SlotsProduceAsThemselves (λ t whole. whole.producers) c.tables_are_whole.ensures

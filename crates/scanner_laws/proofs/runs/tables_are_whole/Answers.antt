@@ -1,5 +1,0 @@
-use Rattle.scanner_laws.proofs.RunLemmas.{reached_scanners}
-use Rattle.scanner_laws.proofs.runs.tables_are_whole.Goals as goal
-
-pub returns : goal.returns
-returns c = reached_scanners c.tables_are_whole.ensures.run c.tables_are_whole.ensures.opening

@@ -1,6 +1,0 @@
-mod Asking
-mod Openings
-mod ConnectionRows
-mod Admitting
-mod Requested
-mod Joining

@@ -1,4 +1,0 @@
-use Rattle.schedule_connections.proofs.items_read_back.Goals as goal
-
-pub returns : goal.returns
-returns c = c.reads_back.ensures.items

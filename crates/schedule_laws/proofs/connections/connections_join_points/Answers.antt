@@ -1,0 +1,28 @@
+use Rattle.schedule_laws.proofs.Joining.{join_points}
+use Rattle.schedule_laws.proofs.connections.connections_join_points.Goals as goal
+
+pub returns : goal.returns
+returns c = join_points (record {
+  sends = c.answers_send_what_is_made.ensures;
+  keep = c.ids_are_drawn.ensures.schedule;
+  opens = c.ids_are_drawn.ensures.opened;
+  names = record {
+    steps = record {
+      carry = c.ids_are_carried.ensures;
+      whole = c.tables_are_whole.ensures.run;
+      counts = c.next_id_never_falls.ensures.step;
+      adapters = c.profiles_stay.ensures;
+      scanners = c.counters_never_fall.ensures.step;
+    };
+    replies = c.replies_carry_opened_ids.ensures;
+    rows = c.connections_keep_their_ids.ensures;
+    slots = c.slots_have_the_ids_of_their_success.ensures;
+    requests = c.scanners_send_no_success.ensures;
+    asks = c.scanners_ask_for_their_own_ids.ensures;
+    streams = c.a_scanners_streams_come_with_events.ensures;
+  };
+  paths = c.paths_read_back.ensures;
+  items = c.items_read_back.ensures;
+  small = c.answers_are_small.ensures;
+  numbered = c.openings_are_numbered.ensures.whole;
+})

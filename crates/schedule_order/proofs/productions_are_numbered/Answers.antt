@@ -1,5 +1,0 @@
-use Rattle.schedule_order.specs.Lemmas.Beginning.{well_produced}
-use Rattle.schedule_order.proofs.productions_are_numbered.Goals as goal
-
-pub returns : goal.returns
-returns c = well_produced c.answers_send_what_is_made.ensures c.ids_are_drawn.ensures.schedule c.ids_are_drawn.ensures.opened

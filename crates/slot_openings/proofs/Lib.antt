@@ -1,3 +1,0 @@
-mod Drawing
-mod Acting
-mod Samples
