@@ -196,6 +196,13 @@ fn total(counts: &[usize]) -> usize
     counts.iter().sum()
 }
 
+// The events of a segment. What else it holds is dropped here, apart from the loop that takes them.
+fn into_events(segment: Segment) -> Vec<Event>
+    ensures { result.items ≡ segment.events }
+{
+    segment.events.into_vec()
+}
+
 // The history of segments, whose events it takes out of them.
 fn joined(alloc: Global, config: Config, segments: Vec<Segment>) -> Result<History, OutOfMemory>
     ensures { IfOk result (λ history. history ≡ history_of config segments.items) }
@@ -203,7 +210,7 @@ fn joined(alloc: Global, config: Config, segments: Vec<Segment>) -> Result<Histo
     let mut counts = Vec::with_capacity(alloc, segments.len())?;
     let mut events = Vec::new(alloc);
     for segment in segments {
-        let mut more = segment.events.into_vec();
+        let mut more = into_events(segment);
         counts.push(more.len())?;
         events.append(&mut more)?;
     }

@@ -3,9 +3,10 @@ use Rattle.std.proofs.Common.{◌≡◌, ℕ, zero, suc, ◌+◌, true, List, []
 use Rattle.std.specs.Prelude.{All}
 use Rattle.std.proofs.lemmas.List.{length-map, length_push}
 use Rattle.std.proofs.lemmas.List.Elements.{All-append, All-cons, All-head, All-nil, All-push, All-tail}
+use Rattle.cip_events.specs.Arrivals.{is_own}
 use Rattle.cip_events.specs.declared.event.Event.{Event}
 use Rattle.cip_events.specs.declared.event.Event.TheVariants.{Mode, Start, Tick}
-use Rattle.line_threads.specs.Scripts.{events_in, is_own, IsOwn}
+use Rattle.line_threads.specs.Scripts.{events_in, IsOwn}
 use Rattle.line_setup.specs.Scripts.{adapter_script, line_scripts, output_of, scanner_script, scanner_scripts, turn_of, turns_of, write_of}
 
 -- the event is a call of the application, or a tick

@@ -1,8 +1,10 @@
-//! A line of an adapter and up to eight scanners of it, and what their applications do.
+//! A line of an adapter and up to eight scanners of it: its devices, and what their applications do.
 #![tactic(auto)]
 
+mod devices;
 mod line;
 mod script;
 
+pub use devices::{ADAPTER, adapter_config, configs, scanner_config, scanner_node};
 pub use line::line_of;
 pub use script::scripts;

@@ -2,9 +2,9 @@
 
 ghost use Rattle.std.specs.Prelude.{◌≡◌, ◌+◌, None, IfOk, length};
 ghost use Rattle.segment_world.specs.Configs.{world_fault};
-ghost use Rattle.line_devices.specs.Devices.{line_configs};
+ghost use Rattle.line_setup.specs.Devices.{line_configs};
 
-use line_devices::configs;
+use crate::configs;
 use line_threads::Line;
 use segment_world::WorldFault;
 use std::alloc::Global;

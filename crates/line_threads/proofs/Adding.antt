@@ -6,11 +6,10 @@ use Rattle.std.proofs.lemmas.List.Elements.{All-push, filter-append}
 use Rattle.device_lock.specs.declared.receipt.Receipt.{Receipt}
 use Rattle.device_lock.specs.Locked.{IsReceiptOf}
 use Rattle.line_threads.specs.Accounts.{AddsArrivals, IsAccount, event_of, own_events}
-use Rattle.cip_events.specs.Arrivals.{arrival_event}
+use Rattle.cip_events.specs.Arrivals.{arrival_event, is_own}
 use Rattle.cip_events.specs.declared.arrival.Arrival.{Arrival}
 use Rattle.cip_events.specs.declared.arrival.Arrival.TheVariants as arrival
 use Rattle.cip_events.specs.declared.event.Event.{Event}
-use Rattle.line_threads.specs.Scripts.{is_own}
 
 own_one : (r : Receipt) → is_own r.event ≡ true → own_events (r ∷ []) ≡ r.event ∷ []
 own_one r is = rw is refl

@@ -3,14 +3,15 @@ use Rattle.std.proofs.Common.{◌≡◌, suc, List, [], ◌∷◌, ◌++◌, len
 use Rattle.std.specs.Prelude.{All, filter}
 use Rattle.std.proofs.lemmas.List.{map-append}
 use Rattle.std.proofs.lemmas.List.Elements.{All-head, All-tail}
+use Rattle.cip_events.specs.Arrivals.{is_own}
 use Rattle.cip_events.specs.declared.event.Event.{Event}
 use Rattle.cip_tables.specs.declared.table.Config.{Config}
 use Rattle.device_lock.specs.declared.receipt.Receipt.{Receipt}
 use Rattle.device_lock.specs.Histories.{HistoryValue}
-use Rattle.settling.specs.Histories.{config_in, configs_of}
+use Rattle.schedule_search.specs.Histories.{config_in, configs_of}
 use Rattle.line_threads.specs.Accounts.{own_in, HasItsReceipts}
 use Rattle.line_threads.specs.Lines.{byte_of, ReportsScripts}
-use Rattle.line_threads.specs.Scripts.{events_in, is_own}
+use Rattle.line_threads.specs.Scripts.{events_in}
 
 pub more_configs : (old new : List HistoryValue) (history : HistoryValue) (configs : List Config) (config : Config) → new ≡ old ++ history ∷ [] → configs_of old ≡ configs → config_in history ≡ config → configs_of new ≡ configs ++ config ∷ []
 more_configs old new history configs config is so_far next =

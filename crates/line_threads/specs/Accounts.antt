@@ -1,10 +1,10 @@
 -- What the receipts of a device say of its script.
 use Rattle.std.specs.Prelude.{◌≡◌, ◌==◌, ℕ, List, map, filter, All}
+use Rattle.cip_events.specs.Arrivals.{is_own}
 use Rattle.cip_events.specs.declared.event.Event.{Event}
 use Rattle.device_lock.specs.declared.receipt.Receipt.{Receipt}
 use Rattle.device_lock.specs.Histories.{HistoryValue}
-use Rattle.settling.specs.Histories.{byte_in}
-use Rattle.line_threads.specs.Scripts.{is_own}
+use Rattle.schedule_search.specs.Histories.{byte_in}
 
 abbrev pub event_of : Receipt → Event
 event_of r = r.event

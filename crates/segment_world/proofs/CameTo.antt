@@ -13,7 +13,7 @@ use Rattle.cip_events.specs.declared.event.Event.{Event}
 use Rattle.cip_tables.specs.declared.table.DeviceTable.{DeviceTable}
 use Rattle.cip_tables.specs.Step.{step}
 use Rattle.cip_tables.specs.Whole.{IsWholeDevice}
-use Rattle.device_laws.specs.Sizes.{IsSmall, AnswersAreSmall}
+use Rattle.answer_sizes.specs.Sizes.{IsSmall, AnswersAreSmall}
 use Rattle.segment_world.specs.AnswerSpace.{CameTo, WasDelivered}
 
 small_so : AnswersAreSmall → (t : DeviceTable) (event : Event) (outcome : Outcome) (after : DeviceTable) → IsWholeDevice t → Follows (step t event) t outcome after → IfOk outcome IsSmall

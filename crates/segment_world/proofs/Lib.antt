@@ -2,4 +2,4 @@ mod Acts
 mod CameTo
 mod Listing
 mod Projecting
-mod Logging
+mod Outputs

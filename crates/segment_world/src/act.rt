@@ -7,7 +7,7 @@ ghost use Rattle.segment_world.specs.World.{event_of_call};
 use cip_events::{Event, Outcome, StepFault};
 use cip_tables::Device;
 use cip_types::{Items, OutOfMemory};
-use stream_queues::Direction;
+use segment_traffic::Direction;
 use thiserror::Error;
 
 /// A call of the application at its device, or a tick of the device's clock.

@@ -5,10 +5,10 @@ ghost use Rattle.segment_world.specs.World.{event_of_call};
 ghost use Rattle.segment_world.specs.AnswerSpace.{CameTo, WasDelivered};
 
 use crate::act::Call;
+use answer_sizes::answers_are_small;
 use cip_events::{Delivery, Event, Outcome};
 use cip_tables::Device;
 use cip_types::Node;
-use device_laws::answers_are_small;
 
 /// Performs a call at one device.
 pub fn call_at<D: Device>(devices: &mut Vec<D>, device: usize, call: &Call) -> Outcome

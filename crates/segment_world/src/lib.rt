@@ -5,14 +5,14 @@
 mod act;
 mod configs;
 mod devices;
-mod fanning_out;
 mod fault;
 pub mod laws;
 mod reception;
+mod traffic;
 mod world;
 
 pub use act::{Act, ActFault, Call};
 pub use configs::world_fault;
 pub use fault::WorldFault;
-pub use stream_queues::{Direction, Endpoints, QueueFront};
+pub use segment_traffic::{Direction, Endpoints, QueueFront};
 pub use world::World;

@@ -5,25 +5,24 @@ ghost use Rattle.cip_tables.specs.Step.{AcceptsAll};
 ghost use Rattle.segment_world.specs.World.{World as Segment, event_at_device, event_of_call, delivered, taken_at, happens, are_two, opened_if, cut_at, most_stream_numbers};
 ghost use Rattle.segment_world.specs.Follows.{ActFollows, takes_no_memory, NeverOutOfMemory};
 ghost use Rattle.std.specs.Option.{option_map};
-ghost use Rattle.stream_queues.specs.Fronts.{endpoints_of, view_front, front_of, has_taken};
+ghost use Rattle.segment_traffic.specs.Fronts.{endpoints_of, view_front, front_of, has_taken};
 ghost use Rattle.segment_world.specs.Receptions.{IsReception};
 ghost use Rattle.segment_world.specs.Configs.{opening_world, world_fault, IsRefused};
 
 use crate::act::{Act, ActFault, Call};
 use crate::configs::{devices_of, nodes_of, world_fault};
 use crate::devices::{call_at, deliver_at, step_at};
-use crate::fanning_out::{fan_out, reserve_answer};
 use crate::fault::WorldFault;
 use crate::reception::{
     Reception, arrival_of_front, node_of, node_or_zero, receiver_of, sender_of,
 };
+use crate::traffic::Traffic;
 use cip_events::{Answer, Verdict};
 use cip_tables::{Config, Device, TableCopy};
 use cip_types::{Node, OutOfMemory};
-use sent_log::SentLog;
+use segment_traffic::{Direction, Endpoints, QueueFront, SentLog, Streams};
 use std::alloc::Global;
 use std::marker::Model;
-use stream_queues::{Direction, Endpoints, QueueFront, Streams};
 
 /// The most streams that a world ever opens, since a stream's number has 16 bits.
 const MOST_STREAM_NUMBERS: usize = 65_536;
@@ -36,8 +35,7 @@ pub struct World<D: Device> {
     alloc: Global,
     devices: Vec<D>,
     nodes: Vec<Node>,
-    log: SentLog,
-    streams: Streams,
+    traffic: Traffic,
 }
 
 impl<D: Device> Model for World<D> {
@@ -49,8 +47,8 @@ impl<D: Device> Model for World<D> {
     ghost view = { λ w. record {
       nodes = w.nodes.items;
       tables = map D.table w.devices.items;
-      sent = w.log.sent;
-      streams = w.streams.streams;
+      sent = w.traffic.log.sent;
+      streams = w.traffic.streams.streams;
     } };
 
     ghost invariant = { λ w. length w.nodes.items ≡ length w.devices.items };
@@ -81,8 +79,10 @@ impl<D: Device + Drop> World<D> {
             alloc,
             devices,
             nodes,
-            log: SentLog::new(alloc),
-            streams: Streams::new(alloc),
+            traffic: Traffic {
+                log: SentLog::new(alloc),
+                streams: Streams::new(alloc),
+            },
         })
     }
 }
@@ -120,12 +120,12 @@ impl<D: Device> World<D> {
         let Some(node) = node_of(&self.nodes, device) else {
             return Err(ActFault::NoSuchDevice);
         };
-        let Ok(()) = reserve_answer(&mut self.log, &mut self.streams) else {
+        let Ok(()) = self.traffic.reserve_answer() else {
             return Err(ActFault::OutOfMemory);
         };
         match call_at(&mut self.devices, device as usize, call) {
             Ok(answer) => {
-                fan_out(&mut self.log, &mut self.streams, device, node, &answer);
+                self.traffic.fan_out(device, node, &answer);
                 Ok(Some(answer))
             }
             Err(fault) => Err(ActFault::Step(fault)),
@@ -141,7 +141,7 @@ impl<D: Device> World<D> {
         if device as usize >= self.devices.len() {
             return Err(ActFault::NoSuchDevice);
         }
-        let Some((from, bytes)) = self.log.get(index) else {
+        let Some((from, bytes)) = self.traffic.log.get(index) else {
             return Err(ActFault::NeverSent);
         };
         let delivery = deliver_at(&mut self.devices, device as usize, from, bytes);
@@ -155,10 +155,10 @@ impl<D: Device> World<D> {
             (taken_at stream direction self.now (slice_get self.now.streams stream))
             self.now (Err fault) self.now) }
     {
-        let Some(endpoints) = self.streams.endpoints(stream) else {
+        let Some(endpoints) = self.traffic.streams.endpoints(stream) else {
             return Err(ActFault::NoSuchStream);
         };
-        let Some(front) = self.streams.front(stream, direction) else {
+        let Some(front) = self.traffic.streams.front(stream, direction) else {
             return Err(ActFault::StreamEmpty);
         };
         let device = receiver_of(endpoints, direction);
@@ -185,20 +185,14 @@ impl<D: Device> World<D> {
             Ok(reception) => reception,
             Err(fault) => return Err(fault),
         };
-        let Ok(()) = reserve_answer(&mut self.log, &mut self.streams) else {
+        let Ok(()) = self.traffic.reserve_answer() else {
             return Err(ActFault::OutOfMemory);
         };
         let device = reception.device;
         match step_at(&mut self.devices, device as usize, &reception.event) {
             Ok(answer) => {
-                self.streams.take_front(stream, direction);
-                fan_out(
-                    &mut self.log,
-                    &mut self.streams,
-                    device,
-                    reception.node,
-                    &answer,
-                );
+                self.traffic.streams.take_front(stream, direction);
+                self.traffic.fan_out(device, reception.node, &answer);
                 Ok(Some(answer))
             }
             Err(fault) => Err(ActFault::Step(fault)),
@@ -215,10 +209,10 @@ impl<D: Device> World<D> {
         if from as usize >= count || to as usize >= count || from == to {
             return Err(ActFault::NoSuchDevice);
         }
-        if self.streams.len() >= MOST_STREAM_NUMBERS {
+        if self.traffic.streams.len() >= MOST_STREAM_NUMBERS {
             return Err(ActFault::NoSuchStream);
         }
-        match self.streams.open(from, to) {
+        match self.traffic.streams.open(from, to) {
             Ok(()) => Ok(None),
             Err(_) => Err(ActFault::OutOfMemory),
         }
@@ -229,7 +223,7 @@ impl<D: Device> World<D> {
             (cut_at stream self.old (slice_get self.old.streams stream)) self.old result self.new }
         ensures no_memory { NeverOutOfMemory result }
     {
-        if self.streams.cut(stream) {
+        if self.traffic.streams.cut(stream) {
             return Ok(None);
         }
         Err(ActFault::NoSuchStream)
@@ -268,7 +262,7 @@ impl<D: Device> World<D> {
     pub fn sent_count(&self) -> usize
         ensures { result ≡ length self.now.sent }
     {
-        self.log.len()
+        self.traffic.log.len()
     }
 
     /// Returns a datagram by its index among all that were ever sent, with its sender's address.
@@ -276,21 +270,21 @@ impl<D: Device> World<D> {
         ensures { option_map (λ found. record { from = found.0; bytes = found.1.now }) result
             ≡ slice_get self.now.sent index }
     {
-        self.log.get(index)
+        self.traffic.log.get(index)
     }
 
     /// Returns how many streams were ever opened.
     pub fn stream_count(&self) -> usize
         ensures { result ≡ length self.now.streams }
     {
-        self.streams.len()
+        self.traffic.streams.len()
     }
 
     /// Returns the ends of a stream, if there is the stream.
     pub fn endpoints(&self, stream: u16) -> Option<Endpoints>
         ensures { result ≡ option_map endpoints_of (slice_get self.now.streams stream) }
     {
-        self.streams.endpoints(stream)
+        self.traffic.streams.endpoints(stream)
     }
 
     /// Returns whether the device that takes from a direction of a stream has taken the mark that the stream opens. False
@@ -298,13 +292,13 @@ impl<D: Device> World<D> {
     pub fn has_taken(&self, stream: u16, direction: Direction) -> bool
         ensures { result ≡ has_taken direction (slice_get self.now.streams stream) }
     {
-        self.streams.has_taken(stream, direction)
+        self.traffic.streams.has_taken(stream, direction)
     }
 
     /// Returns the front of a direction of a stream, if anything waits there.
     pub fn front(&self, stream: u16, direction: Direction) -> Option<QueueFront<'_>>
         ensures { option_map view_front result ≡ front_of direction (slice_get self.now.streams stream) }
     {
-        self.streams.front(stream, direction)
+        self.traffic.streams.front(stream, direction)
     }
 }

@@ -1,14 +1,2 @@
-pub mod Causing
-pub mod Placing
-pub mod Ending
-pub mod Sticking
-pub mod Listing
-pub mod Ways
-pub mod Opening
-pub mod Joining
-pub mod Rounds
-pub mod Lowering
 pub mod Receiving
-pub mod Counting
 pub mod Samples
-pub mod WaySamples

@@ -15,15 +15,15 @@ use Rattle.cip_tables.specs.Run.{outcomes_of as outcomes_from}
 use Rattle.device_lock.specs.declared.receipt.Receipt.{Receipt}
 use Rattle.device_lock.specs.Histories.{HistoryValue}
 use Rattle.segment_world.specs.declared.act.Act.{Act}
-use Rattle.settling.specs.Histories.{bytes_of, configs_of, events_of_all, has_receipt, is_for, is_place, place_of, replay_of, start_of}
-use Rattle.settling.specs.Lowest.{IsLowest}
-use Rattle.settling.specs.Receipts.{AllGood, AreMarks, Covered, FitsAt, HasItsMarks, HasRoomForMarks, IsForeign, IsGood, IsMarked, IsMissing, IsUnmarked, LacksItsMark, mark_at, outcomes_of_all, unmarked, with_mark}
-use Rattle.settling.specs.Replays.{AreAnswered, replay}
-use Rattle.settling.specs.Schedules.{Settles, history}
-use Rattle.settling.specs.Settlings.{AllAnswered, AllStand, OpensFirst, SettlesAll, Stands}
-use Rattle.settling.proofs.Causing.{some_is, none_some, same_or_not}
-use Rattle.settling.proofs.Listing.{length_all}
-use Rattle.settling.proofs.Placing.{eq_false, eq_true}
+use Rattle.schedule_search.specs.Histories.{bytes_of, configs_of, events_of_all, start_of}
+use Rattle.settling.specs.Receipts.{has_receipt, is_for, is_place, place_of, replay_of, AllGood, AreMarks, Covered, FitsAt, HasItsMarks, HasRoomForMarks, IsForeign, IsGood, IsMarked, IsMissing, IsUnmarked, LacksItsMark, mark_at, outcomes_of_all, unmarked, with_mark}
+use Rattle.schedule_search.specs.Lowest.{IsLowest}
+use Rattle.schedule_search.specs.Replays.{AreAnswered, replay}
+use Rattle.schedule_search.specs.Schedules.{Settles, history}
+use Rattle.schedule_search.specs.Searches.{AllAnswered, OpensFirst}
+use Rattle.settling.specs.Settlings.{AllStand, SettlesAll, Stands}
+use Rattle.schedule_search.specs.Lemmas.Cases.{some_is, none_some, same_or_not, eq_false, eq_true}
+use Rattle.schedule_search.specs.Lemmas.Listing.{length_all, length_set}
 
 -- A REPLAY IS EVENTS AND OUTCOMES
 
@@ -144,11 +144,6 @@ marked_more hs before r marks p are is lt within i k =
     (λ ne.
     rw device (mark_other_event marks p.0 p.1 k lt ne) ∙ are.are i k ∙ sym (more ∙ ap (λ b. has || b) (for_other_event hs r p i k is ne) ∙ or_false has)))
     (λ ne. mark_other_device marks p.0 p.1 i k ne ∙ are.are i k ∙ sym (more ∙ ap (λ b. has || b) (for_other_device hs r p i k is ne) ∙ or_false has))
-
-length_set : {X : Type 0} (xs : List X) (i : ℕ) (x : X) → length (set xs i x) ≡ length xs
-length_set [] i x = refl
-length_set (y ∷ ys) zero x = refl
-length_set (y ∷ ys) (suc i) x = ap suc (length_set ys i x)
 
 row_length : (marks : List (List Bool)) (i k j : ℕ) → i < length marks → length (slice_index_or (with_mark marks i k) j []) ≡ length (slice_index_or marks j [])
 row_length marks i k j lt =

@@ -1,10 +1,2 @@
-pub mod Replays
-pub mod Endpoints
-pub mod Causes
-pub mod Schedules
-pub mod Placements
-pub mod Lowest
-pub mod Openings
-pub mod Histories
 pub mod Receipts
 pub mod Settlings

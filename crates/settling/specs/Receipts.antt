@@ -1,13 +1,61 @@
 -- Receipts against histories.
-use Rattle.std.specs.Prelude.{◌≡◌, ◌<◌, ℕ, true, false, Bool, List, [], ◌∷◌, ◌++◌, length, replicate, map, set, slice_get, slice_index, slice_index_or, Some, Ok}
+use Rattle.std.specs.Prelude.{◌≡◌, ◌<◌, ◌==◌, ◌&&◌, ℕ, true, false, Bool, List, [], ◌∷◌, ◌++◌, length, replicate, map, position, set, slice_get, slice_index, slice_index_or, Option, Some, None, Ok}
+use Rattle.std.specs.List.{list_any}
 use Rattle.cip_events.specs.declared.event.Event.{Event}
 use Rattle.cip_events.specs.Outcomes.{Outcome}
 use Rattle.cip_tables.specs.Step.{opening_table}
 use Rattle.cip_tables.specs.Run.{outcomes_of}
 use Rattle.device_lock.specs.declared.receipt.Receipt.{Receipt}
-use Rattle.device_lock.specs.Histories.{HistoryValue}
-use Rattle.settling.specs.Histories.{bytes_of, events_of_all, has_receipt, place_of, replay_of}
-use Rattle.settling.specs.Schedules.{history}
+use Rattle.device_lock.specs.Histories.{HistoryValue, place_in}
+use Rattle.schedule_search.specs.Histories.{byte_in, bytes_of, events_of_all}
+use Rattle.schedule_search.specs.Replays.{replay}
+use Rattle.schedule_search.specs.Schedules.{history}
+
+-- THE PLACE OF A RECEIPT: the device, and the event in its history
+
+abbrev pub has_byte : ℕ → HistoryValue → Bool
+has_byte byte h = byte_in h == byte
+
+-- the device with this byte
+abbrev pub device_at : List HistoryValue → ℕ → Option ℕ
+device_at hs byte = position (has_byte byte) hs
+
+abbrev pub at_device : ℕ → Option ℕ → Option (ℕ × ℕ)
+at_device i None = None
+at_device i (Some k) = Some (i, k)
+
+abbrev pub counts_in : Option HistoryValue → List ℕ
+counts_in None = []
+counts_in (Some h) = h.counts
+
+abbrev pub place_at : List HistoryValue → Receipt → Option ℕ → Option (ℕ × ℕ)
+place_at hs r None = None
+place_at hs r (Some i) = at_device i (place_in (counts_in (slice_get hs i)) r.segment r.index)
+
+abbrev pub place_of : List HistoryValue → Receipt → Option (ℕ × ℕ)
+place_of hs r = place_at hs r (device_at hs r.device)
+
+-- the place is this one
+abbrev pub is_place : ℕ → ℕ → Option (ℕ × ℕ) → Bool
+is_place i k None = false
+is_place i k (Some p) = p.0 == i && p.1 == k
+
+-- the receipt is for this event of this device
+abbrev pub is_for : List HistoryValue → ℕ → ℕ → Receipt → Bool
+is_for hs i k r = is_place i k (place_of hs r)
+
+abbrev pub has_receipt : List HistoryValue → List Receipt → ℕ → ℕ → Bool
+has_receipt hs rs i k = list_any (is_for hs i k) rs
+
+-- WHAT A RECEIPT IS TO BE
+
+abbrev pub replay_at : Option HistoryValue → List (Event × Outcome)
+replay_at None = []
+replay_at (Some h) = replay (opening_table h.config) h.events
+
+-- the events of a device, each with what a fresh device answers to it
+abbrev pub replay_of : List HistoryValue → ℕ → List (Event × Outcome)
+replay_of hs i = replay_at (slice_get hs i)
 
 -- the replay of this device gives this event there, and this answer
 abbrev pub FitsAt : List HistoryValue → ℕ × ℕ → Receipt → Type 0

@@ -1,15 +1,9 @@
-//! A schedule for what happened at several devices: their histories, and the receipts of their events.
+//! The account of receipts: each event of the histories has one, which fits, and a schedule has them all.
 #![tactic(auto)]
 
-mod cause;
-mod cut;
-mod histories;
-mod lowest;
 mod marks;
-mod place;
-mod placement;
 mod receipts;
 mod settled;
-mod streams;
 
-pub use settled::{Settled, Unsettled, check_configs, settle};
+pub use schedule_search::check_configs;
+pub use settled::{Settled, Unsettled, settle};

@@ -1,7 +1,7 @@
 use Rattle.std.proofs.Common.{◌≡◌, true, sym}
 use Rattle.std.proofs.lemmas.List.Elements.{All-head, All-rest, All-same}
+use Rattle.cip_events.specs.Arrivals.{is_own}
 use Rattle.line_threads.proofs.Adding.{account_more}
-use Rattle.line_threads.specs.Scripts.{is_own}
 use Rattle.line_threads.proofs.worker.work.Goals as goal
 
 pub loop-event-preserved : goal.loop-event-preserved

@@ -1,8 +1,8 @@
 use Rattle.std.proofs.Common.{◌≡◌, true}
 use Rattle.std.specs.Prelude.{All}
 use Rattle.std.specs.Vec.Iter.{into_iter_items}
+use Rattle.cip_events.specs.Arrivals.{is_own}
 use Rattle.line_threads.specs.Accounts.{IsAccount}
-use Rattle.line_threads.specs.Scripts.{is_own}
 use Rattle.line_threads.proofs.worker.work.Given as goal
 
 abbrev pub invariant-loop-event : goal.invariant-loop-event

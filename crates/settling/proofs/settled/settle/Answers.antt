@@ -1,8 +1,8 @@
 use Rattle.settling.proofs.Receiving.{all_answered, covered_all, settles_receipts}
 use Rattle.settling.proofs.settled.settle.Goals as goal
 
-pub settle_events-requires-clause-answered : goal.settle_events-requires-clause-answered
-settle_events-requires-clause-answered g c =
+pub find_schedule-requires-clause-answered : goal.find_schedule-requires-clause-answered
+find_schedule-requires-clause-answered g c =
     let hs = c.args.histories.now in
     let rs = c.args.receipts.now in
     all_answered hs rs c.in_ok-marks.ensures.good (covered_all hs rs c.in_ok-marks.marks c.in_ok-marks.ensures.marks c.in_default.ensures)

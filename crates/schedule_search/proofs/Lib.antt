@@ -1,0 +1,11 @@
+pub mod Causing
+pub mod Placing
+pub mod Ending
+pub mod Sticking
+pub mod Ways
+pub mod Opening
+pub mod Joining
+pub mod Rounds
+pub mod Counting
+pub mod Samples
+pub mod WaySamples

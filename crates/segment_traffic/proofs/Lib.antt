@@ -1,0 +1,6 @@
+mod Frames
+mod Live
+mod Spares
+mod Views
+mod Ways
+mod Appending

@@ -1,6 +1,0 @@
-mod Frames
-mod Live
-mod Loops
-mod Spares
-mod Views
-mod Ways

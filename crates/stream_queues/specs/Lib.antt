@@ -1,5 +1,0 @@
-pub mod Spares
-pub mod Streams
-pub mod Links
-pub mod Fronts
-pub mod Queues
