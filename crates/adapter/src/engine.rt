@@ -2,14 +2,14 @@
 
 mod streams;
 
-ghost use Rattle.std.specs.Prelude.{◌≡◌, ◌≢◌, ◌+◌, ◌^◌, [], Ok, Err, Some, None, Result, IfOk, IfErr, ◌<◌, ◌≤◌, IsTrue, false, true, find, length, List, ℕ};
+ghost use Rattle.std.specs.Prelude.{◌≡◌, ◌≢◌, ◌+◌, ◌^◌, [], Ok, Err, Some, None, Result, IfOk, IfErr, ◌<◌, ◌≤◌, IsTrue, false, true, filter, find, length, List, ℕ};
 ghost use Rattle.std.specs.Option.{option_map, ForSome};
 ghost use Rattle.cip_fwdopen.specs.Open.{view_open};
 ghost use Rattle.cip_fwdopen.specs.Close.{view_close};
 ghost use Rattle.cip_fwdopen.specs.Services.{is_large_open};
 ghost use Rattle.cip_router.specs.Replies.{view_reply};
 ghost use Rattle.adapter_table.specs.Checks.{Gives, config_bytes, admission, view_admission, drawn_ids};
-ghost use Rattle.adapter_table.specs.Opening.{opened_row, opened_production, opened_state, opened_t_o_id, connection_id, configured};
+ghost use Rattle.adapter_table.specs.Opening.{opened_row, opened_production, opened_state, opened_t_o_id, configured};
 ghost use Rattle.cip_router.specs.Requests.{router_request_reading};
 ghost use Rattle.adapter_table.specs.Requests.{requested, served, admitted_open, served_open, router_refusal, known_close, served_close, served_assembly, is_value_attribute};
 ghost use Rattle.adapter_replies.specs.Routes.{peer_of, routed, routed_answer, IsWritable};
@@ -21,6 +21,7 @@ ghost use Rattle.adapter_table.specs.Judging.{IsJudged};
 ghost use Rattle.adapter_table.specs.Productions.{produces_on_change, is_due};
 ghost use Rattle.adapter_table.specs.Ticks.{clocked_table, has_expired, advanced, expired_values, tick};
 ghost use Rattle.adapter_table.specs.Shapes.{len_of};
+ghost use Rattle.adapter_table.specs.States.{is_registered};
 ghost use Rattle.adapter_table.specs.Step.{adapter_step, write, read, written_table, changed_table, write_answer, written};
 ghost use Rattle.cip_events.specs.Outcomes.{Follows};
 ghost use Rattle.cip_tables.specs.Step.{is_datagram};
@@ -32,21 +33,23 @@ use adapter_replies::{
     opened_reply, opening_notices, reply_answer, unserved_answer,
 };
 use adapter_table::laws::{admitted_requests_fit, applied_data_fit, tables_are_whole};
-use adapter_table::{Judgement, drives};
+use adapter_table::{Judgement, drives, report_of};
 use app_rules::{View, admit};
 use assembly_set::AssemblySet;
 use cip_datagram::{Datagram, read_datagram};
 use cip_fwdopen::service::{FORWARD_CLOSE, GET_ATTRIBUTE_SINGLE};
 use cip_fwdopen::{CloseRequest, OpenRequest, OpenService};
+use cip_productions::{first_deadline, first_production};
 use cip_tables::{
-    AdapterTable, Admission, Answer, Config, Delivery, Device, DeviceTable, Event, NewFault,
-    Outcome, Production, Refusal, Reply, RouterRequest, Row, State, Status, StepFault, Stream,
-    TableCopy, Verdict, read_router_request,
+    AdapterTable, Admission, Answer, Config, ConnectionReport, ConsumerCounts, Delivery, Device,
+    DeviceTable, DeviceTotals, Event, Kind, NewFault, Outcome, Production, Refusal, Reply,
+    RouterRequest, Row, SlotReport, State, Status, StepFault, Stream, TableCopy, Verdict,
+    read_router_request,
 };
-use cip_types::limits::{CLOCK_END_MS, FIRST_WATCHDOG_MS, IDS_PER_INCARNATION, LONGEST_TICK_MS};
-use cip_types::{ConnId, Items, Ms, Node, OutOfMemory};
+use cip_types::limits::{CLOCK_END_MS, IDS_PER_INCARNATION, LONGEST_TICK_MS};
+use cip_types::{ConnId, Items, Ms, Node, OutOfMemory, connection_id};
 use connection_list::{ConnectionTable, TickPlan};
-use session_streams::copied_streams;
+use open_streams::copied_streams;
 use std::alloc::Global;
 use std::marker::Model;
 
@@ -110,17 +113,14 @@ impl<T: ConnectionTable> Adapter<T> {
         ensures { result ≡ opened_production self.now peer (view_admission admission.now) }
     {
         let point = admission.produced;
-        Production {
-            producer: self.next_id,
-            sequence: 1,
-            count: 0,
-            written: true,
-            due: self.clock,
-            address: address_of(self.assemblies.profile(), peer, admission.multicast, point),
-            trigger: admission.trigger,
-            inhibit: admission.inhibit,
-            last: None,
-        }
+        let address = address_of(self.assemblies.profile(), peer, admission.multicast, point);
+        first_production(
+            self.clock,
+            self.next_id,
+            address,
+            admission.trigger,
+            admission.inhibit,
+        )
     }
 
     /// The state of a connection that is opened: it shares a producer, or starts one.
@@ -133,22 +133,16 @@ impl<T: ConnectionTable> Adapter<T> {
         }
     }
 
-    fn connection_id(&self, counter: u32) -> ConnId
-        requires { counter ≤ 16777215 }
-        ensures { result ≡ connection_id self.now.profile counter }
-    {
-        ConnId(u32::from(self.assemblies.profile().incarnation) * IDS_PER_INCARNATION + counter)
-    }
-
     /// The T->O id of a connection that is opened.
     fn opened_t_o_id(&self, request: &OpenRequest<&[u8]>, admission: &Admission<'_>) -> ConnId
         requires { self.now.next_id + drawn_ids admission.now.multicast admission.now.group ≤ 16777216 }
         ensures { result
             ≡ opened_t_o_id self.now (view_open request.now) admission.now.multicast admission.now.group }
     {
+        let incarnation = self.assemblies.profile().incarnation;
         match admission.group {
             Some(member) => member.t_o_id,
-            None if admission.multicast => self.connection_id(self.next_id + 1),
+            None if admission.multicast => connection_id(incarnation, self.next_id + 1),
             None => request.t_o_id,
         }
     }
@@ -167,7 +161,7 @@ impl<T: ConnectionTable> Adapter<T> {
             kind: admission.kind,
             consumed: admission.consumed,
             produced: admission.produced,
-            o_t_id: self.connection_id(self.next_id),
+            o_t_id: connection_id(self.assemblies.profile().incarnation, self.next_id),
             t_o_id: self.opened_t_o_id(request, admission),
             o_t_api_ms: admission.o_t_api_ms,
             t_o_api_ms: admission.t_o_api_ms,
@@ -175,7 +169,8 @@ impl<T: ConnectionTable> Adapter<T> {
             multicast: admission.multicast,
             opening: self.next_id,
             last: None,
-            deadline: Ms(self.clock.0 + FIRST_WATCHDOG_MS.max(admission.watchdog.0)),
+            mode: None,
+            deadline: first_deadline(self.clock, admission.watchdog),
             state: self.opened_state(peer, admission),
         }
     }
@@ -564,6 +559,23 @@ impl<T: ConnectionTable> Adapter<T> {
     }
 }
 
+/// Whether a stream has a session.
+fn is_registered(stream: &Stream) -> bool
+    ensures { result ≡ is_registered stream.now }
+{
+    stream.registered
+}
+
+/// How many streams have a session. Takes no memory.
+fn sessions(streams: &[Stream]) -> usize
+    ensures { result ≡ length (filter is_registered streams.now) }
+{
+    streams
+        .iter()
+        .filter(|stream| is_registered(stream))
+        .count()
+}
+
 fn is_value_attribute(attribute: Option<u32>) -> bool
     ensures { result ≡ is_value_attribute attribute }
 {
@@ -695,6 +707,37 @@ impl<T: ConnectionTable> Device for Adapter<T> {
             next_id: self.next_id,
             streams: Items::copy_of(self.alloc, &self.streams)?,
         }))
+    }
+
+    fn owner(&self, output: u32) -> Option<ConnectionReport> {
+        let row = self.table.owner(output)?;
+        Some(report_of(&row, self.clock))
+    }
+
+    fn consumers(&self, input: u32) -> ConsumerCounts {
+        ConsumerCounts {
+            exclusive_owners: self.table.count_consuming(Kind::ExclusiveOwner, input),
+            input_only: self.table.count_consuming(Kind::InputOnly, input),
+            listen_only: self.table.count_consuming(Kind::ListenOnly, input),
+        }
+    }
+
+    fn connection(&self, place: u32) -> Option<ConnectionReport> {
+        let row = self.table.nth(place as usize)?;
+        Some(report_of(&row, self.clock))
+    }
+
+    fn slot(&self, _number: u32) -> Option<SlotReport> {
+        None
+    }
+
+    fn totals(&self) -> DeviceTotals {
+        DeviceTotals {
+            streams: self.streams.len(),
+            sessions: sessions(&self.streams),
+            connections: self.table.len(),
+            ids_left: IDS_PER_INCARNATION - self.next_id,
+        }
     }
 
     fn next_wake(&self) -> Ms {

@@ -1,2 +1,3 @@
 pub mod Views
 pub mod Stages
+pub mod Counts

@@ -1,5 +1,5 @@
 -- Connections that receive a datagram.
-use Rattle.std.proofs.Common.{◌≡◌, ◌≤◌, ◌∙◌, ◌&&◌, ℕ, Bool, true, false, cond, Option, Some, None, List, [], ◌∷◌, find, map, length, is_some, sym, ap, subst, refl}
+use Rattle.std.proofs.Common.{◌≡◌, ◌≤◌, ◌==◌, ◌∙◌, ◌&&◌, ℕ, Bool, true, false, cond, Option, Some, None, List, [], ◌∷◌, find, map, length, is_some, sym, ap, subst, refl}
 use Rattle.std.specs.List.{AllByRecursion}
 use Rattle.std.specs.Option.{option_map}
 use Rattle.std.specs.Map.{lookup}
@@ -11,23 +11,27 @@ use Rattle.cip_types.specs.declared.names.Ms.{Ms}
 use Rattle.cip_datagram.specs.Datagram.{DatagramFields}
 use Rattle.cip_events.specs.Answers.{is_accepted}
 use Rattle.mcast_pool.specs.declared.group.Group.{Group}
+use Rattle.mcast_pool.specs.Groups.{numbered}
 use Rattle.adapter_table.specs.declared.profile.Profile.{Profile}
 use Rattle.adapter_table.specs.Connections.{Row}
-use Rattle.adapter_table.specs.Datagrams.{is_for, row_delivery, accepted_row, accepted_if_for}
+use Rattle.adapter_table.specs.declared.row.Connection.{Connection}
+use Rattle.adapter_table.specs.Datagrams.{is_for, expected_len, accepted_delivery, row_delivery, accepted_row, accepted_if_for}
 use Rattle.adapter_table.specs.Whole.{FitsRow, RowsFit}
 use Rattle.conn_slab.specs.declared.record.TriadKey.{TriadKey}
 use Rattle.conn_slab.specs.declared.record.Source.{Source}
 use Rattle.conn_slab.specs.Index.{items_of}
 use Rattle.conn_slab.specs.Records.{Record, row_of, key_of, source_of, same_source}
-use Rattle.conn_slab.specs.Layout.{IsConsistent, IsServed, IsBalanced, members, established, running_key}
+use Rattle.conn_slab.specs.Layout.{IsConsistent, IsServed, IsBalanced, SharesBy, SharesFound, members, established, running_key}
 use Rattle.conn_slab.specs.Reception.{IsReceivedBy, reception, received_row}
 use Rattle.conn_slab.specs.declared.reception.Received.{Received}
 use Rattle.adapter_table.specs.declared.acceptance.Judgement.{Judgement}
 use Rattle.adapter_table.specs.declared.acceptance.Judgement.TheVariants as judged
 use Rattle.adapter_table.specs.Judging.{IsJudged, judged_delivery}
 use Rattle.cip_events.specs.declared.event.Delivery.{Delivery}
+use Rattle.cip_events.specs.declared.event.Delivery.TheVariants.{Old, WrongSize}
+use Rattle.cip_productions.specs.Acceptance.{accepts_sequence}
 use Rattle.conn_slab.proofs.Running.{runs, by_source, nobody, somebody, target_is, rows_changed, filed_changed, items_changed}
-use Rattle.conn_slab.proofs.RowLemmas.{find_rows, shares_accepted}
+use Rattle.conn_slab.proofs.RowLemmas.{find_rows}
 
 some_is : {X : Type 0} {a b : X} → Some a ≡ Some b → a ≡ b
 some_is e = cc
@@ -68,6 +72,14 @@ kept_balance pool change rs keeps balanced = record {
 
 -- ---- a record that has accepted a datagram, or has not
 
+shares_received : (pool : List Group) (clock : Ms) (d : DatagramFields) (r : Record) (n : Option ℕ) → SharesBy pool r n → SharesBy pool (accepted_row clock d r) n
+shares_received pool clock d r None shares = tt
+shares_received pool clock d r (Some n) shares = found (numbered n pool) shares
+  where
+    found : (o : Option Group) → SharesFound r o → SharesFound (accepted_row clock d r) o
+    found None never = never
+    found (Some group) s = record { api = s.api; point = s.point; id = s.id; shared = s.shared }
+
 keeps_reception : (pool : List Group) (clock : Ms) (d : DatagramFields) (test : Record → Bool) (b : Bool) → KeepsProducer pool (λ r. cond (test r) (cond b (accepted_row clock d r) r) r)
 keeps_reception pool clock d test b = record { producer = λ r. producer (test r) b r; served = λ r s. served (test r) b r s }
   where
@@ -77,7 +89,7 @@ keeps_reception pool clock d test b = record { producer = λ r. producer (test r
     producer false b r = refl
 
     served : (a b : Bool) (r : Record) → IsServed pool r → IsServed pool (cond a (cond b (accepted_row clock d r) r) r)
-    served true true r s = shares_accepted pool r (accepted_row clock d r).last (accepted_row clock d r).deadline r.state s
+    served true true r s = shares_received pool clock d r r.state s
     served true false r s = s
     served false b r s = s
 
@@ -117,6 +129,15 @@ judged_says said bytes judged.Heartbeat is = sym is
 judged_says said bytes judged.Duplicate is = sym is
 judged_says said bytes judged.Old is = sym is
 judged_says said bytes judged.WrongSize is = sym is
+
+-- an accepted datagram has the connection's size and is newer than the last one
+pub accepted_is : {P : Type 0} (profile : Profile) (row : Connection P) (d : DatagramFields) → is_accepted (row_delivery profile row d) ≡ true → row_delivery profile row d ≡ accepted_delivery row d
+accepted_is profile row d = split (length d.payload == expected_len profile row) (accepts_sequence row.last d.sequence)
+  where
+    split : (size newer : Bool) → is_accepted (cond size (cond newer (accepted_delivery row d) Old) WrongSize) ≡ true → cond size (cond newer (accepted_delivery row d) Old) WrongSize ≡ accepted_delivery row d
+    split true true is = refl
+    split true false is = absurd cc
+    split false newer is = absurd cc
 
 module _ (slab : Slab Record) (triads : List (TriadKey × ℕ)) (sources : List (Source × ℕ)) (pool : List Group) (consistent : IsConsistent slab triads sources pool) where
   pub unreceived : (peer : Node) (id : ℕ) → running_key slab (lookup (same_source (record { peer = peer.0; id = id })) sources) ≡ None → find (is_for peer id) (map (row_of pool) (items_of slab triads)) ≡ None

@@ -21,7 +21,7 @@ pub struct Received<'a> {
 /// The record judges a datagram that is for it, and accepts it if it is judged so.
 ///
 /// Volume 1, chapter 3, class 1 transport and inactivity watchdog.
-#[tactic(auto, using(crate::proofs::ReceptionLemmas::judged_says))]
+#[tactic(auto, using(crate::proofs::ReceptionLemmas::judged_says, crate::proofs::ReceptionLemmas::accepted_is))]
 pub(crate) fn receive_record<'a>(
     record: &mut Record,
     profile: &Profile,
@@ -35,7 +35,7 @@ pub(crate) fn receive_record<'a>(
 {
     let judgement = judge(profile, record, datagram);
     if judgement.delivery().is_accepted() {
-        record.accept(clock, datagram);
+        record.accept(clock, datagram, &judgement);
     }
     Received {
         judgement,

@@ -14,8 +14,7 @@ use crate::rows::{copied, write_rows};
 use adapter_table::{Row, changed_row, producer_in, produces_on_change};
 use cip_events::OutgoingDatagram;
 use cip_productions::Producer;
-use cip_types::{Ms, OutOfMemory};
-use list_order::sorted;
+use cip_types::{Ms, OutOfMemory, sorted};
 use std::alloc::Global;
 
 /// Whether a write of the input makes a producer produce at once. Takes no memory.

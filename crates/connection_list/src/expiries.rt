@@ -11,8 +11,7 @@ use crate::support::{remove_each, unsupported};
 use crate::table::TickPlan;
 use adapter_table::{Row, expired_row, has_expired};
 use assembly_set::AssemblySet;
-use cip_types::{Ms, OutOfMemory};
-use list_order::sorted;
+use cip_types::{Ms, OutOfMemory, sorted};
 use std::alloc::Global;
 
 /// The connections whose deadline has been reached, by their deadlines and then in the order of openings.

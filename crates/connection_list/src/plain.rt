@@ -8,11 +8,12 @@ use crate::productions::{produce_rows, sent_when_due};
 use crate::rows::{append_row, copied, find_row, remove_triad, replaced};
 use crate::support::{dropped_with, remove_each};
 use crate::table::{ConnectionTable, ReceivedDatagram, TickPlan};
-use adapter_table::{Profile, Row, has_expired, is_due, judge};
+use adapter_table::{Profile, Row, consumes, drives, has_expired, is_due, judge};
 use app_rules::{ConnectionsView, ListView};
 use assembly_set::AssemblySet;
 use cip_datagram::Datagram;
 use cip_events::OutgoingDatagram;
+use cip_productions::Kind;
 use cip_types::{Ms, Node, OutOfMemory, Triad};
 use std::alloc::Global;
 
@@ -63,6 +64,25 @@ impl ConnectionTable for ConnectionList {
 
     fn to_vec(&self, alloc: Global) -> Result<Vec<Row>, OutOfMemory> {
         copied(alloc, &self.0)
+    }
+
+    fn len(&self) -> usize {
+        self.0.len()
+    }
+
+    fn nth(&self, place: usize) -> Option<Row> {
+        self.0.get(place).copied()
+    }
+
+    fn owner(&self, point: u32) -> Option<Row> {
+        self.0.iter().copied().find(|row| drives(row, point))
+    }
+
+    fn count_consuming(&self, kind: Kind, point: u32) -> usize {
+        self.0
+            .iter()
+            .filter(|row| consumes(row, kind, point))
+            .count()
     }
 
     fn find(&self, triad: Triad) -> Option<Row> {

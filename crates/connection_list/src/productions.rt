@@ -13,8 +13,7 @@ use adapter_table::{Row, is_due, produced_row, producer_in};
 use assembly_set::AssemblySet;
 use cip_events::OutgoingDatagram;
 use cip_productions::Producer;
-use cip_types::{Ms, OutOfMemory};
-use list_order::sorted;
+use cip_types::{Ms, OutOfMemory, sorted};
 use std::alloc::Global;
 
 /// The producer of a connection, if it is due.

@@ -1,10 +1,11 @@
 //! Tables of connections, which contracts see as lists.
 
-ghost use Rattle.std.specs.Prelude.{◌≡◌, ◌≤◌, ◌^◌, ◌∷◌, ◌++◌, [], find, map, length, IfOk, OnOk, OnErr};
+ghost use Rattle.std.specs.Prelude.{◌≡◌, ◌≤◌, ◌^◌, ◌∷◌, ◌++◌, [], find, map, length, slice_get, IfOk, OnOk, OnErr};
 ghost use Rattle.std.specs.List.{list_any};
 ghost use Rattle.cip_datagram.specs.Datagram.{view_datagram};
 ghost use Rattle.cip_productions.specs.Productions.{sent};
-ghost use Rattle.adapter_table.specs.Rows.{has_triad, written_row, others};
+ghost use Rattle.adapter_table.specs.Rows.{has_triad, drives, written_row, others};
+ghost use Rattle.adapter_table.specs.States.{count_consuming};
 ghost use Rattle.adapter_table.specs.Opening.{is_replaced, replaced_triad, triad_of};
 ghost use Rattle.adapter_table.specs.Closing.{without_triad, staying, unsupported};
 ghost use Rattle.adapter_table.specs.Datagrams.{is_for};
@@ -19,6 +20,7 @@ use app_rules::ConnectionsView;
 use assembly_set::AssemblySet;
 use cip_datagram::Datagram;
 use cip_events::OutgoingDatagram;
+use cip_productions::Kind;
 use cip_types::{Ms, Node, OutOfMemory, Triad};
 use std::alloc::Global;
 
@@ -58,6 +60,24 @@ pub trait ConnectionTable: ConnectionsView + Drop {
     /// A copy of the connections. Out of memory is the only fault.
     fn to_vec(&self, alloc: Global) -> Result<Vec<Row>, OutOfMemory>
         ensures { IfOk result (λ copy. copy.items ≡ Self.rows self.now) };
+
+    // STATES
+
+    /// How many connections there are, timed-out ones included. Takes no memory.
+    fn len(&self) -> usize
+        ensures { result ≡ length (Self.rows self.now) };
+
+    /// The connection at a place of the opening order. Takes no memory.
+    fn nth(&self, place: usize) -> Option<Row>
+        ensures { result ≡ slice_get (Self.rows self.now) place };
+
+    /// The established exclusive owner of an output. Takes no memory.
+    fn owner(&self, point: u32) -> Option<Row>
+        ensures { result ≡ find (drives point) (Self.rows self.now) };
+
+    /// How many established connections of a kind consume an input. Takes no memory.
+    fn count_consuming(&self, kind: Kind, point: u32) -> usize
+        ensures { result ≡ count_consuming (Self.rows self.now) kind point };
 
     // OPENING AND CLOSING
 

@@ -16,7 +16,7 @@ use Rattle.adapter_table.specs.Productions.{produced_state, produced_row, change
 use Rattle.std.specs.List.{list_any}
 use Rattle.conn_slab.specs.Connections.{is_listening}
 use Rattle.conn_slab.specs.Reception.{reception}
-use Rattle.owner_counts.specs.Counts.{Counts, is_driver, is_supporter, AreCounted}
+use Rattle.app_rules.specs.Counts.{Counts, is_driver, is_supporter, AreCounted}
 
 -- what a connection is counted by stays
 pub record KeepsCounted (row changed : Row) : Type 0 where

@@ -6,3 +6,12 @@ mod Times
 mod Removals
 mod Counted
 mod ProducerConsumers
+mod Logic
+mod Gathering
+mod Entries
+mod Numbers
+mod Settling
+mod Keyed
+mod Due
+mod DueInOrder
+mod Singles

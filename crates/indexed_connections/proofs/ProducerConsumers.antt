@@ -16,8 +16,8 @@ use Rattle.adapter_table.specs.Rows.{written_state, written_row}
 use Rattle.adapter_table.specs.Datagrams.{is_for, row_delivery, accepted_row, accepted_if_for}
 use Rattle.adapter_table.specs.Productions.{producer_number, produced_state, produced_row, changed_state, changed_row}
 use Rattle.conn_slab.specs.Reception.{reception}
-use Rattle.due_datagrams.specs.ConsumerTables.{consumers_by_producer}
-use Rattle.due_datagrams.specs.ConsumerLaws.{KeepsProducer, consumers_kept}
+use Rattle.indexed_connections.specs.ConsumerTables.{consumers_by_producer}
+use Rattle.indexed_connections.specs.ConsumerLaws.{KeepsProducer, consumers_kept}
 
 produced_number : (clock : Ms) (api : ℕ) (state : State) → producer_number (produced_state clock api state) ≡ producer_number state
 produced_number clock api TimedOut = refl

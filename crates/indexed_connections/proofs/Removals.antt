@@ -11,7 +11,7 @@ use Rattle.adapter_table.specs.Rows.{is_established, has_triad, drives, supports
 use Rattle.adapter_table.specs.Closing.{without_triad}
 use Rattle.adapter_table.specs.Sound.{TriadsDiffer}
 use Rattle.conn_slab.specs.Connections.{without, timed_out, timed_out_if}
-use Rattle.owner_counts.specs.Counts.{Counts, total, is_driver, is_supporter, AreCounted, HasJoined}
+use Rattle.app_rules.specs.Counts.{Counts, total, is_driver, is_supporter, AreCounted, HasJoined}
 use Rattle.indexed_connections.specs.CountChanges.{named, HaveJoined, AreLess}
 use Rattle.connection_list.specs.Lone.{some_is, neither, triad_only}
 use Rattle.connection_list.specs.Removals.{all_stay}

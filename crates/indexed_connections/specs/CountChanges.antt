@@ -4,7 +4,7 @@ use Rattle.cip_types.specs.declared.names.Triad.{Triad}
 use Rattle.adapter_table.specs.Connections.{Row}
 use Rattle.adapter_table.specs.Rows.{has_triad}
 use Rattle.conn_slab.specs.Connections.{timed_out_if}
-use Rattle.owner_counts.specs.Counts.{Counts, AreCounted, HasJoined}
+use Rattle.app_rules.specs.Counts.{Counts, AreCounted, HasJoined}
 
 -- the connection of the triad, if one is named
 abbrev pub named : Option Triad → List Row → Option Row

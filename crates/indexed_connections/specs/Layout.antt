@@ -4,8 +4,8 @@ use Rattle.std.specs.List.{list_any}
 use Rattle.adapter_table.specs.Connections.{Row}
 use Rattle.conn_slab.specs.Bounds.{next_watchdog, AllNotDueBefore}
 use Rattle.conn_slab.specs.Connections.{is_listening}
-use Rattle.owner_counts.specs.Counts.{Counts, AreCounted}
-use Rattle.due_datagrams.specs.ConsumerTables.{ProducerConsumers, consumers_by_producer}
+use Rattle.app_rules.specs.Counts.{Counts, AreCounted}
+use Rattle.indexed_connections.specs.ConsumerTables.{ProducerConsumers, consumers_by_producer}
 
 -- bounds on the times of connections: no watchdog runs out before the one, and no producer is due before the other
 pub record IsBounded (rows : List Row) (watchdog next_production : ℕ) : Type 0 where

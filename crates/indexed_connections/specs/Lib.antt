@@ -1,2 +1,6 @@
 pub mod Layout
 pub mod CountChanges
+pub mod Turns
+pub mod Keys
+pub mod ConsumerTables
+pub mod ConsumerLaws

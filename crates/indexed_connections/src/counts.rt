@@ -4,14 +4,14 @@ ghost use Rattle.std.specs.Prelude.{◌≡◌, ◌≤◌, ◌++◌, ◌∷◌, [
 ghost use Rattle.adapter_table.specs.Closing.{without_triad};
 ghost use Rattle.adapter_table.specs.Sound.{TriadsDiffer};
 ghost use Rattle.conn_slab.specs.Connections.{AreConnections, without, timed_out_if};
-ghost use Rattle.owner_counts.specs.Counts.{AreCounted};
+ghost use Rattle.app_rules.specs.Counts.{AreCounted};
 ghost use Rattle.connection_list.specs.Removals.{without_each};
 ghost use Rattle.indexed_connections.specs.CountChanges.{named, HaveJoined, AreLess, timed_out_each};
 
 use adapter_table::Row;
+use app_rules::Rules;
 use cip_types::{OutOfMemory, Triad};
 use conn_slab::Connections;
-use owner_counts::Rules;
 use std::alloc::Global;
 
 /// Counts of these connections. Out of memory is the only fault.

@@ -1,15 +1,16 @@
 //! Searches through connections, one after another. No call takes memory.
 
-ghost use Rattle.std.specs.Prelude.{◌≡◌, ◌≤◌, ◌^◌, find};
+ghost use Rattle.std.specs.Prelude.{◌≡◌, ◌≤◌, ◌^◌, find, length, slice_get};
 ghost use Rattle.std.specs.List.{list_any};
-ghost use Rattle.adapter_table.specs.Rows.{is_established, is_timed_out, is_member};
+ghost use Rattle.adapter_table.specs.Rows.{is_established, is_timed_out, drives, is_member};
+ghost use Rattle.adapter_table.specs.States.{count_consuming};
 ghost use Rattle.adapter_table.specs.Productions.{produces_on_change};
 ghost use Rattle.adapter_table.specs.Ticks.{has_expired};
 ghost use Rattle.cip_tables.specs.Wakes.{connections_due};
 ghost use Rattle.conn_slab.specs.Connections.{is_listening};
 
 use adapter_table::{
-    Row, has_expired, is_established, is_member, is_timed_out, produces_on_change,
+    Row, consumes, drives, has_expired, is_established, is_member, is_timed_out, produces_on_change,
 };
 use cip_productions::Kind;
 use cip_types::Ms;
@@ -51,6 +52,46 @@ pub fn first_member(rows: Rows<'_>, point: u32) -> Option<Row>
         }
     }
     None
+}
+
+/// The established exclusive owner of the output.
+pub fn first_owner(rows: Rows<'_>, point: u32) -> Option<Row>
+    ensures { result ≡ find (drives point) rows.entry }
+{
+    for row in rows {
+        if drives(&row, point) {
+            return Some(row);
+        }
+    }
+    None
+}
+
+/// The connection at a place.
+pub fn nth(rows: Rows<'_>, place: usize) -> Option<Row>
+    ensures { result ≡ slice_get rows.entry place }
+{
+    let mut before = place;
+    for row in rows {
+        if before == 0 {
+            return Some(row);
+        }
+        before -= 1;
+    }
+    None
+}
+
+/// How many established connections of a kind consume the input.
+pub fn count_consuming(rows: Rows<'_>, kind: Kind, point: u32) -> usize
+    requires { length rows ≤ 64 }
+    ensures { result ≡ count_consuming rows.entry kind point }
+{
+    let mut count = 0;
+    for row in rows {
+        if consumes(&row, kind, point) {
+            count += 1;
+        }
+    }
+    count
 }
 
 /// The first connection that has timed out.

@@ -5,27 +5,27 @@ ghost use Rattle.std.specs.List.{list_any};
 ghost use Rattle.adapter_table.specs.Ticks.{has_expired};
 ghost use Rattle.conn_slab.specs.Bounds.{NotDueBefore, AllNotDueBefore};
 ghost use Rattle.conn_slab.specs.Connections.{is_listening};
-ghost use Rattle.due_datagrams.specs.ConsumerTables.{consumers_by_producer};
+ghost use Rattle.indexed_connections.specs.ConsumerTables.{consumers_by_producer};
 
 use crate::counts::{close, close_each, counted, expire, open};
 use crate::from_list::{from_rows, replaced};
 use crate::queries::{
-    first_due, first_expired, first_member, first_timed_out, is_any_established, is_any_on_change,
-    is_listening,
+    count_consuming, first_due, first_expired, first_member, first_owner, first_timed_out,
+    is_any_established, is_any_on_change, is_listening, nth,
 };
+use crate::{ConsumerTable, due_datagrams};
 use adapter_table::{Profile, Row, State};
-use app_rules::ConnectionsView;
+use app_rules::{ConnectionsView, Rules};
 use assembly_set::AssemblySet;
 use cip_datagram::Datagram;
 use cip_events::OutgoingDatagram;
+use cip_productions::Kind;
 use cip_types::limits::MOST_CONNECTIONS;
 use cip_types::{Ms, Node, OutOfMemory, Triad};
 use connection_list::{
     ConnectionTable, ReceivedDatagram, TickPlan, dropped_with, sent_on_change, sent_when_due,
     tick_plan, written_rows,
 };
-use due_datagrams::{ConsumerTable, due_datagrams};
-use owner_counts::Rules;
 use std::alloc::Global;
 use std::marker::Model;
 
@@ -192,6 +192,22 @@ impl ConnectionTable for IndexedConnections {
 
     fn to_vec(&self, alloc: Global) -> Result<Vec<Row>, OutOfMemory> {
         self.connections.to_vec(alloc)
+    }
+
+    fn len(&self) -> usize {
+        self.connections.len()
+    }
+
+    fn nth(&self, place: usize) -> Option<Row> {
+        nth(self.connections.rows(), place)
+    }
+
+    fn owner(&self, point: u32) -> Option<Row> {
+        first_owner(self.connections.rows(), point)
+    }
+
+    fn count_consuming(&self, kind: Kind, point: u32) -> usize {
+        count_consuming(self.connections.rows(), kind, point)
     }
 
     fn find(&self, triad: Triad) -> Option<Row> {

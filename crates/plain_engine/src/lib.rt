@@ -4,8 +4,8 @@
 use adapter::Adapter;
 use cip_tables::AnyDevice;
 use connection_list::ConnectionList;
-use slot_hints::NoHints;
-use slot_scanner::Scanner;
+use scanner::Scanner;
+use scanner_slots::NoHints;
 
 /// An adapter over a plain list of connections, which contracts see as its table.
 pub type PlainAdapter = Adapter<ConnectionList>;

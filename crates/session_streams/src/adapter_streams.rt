@@ -3,17 +3,9 @@
 ghost use Rattle.std.specs.Prelude.{◌≡◌, map};
 ghost use Rattle.adapter_table.specs.Streams.{is_taken, session_of, has_session, registered_stream};
 
-use crate::list::{Numbered, has_stream};
 use adapter_table::Stream;
 use cip_types::limits::MOST_STREAMS;
-
-impl Numbered for Stream {
-    ghost number = { λ stream. stream.number };
-
-    fn number(&self) -> u16 {
-        self.number
-    }
-}
+use open_streams::has_stream;
 
 /// Whether no stream of this number can be opened: one is open, or 16 streams are. Takes no memory.
 pub fn is_taken(streams: &[Stream], number: u16) -> bool

@@ -19,9 +19,8 @@ use cip_encap::read_items;
 use cip_tables::{Answer, Command, EncapStatus, Outcome, StepFault, Stream, Verdict};
 use cip_types::{Node, OutOfMemory};
 use connection_list::ConnectionTable;
-use session_streams::{
-    add_stream, drop_stream, find_stream, has_session, is_taken, register_stream, session_of,
-};
+use open_streams::{add_stream, drop_stream, find_stream};
+use session_streams::{has_session, is_taken, register_stream, session_of};
 
 // STREAMS
 

@@ -1,5 +1,5 @@
 use Rattle.std.proofs.Common.{Some, sym, subst}
-use Rattle.owner_counts.specs.Counts.{AreCounted}
+use Rattle.app_rules.specs.Counts.{AreCounted}
 use Rattle.indexed_connections.proofs.Removals.{have_joined, less}
 use Rattle.indexed_connections.proofs.counts.close.Goals as goal
 

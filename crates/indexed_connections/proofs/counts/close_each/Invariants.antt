@@ -1,6 +1,6 @@
 use Rattle.std.proofs.Common.{◌≡◌, drop}
 use Rattle.adapter_table.specs.Sound.{TriadsDiffer}
-use Rattle.owner_counts.specs.Counts.{AreCounted}
+use Rattle.app_rules.specs.Counts.{AreCounted}
 use Rattle.connection_list.specs.Removals.{without_each}
 use Rattle.indexed_connections.proofs.counts.close_each.Given as goal
 

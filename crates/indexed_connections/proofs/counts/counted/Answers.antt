@@ -1,7 +1,7 @@
 use Rattle.std.proofs.Common.{◌<◌, ◌≤◌, ℕ, List, length, take, sym, subst, arith}
 use Rattle.std.proofs.lemmas.Grind.{common_steps}
 use Rattle.adapter_table.specs.Connections.{Row}
-use Rattle.owner_counts.specs.Counts.{AreCounted}
+use Rattle.app_rules.specs.Counts.{AreCounted}
 use Rattle.indexed_connections.proofs.Prefixes.{one_more}
 use Rattle.indexed_connections.proofs.Removals.{few_counted}
 use Rattle.indexed_connections.proofs.counts.counted.Goals as goal

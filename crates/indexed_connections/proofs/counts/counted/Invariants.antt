@@ -1,5 +1,5 @@
 use Rattle.std.proofs.Common.{take}
-use Rattle.owner_counts.specs.Counts.{AreCounted}
+use Rattle.app_rules.specs.Counts.{AreCounted}
 use Rattle.indexed_connections.proofs.counts.counted.Given as goal
 
 abbrev pub invariant-loop-row : goal.invariant-loop-row

@@ -1,6 +1,6 @@
 use Rattle.std.proofs.Common.{◌≡◌, drop}
 use Rattle.adapter_table.specs.Sound.{TriadsDiffer}
-use Rattle.owner_counts.specs.Counts.{AreCounted}
+use Rattle.app_rules.specs.Counts.{AreCounted}
 use Rattle.indexed_connections.specs.CountChanges.{timed_out_each}
 use Rattle.indexed_connections.proofs.counts.expire.Given as goal
 

@@ -2,7 +2,7 @@ use Rattle.std.proofs.Common.{◌<◌, ◌≤◌, ◌++◌, ◌∷◌, [], List,
 use Rattle.std.proofs.lemmas.List.{length-append}
 use Rattle.adapter_table.specs.Connections.{Row}
 use Rattle.conn_slab.specs.Connections.{without}
-use Rattle.owner_counts.specs.Counts.{AreCounted}
+use Rattle.app_rules.specs.Counts.{AreCounted}
 use Rattle.indexed_connections.proofs.Removals.{have_joined, less, few_counted}
 use Rattle.indexed_connections.proofs.counts.open.Goals as goal
 

@@ -6,7 +6,7 @@ use Rattle.adapter_table.specs.Productions.{produced_row}
 use Rattle.adapter_table.specs.Sound.{TriadsDiffer}
 use Rattle.adapter_table.specs.Ticks.{expired, expired_rows}
 use Rattle.conn_slab.specs.Connections.{is_listening}
-use Rattle.owner_counts.specs.Counts.{AreCounted}
+use Rattle.app_rules.specs.Counts.{AreCounted}
 use Rattle.connection_list.specs.Removals.{without_each, without_unsupported, expired_differ}
 use Rattle.connection_list.specs.Tables.{AreWhole}
 use Rattle.connection_list.specs.Whole.{whole_triads}

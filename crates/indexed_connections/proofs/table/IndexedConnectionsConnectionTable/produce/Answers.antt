@@ -3,10 +3,10 @@ use Rattle.std.specs.List.{list_any}
 use Rattle.conn_slab.specs.Connections.{is_listening}
 use Rattle.adapter_table.specs.Connections.{Row}
 use Rattle.conn_slab.specs.Bounds.{next_watchdog}
-use Rattle.owner_counts.specs.Counts.{AreCounted}
+use Rattle.app_rules.specs.Counts.{AreCounted}
 use Rattle.indexed_connections.proofs.Counted.{produced_counted, produced_listen}
 use Rattle.indexed_connections.proofs.Times.{produced_ends}
-use Rattle.due_datagrams.specs.ConsumerTables.{consumers_by_producer}
+use Rattle.indexed_connections.specs.ConsumerTables.{consumers_by_producer}
 use Rattle.indexed_connections.proofs.ProducerConsumers.{produced_served}
 use Rattle.indexed_connections.proofs.table.IndexedConnectionsConnectionTable.produce.Goals as goal
 

@@ -7,11 +7,11 @@ use Rattle.adapter_table.specs.Datagrams.{is_for}
 use Rattle.conn_slab.specs.Reception.{IsReceived}
 use Rattle.adapter_table.specs.Sound.{IdsDiffer}
 use Rattle.conn_slab.specs.Bounds.{next_watchdog, AllNotDueBefore}
-use Rattle.owner_counts.specs.Counts.{AreCounted}
+use Rattle.app_rules.specs.Counts.{AreCounted}
 use Rattle.indexed_connections.proofs.Counted.{received_counted, received_listen}
 use Rattle.indexed_connections.proofs.Times.{ends_received, rests_received}
 use Rattle.indexed_connections.proofs.Whole.{whole_ids}
-use Rattle.due_datagrams.specs.ConsumerTables.{consumers_by_producer}
+use Rattle.indexed_connections.specs.ConsumerTables.{consumers_by_producer}
 use Rattle.indexed_connections.proofs.ProducerConsumers.{received_served}
 use Rattle.indexed_connections.proofs.table.IndexedConnectionsConnectionTable.receive.Goals as goal
 

@@ -1,9 +1,0 @@
-mod Logic
-mod Gathering
-mod Entries
-mod Numbers
-mod Settling
-mod Keyed
-mod Due
-mod DueInOrder
-mod Singles

@@ -1,4 +1,0 @@
-pub mod Turns
-pub mod Keys
-pub mod ConsumerTables
-pub mod ConsumerLaws
