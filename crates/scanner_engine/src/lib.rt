@@ -2,8 +2,8 @@
 //! of its steps is the table's.
 #![tactic(auto)]
 
-use slot_hints::SlotHints;
-use slot_scanner::Scanner;
+use scanner::Scanner;
+use scanner_slots::SlotHints;
 
 /// A scanner with hints: bounds on the times of its slots, and where the datagrams of an id were found last. Contracts see
 /// it as its table.

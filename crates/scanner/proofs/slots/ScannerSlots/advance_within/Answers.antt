@@ -1,0 +1,7 @@
+use Rattle.scanner.specs.Tables.{table_in}
+use Rattle.scanner.proofs.slots.ScannerSlots.advance_within.Goals as goal
+
+pub pass-requires-clause-quiet : goal.pass-requires-clause-quiet
+pass-requires-clause-quiet c =
+    let before = c.allow_changes.ensures.none c.if-allow_changes.false in
+    c.connections_rest_before_bounds.ensures c.present_bounds.result (table_in c.args.self.now) _ c.present_bounds.ensures before.0 before.1

@@ -1,0 +1,123 @@
+//! The events of a scanner.
+
+ghost use Rattle.std.specs.Prelude.{◌≡◌, ◌≢◌, Ok, Err, Some, None, IfOk, IfErr, true};
+ghost use Rattle.cip_events.specs.Outcomes.{Follows};
+ghost use Rattle.cip_tables.specs.Step.{image_of, is_datagram};
+ghost use Rattle.scanner_table.specs.Points.{read, write, mode};
+ghost use Rattle.scanner_table.specs.Slots.{slot_at};
+ghost use Rattle.scanner_table.specs.Step.{scanner_step};
+ghost use Rattle.scanner_table.specs.WellFormed.{IsWellFormed};
+ghost use Rattle.scanner_slots.specs.declared.bounds.Bounds.{Bounds};
+ghost use Rattle.scanner_slots.specs.Bounding.{IsHinted};
+ghost use Rattle.scanner.specs.Tables.{table_in};
+
+use crate::slots::ScannerSlots;
+use cip_events::{Answer, Event, Outcome, StepFault, Verdict};
+use cip_types::Items;
+use scanner_data::{receive, set_mode, write};
+use scanner_slots::{Hints, modes_keep_bounds, slot_at, writes_keep_bounds};
+
+impl ScannerSlots {
+    /// Returns the image of the slot of a number. Takes no memory. `NoSuchSlot` is the only error.
+    pub fn image_at(&self, number: u32) -> Result<&[u8], StepFault>
+        ensures found { IfOk result (λ bytes. image_of (slot_at (table_in self.now) number) ≡ Some bytes.now) }
+        ensures none { IfErr result
+            (λ fault. (fault ≡ StepFault.NoSuchSlot) × (slot_at (table_in self.now) number ≡ None)) }
+    {
+        match slot_at(self.profile.slots.as_slice(), &self.state.slots, number) {
+            Some(indexed) => Ok(indexed.slot.image.as_slice()),
+            None => Err(StepFault::NoSuchSlot),
+        }
+    }
+
+    /// Reads the image of the slot of a number, as an answer.
+    #[tactic(auto, unfolding(scanner_table::specs::Points::read))]
+    fn read(&self, number: u32) -> Outcome
+        ensures { Follows (read (table_in self.now) number) (table_in self.now) result (table_in self.now) }
+    {
+        let value = Items::copy_of(self.alloc, self.image_at(number)?)?;
+        Ok(Answer::plain(self.alloc, Verdict::Value(value)))
+    }
+
+    /// Writes the output of a slot. Takes no memory.
+    pub fn write(&mut self, number: u32, bytes: &[u8]) -> Outcome
+        requires { IsWellFormed (table_in self.old) }
+        ensures step { Follows (write (table_in self.old) number bytes.now) (table_in self.old) result
+            (table_in self.new) }
+        ensures no_memory { result ≢ Err StepFault.OutOfMemory }
+        ensures hints { (bounds : Bounds) → IsHinted bounds (table_in self.old) → IsHinted bounds (table_in self.new) }
+    {
+        // A write changes no time of a slot.
+        writes_keep_bounds();
+        match write(&self.profile, &mut self.state, number, bytes) {
+            Ok(()) => Ok(Answer::plain(self.alloc, Verdict::Done)),
+            Err(why) => Err(why),
+        }
+    }
+
+    /// Sets the mode. Takes no memory.
+    fn set_mode(&mut self, run: bool) -> Outcome
+        requires { IsWellFormed (table_in self.old) }
+        ensures step { Follows (Ok (mode (table_in self.old) run)) (table_in self.old) result (table_in self.new) }
+        ensures hints { (bounds : Bounds) → IsHinted bounds (table_in self.old) → IsHinted bounds (table_in self.new) }
+    {
+        // A change of mode changes no time of a slot.
+        modes_keep_bounds();
+        set_mode(&self.profile, &mut self.state, run);
+        Ok(Answer::plain(self.alloc, Verdict::Done))
+    }
+
+    /// Performs one event. It is not inlined, so that `step` is, and an idle tick stays cheap.
+    #[inline(never)]
+    pub fn take_event<H: Hints>(&mut self, hints: &mut H, event: &Event) -> Outcome
+        requires whole { IsWellFormed (table_in self.old) }
+        requires hints { IsHinted (H.bounds hints.old) (table_in self.old) }
+        ensures step { Follows (scanner_step (table_in self.old) event.now) (table_in self.old) result
+            (table_in self.new) }
+        ensures no_memory { is_datagram event.now ≡ true → result ≢ Err StepFault.OutOfMemory }
+        ensures hints { IsHinted (H.bounds hints.new) (table_in self.new) }
+    {
+        match event {
+            Event::Request { .. } => Err(StepFault::NotAllowedNow),
+            Event::StreamOpened { stream, peer } => {
+                let outcome = self.open_stream(*stream, *peer);
+                self.renew(hints);
+                outcome
+            }
+            Event::Frame { stream, bytes } => {
+                let outcome = self.frame(*stream, bytes.as_slice());
+                self.renew(hints);
+                outcome
+            }
+            Event::StreamCut { stream } => {
+                let outcome = self.cut(*stream);
+                self.renew(hints);
+                outcome
+            }
+            Event::Datagram { peer, bytes } => {
+                let delivery = receive(
+                    &self.profile,
+                    &mut self.state,
+                    hints,
+                    *peer,
+                    bytes.as_slice(),
+                );
+                Ok(Answer::plain(self.alloc, Verdict::Delivered(delivery)))
+            }
+            Event::Write { point, bytes } => self.write(*point, bytes.as_slice()),
+            Event::Read { point } => self.read(*point),
+            Event::Tick { ms } => self.tick(hints, *ms),
+            Event::Mode { run } => self.set_mode(*run),
+            Event::Start { slot } => {
+                let outcome = self.start(*slot);
+                self.renew(hints);
+                outcome
+            }
+            Event::Stop { slot } => {
+                let outcome = self.stop(*slot);
+                self.renew(hints);
+                outcome
+            }
+        }
+    }
+}

@@ -1,0 +1,126 @@
+//! The outputs and the mode that the application sets.
+
+ghost use Rattle.std.specs.Prelude.{◌≡◌, ◌≤◌, IfErr, map, length, if◌then◌else◌};
+ghost use Rattle.cip_events.specs.Answers.{plain_answer};
+ghost use Rattle.cip_events.specs.declared.event.Verdict.TheVariants.{Done};
+ghost use Rattle.cip_productions.specs.Kinds.{is_owner};
+ghost use Rattle.scanner_table.specs.Slots.{indexed_from};
+ghost use Rattle.scanner_table.specs.Productions.{written_state};
+ghost use Rattle.scanner_table.specs.Points.{output_slot, moded_slot, write, mode};
+ghost use Rattle.scanner_table.specs.WellFormed.{IsWellFormed};
+ghost use Rattle.scanner_slots.specs.Views.{table_of};
+ghost use Rattle.scanner_data.specs.Results.{done_or};
+
+use cip_events::StepFault;
+use cip_productions::{Kind, Production};
+use scanner_slots::{ScannerState, slot_at};
+use scanner_table::{ScannerProfile, Slot, SlotConfig, SlotConnection, SlotState};
+
+/// Returns a state whose established connection has new data.
+fn written_state(state: SlotState) -> SlotState
+    ensures { result ≡ written_state state }
+{
+    match state {
+        SlotState::Established(connection) => SlotState::Established(SlotConnection {
+            production: Production {
+                written: true,
+                ..connection.production
+            },
+            ..connection
+        }),
+        other => other,
+    }
+}
+
+fn is_owner(kind: Kind) -> bool
+    ensures { result ≡ is_owner kind }
+{
+    match kind {
+        Kind::ExclusiveOwner => true,
+        Kind::InputOnly | Kind::ListenOnly => false,
+    }
+}
+
+/// Sets the output of a slot, which is new data.
+fn set_output(slot: &mut Slot, bytes: &[u8])
+    requires { length slot.old.output ≡ length bytes.now }
+    ensures { slot.new ≡ output_slot bytes.now slot.old }
+{
+    slot.output.overwrite(bytes);
+    slot.state = written_state(slot.state);
+}
+
+/// Writes the output of an exclusive owner. The bytes are new data. Takes no memory.
+///
+/// The errors, in order: `NoSuchSlot` if no slot has the number; `NotAllowedNow` if the slot is no exclusive owner and so
+/// has no output; `WrongLength` if the output has another length. An error leaves the table unchanged.
+///
+/// Volume 1, chapter 3, class 1 transport.
+#[tactic(auto, unfolding(scanner_table::specs::Points::write))]
+pub fn write(
+    profile: &ScannerProfile,
+    scanner: &mut ScannerState,
+    number: u32,
+    bytes: &[u8],
+) -> Result<(), StepFault>
+    requires whole { IsWellFormed (table_of profile.now scanner.old) }
+    ensures said { done_or result (table_of profile.now scanner.new)
+        ≡ write (table_of profile.now scanner.old) number bytes.now }
+    ensures same { IfErr result (λ _. scanner.new ≡ scanner.old) }
+{
+    let Some(indexed) = slot_at(profile.slots.as_slice(), &scanner.slots, number) else {
+        return Err(StepFault::NoSuchSlot);
+    };
+    if !is_owner(indexed.config.kind) {
+        return Err(StepFault::NotAllowedNow);
+    }
+    if bytes.len() as u64 != indexed.config.out_len {
+        return Err(StepFault::WrongLength);
+    }
+    set_output(&mut scanner.slots[number as usize], bytes);
+    Ok(())
+}
+
+/// The state after a change of mode, which is new data for an owner's producer.
+fn moded_state(kind: Kind, state: SlotState) -> SlotState
+    ensures { result ≡ (if is_owner kind then written_state state else state) }
+{
+    if is_owner(kind) {
+        written_state(state)
+    } else {
+        state
+    }
+}
+
+fn renew(configs: &[SlotConfig], slots: &mut [Slot])
+    requires { length slots.old ≤ length configs.now }
+    ensures { slots.new ≡ map moded_slot (indexed_from 0 configs.now slots.old) }
+{
+    for index in 0..slots.len() {
+        slots[index].state = moded_state(configs[index].kind, slots[index].state);
+    }
+}
+
+/// Gives the producer of each exclusive owner new data.
+fn renew_all(configs: &[SlotConfig], slots: &mut Vec<Slot>)
+    requires { length slots.old.items ≤ length configs.now }
+    ensures { slots.new.items ≡ map moded_slot (indexed_from 0 configs.now slots.old.items) }
+{
+    renew(configs, slots);
+}
+
+/// Sets the application to run or to idle. A change of mode is new data for each exclusive owner, since the data carry the
+/// mode. Takes no memory.
+///
+/// Volume 1, chapter 3, real time formats and run/idle.
+#[tactic(auto, unfolding(scanner_table::specs::Points::mode))]
+pub fn set_mode(profile: &ScannerProfile, scanner: &mut ScannerState, run: bool)
+    requires whole { IsWellFormed (table_of profile.now scanner.old) }
+    ensures { (plain_answer Done, table_of profile.now scanner.new) ≡ mode (table_of profile.now scanner.old) run }
+{
+    if run == scanner.run {
+        return;
+    }
+    scanner.run = run;
+    renew_all(profile.slots.as_slice(), &mut scanner.slots);
+}

@@ -1,0 +1,176 @@
+//! The frames of requests.
+
+ghost use Rattle.std.specs.Prelude.{◌≡◌, ◌≤◌, ◌++◌, ℕ, List, IfOk, IsTrue, length};
+ghost use Rattle.cip_encap.specs.Message.{view_header};
+ghost use Rattle.cip_epath.specs.Path.{view_path};
+ghost use Rattle.cip_fwdopen.specs.Open.{sent_open};
+ghost use Rattle.scanner_table.specs.Requests.{id_or_zero, is_large, slot_path, open_fields, close_fields, opening, closing, registration, numbered, sent_frame};
+ghost use Rattle.scanner_table.specs.Profiles.{has_lengths};
+ghost use Rattle.scanner_requests.specs.Requests.{request_numbers, manager_bytes};
+
+use crate::paths::slot_path;
+use crate::sizes::{o_t_params, service_for, t_o_params};
+use cip_encap::command::{REGISTER_SESSION, SEND_RR_DATA};
+use cip_encap::{
+    HEADER_LEN, MessageHeader, MessageView, items_len, put_items_header, put_message_header,
+    write_message,
+};
+use cip_epath::{ConnPath, path_len};
+use cip_events::{Frame, Recipient};
+use cip_fwdopen::service::FORWARD_CLOSE;
+use cip_fwdopen::{CloseRequest, OpenRequest, close_len, open_len, put_close, put_open};
+use cip_types::fields::put_bytes;
+use cip_types::{ConnId, Items, OutOfMemory, Triad};
+use conn_state::Requested;
+use scanner_table::{Session, SlotConfig};
+use std::alloc::Global;
+
+/// Protocol version 1, without option flags.
+const PROTOCOL: [u8; 4] = [1, 0, 0, 0];
+
+/// Priority and time tick of requests, and their time-out in ticks.
+const PRIORITY_TICK: u8 = 0x0A;
+
+const TICKS: u8 = 0x0E;
+
+/// Makes the RegisterSession frame of a new stream. `OutOfMemory` is the only error.
+///
+/// Volume 2, chapter 2, RegisterSession.
+pub fn registration_frame(alloc: Global, stream: u16) -> Result<Frame, OutOfMemory>
+    ensures { IfOk result (λ frame. frame ≡ sent_frame (registration stream)) }
+{
+    let message = MessageView {
+        command: REGISTER_SESSION,
+        session: 0,
+        status: 0,
+        context: 0,
+        options: 0,
+        data: &PROTOCOL,
+    };
+    Ok(Frame {
+        to: Recipient::Stream(stream),
+        bytes: Items::from_vec(write_message(alloc, &message)?),
+    })
+}
+
+/// The header of the message with a request of this number and of this length with its items.
+fn request_header(session: Session, number: u64, len: u16) -> MessageHeader
+    ensures { view_header result ≡ request_numbers session number len }
+{
+    MessageHeader {
+        command: SEND_RR_DATA,
+        len,
+        session: session.handle,
+        status: 0,
+        context: number,
+        options: 0,
+    }
+}
+
+/// The message with a request to the Connection Manager, within a session, up to the request's data. The data, of this
+/// length, are to follow, and there is room for them.
+fn manager_front(
+    alloc: Global,
+    session: Session,
+    number: u64,
+    service: u8,
+    len: usize,
+) -> Result<Vec<u8>, OutOfMemory>
+    requires { len ≤ 1000 }
+    ensures { (body : List ℕ) → length body ≡ len
+        → IfOk result (λ v. v.items ++ body ≡ manager_bytes session number service body) }
+{
+    let manager = [service, 2, 0x20, 6, 0x24, 1];
+    let request_len = manager.len() + len;
+    let items = items_len(request_len, None);
+    let mut out = Vec::with_capacity(alloc, HEADER_LEN + items)?;
+    put_message_header(&mut out, &request_header(session, number, items as u16))?;
+    put_items_header(&mut out, request_len as u16, None)?;
+    put_bytes(&mut out, &manager)?;
+    Ok(out)
+}
+
+fn id_or_zero(id: Option<ConnId>) -> ConnId
+    ensures { result ≡ id_or_zero id }
+{
+    id.unwrap_or(ConnId(0))
+}
+
+/// Returns the contents of a slot's Forward_Open.
+fn open_request<'a>(config: &'a SlotConfig, requested: &Requested) -> OpenRequest<ConnPath<'a>>
+    requires { IsTrue (has_lengths config.now) }
+    ensures contents { sent_open result ≡ open_fields config.now requested.now }
+    ensures path { view_path result.path ≡ slot_path config.now }
+{
+    OpenRequest {
+        priority_tick: PRIORITY_TICK,
+        ticks: TICKS,
+        o_t_id: ConnId(0),
+        t_o_id: id_or_zero(requested.t_o_id),
+        triad: requested.triad,
+        multiplier: config.mult,
+        o_t_rpi: config.o_t_rpi,
+        o_t_params: o_t_params(config),
+        t_o_rpi: config.t_o_rpi,
+        t_o_params: t_o_params(config),
+        trigger: config.trigger.byte(),
+        path: slot_path(config),
+    }
+}
+
+/// Makes the frame of a slot's Forward_Open, or of a Large_Forward_Open if a size needs it, within a session. The
+/// number of the request is the sender context. `OutOfMemory` is the only error.
+///
+/// Volume 1, chapter 3, Forward_Open and Large_Forward_Open services.
+pub fn open_frame(
+    alloc: Global,
+    config: &SlotConfig,
+    requested: &Requested,
+    session: Session,
+    number: u64,
+) -> Result<Frame, OutOfMemory>
+    requires { IsTrue (has_lengths config.now) }
+    ensures { IfOk result
+        (λ frame. frame ≡ sent_frame
+        (numbered session number (opening (is_large config.now) (open_fields config.now requested.now)))) }
+{
+    let request = open_request(config, requested);
+    let service = service_for(config);
+    let len = open_len(service, path_len(&request.path));
+    let mut out = manager_front(alloc, session, number, service.code(), len)?;
+    put_open(&mut out, service, &request)?;
+    Ok(Frame {
+        to: Recipient::Stream(session.stream),
+        bytes: Items::from_vec(out),
+    })
+}
+
+/// Makes the frame of a slot's Forward_Close, within a session. The number of the request is the sender context.
+/// `OutOfMemory` is the only error.
+///
+/// Volume 1, chapter 3, Forward_Close service.
+pub fn close_frame(
+    alloc: Global,
+    config: &SlotConfig,
+    triad: Triad,
+    session: Session,
+    number: u64,
+) -> Result<Frame, OutOfMemory>
+    requires { IsTrue (has_lengths config.now) }
+    ensures { IfOk result
+        (λ frame. frame ≡ sent_frame (numbered session number (closing (close_fields config.now triad)))) }
+{
+    let request = CloseRequest {
+        priority_tick: PRIORITY_TICK,
+        ticks: TICKS,
+        triad,
+        path: slot_path(config),
+    };
+    let len = close_len(path_len(&request.path));
+    let mut out = manager_front(alloc, session, number, FORWARD_CLOSE, len)?;
+    put_close(&mut out, &request)?;
+    Ok(Frame {
+        to: Recipient::Stream(session.stream),
+        bytes: Items::from_vec(out),
+    })
+}

@@ -1,0 +1,129 @@
+-- Ticks before the bounds.
+use Rattle.std.proofs.Common.{◌≡◌, ◌<◌, ℕ, suc, Bool, true, false, cond, ◌&&◌, List, [], ◌∷◌, map, filter, Option, Some, None, refl, ap, ◌∙◌, arith}
+use Rattle.std.specs.Prelude.{nat_le}
+use Rattle.std.specs.Option.{is_some}
+use Rattle.std.specs.List.{filter_map}
+use Rattle.std.proofs.lemmas.Bool.Decides.{nat_tests}
+use Rattle.cip_types.specs.declared.names.Ms.{Ms}
+use Rattle.cip_types.specs.Order.{in_order}
+use Rattle.scanner_table.specs.declared.slot.Slot.{Slot}
+use Rattle.scanner_table.specs.declared.slot.SlotState.{SlotState}
+use Rattle.scanner_table.specs.declared.slot.SlotState.TheVariants.{Idle, Opening, Established, TimedOut, Closing}
+use Rattle.scanner_table.specs.declared.profile.SlotConfig.{SlotConfig}
+use Rattle.scanner_table.specs.declared.table.ScannerTable.{ScannerTable}
+use Rattle.scanner_table.specs.declared.table.Session.{Session}
+use Rattle.scanner_table.specs.declared.table.TargetStream.{TargetStream}
+use Rattle.scanner_table.specs.Sessions.{session_with}
+use Rattle.scanner_table.specs.Slots.{IndexedSlot, indexed_from, indexed_slots, is_closed}
+use Rattle.scanner_table.specs.Effects.{Effect, nothing, on_each, and_then, after}
+use Rattle.scanner_table.specs.Closing.{given_up}
+use Rattle.scanner_table.specs.Opening.{opened, opened_within, is_ready_slot, ready_opened}
+use Rattle.scanner_table.specs.Productions.{is_due, state_is_due, by_due, slot_production, due_productions, produced_slot, produced_table}
+use Rattle.scanner_table.specs.Ticks.{has_expired, state_has_expired, by_deadline, expired, all_expired, is_overdue, state_is_overdue, all_given_up, advanced}
+use Rattle.scanner_table.specs.WellFormed.{SlotsFit, IsWellFormed}
+use Rattle.cip_tables.specs.Wakes.{has_session}
+use Rattle.scanner_slots.specs.declared.bounds.Bounds.{Bounds}
+use Rattle.scanner_slots.specs.Bounding.{EndsFrom, IsDueFrom, IsBounded, AreBounded, IsHinted, at_time}
+
+not_yet : (early late : ℕ) → early < late → nat_le late early ≡ false
+not_yet early late lt = grind (arith, nat_tests)
+
+-- ---- deadlines
+
+not_expired : (bound : ℕ) (clock : Ms) (state : SlotState) → clock.0 < bound → EndsFrom bound state → state_has_expired clock state ≡ false
+not_expired bound clock Idle early ends = refl
+not_expired bound clock (Opening o) early ends = refl
+not_expired bound clock (Established c) early ends = not_yet clock.0 c.deadline.0 (omega (arith, early, ends))
+not_expired bound clock (TimedOut link) early ends = refl
+not_expired bound clock (Closing c) early ends = refl
+
+not_overdue : (bound : ℕ) (clock : Ms) (state : SlotState) → clock.0 < bound → EndsFrom bound state → state_is_overdue clock state ≡ false
+not_overdue bound clock Idle early ends = refl
+not_overdue bound clock (Opening o) early ends = not_yet clock.0 o.deadline.0 (omega (arith, early, ends))
+not_overdue bound clock (Established c) early ends = refl
+not_overdue bound clock (TimedOut link) early ends = refl
+not_overdue bound clock (Closing c) early ends = not_yet clock.0 c.deadline.0 (omega (arith, early, ends))
+
+none_expires : (bounds : Bounds) (streams : List TargetStream) (clock : Ms) (all : List IndexedSlot) → clock.0 < bounds.deadlines.0 → AreBounded bounds streams all → filter (has_expired clock) all ≡ []
+none_expires bounds streams clock [] early hold = refl
+none_expires bounds streams clock (indexed ∷ rest) early hold = rw (not_expired bounds.deadlines.0 clock indexed.slot.state early hold.0.deadlines) (none_expires bounds streams clock rest early hold.1)
+
+none_overdue : (bounds : Bounds) (streams : List TargetStream) (clock : Ms) (all : List IndexedSlot) → clock.0 < bounds.deadlines.0 → AreBounded bounds streams all → filter (is_overdue clock) all ≡ []
+none_overdue bounds streams clock [] early hold = refl
+none_overdue bounds streams clock (indexed ∷ rest) early hold = rw (not_overdue bounds.deadlines.0 clock indexed.slot.state early hold.0.deadlines) (none_overdue bounds streams clock rest early hold.1)
+
+-- ---- retries
+
+no_session : (session : Option Session) → is_some session ≡ false → session ≡ None
+no_session None is = refl
+no_session (Some s) is = absurd (let e : true ≡ false = is in cc)
+
+-- a slot that is ready before the bound has no session
+unopened : (up closed late session : Bool) → (up && (closed && late)) ≡ true → ((up && (closed && session)) ≡ true → late ≡ false) → session ≡ false
+unopened true true true true ready rests = absurd (let e : true ≡ false = rests refl in cc)
+unopened true true true false ready rests = refl
+unopened true true false session ready rests = absurd (let e : false ≡ true = ready in cc)
+unopened true false late session ready rests = absurd (let e : false ≡ true = ready in cc)
+unopened false closed late session ready rests = absurd (let e : false ≡ true = ready in cc)
+
+opens_nothing : (bounds : Bounds) (t : ScannerTable) (clock : Ms) (indexed : IndexedSlot) → clock.0 < bounds.retries.0 → IsBounded bounds t.streams indexed → is_ready_slot clock indexed ≡ true → opened (at_time t clock) indexed ≡ nothing (at_time t clock)
+unfolding opened
+opens_nothing bounds t clock indexed early bounded ready =
+    let none : has_session t.streams indexed.config.target ≡ false = unopened indexed.slot.desired_up (is_closed indexed.slot.state) (nat_le indexed.slot.retry_at.0 clock.0) (has_session t.streams indexed.config.target) ready (λ can. let at = bounded.retries can in not_yet clock.0 indexed.slot.retry_at.0 (omega (arith, early, at))) in
+    ap (opened_within (at_time t clock) indexed) (no_session (session_with t indexed.config.target) none)
+
+ready_step : (b : Bool) (t : ScannerTable) (indexed : IndexedSlot) (rest : List IndexedSlot) → (b ≡ true → opened t indexed ≡ nothing t) → on_each opened rest t ≡ nothing t → on_each opened (cond b (indexed ∷ rest) rest) t ≡ nothing t
+ready_step true t indexed rest none more = ap (λ (e : Effect). after e (on_each opened rest e.table)) (none refl) ∙ ap (after (nothing t)) more
+ready_step false t indexed rest none more = more
+
+none_opens : (bounds : Bounds) (t : ScannerTable) (clock : Ms) (all : List IndexedSlot) → clock.0 < bounds.retries.0 → AreBounded bounds t.streams all → on_each opened (filter (is_ready_slot clock) all) (at_time t clock) ≡ nothing (at_time t clock)
+none_opens bounds t clock [] early hold = refl
+none_opens bounds t clock (indexed ∷ rest) early hold =
+    ready_step (is_ready_slot clock indexed) (at_time t clock) indexed (filter (is_ready_slot clock) rest) (opens_nothing bounds t clock indexed early hold.0) (none_opens bounds t clock rest early hold.1)
+
+-- ---- ticks before the bounds
+
+no_expiry : (t : ScannerTable) → filter (has_expired t.clock) (indexed_slots t) ≡ [] → all_expired t ≡ nothing t
+unfolding all_expired
+no_expiry t is = ap (λ l. on_each expired (in_order by_deadline l) t) is
+
+no_giving_up : (t : ScannerTable) → filter (is_overdue t.clock) (indexed_slots t) ≡ [] → all_given_up t ≡ nothing t
+unfolding all_given_up
+no_giving_up t is = ap (λ l. on_each given_up l t) is
+
+no_opening : (bounds : Bounds) (t : ScannerTable) (clock : Ms) → clock.0 < bounds.retries.0 → IsHinted bounds t → ready_opened (at_time t clock) ≡ nothing (at_time t clock)
+unfolding ready_opened
+no_opening bounds t clock early hinted = none_opens bounds t clock (indexed_slots t) early hinted.slots
+
+pub connections_rest : (bounds : Bounds) (t : ScannerTable) (clock : Ms) → IsHinted bounds t → clock.0 < bounds.deadlines.0 → clock.0 < bounds.retries.0 → advanced (at_time t clock) ≡ nothing (at_time t clock)
+connections_rest bounds t clock hinted early before =
+    ap (λ (e : Effect). and_then (and_then e all_given_up) ready_opened) (no_expiry (at_time t clock) (none_expires bounds t.streams clock (indexed_slots t) early hinted.slots))
+    ∙ ap (λ (e : Effect). and_then e ready_opened) (ap (λ (e : Effect). and_then (nothing (at_time t clock)) (λ u. e)) (no_giving_up (at_time t clock) (none_overdue bounds t.streams clock (indexed_slots t) early hinted.slots)))
+    ∙ ap (λ (e : Effect). e) (no_opening bounds t clock before hinted)
+
+-- ---- productions
+
+not_due : (bound : ℕ) (clock : Ms) (state : SlotState) → clock.0 < bound → IsDueFrom bound state → state_is_due clock state ≡ false
+not_due bound clock Idle early due = refl
+not_due bound clock (Opening o) early due = refl
+not_due bound clock (Established c) early due = not_yet clock.0 c.production.due.0 (omega (arith, early, due))
+not_due bound clock (TimedOut link) early due = refl
+not_due bound clock (Closing c) early due = refl
+
+none_due : (bounds : Bounds) (streams : List TargetStream) (clock : Ms) (all : List IndexedSlot) → clock.0 < bounds.dues.0 → AreBounded bounds streams all → filter (is_due clock) all ≡ []
+none_due bounds streams clock [] early hold = refl
+none_due bounds streams clock (indexed ∷ rest) early hold = rw (not_due bounds.dues.0 clock indexed.slot.state early hold.0.dues) (none_due bounds streams clock rest early hold.1)
+
+pub nothing_sent : (bounds : Bounds) (t : ScannerTable) (clock : Ms) → IsHinted bounds t → clock.0 < bounds.dues.0 → due_productions (at_time t clock) ≡ []
+nothing_sent bounds t clock hinted early = ap (λ l. filter_map (slot_production t.run) (in_order by_due l)) (none_due bounds t.streams clock (indexed_slots t) early hinted.slots)
+
+same_slots : (bounds : Bounds) (streams : List TargetStream) (clock : Ms) (r k number : ℕ) (configs : List SlotConfig) (slots : List Slot) → clock.0 < bounds.dues.0 → SlotsFit r k configs slots → AreBounded bounds streams (indexed_from number configs slots) → map (produced_slot clock) slots ≡ slots
+same_slots bounds streams clock r k number [] [] early fit hold = refl
+same_slots bounds streams clock r k number [] (slot ∷ slots) early fit hold = absurd fit
+same_slots bounds streams clock r k number (config ∷ configs) [] early fit hold = absurd fit
+same_slots bounds streams clock r k number (config ∷ configs) (slot ∷ slots) early fit hold =
+    rw (not_due bounds.dues.0 clock slot.state early hold.0.dues) (ap (λ l. slot ∷ l) (same_slots bounds streams clock r k (suc number) configs slots early fit.1 hold.1))
+
+pub nothing_produced : (bounds : Bounds) (t : ScannerTable) (clock : Ms) → IsWellFormed t → IsHinted bounds t → clock.0 < bounds.dues.0 → produced_table (at_time t clock) ≡ at_time t clock
+unfolding produced_table
+nothing_produced bounds t clock whole hinted early = ap (λ (slots : List Slot). record t { clock = clock; slots = slots }) (same_slots bounds t.streams clock t.next_request t.clock.0 0 t.profile.slots t.slots early whole.slots hinted.slots)

@@ -1,0 +1,5 @@
+use Rattle.scanner_slots.proofs.Bounded.{Covers}
+use Rattle.scanner_slots.proofs.bounds.bounds_among.Given as goal
+
+abbrev pub invariant-loop-index : goal.invariant-loop-index
+invariant-loop-index l = Covers l.bounds l.streams l.configs l.slots l.index

@@ -1,0 +1,10 @@
+use Rattle.std.proofs.Common.{◌≤◌}
+use Rattle.cip_tables.specs.Wakes.{never}
+use Rattle.scanner_slots.proofs.FirstDue.{IsFirst}
+use Rattle.scanner_slots.proofs.due.first_among.Given as goal
+
+abbrev pub invariant-loop-index : goal.invariant-loop-index
+invariant-loop-index l = record {
+  so_far : IsFirst l.first l.streams l.configs l.slots l.index;
+  within : l.first ≤ never;
+}

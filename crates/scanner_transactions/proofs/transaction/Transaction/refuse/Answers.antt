@@ -1,0 +1,11 @@
+use Rattle.std.proofs.Common.{refl}
+use Rattle.scanner_transactions.specs.Transactions.{view_transaction, refused_by}
+use Rattle.scanner_transactions.proofs.Steps.{none_found}
+use Rattle.scanner_transactions.proofs.Faultless.{retry_fits}
+use Rattle.scanner_transactions.proofs.transaction.Transaction.refuse.Goals as goal
+
+pub later-requires-clause-wait : goal.later-requires-clause-wait
+later-requires-clause-wait c = retry_fits c.args.self.now.profile.now c.args.self.now.faultless
+
+pub returns-in_default : goal.returns-in_default
+returns-in_default c = record { effect = none_found (refused_by c.args.why) (view_transaction c.args.self.now) c.args.number c.in_default.ensures.found; kept = (refl, refl, refl) }

@@ -1,0 +1,4 @@
+pub mod Transactions
+pub mod Undoing
+pub mod Runs
+pub mod FrameOutcomes

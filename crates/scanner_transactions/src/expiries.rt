@@ -1,0 +1,38 @@
+//! Connections that time out, in the order of their deadlines, and the part of a tick before its productions.
+
+ghost use Rattle.scanner_table.specs.Ticks.{all_expired, advanced};
+ghost use Rattle.scanner_transactions.specs.Transactions.{followed_by};
+ghost use Rattle.scanner_transactions.specs.Undoing.{Performs};
+
+use crate::Transaction;
+use crate::running::{give_up_overdue, open_ready};
+use cip_types::OutOfMemory;
+use scanner_slots::expired_numbers;
+
+/// Times out the connections whose deadline has come, in the order of their deadlines. `OutOfMemory` is the only error.
+///
+/// Volume 1, chapter 3, connection timeouts.
+pub fn expire_all(transaction: &mut Transaction<'_>) -> Result<(), OutOfMemory>
+    ensures { Performs (followed_by all_expired) transaction.old result transaction.new }
+{
+    let numbers = expired_numbers(
+        transaction.alloc,
+        transaction.profile.slots.as_slice(),
+        &transaction.scanner.slots,
+        transaction.scanner.clock,
+    )?;
+    for number in &numbers {
+        transaction.expire(*number)?;
+    }
+    Ok(())
+}
+
+/// Performs the part of a tick before its productions: late connections time out, then slots give up late replies, then
+/// ready slots open. `OutOfMemory` is the only error.
+pub fn advance(transaction: &mut Transaction<'_>) -> Result<(), OutOfMemory>
+    ensures { Performs (followed_by advanced) transaction.old result transaction.new }
+{
+    expire_all(transaction)?;
+    give_up_overdue(transaction)?;
+    open_ready(transaction)
+}

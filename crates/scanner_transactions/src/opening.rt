@@ -1,0 +1,88 @@
+//! Openings.
+
+ghost use Rattle.std.specs.Prelude.{IsTrue};
+ghost use Rattle.std.specs.Option.{ForSome};
+ghost use Rattle.scanner_table.specs.Opening.{opened, can_open};
+ghost use Rattle.scanner_table.specs.Slots.{slot_at};
+ghost use Rattle.scanner_transactions.specs.Transactions.{view_transaction, after_at, open_requested_within, freshly_started};
+ghost use Rattle.scanner_transactions.specs.Undoing.{Performs};
+
+use crate::changes::{SlotChange, change_slot};
+use crate::transaction::Transaction;
+use cip_types::OutOfMemory;
+use scanner_requests::{can_open, id_after, later, next_requested, open_frame, serial_after};
+use scanner_slots::session_with;
+use scanner_table::{PendingOpen, Session, SlotState};
+
+impl Transaction<'_> {
+    /// Sends the Forward_Open of a slot within a session. Numbers are left for it.
+    fn request_open(&mut self, number: u32, session: Session) -> Result<(), OutOfMemory>
+        requires left { let t = (view_transaction self.old).table in ForSome (slot_at t number)
+            (λ indexed. IsTrue (can_open t indexed.config)) }
+        ensures { Performs (after_at (open_requested_within session) number) self.old result self.new }
+    {
+        let Some(indexed) = self.find(number) else {
+            return Ok(());
+        };
+        let multicast = indexed.config.multicast;
+        let request = self.scanner.next_request;
+        let requested = next_requested(self.profile, &self.scanner, indexed.config);
+        let frame = open_frame(self.alloc, indexed.config, &requested, session, request)?;
+        let opening = PendingOpen {
+            request,
+            requested,
+            deadline: later(self.scanner.clock, self.profile.open_timeout),
+        };
+        let slot_change = SlotChange {
+            state: SlotState::Opening(opening),
+            desired_up: indexed.slot.desired_up,
+            retry_at: indexed.slot.retry_at,
+        };
+        self.scanner.next_id = id_after(multicast, self.scanner.next_id);
+        self.scanner.next_serial = serial_after(self.scanner.next_serial);
+        self.send_request(number, frame, slot_change)
+    }
+
+    /// Opens a slot by a Forward_Open, if the session with its target is registered. If no number is left, the slot becomes
+    /// idle.
+    ///
+    /// Volume 1, chapter 3, Forward_Open service.
+    #[tactic(auto, unfolding(scanner_table::specs::Opening::opened))]
+    pub fn open(&mut self, number: u32) -> Result<(), OutOfMemory>
+        ensures { Performs (after_at opened number) self.old result self.new }
+    {
+        let Some(indexed) = self.find(number) else {
+            return Ok(());
+        };
+        let target = indexed.config.target;
+        let multicast = indexed.config.multicast;
+        let Some(session) = session_with(&self.scanner.streams, target) else {
+            return Ok(());
+        };
+        if !can_open(&self.scanner, multicast) {
+            return self.exhaust(number);
+        }
+        self.request_open(number, session)
+    }
+
+    /// Starts a slot: its connection is desired from now on, and it opens at once if it can.
+    pub fn start(&mut self, number: u32) -> Result<(), OutOfMemory>
+        ensures { Performs (after_at freshly_started number) self.old result self.new }
+    {
+        let Some(indexed) = self.find(number) else {
+            return Ok(());
+        };
+        let slot_change = SlotChange {
+            state: indexed.slot.state,
+            desired_up: true,
+            retry_at: self.scanner.clock,
+        };
+        change_slot(
+            &mut self.scanner.slots,
+            &mut self.undo.slots,
+            number,
+            slot_change,
+        )?;
+        self.open(number)
+    }
+}

@@ -1,0 +1,66 @@
+//! Slots at the beginning and at the end of the session with their target.
+
+ghost use Rattle.scanner_table.specs.Sessions.{without_stream};
+ghost use Rattle.scanner_table.specs.Encapsulation.{registered, session_begun, session_failed};
+ghost use Rattle.scanner_table.specs.Closing.{target_lost};
+ghost use Rattle.cip_encap.specs.Message.{view_message};
+ghost use Rattle.scanner_transactions.specs.Transactions.{followed_by};
+ghost use Rattle.scanner_transactions.specs.Undoing.{Performs};
+
+use crate::Transaction;
+use crate::running::{lose_target, open_target};
+use cip_encap::MessageView;
+use cip_types::OutOfMemory;
+use scanner_requests::is_registered;
+use scanner_table::{Stage, TargetStream};
+
+/// Records the session of a stream, and opens the target's slots that are ready.
+fn begin_session(
+    transaction: &mut Transaction<'_>,
+    stream: TargetStream,
+    handle: u32,
+) -> Result<(), OutOfMemory>
+    ensures { Performs (followed_by (λ t. session_begun t stream handle)) transaction.old result transaction.new }
+{
+    transaction.set_stage(stream.number, Stage::Up(handle))?;
+    open_target(transaction, stream.peer)
+}
+
+/// Records that the registration on a stream failed.
+#[tactic(auto, using(crate::proofs::Steps::adds_nothing))]
+fn fail_session(transaction: &mut Transaction<'_>, stream: TargetStream) -> Result<(), OutOfMemory>
+    ensures { Performs (followed_by (λ t. session_failed t stream)) transaction.old result transaction.new }
+{
+    transaction.set_stage(stream.number, Stage::Unused)?;
+    Ok(())
+}
+
+/// Takes the reply to a registration. `OutOfMemory` is the only error; the transaction must be undone then.
+///
+/// Volume 2, chapter 2, RegisterSession.
+pub fn register(
+    transaction: &mut Transaction<'_>,
+    stream: TargetStream,
+    message: &MessageView<'_>,
+) -> Result<(), OutOfMemory>
+    ensures { Performs (followed_by (λ t. registered t stream (view_message message.now)))
+        transaction.old result transaction.new }
+{
+    if is_registered(message) {
+        return begin_session(transaction, stream, message.session);
+    }
+    fail_session(transaction, stream)
+}
+
+/// Removes a stream, and lets its target's slots give up the replies that they wait for. `OutOfMemory` is the only error;
+/// the transaction must be undone then.
+pub fn cut_stream(
+    transaction: &mut Transaction<'_>,
+    stream: TargetStream,
+) -> Result<(), OutOfMemory>
+    ensures { Performs (followed_by (λ t. target_lost stream.peer (without_stream t stream.number)))
+        transaction.old result transaction.new }
+{
+    transaction.cut_stream(stream.number)?;
+    lose_target(transaction, stream.peer)
+}

@@ -1,6 +1,0 @@
-use Rattle.slot_places.specs.Views.{table_of}
-use Rattle.slot_data.proofs.Facts.{few_slots}
-use Rattle.slot_data.proofs.deliveries.search.Goals as goal
-
-pub find_slot-requires : goal.find_slot-requires
-find_slot-requires g c = rw c.as_slice.ensures (few_slots (table_of c.args.profile.now c.args.scanner.now) c.requires.whole)

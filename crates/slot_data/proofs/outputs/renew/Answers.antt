@@ -1,6 +1,0 @@
-use Rattle.std.proofs.Common.{arith}
-use Rattle.slot_data.proofs.Changes.{renewed_all}
-use Rattle.slot_data.proofs.outputs.renew.Goals as goal
-
-pub returns : goal.returns
-returns c = renewed_all c.args.configs.now c.args.slots.now c.loop-index.slots c.loop-index.index (omega arith) c.loop-index.invariant

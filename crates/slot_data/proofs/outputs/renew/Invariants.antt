@@ -1,5 +1,0 @@
-use Rattle.slot_data.proofs.Changes.{Renewed}
-use Rattle.slot_data.proofs.outputs.renew.Given as goal
-
-abbrev pub invariant-loop-index : goal.invariant-loop-index
-invariant-loop-index l = Renewed l.configs l.initial.slots l.slots l.index

@@ -1,5 +1,0 @@
-pub mod Bounded
-pub mod Resting
-pub mod Changes
-pub mod Few
-pub mod FirstDue

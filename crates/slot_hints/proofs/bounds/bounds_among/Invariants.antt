@@ -1,5 +1,0 @@
-use Rattle.slot_hints.proofs.Bounded.{Covers}
-use Rattle.slot_hints.proofs.bounds.bounds_among.Given as goal
-
-abbrev pub invariant-loop-index : goal.invariant-loop-index
-invariant-loop-index l = Covers l.bounds l.streams l.configs l.slots l.index

@@ -1,5 +1,0 @@
-use Rattle.slot_hints.proofs.Resting.{nothing_sent, nothing_produced}
-use Rattle.slot_hints.proofs.laws.producers_rest_before_bounds.Goals as goal
-
-pub returns : goal.returns
-returns c = record { sent = nothing_sent; table = nothing_produced }

@@ -1,5 +1,0 @@
-use Rattle.slot_scanner.proofs.Kept.{received_kept}
-use Rattle.slot_scanner.proofs.engine.ScannerDevice.deliver.Goals as goal
-
-pub invariant_of-self : goal.invariant_of-self
-invariant_of-self g c = (received_kept c.steps_keep_tables_whole.ensures _ c.args.peer c.args.bytes.now c.receive.result _ c.receive.ensures.step c.self.invariant.0, c.receive.ensures.hints c.self.invariant.1)

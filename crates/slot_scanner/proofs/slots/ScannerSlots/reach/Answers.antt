@@ -1,8 +1,0 @@
-use Rattle.std.proofs.Common.{sym, subst}
-use Rattle.slot_hints.specs.declared.bounds.Bounds.{Bounds}
-use Rattle.slot_hints.specs.Bounding.{IsHinted}
-use Rattle.slot_scanner.specs.Tables.{table_in}
-use Rattle.slot_scanner.proofs.slots.ScannerSlots.reach.Goals as goal
-
-pub advance_within-outcome-requires-clause-hints : goal.advance_within-outcome-requires-clause-hints
-advance_within-outcome-requires-clause-hints g c = subst (λ (b : Bounds). IsHinted b (table_in c.args.self.now)) (sym c.bounds.ensures) c.requires.hints

@@ -1,8 +1,0 @@
--- The table of the slots of a scanner.
-use Rattle.scanner_table.specs.declared.table.ScannerTable.{ScannerTable}
-use Rattle.slot_places.specs.Views.{table_of}
-use Rattle.slot_scanner.specs.declared.slots.ScannerSlots.{ScannerSlots}
-
--- the slots and their profile, as a table
-abbrev pub table_in : ScannerSlots → ScannerTable
-table_in slots = table_of slots.profile slots.state

@@ -1,5 +1,0 @@
-pub mod Found
-pub mod Steps
-pub mod RequestSteps
-pub mod Faultless
-mod Undone
