@@ -1,10 +1,10 @@
 //! Why a text is no trace, in words.
 
 use crate::lexical::Character;
+use crate::profile_words::push_bad_profile;
 use crate::reasons::{BadWord, LineReason, WordReason, reason_of, word_at};
 use crate::text_lines::{LineAt, line_at};
 use cip_types::OutOfMemory;
-use profile_faults::push_bad_profile;
 use std::alloc::Global;
 use trace_text::{TraceFault, ascii_text};
 use trace_words::push_text;

@@ -1,9 +1,12 @@
 //! Why a text is no trace, in words: which line is bad, and its first character or word that makes it so, with what is
-//! allowed there; or which fault its profile has, and where.
+//! allowed there; or which fault its profile has, in which line and word, with the value and what is allowed.
 #![tactic(auto)]
 
+mod defect_words;
 mod faults;
 mod lexical;
+mod profile_draft;
+mod profile_words;
 mod reasons;
 mod text_lines;
 

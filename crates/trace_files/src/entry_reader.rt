@@ -43,7 +43,7 @@ impl EntryReader {
     /// Reads a line that is not skipped. If it is an event, the entry before it is whole, and is answered.
     ///
     /// The faults: `Bad` if the line is not allowed there, and `OutOfMemory`. After a fault the reader is of no use.
-    pub fn take(&mut self, alloc: Global, line: &[u8]) -> Result<Option<TraceEntry>, TextFault>
+    pub fn feed(&mut self, alloc: Global, line: &[u8]) -> Result<Option<TraceEntry>, TextFault>
         ensures { TakesLine (taken_line self.old line.now) result self.new }
     {
         if begins_with_digit(line) {

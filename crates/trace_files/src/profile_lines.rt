@@ -11,7 +11,7 @@ use std::mem;
 use trace_text::{Trace, TraceFault, read_trace};
 
 /// The lines are read once they have so many bytes, so that a file that is no trace is soon found to be none.
-const FIRST_LOOK: usize = 65_536;
+const FIRST_CHECK: usize = 65_536;
 
 /// The lines so far, those that are skipped as empty ones. They are read whole: at the first event, or at the end; and
 /// each time that they have twice as many bytes as before, so that they are not all gathered if one of them is bad.
@@ -19,7 +19,7 @@ const FIRST_LOOK: usize = 65_536;
 pub struct ProfileLines {
     text: Vec<u8>,
     lines: u64,
-    next_look: usize,
+    next_check: usize,
 }
 
 impl ProfileLines {
@@ -31,7 +31,7 @@ impl ProfileLines {
         ProfileLines {
             text: Vec::new(alloc),
             lines: 0,
-            next_look: FIRST_LOOK,
+            next_check: FIRST_CHECK,
         }
     }
 
@@ -46,9 +46,9 @@ impl ProfileLines {
     {
         add_line(&mut self.text, line)?;
         self.lines = self.lines.saturating_add(1);
-        if self.text.len() >= self.next_look {
-            self.next_look = self.text.len().saturating_mul(2);
-            look(alloc, self.text.as_slice(), self.lines)?;
+        if self.text.len() >= self.next_check {
+            self.next_check = self.text.len().saturating_mul(2);
+            check_lines(alloc, self.text.as_slice(), self.lines)?;
         }
         Ok(())
     }
@@ -76,7 +76,7 @@ fn config_in(alloc: Global, text: &[u8]) -> Result<Config, TraceFault>
 }
 
 /// Fails with the number of the first bad line of so many lines, if there is one.
-fn look(alloc: Global, text: &[u8], lines: u64) -> Result<(), TraceFault>
+fn check_lines(alloc: Global, text: &[u8], lines: u64) -> Result<(), TraceFault>
     ensures { IfErr result (IsBadSoFar text.now lines) }
 {
     match read_trace(alloc, text) {

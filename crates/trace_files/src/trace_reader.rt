@@ -62,7 +62,7 @@ impl TraceReader {
     /// line of the first event the configuration, with that of each further one the entry before it.
     ///
     /// The faults: `BadLine`, with the number of this line, or of an earlier one before the first event; `OutOfMemory`.
-    pub fn take(&mut self, line: &[u8]) -> Result<Option<TracePiece>, TraceFault>
+    pub fn feed(&mut self, line: &[u8]) -> Result<Option<TracePiece>, TraceFault>
         ensures lines { self.new.lines ≡ one_more self.old.lines }
         ensures line { Reads self.old.part self.old.wrong
             (one_more self.old.lines) line.now result self.new.part self.new.wrong }
@@ -186,7 +186,7 @@ fn go_on(
     if is_skipped(line) {
         return Ok(None);
     }
-    match entries.take(alloc, line) {
+    match entries.feed(alloc, line) {
         Ok(entry) => Ok(piece_of(wrong, entry)),
         Err(TextFault::Bad) => Err(TraceFault::BadLine(number)),
         Err(TextFault::OutOfMemory) => Err(TraceFault::OutOfMemory),

@@ -5,7 +5,7 @@ ghost use Rattle.trace_pcap.specs.Ends.{side_of, ends_to_device, ends_from_devic
 
 use cip_tables::Config;
 use cip_types::Node;
-use session_streams::Numbered;
+use open_streams::Numbered;
 
 /// The TCP port of explicit messages at an adapter.
 pub const ENCAPSULATION_PORT: u16 = 44818;

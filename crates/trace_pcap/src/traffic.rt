@@ -11,7 +11,7 @@ use crate::headers::Control;
 use crate::packets::{MOST_TCP, push_tcp, push_udp, shown};
 use cip_events::{Answer, Event, Frame, Notice, OutgoingDatagram, Recipient};
 use cip_types::{Node, OutOfMemory};
-use session_streams::{add_stream, drop_stream, find_stream};
+use open_streams::{add_stream, drop_stream, find_stream};
 
 /// The control bit SYN: the first segment of the end that opens a stream.
 const OPENS: u8 = 2;

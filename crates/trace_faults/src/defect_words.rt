@@ -1,11 +1,11 @@
 //! The defects of profiles in words: what is wrong, its value, and what is allowed.
 
-use crate::defects::{Defect, LineName, PacketDirection, WaitingTime, WordPlace};
 use cip_productions::Kind;
 use cip_types::limits::{
     LONGEST_CONFIG, LONGEST_POINT, LONGEST_RPI_US, LONGEST_WAIT_MS, MOST_POINTS, MOST_SLOTS,
 };
 use cip_types::{Node, OutOfMemory};
+use profile_faults::{Defect, LineName, PacketDirection, WaitingTime, WordPlace};
 use trace_words::{push_node, push_text};
 
 /// A limit as it is printed, with a comma before each three digits behind the first ones.

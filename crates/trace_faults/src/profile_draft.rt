@@ -1,10 +1,10 @@
 //! The profile at the front of a text, and the lines that it is in.
 
-use crate::defects::LineName;
 use crate::text_lines::first_line;
 use adapter_table::{InputPoint, OutputPoint};
 use cip_tables::Config;
 use cip_types::{Items, OutOfMemory};
+use profile_faults::LineName;
 use scanner_table::SlotConfig;
 use std::alloc::Global;
 use std::str;

@@ -1,5 +1,5 @@
 use Rattle.std.proofs.Common.{length}
-use Rattle.profile_faults.proofs.profile_draft.profile_of.Given as goal
+use Rattle.trace_faults.proofs.profile_draft.line_number.Given as goal
 
 abbrev pub decreases-loop-line : goal.decreases-loop-line
 decreases-loop-line l = length l.rest

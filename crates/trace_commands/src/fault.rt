@@ -1,0 +1,86 @@
+//! Why files are not played, written as a capture file or explained to their end.
+
+ghost use Rattle.std.specs.Prelude.{◌≡◌};
+ghost use Rattle.trace_commands.specs.Unread.{unread_fault};
+
+use cip_types::OutOfMemory;
+use std::alloc::{AllocError, AllocFailed};
+use std::io::ErrorKind;
+use thiserror::Error;
+use trace_stepper::{NotTaken, StepperFault};
+use trace_text::TraceFault;
+
+/// Why files are not played, written as a capture file or explained to their end.
+#[derive(Clone, Copy, Debug, PartialEq, Eq, Error)]
+pub enum TracesFault {
+    /// The file at this index cannot be read.
+    #[error("cannot be read")]
+    Unread(usize),
+    /// The files are no trace: a line is bad, counted over all files, or the profile is.
+    #[error(transparent)]
+    Trace(TraceFault),
+    /// The files are no trace, and the output says why.
+    #[error("is no trace")]
+    NoTrace,
+    /// An outcome is not as recorded. The last line of the output names the first such event.
+    #[error("an outcome is not as recorded")]
+    Differs,
+    /// The output cannot be written.
+    #[error("fault Write")]
+    Write,
+    /// An allocation was refused.
+    #[error("no memory")]
+    OutOfMemory,
+}
+
+impl From<TraceFault> for TracesFault {
+    fn from(fault: TraceFault) -> TracesFault {
+        match fault {
+            TraceFault::OutOfMemory => TracesFault::OutOfMemory,
+            other => TracesFault::Trace(other),
+        }
+    }
+}
+
+impl From<StepperFault> for TracesFault {
+    fn from(fault: StepperFault) -> TracesFault {
+        match fault {
+            StepperFault::Write => TracesFault::Write,
+            _ => TracesFault::OutOfMemory,
+        }
+    }
+}
+
+impl From<NotTaken> for TracesFault {
+    fn from(_refused: NotTaken) -> TracesFault {
+        TracesFault::Write
+    }
+}
+
+impl From<OutOfMemory> for TracesFault {
+    fn from(_refused: OutOfMemory) -> TracesFault {
+        TracesFault::OutOfMemory
+    }
+}
+
+impl From<AllocError> for TracesFault {
+    fn from(_refused: AllocError) -> TracesFault {
+        TracesFault::OutOfMemory
+    }
+}
+
+impl<T: Drop> From<AllocFailed<T>> for TracesFault {
+    fn from(_refused: AllocFailed<T>) -> TracesFault {
+        TracesFault::OutOfMemory
+    }
+}
+
+/// Why the file at an index is not read to its end, by the kind of the system's error.
+pub(crate) fn unread(place: usize, kind: ErrorKind) -> TracesFault
+    ensures { result ≡ unread_fault place kind }
+{
+    match kind {
+        ErrorKind::OutOfMemory => TracesFault::OutOfMemory,
+        _ => TracesFault::Unread(place),
+    }
+}
