@@ -82,7 +82,7 @@ impl PollOrder {
     }
 
     /// The stream of this number had an arrival, so the next one is asked first.
-    pub fn serve(&mut self, number: u16)
+    pub fn begin_behind(&mut self, number: u16)
         ensures { self.new ≡ record self.old { first = stream_behind number 1 } }
     {
         self.first = (number % STREAM_NUMBERS + 1) % STREAM_NUMBERS;

@@ -1,2 +1,3 @@
 pub mod Outcomes
 pub mod Time
+pub mod Ways

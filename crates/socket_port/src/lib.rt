@@ -7,6 +7,7 @@ mod clock;
 mod outcomes;
 mod owed_time;
 mod port;
+mod sending;
 mod sockets;
 
 pub use addresses::{LOOPBACK, loopback, node_of};

@@ -6,6 +6,7 @@ ghost use Rattle.socket_port.specs.Outcomes.{Fits};
 use crate::addresses::{address_of, node_of};
 use crate::calls;
 use crate::outcomes::ReadOutcome;
+use crate::sending::{send_along, way_of};
 use cip_events::Arrival;
 use cip_types::limits::MOST_STREAMS;
 use cip_types::{Items, Node, OutOfMemory};
@@ -133,7 +134,7 @@ impl PortSockets {
         for place in 0..STREAM_NUMBERS {
             let number = self.order.stream_at(place);
             if let Some(arrival) = self.poll_stream(number)? {
-                self.order.serve(number);
+                self.order.begin_behind(number);
                 return Ok(Some(arrival));
             }
         }
@@ -191,13 +192,8 @@ impl PortSockets {
 
     /// Sends a datagram to a node. A datagram for a node without a destination is dropped. The fault: `Send`.
     fn send_datagram(&mut self, node: Node, bytes: &[u8]) -> Result<(), PortFault> {
-        if self.joined {
-            return calls::send_joined(&self.udp, bytes);
-        }
-        match self.routes.destination_of(node) {
-            Some(to) => calls::send(&self.udp, bytes, address_of(to)),
-            None => Ok(()),
-        }
+        let way = way_of(self.joined, self.routes.destination_of(node));
+        send_along(&mut self.udp, way, bytes)
     }
 }
 

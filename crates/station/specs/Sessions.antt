@@ -1,5 +1,6 @@
 -- The sessions of a device, and how a station ends them (Volume 2, chapter 2, UnRegisterSession).
-use Rattle.std.specs.Prelude.{ℕ, if◌then◌else◌, List, [], ◌∷◌, ◌++◌, Option, Some, None}
+use Rattle.std.specs.Prelude.{ℕ, if◌then◌else◌, List, [], ◌∷◌, Option, Some, None}
+use Rattle.std.specs.List.{filter_map}
 use Rattle.adapter_table.specs.declared.table.Stream.{Stream}
 use Rattle.adapter_table.specs.Streams.{session_of}
 use Rattle.cip_encap.specs.Message.{message_text}
@@ -14,19 +15,10 @@ use Rattle.udp_runner.specs.declared.output.SentOutput.TheVariants as sent
 abbrev pub adapter_session : Stream → Option Session
 adapter_session stream = if stream.registered then Some (record { stream = stream.number; handle = session_of stream }) else None
 
--- the sessions so far, and those on these streams
-abbrev pub with_found : List Session → Option Session → List Session
-with_found found None = found
-with_found found (Some session) = found ++ session ∷ []
-
-abbrev pub sessions_through : {S : Type 0} → (S → Option Session) → List Session → List S → List Session
-sessions_through on found [] = found
-sessions_through on found (stream ∷ streams) = sessions_through on (with_found found (on stream)) streams
-
 -- the sessions of a device, in the order of its streams
 abbrev pub sessions_of : DeviceTable → List Session
-sessions_of (Adapter t) = sessions_through adapter_session [] t.streams
-sessions_of (Scanner t) = sessions_through session_on [] t.streams
+sessions_of (Adapter t) = filter_map adapter_session t.streams
+sessions_of (Scanner t) = filter_map session_on t.streams
 
 -- the message that ends a session
 abbrev pub unregister_text : ℕ → List ℕ

@@ -9,10 +9,9 @@ ghost use Rattle.station_watch.specs.Closing.{is_marked};
 use crate::fault::EarlyEnd;
 use crate::serving::Station;
 use cip_tables::Device;
-use kept_port::KeptPort;
 use station_lines::{CallLines, LineSink, NextLine};
 use station_record::RecordSink;
-use udp_runner::Clock;
+use udp_runner::{Clock, KeptPort};
 
 /// A station looks for lines of its application at least so often, in milliseconds. A source that wakes the port is looked
 /// at earlier.

@@ -15,13 +15,12 @@ use crate::observer::StationObserver;
 use crate::sessions::{sessions_of, unregister_message};
 use cip_tables::{Config, Device, Event};
 use cip_types::{Ms, Node, OutOfMemory};
-use kept_port::KeptPort;
 use scanner_table::Session;
 use station_lines::{InputLine, LineSink, Points, push_report, push_starved, read_line};
 use station_record::{RecordFault, RecordSink};
 use station_watch::SlotDuty;
 use std::alloc::Global;
-use udp_runner::{Clock, Output, RunFault, act, turn_waiting};
+use udp_runner::{Clock, KeptPort, Output, RunFault, act, turn_waiting};
 
 /// At most so many reports of the port are told behind one turn.
 const MOST_REPORTS: u32 = 64;

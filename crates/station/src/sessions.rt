@@ -1,53 +1,40 @@
 //! The sessions of a device, and the message that ends one.
 
-ghost use Rattle.std.specs.Prelude.{◌≡◌, IfOk, OnOk};
+ghost use Rattle.std.specs.Prelude.{◌≡◌, IfOk};
+ghost use Rattle.std.specs.List.{filter_map};
 ghost use Rattle.scanner_table.specs.Sessions.{session_on};
-ghost use Rattle.station.specs.Sessions.{adapter_session, sessions_of, sessions_through, unregister_text};
+ghost use Rattle.station.specs.Sessions.{adapter_session, sessions_of, unregister_text};
 
 use adapter_table::Stream;
 use cip_encap::{MessageView, command, write_message};
 use cip_tables::DeviceTable;
 use cip_types::OutOfMemory;
 use scanner_table::{Session, Stage, TargetStream};
+use session_streams::session_of;
 use std::alloc::Global;
 
 /// The sessions of a device, in the order of its streams. The only fault is a refused allocation.
 pub(crate) fn sessions_of(alloc: Global, table: &DeviceTable) -> Result<Vec<Session>, OutOfMemory>
     ensures { IfOk result (λ found. found.items ≡ sessions_of table.now) }
 {
-    let mut found = Vec::new(alloc);
     match table {
-        DeviceTable::Adapter(table) => push_adapter_sessions(&mut found, table.streams.as_slice())?,
-        DeviceTable::Scanner(table) => push_scanner_sessions(&mut found, table.streams.as_slice())?,
+        DeviceTable::Adapter(table) => adapter_sessions(alloc, table.streams.as_slice()),
+        DeviceTable::Scanner(table) => scanner_sessions(alloc, table.streams.as_slice()),
     }
-    Ok(found)
 }
 
-/// Appends the sessions of an adapter's streams.
-fn push_adapter_sessions(found: &mut Vec<Session>, streams: &[Stream]) -> Result<(), OutOfMemory>
-    ensures { OnOk result (found.new.items ≡ sessions_through adapter_session found.old.items streams.now) }
+/// The sessions on an adapter's streams.
+fn adapter_sessions(alloc: Global, streams: &[Stream]) -> Result<Vec<Session>, OutOfMemory>
+    ensures { IfOk result (λ found. found.items ≡ filter_map adapter_session streams.now) }
 {
-    for stream in streams {
-        if let Some(session) = adapter_session(stream) {
-            found.push(session)?;
-        }
-    }
-    Ok(())
+    Ok(streams.iter().filter_map(adapter_session).collect(alloc)?)
 }
 
-/// Appends the sessions of a scanner's streams.
-fn push_scanner_sessions(
-    found: &mut Vec<Session>,
-    streams: &[TargetStream],
-) -> Result<(), OutOfMemory>
-    ensures { OnOk result (found.new.items ≡ sessions_through session_on found.old.items streams.now) }
+/// The sessions on a scanner's streams.
+fn scanner_sessions(alloc: Global, streams: &[TargetStream]) -> Result<Vec<Session>, OutOfMemory>
+    ensures { IfOk result (λ found. found.items ≡ filter_map session_on streams.now) }
 {
-    for stream in streams {
-        if let Some(session) = scanner_session(stream) {
-            found.push(session)?;
-        }
-    }
-    Ok(())
+    Ok(streams.iter().filter_map(scanner_session).collect(alloc)?)
 }
 
 /// The session on a stream of an adapter.
@@ -59,7 +46,7 @@ fn adapter_session(stream: &Stream) -> Option<Session>
     }
     Some(Session {
         stream: stream.number,
-        handle: u32::from(stream.number) + 1,
+        handle: session_of(stream),
     })
 }
 

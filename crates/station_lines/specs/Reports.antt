@@ -1,12 +1,12 @@
 -- What a station says of the streams of its port and of its slots.
 use Rattle.std.specs.Prelude.{ℕ, ◌/◌, List, ◌++◌, codes, decimal, Option, Some, None}
 use Rattle.cip_types.specs.declared.names.Node.{Node}
-use Rattle.kept_port.specs.declared.report.EndCause.{EndCause}
-use Rattle.kept_port.specs.declared.report.EndCause.TheVariants as ended
-use Rattle.kept_port.specs.declared.report.RefusalCause.{RefusalCause}
-use Rattle.kept_port.specs.declared.report.RefusalCause.TheVariants as refusal
-use Rattle.kept_port.specs.declared.report.PortReport.{PortReport}
-use Rattle.kept_port.specs.declared.report.PortReport.TheVariants as report
+use Rattle.udp_runner.specs.declared.report.EndCause.{EndCause}
+use Rattle.udp_runner.specs.declared.report.EndCause.TheVariants as ended
+use Rattle.udp_runner.specs.declared.report.RefusalCause.{RefusalCause}
+use Rattle.udp_runner.specs.declared.report.RefusalCause.TheVariants as refusal
+use Rattle.udp_runner.specs.declared.report.PortReport.{PortReport}
+use Rattle.udp_runner.specs.declared.report.PortReport.TheVariants as report
 use Rattle.trace_words.specs.Words.{node_word}
 use Rattle.station_watch.specs.declared.slots.Starved.{Starved}
 

@@ -1,7 +1,8 @@
 //! The points whose changes a station prints: the outputs of an adapter, the images of a scanner's slots.
 
-ghost use Rattle.std.specs.Prelude.{◌≡◌, ◌++◌, OnOk, string_bytes};
-ghost use Rattle.station_lines.specs.Points.{change_text, point_line, word_of};
+ghost use Rattle.std.specs.Prelude.{◌≡◌, ◌++◌, map, OnOk, string_bytes};
+ghost use Rattle.cip_tables.specs.Step.{bytes_in};
+ghost use Rattle.station_lines.specs.Points.{change_of, change_text, changes_text, held_point, point_line, word_of};
 
 use cip_tables::{Config, Device};
 use cip_types::{Items, OutOfMemory};
@@ -59,20 +60,21 @@ impl Points {
     }
 
     /// Appends a line for each point whose bytes have changed: the number of the last event, the kind and the number of the
-    /// point, its bytes, and the time in milliseconds.
+    /// point, its bytes, and the time in milliseconds. These bytes are the point's from then on.
     pub fn push_changes<D: Device>(
         &mut self,
         alloc: Global,
         out: &mut String,
         device: &D,
         at: EventMoment,
-    ) -> Result<(), OutOfMemory> {
-        for watched in self.points.iter_mut() {
-            if let Ok(bytes) = device.read_point(watched.point) {
-                push_change(alloc, out, watched, bytes, at)?;
-            }
-        }
-        Ok(())
+    ) -> Result<(), OutOfMemory>
+        ensures text { OnOk result (string_bytes out.new ≡ string_bytes out.old
+            ++ changes_text at.number at.ms (D.table device.now) self.old.points.items) }
+        ensures held { OnOk result
+            (self.new.points.items ≡ map (held_point (D.table device.now)) self.old.points.items) }
+    {
+        push_lines(out, self.points.as_slice(), device, at)?;
+        hold_all(alloc, &mut self.points, device)
     }
 }
 
@@ -91,25 +93,85 @@ fn zeros(
     })
 }
 
-/// Appends the line of a point whose bytes are now these, if they have changed. They are the point's bytes from then on.
-fn push_change(
-    alloc: Global,
+/// Appends the lines of the points whose bytes have changed.
+fn push_lines<D: Device>(
     out: &mut String,
-    watched: &mut WatchedPoint,
+    points: &[WatchedPoint],
+    device: &D,
+    at: EventMoment,
+) -> Result<(), OutOfMemory>
+    ensures { OnOk result (string_bytes out.new ≡ string_bytes out.old
+        ++ changes_text at.number at.ms (D.table device.now) points.now) }
+{
+    for watched in points {
+        push_change(out, watched, device, at)?;
+    }
+    Ok(())
+}
+
+/// Appends the line of a point, if its bytes have changed.
+fn push_change<D: Device>(
+    out: &mut String,
+    watched: &WatchedPoint,
+    device: &D,
+    at: EventMoment,
+) -> Result<(), OutOfMemory>
+    ensures { OnOk result (string_bytes out.new ≡ string_bytes out.old
+        ++ change_of at.number at.ms watched.now (bytes_in (D.table device.now) watched.now.point)) }
+{
+    match device.read_point(watched.point) {
+        Ok(bytes) => push_changed(out, watched, bytes, at),
+        Err(_) => Ok(()),
+    }
+}
+
+/// Appends the line of a point whose bytes are now these, if they have changed.
+fn push_changed(
+    out: &mut String,
+    watched: &WatchedPoint,
     bytes: &[u8],
     at: EventMoment,
 ) -> Result<(), OutOfMemory>
-    ensures text { OnOk result
-        (string_bytes out.new ≡ string_bytes out.old
-        ++ change_text at.number at.ms watched.old.kind watched.old.point watched.old.bytes bytes.now) }
-    ensures held { OnOk result (watched.new.bytes ≡ bytes.now) }
+    ensures { OnOk result (string_bytes out.new ≡ string_bytes out.old
+        ++ change_text at.number at.ms watched.now.kind watched.now.point watched.now.bytes bytes.now) }
 {
     if watched.bytes.as_slice() == bytes {
         return Ok(());
     }
-    let copy = Items::copy_of(alloc, bytes)?;
-    push_line(out, at, watched.kind, watched.point, bytes)?;
-    watched.bytes = copy;
+    push_line(out, at, watched.kind, watched.point, bytes)
+}
+
+/// Has each point hold the bytes of the device.
+fn hold_all<D: Device>(
+    alloc: Global,
+    points: &mut [WatchedPoint],
+    device: &D,
+) -> Result<(), OutOfMemory>
+    ensures { OnOk result (points.new ≡ map (held_point (D.table device.now)) points.old) }
+{
+    for watched in points.iter_mut() {
+        hold(alloc, watched, device)?;
+    }
+    Ok(())
+}
+
+/// Has a point hold the bytes of the device, if it has the point.
+fn hold<D: Device>(alloc: Global, watched: &mut WatchedPoint, device: &D) -> Result<(), OutOfMemory>
+    ensures { OnOk result (watched.new ≡ held_point (D.table device.now) watched.old) }
+{
+    match device.read_point(watched.point) {
+        Ok(bytes) => hold_bytes(alloc, watched, bytes),
+        Err(_) => Ok(()),
+    }
+}
+
+/// Has a point hold these bytes. It takes no memory if it holds them.
+fn hold_bytes(alloc: Global, watched: &mut WatchedPoint, bytes: &[u8]) -> Result<(), OutOfMemory>
+    ensures { OnOk result (watched.new ≡ record watched.old { bytes = bytes.now }) }
+{
+    if watched.bytes.as_slice() != bytes {
+        watched.bytes = Items::copy_of(alloc, bytes)?;
+    }
     Ok(())
 }
 

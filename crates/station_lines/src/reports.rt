@@ -4,9 +4,9 @@ ghost use Rattle.std.specs.Prelude.{◌≡◌, ◌++◌, OnOk, string_bytes};
 ghost use Rattle.station_lines.specs.Reports.{ended_text, ending_text, full_text, opened_text, refusal_text, remedy_text, report_text, retry_text, starved_text, stream_text};
 
 use cip_types::{Node, OutOfMemory};
-use kept_port::{EndCause, PortReport, RefusalCause};
 use station_watch::Starved;
 use trace_words::{push_node, push_text};
+use udp_runner::{EndCause, PortReport, RefusalCause};
 
 /// Appends the line of a port's report. An adapter's streams may be silent for so many seconds.
 pub fn push_report(out: &mut String, report: &PortReport, silent_s: u16) -> Result<(), OutOfMemory>

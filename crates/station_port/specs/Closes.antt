@@ -1,6 +1,6 @@
 -- What an output does to the links to a scanner's targets.
 use Rattle.std.specs.Prelude.{ℕ}
-use Rattle.target_links.specs.Links.{Links, at_stream, lost_link}
+use Rattle.stream_rules.specs.Links.{Links, at_stream, lost_link}
 use Rattle.udp_runner.specs.declared.output.Output.{Output}
 use Rattle.udp_runner.specs.declared.output.Output.TheVariants as output
 

@@ -10,7 +10,6 @@ use crate::finder::Finder;
 use cip_events::Arrival;
 use cip_types::limits::MOST_STREAMS;
 use cip_types::{Items, Node, OutOfMemory};
-use kept_port::EndCause;
 use mio::net::{TcpListener, TcpStream, UdpSocket};
 use mio::{Interest, Registry};
 use port_streams::{PollOrder, SpareBytes};
@@ -21,7 +20,7 @@ use station_streams::{
 };
 use std::alloc::Global;
 use std::net::{Net, SocketAddr};
-use udp_runner::{Output, PortFault};
+use udp_runner::{EndCause, Output, PortFault};
 
 /// The numbers of streams are below this one.
 const STREAM_NUMBERS: u16 = MOST_STREAMS as u16;
@@ -273,7 +272,7 @@ impl StationSockets {
             let number = self.order.stream_at(place);
             found |= self.read(number)?;
             if let Some(arrival) = self.streams.next(number, now_ms) {
-                self.order.serve(number);
+                self.order.begin_behind(number);
                 return self.pass_on(arrival, now_ms);
             }
         }

@@ -10,7 +10,6 @@ use crate::sockets::StationSockets;
 use crate::waits::{poll_length, sleep_length, time_left, wait_length, whole_ms};
 use cip_events::Arrival;
 use cip_types::{Items, Node};
-use kept_port::{KeptPort, PortReport};
 use list_identity::StationIdentity;
 use mio::{Events, Poll, Waker};
 use port_streams::Destination;
@@ -20,7 +19,7 @@ use std::net::Net;
 use std::rt::Clock as System;
 use std::thread;
 use std::time::{Duration, Instant};
-use udp_runner::{Output, Port, PortFault};
+use udp_runner::{KeptPort, Output, Port, PortFault, PortReport};
 
 /// A wait reports at most so many sockets at once; others are reported by the next one.
 const MOST_EVENTS: usize = 64;
@@ -133,7 +132,7 @@ impl<R: System + Net + Drop> StationPort<R> {
         let now_ms = self.now_ms();
         self.sockets.advance(&self.rt, self.poll.registry(), now_ms);
         let all = self.sockets.asks_all();
-        if all || !self.sockets.ready.any() {
+        if self.sockets.ready.asks_system(all) {
             self.mark_reported(Duration::ZERO);
         }
         self.sockets.poll(self.poll.registry(), all, now_ms)

@@ -5,7 +5,7 @@ use Rattle.cip_datagram.specs.declared.datagram.DatagramFault.{DatagramFault}
 use Rattle.cip_datagram.specs.Datagram.{DatagramFields, datagram_text}
 use Rattle.cip_datagram.specs.Reading.{datagram_reading}
 use Rattle.cip_events.specs.declared.event.Event.{Event}
-use Rattle.cip_events.specs.declared.event.Event.TheVariants.{Request, StreamOpened, Frame, StreamCut, Datagram, Write, Read, Tick, Mode, Start, Stop}
+use Rattle.cip_events.specs.declared.event.Event.TheVariants.{Datagram}
 use Rattle.cip_events.specs.declared.event.Delivery.{Delivery}
 use Rattle.cip_events.specs.declared.event.Delivery.TheVariants.{Applied, Idle, Heartbeat, Duplicate, Old, UnknownId, WrongSize, Malformed}
 use Rattle.cip_events.specs.declared.event.Verdict.{Verdict}
@@ -60,16 +60,7 @@ IsBare (Err fault) (Err other) = Unit {0}
 -- an event as it is recorded beside its outcome
 abbrev pub recorded_event : Event → Outcome → Event
 recorded_event (Datagram peer bytes) outcome = recorded_datagram peer bytes (is_for_none outcome)
-recorded_event (Request peer bytes) outcome = Request peer bytes
-recorded_event (StreamOpened stream peer) outcome = StreamOpened stream peer
-recorded_event (Frame stream bytes) outcome = Frame stream bytes
-recorded_event (StreamCut stream) outcome = StreamCut stream
-recorded_event (Write point bytes) outcome = Write point bytes
-recorded_event (Read point) outcome = Read point
-recorded_event (Tick ms) outcome = Tick ms
-recorded_event (Mode run) outcome = Mode run
-recorded_event (Start slot) outcome = Start slot
-recorded_event (Stop slot) outcome = Stop slot
+recorded_event other outcome = other
 
 -- Every table at which the event has this outcome takes the recorded event as it takes the event itself: with the same
 -- answer, and the same table behind it.

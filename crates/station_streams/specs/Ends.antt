@@ -1,8 +1,8 @@
 -- Why a port ends its streams.
 use Rattle.std.specs.Prelude.{Bool, Option, Some, None}
 use Rattle.std.specs.Option.{is_some}
-use Rattle.kept_port.specs.declared.report.EndCause.{EndCause}
-use Rattle.kept_port.specs.declared.report.EndCause.TheVariants.{Cut}
+use Rattle.udp_runner.specs.declared.report.EndCause.{EndCause}
+use Rattle.udp_runner.specs.declared.report.EndCause.TheVariants.{Cut}
 
 -- the stream of the number is being ended
 abbrev pub is_marked : Option EndCause → Bool

@@ -1,4 +1,5 @@
 pub mod Ends
+pub mod Readiness
 pub mod Refusals
 pub mod Sessions
 pub mod Waits

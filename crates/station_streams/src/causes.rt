@@ -6,9 +6,9 @@ ghost use Rattle.station_streams.specs.Ends.{cause_or_cut, is_marked};
 
 use cip_types::OutOfMemory;
 use cip_types::limits::MOST_STREAMS;
-use kept_port::EndCause;
 use std::alloc::Global;
 use std::marker::Model;
+use udp_runner::EndCause;
 
 /// Of each number the cause for which its stream is being ended, if it is. Contracts see a list.
 #[derive(Drop)]
@@ -18,7 +18,7 @@ pub struct EndCauses {
 
 impl Model for EndCauses {
     ghost use Rattle.std.specs.Prelude.{List, Option};
-    ghost use Rattle.kept_port.specs.declared.report.EndCause.{EndCause};
+    ghost use Rattle.udp_runner.specs.declared.report.EndCause.{EndCause};
 
     ghost Value = { List (Option EndCause) };
 

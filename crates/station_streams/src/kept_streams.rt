@@ -2,7 +2,7 @@
 
 ghost use Rattle.std.specs.Prelude.{◌≡◌};
 ghost use Rattle.station_streams.specs.Waits.{streams_wait};
-ghost use Rattle.stream_keeper.specs.Keeping.{wait_of};
+ghost use Rattle.stream_rules.specs.Keeping.{wait_of};
 
 use crate::causes::EndCauses;
 use crate::reports::Reports;
@@ -12,14 +12,14 @@ use crate::targets::Targets;
 use cip_events::Arrival;
 use cip_types::limits::MOST_CONNECTIONS;
 use cip_types::{Node, OutOfMemory};
-use kept_port::{EndCause, PortReport, RefusalCause};
 use mio::net::TcpStream;
 use port_streams::PortStreams;
 use socket_port::{ReadOutcome, read_outcome};
 use std::alloc::Global;
 use std::io::Read;
 use std::net::SocketAddr;
-use stream_keeper::{Place, StreamKeeper};
+use stream_rules::{Place, StreamKeeper};
+use udp_runner::{EndCause, PortReport, RefusalCause};
 
 /// The streams of a station, why those end that it ends, and what it reports of them.
 #[derive(Drop)]

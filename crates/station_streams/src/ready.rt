@@ -1,5 +1,8 @@
 //! Which sockets may have something.
 
+ghost use Rattle.std.specs.Prelude.{◌≡◌};
+ghost use Rattle.station_streams.specs.Readiness.{all_ready, any_ready, asks_system, marked};
+
 use mio::{Events, Token};
 
 /// The token of the listener.
@@ -32,7 +35,9 @@ pub struct Ready {
 
 impl Ready {
     /// Every socket may have something.
-    pub fn all() -> Ready {
+    pub fn all() -> Ready
+        ensures { result ≡ all_ready }
+    {
         Ready {
             listener: true,
             datagrams: true,
@@ -43,7 +48,9 @@ impl Ready {
     }
 
     /// Whether a socket may have something.
-    pub fn any(&self) -> bool {
+    pub fn any(&self) -> bool
+        ensures { result ≡ any_ready self.now }
+    {
         self.listener || self.datagrams || self.streams || self.openings || self.finder
     }
 
@@ -54,8 +61,17 @@ impl Ready {
         }
     }
 
+    /// Whether the system is asked which sockets have something: while one may have, only in a poll that asks them all.
+    pub fn asks_system(&self, all: bool) -> bool
+        ensures { result ≡ asks_system all self.now }
+    {
+        all || !self.any()
+    }
+
     /// The sockets of this token were reported.
-    pub fn mark(&mut self, token: Token) {
+    pub fn mark(&mut self, token: Token)
+        ensures { self.new ≡ marked self.old token.0 }
+    {
         match token.0 {
             0 => self.listener = true,
             1 => self.datagrams = true,

@@ -5,8 +5,8 @@ ghost use Rattle.circular_buffer.specs.Buffer.{buffer, keep_last};
 
 use cip_types::OutOfMemory;
 use circular_buffer::HeapCircularBuffer;
-use kept_port::PortReport;
 use std::alloc::Global;
+use udp_runner::PortReport;
 
 /// A port keeps at most so many reports: where no more fit, the oldest one is lost.
 const MOST_REPORTS: usize = 64;

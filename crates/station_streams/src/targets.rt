@@ -2,7 +2,7 @@
 
 ghost use Rattle.std.specs.Prelude.{◌≡◌};
 ghost use Rattle.station_streams.specs.Refusals.{dial_outcome, is_refusal};
-ghost use Rattle.target_links.specs.Links.{at_stream, at_target, failed_link, given_up_link, lost_link, refused_link, registered_link, registers_on, wait_of};
+ghost use Rattle.stream_rules.specs.Links.{at_stream, at_target, failed_link, given_up_link, lost_link, refused_link, registered_link, registers_on, wait_of};
 
 use crate::dial::dial;
 use crate::kept_streams::KeptStreams;
@@ -10,14 +10,14 @@ use crate::nop::NOP;
 use crate::ready::{OPENINGS, STREAMS};
 use cip_types::limits::MOST_STREAMS;
 use cip_types::{Node, OutOfMemory};
-use kept_port::{PortReport, RefusalCause};
 use mio::net::TcpStream;
 use mio::{Interest, Registry};
 use port_streams::Destination;
 use std::alloc::Global;
 use std::io::{self, ErrorKind};
 use std::net::Net;
-use target_links::{LinkState, TargetLinks};
+use stream_rules::{LinkState, TargetLinks};
+use udp_runner::{PortReport, RefusalCause};
 
 /// The targets of a scanner, the links to them, the streams that are being opened, and why the last ones did not open,
 /// as it was reported.

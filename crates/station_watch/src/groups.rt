@@ -1,7 +1,8 @@
 //! What the reply to a Forward_Open says of the T->O datagrams.
 
-ghost use Rattle.std.specs.Prelude.{◌≡◌};
-ghost use Rattle.station_watch.specs.Groups.{as_group, is_group};
+ghost use Rattle.std.specs.Prelude.{◌≡◌, drop};
+ghost use Rattle.cip_types.specs.Fields.{Finds};
+ghost use Rattle.station_watch.specs.Groups.{as_group, data_of_items, data_with, group_in, id_at, is_group, last_group, opened_data, socket_at};
 
 use cip_encap::{read_items, read_message};
 use cip_types::Node;
@@ -24,6 +25,12 @@ const T_O_SOCKET_ADDRESS: u16 = 0x8001;
 /// Volume 1, chapter 3, Forward_Open service.
 const BEFORE_ID: usize = 8;
 
+/// The bytes of a datagram before its connection id: the number of items, and the head of the first item.
+const BEFORE_DATAGRAM_ID: usize = 6;
+
+/// The bytes of a socket address.
+const SOCKET_ADDRESS_BYTES: u16 = 16;
+
 /// The first address of a group, 224.0.0.0, and the one behind the last, 240.0.0.0.
 const FIRST_GROUP: u32 = 0xE000_0000;
 
@@ -38,50 +45,110 @@ pub struct OpenedData {
     pub group: Option<Node>,
 }
 
+/// A socket address item: its type, and the address that it names.
+#[derive(Clone, Copy, PartialEq, Eq)]
+struct SocketItem {
+    kind: u16,
+    address: Node,
+}
+
 /// What the reply that opened a connection says of the T->O datagrams.
-pub fn opened_data(message: &[u8]) -> Option<OpenedData> {
-    let message = read_message(message).ok()?;
-    let packet = read_items(message.data).ok()?;
-    let (id, _rest) = u32_at(packet.data.get(BEFORE_ID..)?)?;
-    let behind = BEFORE_DATA.checked_add(packet.data.len())?;
-    let group = match message.data.get(behind..) {
-        Some(items) => group_in(items),
+pub fn opened_data(message: &[u8]) -> Option<OpenedData>
+    ensures { result ≡ opened_data message.now }
+{
+    match read_message(message) {
+        Ok(message) => data_of_items(message.data),
+        Err(_) => None,
+    }
+}
+
+/// What the items of the reply that opened a connection say of the T->O datagrams.
+fn data_of_items(items: &[u8]) -> Option<OpenedData>
+    ensures { result ≡ data_of_items items.now }
+{
+    match read_items(items) {
+        Ok(packet) => {
+            let others = behind(behind(items, BEFORE_DATA), packet.data.len());
+            data_with(id_at(packet.data, BEFORE_ID), group_in(others))
+        }
+        Err(_) => None,
+    }
+}
+
+/// What is said of the datagrams of this id, if there is one.
+fn data_with(id: Option<u32>, group: Option<Node>) -> Option<OpenedData>
+    ensures { result ≡ data_with id group }
+{
+    match id {
+        Some(id) => Some(OpenedData { id, group }),
         None => None,
-    };
-    Some(OpenedData { id, group })
+    }
 }
 
 /// The connection id of a datagram: it follows the number of items and the head of the sequenced address item.
 ///
 /// Volume 2, chapter 2, sequenced address item.
-pub fn datagram_id(bytes: &[u8]) -> Option<u32> {
-    let (id, _rest) = u32_at(bytes.get(6..)?)?;
+pub fn datagram_id(bytes: &[u8]) -> Option<u32>
+    ensures { result ≡ id_at bytes.now 6 }
+{
+    id_at(bytes, BEFORE_DATAGRAM_ID)
+}
+
+/// The connection id behind so many bytes.
+fn id_at(bytes: &[u8], before: usize) -> Option<u32>
+    ensures { result ≡ id_at bytes.now before }
+{
+    let (id, _rest) = u32_at(behind(bytes, before))?;
     Some(id)
 }
 
-/// The group that one of at most two socket address items names.
-fn group_in(items: &[u8]) -> Option<Node> {
-    let (kind, address, rest) = socket_item(items)?;
-    if kind == T_O_SOCKET_ADDRESS {
-        return as_group(address);
+/// What is behind so many bytes: nothing, if there are no more.
+fn behind(bytes: &[u8], count: usize) -> &[u8]
+    ensures { result.now ≡ drop count bytes.now }
+{
+    if count <= bytes.len() {
+        &bytes[count..]
+    } else {
+        &[]
     }
-    let (kind, address, _rest) = socket_item(rest)?;
-    if kind == T_O_SOCKET_ADDRESS {
-        return as_group(address);
+}
+
+/// The group that one of at most two socket address items names.
+fn group_in(items: &[u8]) -> Option<Node>
+    ensures { result ≡ group_in items.now }
+{
+    let (item, rest) = socket_at(items)?;
+    if item.kind == T_O_SOCKET_ADDRESS {
+        return as_group(item.address);
+    }
+    last_group(rest)
+}
+
+/// The group that the last socket address item names.
+fn last_group(items: &[u8]) -> Option<Node>
+    ensures { result ≡ last_group items.now }
+{
+    let (item, _rest) = socket_at(items)?;
+    if item.kind == T_O_SOCKET_ADDRESS {
+        return as_group(item.address);
     }
     None
 }
 
-/// The type and the address of the socket address item at the front, and the bytes behind it.
-fn socket_item(bytes: &[u8]) -> Option<(u16, Node, &[u8])> {
+/// The socket address item at the front, and the bytes behind it.
+fn socket_at(bytes: &[u8]) -> Option<(SocketItem, &[u8])>
+    ensures { Finds (λ x. (x.0, x.1.now)) result (socket_at bytes.now) }
+{
     let (kind, rest) = u16_at(bytes)?;
     let (len, rest) = u16_at(rest)?;
-    if len != 16 || rest.len() < 16 {
+    if len != SOCKET_ADDRESS_BYTES || rest.len() < 16 {
         return None;
     }
-    let (socket, rest) = rest.split_at(16);
-    let address = u32::from_be_bytes([socket[4], socket[5], socket[6], socket[7]]);
-    Some((kind, Node(address), rest))
+    let (_family_and_port, rest) = rest.split_at(4);
+    let (ip, rest) = rest.split_at(4);
+    let (_zeros, rest) = rest.split_at(8);
+    let address = Node(u32::from_be_bytes([ip[0], ip[1], ip[2], ip[3]]));
+    Some((SocketItem { kind, address }, rest))
 }
 
 /// An address, if it is that of a group.

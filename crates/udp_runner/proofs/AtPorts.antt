@@ -1,8 +1,8 @@
 -- The outputs of an answer at a port.
 use Rattle.std.proofs.Common.{◌≡◌, ◌<◌, ◌-◌, ◌^◌, ℕ, ◌+◌, Bool, true, List, [], ◌∷◌, Result, Ok, Err, OnOk, OnErr, ap, ◌∙◌, sym, subst}
 use Rattle.std.specs.List.{flat_map}
-use Rattle.answer_outlet.specs.Outputs.{AnswerOutput}
-use Rattle.answer_outlet.specs.Transmission.{BreaksOff, Puts, SendsAll}
+use Rattle.cip_events.specs.Outputs.{AnswerOutput}
+use Rattle.cip_events.specs.Transmission.{BreaksOff, Puts, SendsAll}
 use Rattle.udp_runner.specs.declared.fault.PortFault.{PortFault}
 use Rattle.udp_runner.specs.declared.output.SentOutput.{SentOutput}
 use Rattle.udp_runner.specs.Outputs.{PortFails, PortSends, SendsSome, output_sent}

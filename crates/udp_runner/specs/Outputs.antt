@@ -3,8 +3,8 @@ use Rattle.std.specs.Prelude.{ℕ, ◌≡◌, ◌+◌, ◌&&◌, nat_le, nat_lt,
 use Rattle.std.specs.List.{flat_map}
 use Rattle.cip_types.specs.declared.names.Node.{Node}
 use Rattle.cip_events.specs.declared.event.Answer.{Answer}
-use Rattle.answer_outlet.specs.Outputs.{AnswerOutput, answer_outputs}
-use Rattle.answer_outlet.specs.Outputs.AnswerOutput.{Message, Datagram, End}
+use Rattle.cip_events.specs.Outputs.{AnswerOutput, answer_outputs}
+use Rattle.cip_events.specs.Outputs.AnswerOutput.{Message, Datagram, End}
 use Rattle.udp_runner.specs.declared.output.Output.{Output}
 use Rattle.udp_runner.specs.declared.output.Output.TheVariants as output
 use Rattle.udp_runner.specs.declared.output.SentOutput.{SentOutput}

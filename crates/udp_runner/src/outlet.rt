@@ -6,8 +6,7 @@ ghost use Rattle.udp_runner.specs.Outputs.{is_group};
 use crate::fault::PortFault;
 use crate::output::Output;
 use crate::port::Port;
-use answer_outlet::Outlet;
-use cip_events::OutgoingDatagram;
+use cip_events::{OutgoingDatagram, Outlet};
 use cip_types::Node;
 
 /// Sends the outputs of answers over a port: a datagram once to each of its nodes, or once to its group if the port sends

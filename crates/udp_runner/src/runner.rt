@@ -13,8 +13,7 @@ use crate::fault::RunFault;
 use crate::observer::{Observer, Unobserved};
 use crate::outlet::AtPort;
 use crate::port::{Clock, Port};
-use answer_outlet::send_answer;
-use cip_events::{Arrival, Event, Outcome};
+use cip_events::{Arrival, Event, Outcome, send_answer};
 use cip_tables::Device;
 use cip_types::limits::LONGEST_TICK_MS;
 use cip_types::{Items, Ms, Node};
@@ -150,14 +149,14 @@ fn receive<P: Port, D: Device, O: Observer>(
     match came {
         None => Ok(0),
         Some(arrival) => {
-            take(port, device, observer, arrival)?;
+            act_on(port, device, observer, arrival)?;
             Ok(1)
         }
     }
 }
 
 /// Steps the device by an arrival. A datagram takes no memory.
-fn take<P: Port, D: Device, O: Observer>(
+fn act_on<P: Port, D: Device, O: Observer>(
     port: &mut P,
     device: &mut D,
     observer: &mut O,

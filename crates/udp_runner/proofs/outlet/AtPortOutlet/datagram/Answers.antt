@@ -2,7 +2,7 @@ use Rattle.std.proofs.Common.{arith, ◌≡◌, ◌+◌, ◌<◌, ◌++◌, ◌�
 use Rattle.std.specs.List.{flat_map}
 use Rattle.std.proofs.lemmas.List.{get_or_default}
 use Rattle.std.proofs.lemmas.Result.{err_from_is_err_and}
-use Rattle.answer_outlet.specs.Outputs.AnswerOutput.{Datagram}
+use Rattle.cip_events.specs.Outputs.AnswerOutput.{Datagram}
 use Rattle.udp_runner.specs.Outputs.{copy_to, output_sent}
 use Rattle.udp_runner.proofs.SentOutputs.{flat_map_parts, one_unsent, some_within}
 use Rattle.udp_runner.proofs.outlet.AtPortOutlet.datagram.Goals as goal

@@ -1,5 +1,5 @@
 use Rattle.std.proofs.Common.{refl}
-use Rattle.answer_outlet.specs.Outputs.AnswerOutput.{Message}
+use Rattle.cip_events.specs.Outputs.AnswerOutput.{Message}
 use Rattle.udp_runner.specs.declared.output.SentOutput.TheVariants as sent
 use Rattle.udp_runner.proofs.AtPorts.{puts_sent}
 use Rattle.udp_runner.proofs.outlet.AtPortOutlet.message.Goals as goal

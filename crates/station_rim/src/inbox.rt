@@ -1,0 +1,150 @@
+//! The lines of standard input, which a thread of its own reads.
+
+ghost use Rattle.std.specs.Prelude.{◌≡◌};
+ghost use Rattle.station_rim.specs.Reads.{bytes_of, is_end};
+
+use cip_types::OutOfMemory;
+use mio::Waker;
+use station_lines::{CallBuffer, CallLines, InputRead, NextLine, input_read};
+use std::alloc::Global;
+use std::io::Read;
+use std::rt::Clock;
+use std::sync::{Arc, Mutex, Wait};
+use std::thread;
+use std::time::Duration;
+
+/// A read takes at most so many bytes.
+const CHUNK_BYTES: usize = 4_096;
+
+/// What was read and not yet taken, and what wakes the station that takes it.
+#[derive(Drop)]
+struct UnreadCalls {
+    buffer: CallBuffer,
+    waker: Option<Waker>,
+}
+
+/// An input that one thread reads and a station takes line by line.
+#[derive(Drop)]
+pub struct SharedInput {
+    alloc: Global,
+    unread: Arc<Mutex<UnreadCalls>, Global>,
+}
+
+impl SharedInput {
+    /// An input of which nothing was read. OutOfMemory is the only fault.
+    pub fn new(alloc: Global) -> Result<SharedInput, OutOfMemory> {
+        let unread = Mutex::new(UnreadCalls {
+            buffer: CallBuffer::new(alloc),
+            waker: None,
+        });
+        match Arc::new(alloc, unread) {
+            Ok(unread) => Ok(SharedInput { alloc, unread }),
+            Err(_) => Err(OutOfMemory),
+        }
+    }
+
+    /// The same input, for another thread. OutOfMemory is the only fault.
+    pub fn share(&self) -> Result<SharedInput, OutOfMemory> {
+        match Arc::try_clone(&self.unread) {
+            Ok(unread) => Ok(SharedInput {
+                alloc: self.alloc,
+                unread,
+            }),
+            Err(_) => Err(OutOfMemory),
+        }
+    }
+
+    /// The lines of the input, for a station that this waker wakes.
+    pub fn lines<R: Wait + Drop>(self, rt: R, waker: Waker) -> InputLines<R> {
+        self.unread.lock(&rt).waker = Some(waker);
+        InputLines { rt, input: self }
+    }
+
+    /// Reads an input to its end. A read that a signal interrupts is made again.
+    pub fn fill<R: Clock + Wait, I: Read + Drop>(&self, rt: &R, input: I) {
+        let mut input = input;
+        let mut chunk = [0u8; CHUNK_BYTES];
+        for _ in 0..u64::MAX {
+            let read = input_read(input.read(&mut chunk));
+            if is_end(read) || self.take(rt, &chunk, read).is_err() {
+                break;
+            }
+        }
+        self.end(rt);
+    }
+
+    /// Appends the bytes at the front of a chunk that a read has given.
+    fn take<R: Clock + Wait>(
+        &self,
+        rt: &R,
+        chunk: &[u8],
+        read: InputRead,
+    ) -> Result<(), OutOfMemory> {
+        match chunk.get(..bytes_of(read)) {
+            Some(bytes) if !bytes.is_empty() => self.push(rt, bytes),
+            _ => Ok(()),
+        }
+    }
+
+    /// Appends bytes once the buffer is not full, and wakes the station.
+    fn push<R: Clock + Wait>(&self, rt: &R, bytes: &[u8]) -> Result<(), OutOfMemory> {
+        for _ in 0..u64::MAX {
+            if !self.unread.lock(rt).buffer.is_full() {
+                break;
+            }
+            thread::sleep(rt, Duration::from_millis(1));
+        }
+        let pushed = self.unread.lock(rt).buffer.push(bytes);
+        self.wake(rt);
+        pushed
+    }
+
+    /// Ends the input, and wakes the station.
+    fn end<R: Wait>(&self, rt: &R) {
+        self.unread.lock(rt).buffer.end();
+        self.wake(rt);
+    }
+
+    /// Wakes the station, if it waits at a port already.
+    fn wake<R: Wait>(&self, rt: &R) {
+        if let Some(waker) = &self.unread.lock(rt).waker {
+            let _ = waker.wake();
+        }
+    }
+}
+
+/// The lines of an input that another thread reads.
+#[derive(Drop)]
+pub struct InputLines<R: Wait + Drop> {
+    rt: R,
+    input: SharedInput,
+}
+
+impl<R: Wait + Drop> CallLines for InputLines<R> {
+    fn next_line(&mut self) -> Result<NextLine, OutOfMemory> {
+        let alloc = self.input.alloc;
+        self.input.unread.lock(&self.rt).buffer.next_line(alloc)
+    }
+}
+
+/// Whether the input has ended with a read: not with one that is made again.
+fn is_end(read: InputRead) -> bool
+    ensures { result ≡ is_end read }
+{
+    match read {
+        InputRead::Bytes(_) => false,
+        InputRead::Again => false,
+        InputRead::End => true,
+    }
+}
+
+/// How many bytes a read has given.
+fn bytes_of(read: InputRead) -> usize
+    ensures { result ≡ bytes_of read }
+{
+    match read {
+        InputRead::Bytes(count) => count,
+        InputRead::Again => 0,
+        InputRead::End => 0,
+    }
+}

@@ -1,0 +1,163 @@
+//! The record of a station, which a thread of its own writes.
+
+use cip_types::{Items, OutOfMemory};
+use line_queue::LineQueue;
+use station_files::{RecordFile, RecordPlace};
+use std::alloc::Global;
+use std::fs::File;
+use std::io::{self, ErrorKind, Write};
+use std::rt::Files;
+use std::sync::{Arc, Condvar, Mutex, Wait};
+
+/// A record has at most so many bytes on their way, and so many entries.
+const MOST_BYTES: usize = 4_194_304;
+
+const MOST_ENTRIES: usize = 65_536;
+
+/// Entries on their way, where they go, and what the writer does.
+#[derive(Drop)]
+struct Way {
+    queue: LineQueue,
+    place: Option<RecordPlace>,
+    is_busy: bool,
+    has_failed: bool,
+}
+
+/// The way from a station to the writer of its record. Its lock is held only while an entry is put in or taken out.
+#[derive(Drop)]
+struct Channel {
+    way: Mutex<Way>,
+    more: Condvar,
+}
+
+/// The entries of a record on their way from a station to the thread that writes them.
+#[derive(Drop)]
+pub struct SharedRecord {
+    alloc: Global,
+    channel: Arc<Channel, Global>,
+}
+
+impl SharedRecord {
+    /// No entries. OutOfMemory is the only fault.
+    pub fn new(alloc: Global) -> Result<SharedRecord, OutOfMemory> {
+        let channel = Channel {
+            way: Mutex::new(Way {
+                queue: LineQueue::new(alloc, MOST_BYTES, MOST_ENTRIES),
+                place: None,
+                is_busy: false,
+                has_failed: false,
+            }),
+            more: Condvar::new(),
+        };
+        match Arc::new(alloc, channel) {
+            Ok(channel) => Ok(SharedRecord { alloc, channel }),
+            Err(_) => Err(OutOfMemory),
+        }
+    }
+
+    /// The same way, for another thread. OutOfMemory is the only fault.
+    pub fn share(&self) -> Result<SharedRecord, OutOfMemory> {
+        match Arc::try_clone(&self.channel) {
+            Ok(channel) => Ok(SharedRecord {
+                alloc: self.alloc,
+                channel,
+            }),
+            Err(_) => Err(OutOfMemory),
+        }
+    }
+
+    /// The end of the way at which entries are put in, for a record at this place.
+    pub fn entries<R: Wait + Drop>(
+        &self,
+        rt: R,
+        place: RecordPlace,
+    ) -> Result<Entries<R>, OutOfMemory> {
+        let record = self.share()?;
+        record.channel.way.lock(&rt).place = Some(place);
+        Ok(Entries { rt, record })
+    }
+
+    /// Writes the entries to the record's files without end. After a failure they are taken and discarded.
+    pub fn write_files<R: Wait + Files<File = File>>(&self, rt: &R) {
+        let mut file: Option<RecordFile> = None;
+        for _ in rt.forever() {
+            if let Some(entry) = self.next(rt) {
+                let written = self.write(rt, &mut file, entry.as_slice());
+                let mut way = self.channel.way.lock(rt);
+                way.is_busy = false;
+                way.has_failed |= written.is_err();
+            }
+        }
+    }
+
+    /// Waits for the next entry, and takes it.
+    fn next<R: Wait>(&self, rt: &R) -> Option<Items<u8>> {
+        let way = self.channel.way.lock(rt);
+        let mut way = self
+            .channel
+            .more
+            .wait_while(rt, way, |way| way.queue.is_empty());
+        way.is_busy = true;
+        way.queue.pop()
+    }
+
+    /// Writes an entry, unless one could not be written before.
+    fn write<R: Wait + Files<File = File>>(
+        &self,
+        rt: &R,
+        file: &mut Option<RecordFile>,
+        entry: &[u8],
+    ) -> io::Result<()> {
+        if file.is_none() {
+            let place = self.channel.way.lock(rt).place.take();
+            if let Some(place) = place {
+                *file = Some(RecordFile::begin(rt, self.alloc, place)?);
+            }
+        }
+        if self.channel.way.lock(rt).has_failed {
+            return Ok(());
+        }
+        match file {
+            Some(file) => file.write(rt, entry),
+            None => Err(io::Error::from(ErrorKind::NotFound)),
+        }
+    }
+
+    /// Whether each entry was written or discarded.
+    pub fn is_drained<R: Wait>(&self, rt: &R) -> bool {
+        let way = self.channel.way.lock(rt);
+        way.queue.is_empty() && !way.is_busy
+    }
+
+    /// Whether an entry could not be written.
+    pub fn has_failed<R: Wait>(&self, rt: &R) -> bool {
+        self.channel.way.lock(rt).has_failed
+    }
+}
+
+/// The end of a way at which a recorder puts entries in: each write is an entry, which is taken whole or refused.
+#[derive(Drop)]
+pub struct Entries<R: Wait + Drop> {
+    rt: R,
+    record: SharedRecord,
+}
+
+impl<R: Wait + Drop> Write for Entries<R> {
+    fn write(&mut self, entry: &[u8]) -> io::Result<usize> {
+        let mut way = self.record.channel.way.lock(&self.rt);
+        if way.has_failed {
+            return Err(io::Error::from(ErrorKind::BrokenPipe));
+        }
+        let pushed = way.queue.push(entry);
+        drop(way);
+        self.record.channel.more.notify_one();
+        match pushed {
+            Ok(()) => Ok(entry.len()),
+            Err(_) => Err(io::Error::from(ErrorKind::WriteZero)),
+        }
+    }
+
+    fn flush(&mut self) -> io::Result<()> {
+        Ok(())
+    }
+}

@@ -1,0 +1,29 @@
+//! What a station's loop shares with the threads around it.
+
+use crate::inbox::SharedInput;
+use crate::outlets::SharedLines;
+use crate::record_queue::SharedRecord;
+use cip_types::OutOfMemory;
+use line_queue::NoticeForm;
+use std::alloc::Global;
+
+/// The input, the outputs and the record of a station.
+#[derive(Drop)]
+pub struct Rim {
+    pub input: SharedInput,
+    pub out: SharedLines,
+    pub err: SharedLines,
+    pub record: SharedRecord,
+}
+
+impl Rim {
+    /// Nothing is read yet, and nothing is to be written. The fault: an allocation was refused.
+    pub fn new(alloc: Global) -> Result<Rim, OutOfMemory> {
+        Ok(Rim {
+            input: SharedInput::new(alloc)?,
+            out: SharedLines::new(alloc, NoticeForm::Comment)?,
+            err: SharedLines::new(alloc, NoticeForm::Report)?,
+            record: SharedRecord::new(alloc)?,
+        })
+    }
+}

@@ -1,2 +1,0 @@
-mod AddressWords
-mod OptionWords

@@ -1,2 +1,0 @@
-mod MakingRoom
-mod Samples

@@ -1,0 +1,3 @@
+mod MakingRoom
+mod Samples
+mod LinkSamples
