@@ -58,6 +58,8 @@ enum eip_status {
     /* eip_inquiry */
     EIP_NO_INQUIRY = 13,       /* the message is no inquiry: nothing is to be sent, and *size is 0 */
     EIP_LONG_NAME = 14,        /* the name has more than 32 bytes: nothing is written */
+    /* eip_owner, eip_connection */
+    EIP_NO_CONNECTION = 15,    /* there is none: nothing is written */
     /* Answered by this header, before the call: nothing has happened. */
     EIP_NULL = 20,             /* a pointer is NULL, or the device was freed */
     EIP_IN_USE = 21            /* eip_new: the handle has a device, which lives on. Free it first */
@@ -74,6 +76,52 @@ enum eip_delivery {
     EIP_WRONG_SIZE = 6,  /* its size is not the connection's */
     EIP_MALFORMED = 7    /* its bytes are no datagram */
 };
+
+/* The kinds of a connection, by its use of the application's points. */
+enum eip_connection_kind {
+    EIP_EXCLUSIVE_OWNER = 1,   /* it drives an output, and no other connection does */
+    EIP_INPUT_ONLY = 2,        /* it consumes an input, and has no O->T data */
+    EIP_LISTEN_ONLY = 3        /* the same, as long as another connection of the input supports it */
+};
+
+/* The mode of an originator, by the run/idle header of its newest data. A duplicate brings no new data. */
+enum eip_originator_mode {
+    EIP_NO_MODE = 0,           /* no data was accepted yet, or the connection has no O->T data */
+    EIP_MODE_IDLE = 1,         /* the output took its idle action */
+    EIP_MODE_RUN = 2           /* the output took the data */
+};
+
+/* The states of a scanner's slot, by their numbers in the standard. */
+enum eip_slot_state {
+    EIP_SLOT_IDLE = 0,         /* no connection */
+    EIP_SLOT_OPENING = 2,      /* a Forward_Open waits for its reply */
+    EIP_SLOT_ESTABLISHED = 3,  /* the connection is open */
+    EIP_SLOT_TIMED_OUT = 4,    /* the connection timed out */
+    EIP_SLOT_CLOSING = 6       /* a Forward_Close waits for its reply */
+};
+
+/* What an adapter knows of a connection. Intervals are the actual ones, in milliseconds. */
+typedef struct eip_connection_state {
+    uint64_t age_ms;           /* the time since the newest accepted datagram, or since the opening before the first one */
+    uint32_t peer;             /* the originator */
+    uint32_t kind;             /* enum eip_connection_kind */
+    uint32_t consumed;         /* the output, or the heartbeat, that it drives */
+    uint32_t produced;         /* the input that it consumes */
+    uint32_t o_t_api_ms;       /* from originator to target */
+    uint32_t t_o_api_ms;       /* from target to originator */
+    uint32_t mode;             /* enum eip_originator_mode */
+    uint32_t established;      /* 0 if it has timed out, else 1 */
+    uint32_t accepted;         /* 0 if it has accepted no datagram yet, else 1 */
+} eip_connection_state;
+
+/* What a scanner knows of a slot. All but the state is 0 unless that is EIP_SLOT_ESTABLISHED. */
+typedef struct eip_slot_report {
+    uint64_t age_ms;           /* the time since the newest accepted datagram, or since the opening before the first one */
+    uint32_t state;            /* enum eip_slot_state */
+    uint32_t o_t_api_ms;       /* the actual packet interval from scanner to target, in milliseconds */
+    uint32_t t_o_api_ms;       /* from target to scanner */
+    uint32_t accepted;         /* 0 if no datagram of the target was accepted yet, else 1 */
+} eip_slot_report;
 
 /* What a device says of itself to who looks for devices: its Identity object, and where it is reached. Vendor, device
  * type, product and revision are those of its profile. A maker gets its vendor number from ODVA (odva.org), which keeps the
@@ -108,6 +156,9 @@ uint32_t eip_c_write(eip_device *device, uint32_t point, const uint8_t *bytes, s
 uint32_t eip_c_read(eip_device *device, uint32_t point, uint8_t *out, size_t room, size_t *size);
 uint32_t eip_c_tick(eip_device *device, uint32_t ms, uint8_t *out, size_t room, size_t *size);
 uint32_t eip_c_next_wake(eip_device *device);
+uint32_t eip_c_owner(eip_device *device, uint32_t output, eip_connection_state *connection);
+uint32_t eip_c_connection(eip_device *device, uint32_t place, eip_connection_state *connection);
+uint32_t eip_c_slot(eip_device *device, uint32_t number, eip_slot_report *slot);
 uint32_t eip_c_mode(eip_device *device, bool run, uint8_t *out, size_t room, size_t *size);
 uint32_t eip_c_start(eip_device *device, uint32_t slot, uint8_t *out, size_t room, size_t *size);
 uint32_t eip_c_stop(eip_device *device, uint32_t slot, uint8_t *out, size_t room, size_t *size);
@@ -241,6 +292,37 @@ static inline uint32_t eip_next_wake(eip_device *device, uint32_t *ms)
         return EIP_NULL;
     *ms = eip_c_next_wake(device);
     return EIP_DONE;
+}
+
+/* STATES
+ *
+ * What the device knows now. These calls take no memory, and change nothing: neither the device nor the answer that it
+ * keeps. With any other status than EIP_DONE nothing is written. */
+
+/* Writes who owns an adapter's output, in which mode it is, and how old its newest data are: EIP_DONE; EIP_NO_CONNECTION if
+ * nobody owns it, and at a scanner; EIP_NULL. */
+static inline uint32_t eip_owner(eip_device *device, uint32_t output, eip_connection_state *connection)
+{
+    if (!device || !device->at || !connection)
+        return EIP_NULL;
+    return eip_c_owner(device, output, connection);
+}
+
+/* Writes what an adapter knows of a connection, by its place in the order of the openings, from 0 on, timed-out ones
+ * included: EIP_DONE; EIP_NO_CONNECTION behind the last one, and at a scanner; EIP_NULL. */
+static inline uint32_t eip_connection(eip_device *device, uint32_t place, eip_connection_state *connection)
+{
+    if (!device || !device->at || !connection)
+        return EIP_NULL;
+    return eip_c_connection(device, place, connection);
+}
+
+/* Writes the state of a scanner's slot: EIP_DONE; EIP_NO_SUCH_SLOT, and at an adapter; EIP_NULL. */
+static inline uint32_t eip_slot(eip_device *device, uint32_t number, eip_slot_report *slot)
+{
+    if (!device || !device->at || !slot)
+        return EIP_NULL;
+    return eip_c_slot(device, number, slot);
 }
 
 /* The application of a scanner starts to run, or becomes idle. */

@@ -62,6 +62,8 @@ class Status(enum.IntEnum):
     """The message is no inquiry, and nothing is to be sent."""
     LONG_NAME = 14
     """The name has more than 32 bytes."""
+    NO_CONNECTION = 15
+    """There is none. This module answers None."""
     NULL = 20
     """The device is closed."""
 
@@ -146,6 +148,26 @@ class SlotState(enum.IntEnum):
     ESTABLISHED = 3
     TIMED_OUT = 4
     CLOSING = 6
+
+
+class ConnectionKind(enum.IntEnum):
+    """The kind of a connection, by its use of the application's points (docs/PROFILE.md, rule 7.2)."""
+
+    EXCLUSIVE_OWNER = 1
+    """It drives an output, and no other connection does."""
+    INPUT_ONLY = 2
+    """It consumes an input, and has no O->T data."""
+    LISTEN_ONLY = 3
+    """The same, as long as another connection of the input supports it."""
+
+
+class Mode(enum.IntEnum):
+    """The mode of an originator, by the run/idle header of its newest data (docs/PROFILE.md, section 10)."""
+
+    IDLE = 1
+    """The output took its idle action."""
+    RUN = 2
+    """The output took the data."""
 
 
 class ProfileFault(enum.IntEnum):
@@ -320,6 +342,49 @@ class TimedAnswer:
     answer: Answer
 
 
+# STATES
+
+
+@dataclass(frozen=True)
+class Connection:
+    """What an adapter knows of a connection. Intervals are the actual ones."""
+
+    peer: str
+    """The originator."""
+    kind: ConnectionKind
+    consumed: int
+    """The output, or the heartbeat, that it drives."""
+    produced: int
+    """The input that it consumes."""
+    o_t_api_ms: int
+    """From originator to target."""
+    t_o_api_ms: int
+    """From target to originator."""
+    mode: Optional[Mode]
+    """The mode of its newest data. None before the first datagram, and without O->T data."""
+    is_established: bool
+    """Whether it has not timed out."""
+    has_accepted: bool
+    """Whether it has accepted a datagram."""
+    age_ms: int
+    """The time since it accepted the newest one, or since its opening before the first one."""
+
+
+@dataclass(frozen=True)
+class Slot:
+    """What a scanner knows of a slot. All but the state is None unless that is ESTABLISHED."""
+
+    state: SlotState
+    o_t_api_ms: Optional[int] = None
+    """The actual packet interval from scanner to target."""
+    t_o_api_ms: Optional[int] = None
+    """The actual packet interval from target to scanner."""
+    has_accepted: Optional[bool] = None
+    """Whether a datagram of the target was accepted."""
+    age_ms: Optional[int] = None
+    """The time since the newest one, or since the opening before the first one."""
+
+
 _HEAD = struct.Struct("<IIIIIQ")
 _FRAME, _REPLY, _DATAGRAM, _CONSUMER = 16, 17, 32, 33
 _VERDICTS = {int(verdict): verdict for verdict in Verdict}
@@ -409,6 +474,36 @@ class _Identity(ctypes.Structure):
     ]  # fmt: skip
 
 
+class _Connection(ctypes.Structure):
+    """eip_connection_state."""
+
+    _fields_ = [("age_ms", ctypes.c_uint64)] + [
+        (name, ctypes.c_uint32)
+        for name in ("peer", "kind", "consumed", "produced", "o_t_api_ms", "t_o_api_ms", "mode", "established", "accepted")
+    ]
+
+    def read(self) -> Connection:
+        """What it says."""
+        return Connection(
+            node_text(self.peer), ConnectionKind(self.kind), self.consumed, self.produced, self.o_t_api_ms, self.t_o_api_ms,
+            Mode(self.mode) if self.mode else None, bool(self.established), bool(self.accepted), self.age_ms,
+        )  # fmt: skip
+
+
+class _Slot(ctypes.Structure):
+    """eip_slot_report."""
+
+    _fields_ = [("age_ms", ctypes.c_uint64)] + [
+        (name, ctypes.c_uint32) for name in ("state", "o_t_api_ms", "t_o_api_ms", "accepted")
+    ]
+
+    def read(self) -> Slot:
+        """What it says."""
+        if self.state != SlotState.ESTABLISHED:
+            return Slot(SlotState(self.state))
+        return Slot(SlotState.ESTABLISHED, self.o_t_api_ms, self.t_o_api_ms, bool(self.accepted), self.age_ms)
+
+
 _AT = ctypes.POINTER(_Handle)
 _SIZE = ctypes.POINTER(ctypes.c_size_t)
 _BYTES = [ctypes.c_char_p, ctypes.c_size_t]
@@ -426,6 +521,9 @@ _FUNCTIONS: dict[str, list[Any]] = {
     "read": [_AT, _U32, *_OUT],
     "tick": [_AT, _U32, *_OUT],
     "next_wake": [_AT],
+    "owner": [_AT, _U32, ctypes.POINTER(_Connection)],
+    "connection": [_AT, _U32, ctypes.POINTER(_Connection)],
+    "slot": [_AT, _U32, ctypes.POINTER(_Slot)],
     "mode": [_AT, ctypes.c_bool, *_OUT],
     "start": [_AT, _U32, *_OUT],
     "stop": [_AT, _U32, *_OUT],
@@ -589,6 +687,40 @@ class Device:
             if status != Status.DONE:
                 raise Refused(Status(status))
             return ctypes.string_at(room, self._size.value)
+
+    # States
+
+    def owner(self, output: int) -> Optional[Connection]:
+        """Who owns an adapter's output. None if nobody does, and at a scanner. Changes nothing."""
+        return self._connection(self._calls.eip_c_owner, _number(output, 0xFFFFFFFF, "output"))
+
+    def connection(self, place: int) -> Optional[Connection]:
+        """The connection of an adapter at a place of the order of the openings, from 0 on, timed-out ones included.
+
+        None behind the last one, and at a scanner. Changes nothing.
+        """
+        return self._connection(self._calls.eip_c_connection, _number(place, 0xFFFFFFFF, "place"))
+
+    def slot(self, number: int) -> Slot:
+        """The state of a scanner's slot. Refused with NO_SUCH_SLOT, and at an adapter. Changes nothing."""
+        _number(number, 0xFFFFFFFF, "slot")
+        found = _Slot()
+        with self._lock:
+            if not self._is_open:
+                raise DeviceClosed
+            status = self._calls.eip_c_slot(self._at, number, ctypes.byref(found))
+        if status != Status.DONE:
+            raise Refused(Status(status))
+        return found.read()
+
+    def _connection(self, call: Callable[..., int], number: int) -> Optional[Connection]:
+        """What a call writes of a connection, if there is one."""
+        found = _Connection()
+        with self._lock:
+            if not self._is_open:
+                raise DeviceClosed
+            status = call(self._at, number, ctypes.byref(found))
+        return found.read() if status == Status.DONE else None
 
     # The application of a scanner
 

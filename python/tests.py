@@ -17,8 +17,9 @@ import eip
 import plant
 import trace_lines
 from eip import (
-    Answer, AnswerKept, BadLine, BadProfile, ConnectionNotice, Datagram, Delivery, Device, DeviceClosed, Frame,
-    Identity, NoAnswer, NoticeKind, ProfileFault, RefusalNotice, Refused, Reply, SlotNotice, SlotState, Status,
+    Answer, AnswerKept, BadLine, BadProfile, Connection, ConnectionKind, ConnectionNotice, Datagram, Delivery, Device,
+    DeviceClosed, Frame, Identity, Mode, NoAnswer, NoticeKind, ProfileFault, RefusalNotice, Refused, Reply, Slot,
+    SlotNotice, SlotState, Status,
     StreamNotice, Verdict, inquiry, node_number, node_text, read_answer,
 )
 from plant import Faults, Plant
@@ -44,6 +45,11 @@ RUN_DATA = bytes.fromhex("0200028008000100001001000000b1000a00010001000000112233
 INPUT_DATA = bytes.fromhex("0200028008000100002001000000b1000600010000000000")
 REGISTER = bytes.fromhex("65000400000000000000000000000000000000000000000001000000")
 REGISTERED = bytes.fromhex("65000400010000000000000000000000000000000000000001000000")
+# the reply to the scanner's Forward_Open, and the data of its target
+OPENED = bytes.fromhex(
+    "6f002e000100000000000000010000000000000000000000" "00000000000002000000" "0000b2001e00" + OPEN_REPLY.hex()
+)
+TARGET_DATA = bytes.fromhex("0200028008000100002001000000b1000600010011223344")
 UNREGISTER = bytes.fromhex("660000000100000000000000000000000000000000000000")
 
 
@@ -123,6 +129,51 @@ class Devices(unittest.TestCase):
             self.assertEqual(late.at_ms, 2_000)
             self.assertEqual(late.answer.notices, (SlotNotice(NoticeKind.SLOT, 0, SlotState.IDLE),))
 
+    def test_an_output_has_the_owner_that_drives_it(self):
+        def owner(mode, has_accepted, age_ms):
+            kind = ConnectionKind.EXCLUSIVE_OWNER
+            return Connection(OWNER, kind, 150, 100, 10, 10, mode, True, has_accepted, age_ms)
+
+        device = self.opened()
+        self.assertEqual(device.owner(150), owner(None, False, 0))
+        device.tick(5)
+        self.assertEqual(device.owner(150), owner(None, False, 5))
+        self.assertEqual(device.datagram(OWNER, RUN_DATA), Delivery.APPLIED)
+        self.assertEqual(device.owner(150), owner(Mode.RUN, True, 0))
+        # the next number and count, and a header that says idle
+        idle = bytearray(RUN_DATA)
+        idle[10], idle[18], idle[20] = 2, 2, 0
+        device.tick(7)
+        self.assertEqual(device.owner(150), owner(Mode.RUN, True, 7))
+        self.assertEqual(device.datagram(OWNER, bytes(idle)), Delivery.IDLE)
+        self.assertEqual(device.owner(150), owner(Mode.IDLE, True, 0))
+        self.assertEqual(device.connection(0), device.owner(150))
+        self.assertIsNone(device.connection(1))
+        self.assertIsNone(device.owner(151))
+        device.tick(160)
+        self.assertIsNone(device.owner(150))
+        lost = device.connection(0)
+        self.assertEqual((lost.is_established, lost.mode, lost.age_ms), (False, Mode.IDLE, 160))
+        self.refused(Status.NO_SUCH_SLOT, device.slot, 0)
+
+    def test_a_slot_says_its_state(self):
+        with Device(SCANNER) as scanner:
+            self.assertEqual(scanner.slot(0), Slot(SlotState.IDLE))
+            scanner.start(0)
+            scanner.stream(7, "192.168.1.10")
+            scanner.frame(7, REGISTERED)
+            self.assertEqual(scanner.slot(0), Slot(SlotState.OPENING))
+            scanner.frame(7, OPENED)
+            self.assertEqual(scanner.slot(0), Slot(SlotState.ESTABLISHED, 10, 10, False, 0))
+            scanner.tick(6)
+            self.assertEqual(scanner.datagram("192.168.1.10", TARGET_DATA), Delivery.APPLIED)
+            scanner.tick(12)
+            self.assertEqual(scanner.slot(0), Slot(SlotState.ESTABLISHED, 10, 10, True, 12))
+            scanner.tick(148)
+            self.assertEqual(scanner.slot(0), Slot(SlotState.TIMED_OUT))
+            self.refused(Status.NO_SUCH_SLOT, scanner.slot, 1)
+            self.assertIsNone(scanner.owner(150))
+
     def test_time_passes_in_the_ticks_that_a_device_needs(self):
         device = self.opened()
         self.assertEqual([it.at_ms for it in device.run_until(25)], [0, 10, 20])
@@ -197,7 +248,7 @@ class Devices(unittest.TestCase):
         self.assertTrue(device.is_closed)
         for call in (
             lambda: device.tick(1), lambda: device.read(100), lambda: device.datagram(OWNER, b""), device.next_wake,
-            device.answer,
+            device.answer, lambda: device.owner(150), lambda: device.connection(0), lambda: device.slot(0),
         ):
             self.assertRaises(DeviceClosed, call)
 

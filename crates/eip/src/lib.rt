@@ -7,9 +7,10 @@ pub use adapter_engine::FastAdapter;
 pub use cip_events::Arrival;
 pub use cip_netparams::Trigger;
 pub use cip_tables::{
-    Action, Answer, AnyDevice, Config, Delivery, Device, Event, Frame, InputPoint, Kind, NewFault,
-    Notice, Outcome, OutgoingDatagram, OutputPoint, Profile, ProfileFault, Reason, Recipient,
-    ScannerProfile, SlotConfig, StepFault, TableCopy, Verdict, run,
+    Action, Age, Answer, AnyDevice, Config, ConnectionReport, ConsumerCounts, Delivery, Device,
+    DeviceTotals, Event, Frame, InputPoint, Kind, Mode, NewFault, Notice, Outcome,
+    OutgoingDatagram, OutputPoint, Profile, ProfileFault, Reason, Recipient, ScannerProfile,
+    SlotConfig, SlotReport, StepFault, TableCopy, TargetReport, Verdict, run,
 };
 pub use cip_types::{ConnId, Fault, Identity, Items, Mismatch, Ms, Node, OutOfMemory, Triad};
 pub use device_lock::{Book, BookFault, History, LockedDevice, Receipt, Segment};
@@ -17,7 +18,7 @@ pub use plain_engine::{PlainAdapter, PlainDevice, PlainScanner};
 pub use port_streams::{DatagramRoute, DatagramRoutes, Destination};
 pub use scanner_engine::FastScanner;
 pub use socket_port::{OpenFault, SocketPort, SystemClock};
-pub use stream_keeper::{KeptStream, Place, StreamKeeper};
+pub use stream_rules::{KeptStream, Place, StreamKeeper};
 pub use udp_runner::{
     Clock, MemoryPort, Observer, Output, Port, PortFault, RunFault, SentOutput, SteppedClock,
     Unobserved, act, drive, drive_watched, turn_waiting,

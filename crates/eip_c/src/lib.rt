@@ -1,6 +1,7 @@
 //! A device of the line behind a C header: each exported function performs one call at it.
 //!
-//! `include/eip.h` declares these functions, and lists their numbers. What C reads is what the contracts here say.
+//! `include/eip.h` declares these functions, and lists their numbers. What C reads is what the contracts here say: an
+//! answer as flat bytes.
 #![tactic(auto)]
 
 ghost use Rattle.std.specs.Prelude.{◌≡◌, ◌<◌, ◌≤◌, Ok};
@@ -9,11 +10,13 @@ ghost use Rattle.cip_events.specs.declared.event.Verdict.TheVariants.{Delivered}
 ghost use Rattle.cip_events.specs.Answers.{plain_answer};
 ghost use Rattle.cip_events.specs.Clock.{longest_tick};
 ghost use Rattle.cip_tables.specs.Step.{step};
+ghost use Rattle.cip_tables.specs.States.{owner_in, connection_in, slot_in};
 ghost use Rattle.cip_tables.specs.Wakes.{IsQuietFor, due_in};
 ghost use Rattle.trace_text.specs.Reading.{trace_reading};
 ghost use Rattle.flat_answers.specs.Flat.{delivery_number, delivery_of};
 ghost use Rattle.eip_c.specs.Statuses.{status_of};
 ghost use Rattle.eip_c.specs.Inquiries.{Inquires};
+ghost use Rattle.eip_c.specs.States.{WritesConnection, WritesSlot};
 ghost use Rattle.eip_c.specs.Calls.{table_of, node, Answers, Reports, Reads, Opens, HasOpened};
 
 mod answered_device;
@@ -21,6 +24,7 @@ mod handle;
 mod inquiry;
 mod opening;
 mod room;
+mod states;
 mod status;
 
 use cip_events::Event;
@@ -31,6 +35,7 @@ use handle::{Handle, HandleCell};
 use inquiry::{IdentityNumbers, report_inquiry};
 use opening::opened;
 use room::report;
+use states::{ConnectionNumbers, SlotNumbers, put_connection, put_slot};
 use status::{DONE, OUT_OF_MEMORY};
 use std::alloc::Global;
 
@@ -254,6 +259,60 @@ pub extern "C" fn eip_c_next_wake(device: &mut Handle) -> u32
     let wake = taken.device.next_wake().0 as u32;
     device.cell.put(taken);
     wake
+}
+
+// STATES
+
+/// Writes what is known of the owner of an adapter's output. Takes no memory.
+///
+/// The statuses: `Done`; 15 if no connection owns it, and at a scanner.
+#[unsafe(no_mangle)]
+pub extern "C" fn eip_c_owner(
+    device: &mut Handle,
+    output: u32,
+    connection: &mut ConnectionNumbers,
+) -> u32
+    ensures owner { WritesConnection (owner_in (table_of device.old.value.device) output)
+        result connection.old connection.new }
+    ensures unchanged { device.new.value ≡ device.old.value }
+{
+    let taken = device.cell.take();
+    let owner = taken.device.owner(output);
+    device.cell.put(taken);
+    put_connection(owner, connection)
+}
+
+/// Writes what is known of the connection of an adapter at a place of the opening order, from 0 on. Takes no memory.
+///
+/// The statuses: `Done`; 15 behind the last connection, and at a scanner.
+#[unsafe(no_mangle)]
+pub extern "C" fn eip_c_connection(
+    device: &mut Handle,
+    place: u32,
+    connection: &mut ConnectionNumbers,
+) -> u32
+    ensures connection { WritesConnection (connection_in (table_of device.old.value.device) place)
+        result connection.old connection.new }
+    ensures unchanged { device.new.value ≡ device.old.value }
+{
+    let taken = device.cell.take();
+    let found = taken.device.connection(place);
+    device.cell.put(taken);
+    put_connection(found, connection)
+}
+
+/// Writes the state of a scanner's slot. Takes no memory.
+///
+/// The statuses: `Done`; `NoSuchSlot`, and at an adapter.
+#[unsafe(no_mangle)]
+pub extern "C" fn eip_c_slot(device: &mut Handle, number: u32, slot: &mut SlotNumbers) -> u32
+    ensures slot { WritesSlot (slot_in (table_of device.old.value.device) number) result slot.old slot.new }
+    ensures unchanged { device.new.value ≡ device.old.value }
+{
+    let taken = device.cell.take();
+    let found = taken.device.slot(number);
+    device.cell.put(taken);
+    put_slot(found, slot)
 }
 
 // THE APPLICATION OF A SCANNER

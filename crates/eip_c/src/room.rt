@@ -31,7 +31,7 @@ fn put_first(bytes: &[u8], out: &mut [u8])
     front.copy_from_slice(bytes);
 }
 
-/// Writes the answer that is kept, in the form of `flat_answers`. Takes no memory.
+/// Writes the answer that is kept, as `put_answer` does. Takes no memory.
 pub fn report(answer: &Option<Answer>, out: &mut [u8], size: &mut usize) -> u32
     ensures { Reports answer.now (status_of result) (out.old, size.old) (out.new, size.new) }
 {

@@ -35,6 +35,9 @@ pub const DONE: u32 = 0;
 /// `Fault(OutOfMemory)`.
 pub const OUT_OF_MEMORY: u32 = 1;
 
+/// The fault `NoSuchSlot`.
+pub const NO_SUCH_SLOT: u32 = 6;
+
 /// `NoRoom`.
 pub const NO_ROOM: u32 = 8;
 
@@ -52,6 +55,9 @@ pub const NO_INQUIRY: u32 = 13;
 
 /// `LongName`.
 pub const LONG_NAME: u32 = 14;
+
+/// There is no such connection.
+pub const NO_CONNECTION: u32 = 15;
 
 /// The number of a fault.
 pub fn fault_number(fault: StepFault) -> u32

@@ -5,12 +5,12 @@ use Rattle.trace_stepper.specs.Written.{BeginsToWrite}
 use Rattle.segment_world.specs.declared.act.Act.{Act}
 use Rattle.device_lock.specs.Histories.{HistoryValue}
 use Rattle.device_lock.specs.declared.receipt.Receipt.{Receipt}
-use Rattle.settling.specs.Histories.{configs_of}
+use Rattle.schedule_search.specs.Histories.{configs_of}
 use Rattle.settling.specs.Settlings.{SettlesAll}
 use Rattle.line_threads.specs.Accounts.{own_in, HasItsReceipts}
-use Rattle.line_devices.specs.Devices.{line_configs}
+use Rattle.line_setup.specs.Devices.{line_configs}
 use Rattle.line_setup.specs.Scripts.{line_scripts}
-use Rattle.line_words.specs.declared.task.LineTask.{LineTask}
+use Rattle.command_lines.specs.declared.line_task.LineTask.{LineTask}
 use Rattle.eip_line.specs.declared.faults.ProgramFault.{ProgramFault}
 use Rattle.eip_line.specs.declared.faults.ProgramFault.TheVariants as program
 

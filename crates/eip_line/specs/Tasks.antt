@@ -2,15 +2,15 @@
 use Rattle.std.specs.Prelude.{ℕ, ◌≡◌, ◌⊎◌, Bool, true, false, List, codes, Option, Some, Result, Ok, Err}
 use Rattle.std.specs.Io.KnownBytes.{Appends}
 use Rattle.trace_stepper.specs.Written.{BeginsToWrite}
-use Rattle.line_words.specs.Tasks.{Requests, task_of}
+use Rattle.command_lines.specs.LineTasks.{Requests, task_of}
 use Rattle.eip_line.specs.Faults.{fault_line}
 use Rattle.eip_line.specs.Lined.{IsLined, SettlesLine}
 use Rattle.eip_line.specs.Looped.{IsLooped, turns_line}
 use Rattle.eip_line.specs.Printed.{IsStepped, PrintsRun}
 use Rattle.eip_line.specs.Versioned.{IsVersioned, version_line}
 use Rattle.eip_line.specs.declared.faults.ProgramFault.{ProgramFault}
-use Rattle.line_words.specs.declared.task.Task.{Task}
-use Rattle.line_words.specs.declared.task.Task.TheVariants as task
+use Rattle.command_lines.specs.declared.line_task.Task.{Task}
+use Rattle.command_lines.specs.declared.line_task.Task.TheVariants as task
 
 -- all that a task has to print is printed: all outcomes of a trace, the turns of a loop, that a line settles, or the version
 abbrev pub Prints : Task → Option (List ℕ) → Option (List ℕ) → Option (List ℕ) → Type 0

@@ -2,7 +2,7 @@
 use Rattle.std.specs.Prelude.{ℕ, Bool, true, List, codes, ◌++◌, Option, Result, Ok, Err}
 use Rattle.std.specs.Io.KnownBytes.{Appends}
 use Rattle.trace_stepper.specs.Written.{BeginsToWrite}
-use Rattle.version.specs.Version.{version_text}
+use Rattle.command_lines.specs.Version.{version_text}
 use Rattle.eip_line.specs.declared.faults.ProgramFault.{ProgramFault}
 use Rattle.eip_line.specs.declared.faults.ProgramFault.TheVariants as program
 

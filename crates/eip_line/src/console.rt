@@ -5,7 +5,7 @@ ghost use Rattle.trace_stepper.specs.Playing.{IsPlayed};
 ghost use Rattle.trace_stepper.specs.Written.{BeginsToWrite};
 ghost use Rattle.eip_line.specs.Printed.{longest_trace, IsStepped, IsTraceRead, IsTextFault};
 ghost use Rattle.eip_line.specs.Tasks.{HasFailed, IsDone, IsPerformed, IsReported};
-ghost use Rattle.line_words.specs.Tasks.{IsAlone, task_of};
+ghost use Rattle.command_lines.specs.LineTasks.{IsAlone, task_of};
 ghost use Rattle.eip_line.specs.Usage.{usage_text};
 
 use crate::FastDevice;
@@ -15,7 +15,7 @@ use crate::loops::print_turns;
 use crate::output::{flush, print_version, write_numbered};
 use crate::usage::misused;
 use cip_types::limits::LONGEST_TRACE;
-use line_words::{Misuse, Task, read_task};
+use command_lines::{Misuse, Task, read_line_task};
 use std::alloc::Global;
 use std::convert::AsStr;
 use std::io::{ErrorKind, Read, Write};
@@ -59,7 +59,7 @@ where
     ensures step { IsAlone (map S.text words.now) (codes "step") → result ≤ 1 }
     ensures misused { result ≡ 2 → task_of (map S.text words.now) ≡ None }
 {
-    match read_task(rt.alloc(), words) {
+    match read_line_task(rt.alloc(), words) {
         Ok(task) => status_of(err, perform(rt, task, reader, out)),
         Err(Misuse::Usage) => misused(err),
         Err(Misuse::OutOfMemory) => failed(err, ProgramFault::OutOfMemory),

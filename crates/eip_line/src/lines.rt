@@ -2,18 +2,18 @@
 
 ghost use Rattle.std.specs.Prelude.{◌≡◌, None, All, IfOk, map};
 ghost use Rattle.segment_world.specs.Configs.{world_fault};
-ghost use Rattle.settling.specs.Histories.{configs_of};
+ghost use Rattle.schedule_search.specs.Histories.{configs_of};
 ghost use Rattle.line_threads.specs.Accounts.{own_in, HasItsReceipts};
-ghost use Rattle.line_devices.specs.Devices.{line_configs};
+ghost use Rattle.line_setup.specs.Devices.{line_configs};
 ghost use Rattle.line_setup.specs.Scripts.{line_scripts};
 ghost use Rattle.eip_line.specs.Lined.{IsLined};
 
 use crate::FastDevice;
 use crate::faults::ProgramFault;
 use crate::output::flush;
+use command_lines::LineTask;
 use line_setup::{line_of, scripts};
 use line_threads::{LineFault, LineRun, Open, run_line};
-use line_words::LineTask;
 use segment_world::WorldFault;
 use settling::settle;
 use std::io::Write;

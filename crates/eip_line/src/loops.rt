@@ -5,7 +5,7 @@ ghost use Rattle.eip_line.specs.Looped.{IsLooped};
 use crate::faults::ProgramFault;
 use crate::output::{flush, write_numbered};
 use adapter_engine::FastAdapter;
-use line_words::LoopTask;
+use command_lines::LoopTask;
 use scanner_engine::FastScanner;
 use socket_loop::run_loop;
 use std::io::Write;

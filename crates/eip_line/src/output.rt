@@ -6,10 +6,10 @@ ghost use Rattle.trace_stepper.specs.Written.{IsTaken};
 ghost use Rattle.eip_line.specs.Versioned.{IsVersioned, version_line};
 
 use crate::faults::ProgramFault;
+use command_lines::VERSION;
 use itoa::Buffer;
 use std::io::Write;
 use trace_stepper::{NotTaken, write_text};
-use version::VERSION;
 
 /// Writes a line of a word and a number. Takes no memory.
 pub(crate) fn write_numbered<W: Write>(

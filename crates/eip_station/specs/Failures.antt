@@ -3,9 +3,9 @@ use Rattle.std.specs.Prelude.{ℕ, Bool, true, false}
 use Rattle.std.specs.declared.io.ErrorKind.{ErrorKind}
 use Rattle.std.specs.declared.io.ErrorKind.TheVariants.{OutOfMemory}
 use Rattle.station_port.specs.declared.fault.SocketCause.TheVariants as cause
-use Rattle.station_words.specs.declared.options.StationMisuse.TheVariants as misuse
-use Rattle.eip_station.specs.declared.traces.TracesFault.{TracesFault}
-use Rattle.eip_station.specs.declared.traces.TracesFault.TheVariants as traces
+use Rattle.command_lines.specs.declared.station_options.StationMisuse.TheVariants as misuse
+use Rattle.trace_commands.specs.declared.fault.TracesFault.{TracesFault}
+use Rattle.trace_commands.specs.declared.fault.TracesFault.TheVariants as traces
 use Rattle.eip_station.specs.declared.failure.Failure.{Failure}
 use Rattle.eip_station.specs.declared.failure.Failure.TheVariants as failure
 
@@ -17,11 +17,6 @@ traces_status traces.NoTrace = 3
 traces_status traces.Differs = 1
 traces_status traces.Write = 1
 traces_status traces.OutOfMemory = 7
-
--- why the file at this index is not read to its end: for lack of memory, or it cannot be read
-abbrev pub unread_fault : ℕ → ErrorKind → TracesFault
-unread_fault place OutOfMemory = traces.OutOfMemory
-unread_fault place _ = traces.Unread place
 
 -- why the file of a profile is not read to its end
 abbrev pub unread_failure : ErrorKind → Failure

@@ -6,7 +6,7 @@ use Rattle.port_streams.specs.declared.routes.Destination.{Destination}
 use Rattle.scanner_table.specs.declared.profile.SlotConfig.{SlotConfig}
 use Rattle.station.specs.declared.run.Ending.{Ending}
 use Rattle.station_port.specs.declared.place.StationPlace.{StationPlace}
-use Rattle.station_words.specs.declared.options.Options.{Options}
+use Rattle.command_lines.specs.declared.station_options.Options.{Options}
 
 -- the address of the options, or that of the profile
 abbrev pub given_or : Option Node → Node → Node

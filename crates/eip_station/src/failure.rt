@@ -3,16 +3,17 @@
 ghost use Rattle.std.specs.Prelude.{◌≡◌};
 ghost use Rattle.eip_station.specs.Failures.{is_reported, status_of, traces_status, unread_failure};
 
-use crate::traces::TracesFault;
 use cip_tables::NewFault;
 use cip_types::OutOfMemory;
+use command_lines::StationMisuse;
 use station::EarlyEnd;
+use station_files::StateFault;
 use station_port::{SocketCause, StationFault, StationSocket};
 use station_record::RecordFault;
-use station_words::StationMisuse;
 use std::alloc::{AllocError, AllocFailed};
 use std::io::ErrorKind;
 use thiserror::Error;
+use trace_commands::TracesFault;
 use trace_text::TraceFault;
 
 /// The line where an allocation was refused.
@@ -127,6 +128,16 @@ impl From<NewFault> for Failure {
             NewFault::OutOfMemory => Failure::OutOfMemory,
             NewFault::WrongKind => Failure::WrongKind,
             NewFault::Profile(first) => Failure::Profile(TraceFault::BadProfile(first.number())),
+        }
+    }
+}
+
+impl From<StateFault> for Failure {
+    fn from(fault: StateFault) -> Failure {
+        match fault {
+            StateFault::Unread => Failure::State,
+            StateFault::Unwritten => Failure::NoState,
+            StateFault::OutOfMemory => Failure::OutOfMemory,
         }
     }
 }

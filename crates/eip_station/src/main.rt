@@ -1,30 +1,18 @@
 //! The station program: an adapter or a scanner at a real address, whose run can be recorded and replayed.
 #![tactic(auto)]
 
-mod draining;
 mod failure;
-mod identity;
-mod inbox;
-mod moment;
 mod opening;
-mod outlets;
 mod profiles;
 mod program;
-mod record_file;
-mod record_queue;
-mod rim;
-mod states;
 mod stationing;
-mod threads;
-mod traces;
 mod usage;
 
 use failure::{Failure, NO_MEMORY, status_of};
-use rim::Rim;
+use station_rim::{Rim, begin_output};
 use std::io::Write;
 use std::process::ExitCode;
 use std::thread;
-use threads::begin_output;
 
 /// Performs what the command line requests, and ends with its status. A station has threads of their own for its input, its
 /// outputs and its record; they are not joined, and end with the program.
@@ -50,7 +38,7 @@ fn main(rt: HostRuntime) -> ExitCode {
         let Ok(input) = rim.input.share() else {
             return no_memory(rt.stderr());
         };
-        if thread::spawn(&rt, move || input.fill(&rt)).is_err() {
+        if thread::spawn(&rt, move || input.fill(&rt, rt.reader())).is_err() {
             return no_memory(rt.stderr());
         }
     }

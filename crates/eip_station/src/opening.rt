@@ -6,9 +6,9 @@ ghost use Rattle.eip_station.specs.Settings.{given_or, is_among, place_of, targe
 use crate::failure::Failure;
 use cip_tables::ScannerProfile;
 use cip_types::{Node, OutOfMemory};
+use command_lines::Options;
 use port_streams::Destination;
 use station_port::{StationPlace, StationPort};
-use station_words::Options;
 use std::alloc::Global;
 use std::net::Net;
 use std::rt::Clock;

@@ -1,12 +1,11 @@
 //! Profiles in files.
 
-use crate::draining::report_line;
 use crate::failure::{Failure, unread};
-use crate::rim::Rim;
 use adapter_engine::FastAdapter;
 use cip_tables::{AnyDevice, Config};
 use cip_types::OutOfMemory;
 use scanner_engine::FastScanner;
+use station_rim::{Rim, report_line};
 use std::fs;
 use std::rt::Files;
 use std::sync::Wait;

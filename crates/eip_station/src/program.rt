@@ -1,11 +1,10 @@
 //! The program, at its command line and its streams.
 
 use crate::failure::{Failure, NO_MEMORY, is_reported, status_of, subject_of};
-use crate::rim::{Needs, Rim};
 use crate::stationing::run_task;
-use crate::traces::{explain, pcap, replay};
 use crate::usage::USAGE;
-use station_words::{ProgramTask, read_task};
+use command_lines::{ProgramTask, VERSION, read_station_task};
+use station_rim::Rim;
 use std::alloc::Global;
 use std::env::{self, Env};
 use std::fs::File;
@@ -15,7 +14,18 @@ use std::process::ExitCode;
 use std::random::RandomSource;
 use std::rt::{Clock, Files};
 use std::sync::Wait;
-use version::VERSION;
+use trace_commands::{explain, pcap, replay};
+
+/// The threads that a command line needs.
+#[derive(Clone, Copy)]
+pub struct Needs {
+    /// Those of a station's outputs.
+    pub station: bool,
+    /// That of its input.
+    pub input: bool,
+    /// That of its record.
+    pub record: bool,
+}
 
 /// Performs what the command line requests, and answers the status. A failure is one line on `err`.
 pub fn run<R, O, E>(rt: R, rim: Rim, out: O, err: E) -> ExitCode
@@ -45,7 +55,7 @@ pub fn needs_of<R: AllocGlobal + Env>(rt: &R) -> Needs {
     let Some(words) = words_of(rt) else {
         return none;
     };
-    match read_task(words.as_slice()) {
+    match read_station_task(words.as_slice()) {
         Ok(ProgramTask::Station(task)) => Needs {
             station: true,
             input: !task.options.no_input,
@@ -67,7 +77,7 @@ where
     O: Write + Drop,
     E: Write,
 {
-    match read_task(words) {
+    match read_station_task(words) {
         Ok(ProgramTask::Station(task)) => run_task(rt, words, task, &rim),
         Ok(task) => {
             let done = write(&rt, words, task, out);

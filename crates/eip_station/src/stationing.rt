@@ -3,32 +3,26 @@
 ghost use Rattle.std.specs.Prelude.{◌≡◌};
 ghost use Rattle.eip_station.specs.Settings.{ending_of, ms_of};
 
-use crate::draining::{drain_lines, drain_record, report_line};
 use crate::failure::{Failure, NO_MEMORY};
-use crate::identity::{name_of, stem_of};
-use crate::moment::push_moment;
 use crate::opening::{place_of, scanner_port};
 use crate::profiles::{FastDevice, incarnation_of, profile_of, with_incarnation};
 use crate::program::line_of;
-use crate::record_file::place_of_record;
-use crate::record_queue::Entries;
-use crate::rim::Rim;
-use crate::states::begin_in_file;
 use cip_tables::{Config, Device};
+use command_lines::{Options, StationTask, VERSION};
 use list_identity::StationIdentity;
 use socket_port::SystemClock;
 use station::{Ending, Station, StationObserver, Voice};
+use station_files::{begin_in_file, name_of, place_of_record, push_moment, stem_of};
 use station_lines::NoLines;
 use station_port::{StationPlace, StationPort};
 use station_record::Recorder;
+use station_rim::{Entries, Rim, drain_lines, drain_record, report_line};
 use station_state::StationState;
-use station_words::{Options, StationTask};
 use std::fs::File;
 use std::net::Net;
 use std::random::RandomSource;
 use std::rt::{Clock, Files};
 use std::sync::Wait;
-use version::VERSION;
 
 /// The mask of a network of one address.
 const NO_NETWORK: u32 = 0xFFFF_FFFF;
@@ -116,7 +110,8 @@ where
     };
     match begin_in_file(&setting.rt, path.as_str(), options.incarnation, own) {
         Ok(state) => Ok(state),
-        Err(failure) => {
+        Err(fault) => {
+            let failure = Failure::from(fault);
             if matches!(failure, Failure::State | Failure::NoState) {
                 let line = format!(in alloc; "eip_station: {path} {failure}\n")?;
                 report_line(setting.rt, setting.rim, line.as_bytes());

@@ -1,6 +1,6 @@
 //! The field device, and the network between it and a scanner: in a product these are sockets.
 
-use crate::gateway::GATEWAY_NODE;
+use crate::gateway::{GATEWAY_NODE, Gateway};
 use eip::{Answer, Config, Device, Event, FastAdapter, Items, NewFault, Node, StepFault};
 use example_profiles::adapter;
 use std::alloc::Global;
@@ -62,15 +62,11 @@ fn hand_over<D: Device>(
     })?))
 }
 
-/// Milliseconds pass at both, and each takes the datagrams that the other sends.
-pub fn exchange<S: Device>(
-    scanner: &mut S,
-    device: &mut FastAdapter,
-    ms: u32,
-) -> Result<(), StepFault> {
+/// Milliseconds pass at the gateway and at the field device, and each takes the datagrams that the other sends.
+pub fn exchange(gateway: &mut Gateway, device: &mut FastAdapter, ms: u32) -> Result<(), StepFault> {
     let inputs = device.step(&Event::Tick { ms })?;
-    let outputs = scanner.step(&Event::Tick { ms })?;
-    deliver(&inputs, FIELD_NODE, scanner);
+    let outputs = gateway.pass(ms)?;
+    deliver(&inputs, FIELD_NODE, &mut gateway.scanner);
     deliver(&outputs, GATEWAY_NODE, device);
     Ok(())
 }

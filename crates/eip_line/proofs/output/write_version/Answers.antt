@@ -1,6 +1,6 @@
 use Rattle.std.proofs.Common.{◌≡◌}
 use Rattle.std.proofs.lemmas.Result.{err_from_is_err_and}
-use Rattle.version.specs.Version.{version_text}
+use Rattle.command_lines.specs.Version.{version_text}
 use Rattle.eip_line.proofs.Runs.{begun, begun_within, taken_at_last}
 use Rattle.eip_line.proofs.output.write_version.Goals as goal
 

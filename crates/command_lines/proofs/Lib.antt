@@ -1,0 +1,5 @@
+mod Lines
+mod LineNumbers
+mod Samples
+mod AddressWords
+mod OptionWords

@@ -1,0 +1,5 @@
+pub mod LineCommands
+pub mod LineTasks
+pub mod StationOptions
+pub mod StationTasks
+pub mod Version

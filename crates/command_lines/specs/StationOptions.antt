@@ -1,0 +1,150 @@
+-- The options of a station, word by word.
+use Rattle.std.specs.Prelude.{ℕ, ◌==◌, ◌||◌, nat_lt, if◌then◌else◌, true, false, List, [], ◌∷◌, codes, length, option_and_then, option_map, Option, Some, None, Result, Ok, Err}
+use Rattle.cip_types.specs.declared.names.Node.{Node}
+use Rattle.trace_words.specs.Words.{number_of, node_of}
+use Rattle.trace_words.specs.Reader.{Meanings, meaning}
+use Rattle.command_lines.specs.declared.station_options.Options.{Options}
+use Rattle.command_lines.specs.declared.station_options.Setting.{Setting}
+use Rattle.command_lines.specs.declared.station_options.Setting.TheVariants as setting
+use Rattle.command_lines.specs.declared.station_options.Flag.{Flag}
+use Rattle.command_lines.specs.declared.station_options.Flag.TheVariants as flag
+use Rattle.command_lines.specs.declared.station_options.OptionName.{OptionName}
+use Rattle.command_lines.specs.declared.station_options.OptionName.TheVariants as name
+use Rattle.command_lines.specs.declared.station_options.StationMisuse.{StationMisuse}
+use Rattle.command_lines.specs.declared.station_options.StationMisuse.TheVariants as misuse
+
+-- VALUES
+
+-- a number from 1 to this one
+abbrev pub number_within : ℕ → List ℕ → Option ℕ
+number_within most word = option_and_then (λ number. if (number == 0) || nat_lt most number then None else Some number) (number_of 64 word)
+
+-- a port
+abbrev pub port_of : List ℕ → Option ℕ
+port_of word = number_within 65535 word
+
+-- a time in seconds
+abbrev pub seconds_of : List ℕ → Option ℕ
+seconds_of word = number_within 1000000000 word
+
+-- an incarnation
+abbrev pub incarnation_of : List ℕ → Option ℕ
+incarnation_of word = number_within 255 word
+
+-- a serial number
+abbrev pub serial_of : List ℕ → Option ℕ
+serial_of word = number_within 4294967295 word
+
+-- a number up to this one
+abbrev pub number_up_to : ℕ → List ℕ → Option ℕ
+number_up_to most word = option_and_then (λ number. if nat_lt most number then None else Some number) (number_of 64 word)
+
+-- how long a stream may be silent, in seconds; 0: without end
+abbrev pub inactivity_of : List ℕ → Option ℕ
+inactivity_of word = number_up_to 3600 word
+
+-- OPTIONS
+
+-- the options by their names
+abbrev pub option_meanings : Meanings (Option OptionName)
+option_meanings =
+    (codes "--address", Some (name.Valued setting.Address))
+    ∷ (codes "--tcp", Some (name.Valued setting.Tcp))
+    ∷ (codes "--udp", Some (name.Valued setting.Udp))
+    ∷ (codes "--peer-udp", Some (name.Valued setting.PeerUdp))
+    ∷ (codes "--seconds", Some (name.Valued setting.Seconds))
+    ∷ (codes "--record", Some (name.Valued setting.Record))
+    ∷ (codes "--state", Some (name.Valued setting.State))
+    ∷ (codes "--incarnation", Some (name.Valued setting.Incarnation))
+    ∷ (codes "--inactivity", Some (name.Valued setting.Inactivity))
+    ∷ (codes "--serial", Some (name.Valued setting.Serial))
+    ∷ (codes "--name", Some (name.Valued setting.Name))
+    ∷ (codes "--multicast", Some (name.Alone flag.Multicast))
+    ∷ (codes "--no-input", Some (name.Alone flag.NoInput))
+    ∷ (codes "--quiet", Some (name.Alone flag.Quiet))
+    ∷ []
+
+unfoldable pub option_of : List ℕ → Option OptionName
+option_of word = meaning option_meanings None word
+
+-- the usual values
+abbrev pub usual : Options
+usual = record { address = None; tcp = 44818; udp = 2222; peer_udp = 2222; seconds = None; record_from_end = None; state_from_end = None; incarnation = None; inactivity_s = 120; serial = None; name_from_end = None; multicast = false; no_input = false; quiet = false }
+
+-- one that has no value
+abbrev pub with_flag : Options → Flag → Options
+with_flag options flag.Multicast = record options { multicast = true }
+with_flag options flag.NoInput = record options { no_input = true }
+with_flag options flag.Quiet = record options { quiet = true }
+
+abbrev pub with_address : Options → ℕ → Option Node → Result Options StationMisuse
+with_address options left None = Err (misuse.BadAddress left)
+with_address options left (Some address) = Ok (record options { address = Some address })
+
+-- a number for one of the options that are numbers and no ports
+abbrev pub with_number : Options → Setting → List ℕ → Option Options
+with_number options setting.Seconds word = option_map (λ seconds. record options { seconds = Some seconds }) (seconds_of word)
+with_number options setting.Incarnation word = option_map (λ incarnation. record options { incarnation = Some incarnation }) (incarnation_of word)
+with_number options setting.Inactivity word = option_map (λ seconds. record options { inactivity_s = seconds }) (inactivity_of word)
+with_number options setting.Serial word = option_map (λ serial. record options { serial = Some serial }) (serial_of word)
+with_number options other word = None
+
+abbrev pub with_number_word : ℕ → Option Options → Result Options StationMisuse
+with_number_word left None = Err (misuse.BadValue left)
+with_number_word left (Some options) = Ok options
+
+-- a file for one of the options that are files, from which on so many words are left
+abbrev pub with_file : Options → Setting → ℕ → Options
+with_file options setting.Record left = record options { record_from_end = Some left }
+with_file options setting.State left = record options { state_from_end = Some left }
+with_file options other left = options
+
+-- a name of 1 to 32 bytes
+abbrev pub with_name : Options → List ℕ → ℕ → Result Options StationMisuse
+with_name options word left = if (length word == 0) || nat_lt 32 (length word) then Err (misuse.BadValue left) else Ok (record options { name_from_end = Some left })
+
+-- a port for one of the options that are ports
+abbrev pub with_port : Options → Setting → ℕ → Options
+with_port options setting.Tcp port = record options { tcp = port }
+with_port options setting.Udp port = record options { udp = port }
+with_port options setting.PeerUdp port = record options { peer_udp = port }
+with_port options other port = options
+
+abbrev pub with_port_word : Options → Setting → ℕ → Option ℕ → Result Options StationMisuse
+with_port_word options given left None = Err (misuse.BadValue left)
+with_port_word options given left (Some port) = Ok (with_port options given port)
+
+-- the options with the value of one of them; so many words are left, from the value on
+abbrev pub with_value : Options → Setting → List ℕ → ℕ → Result Options StationMisuse
+with_value options setting.Address word left = with_address options left (node_of word)
+with_value options setting.Record word left = Ok (with_file options setting.Record left)
+with_value options setting.State word left = Ok (with_file options setting.State left)
+with_value options setting.Name word left = with_name options word left
+with_value options setting.Seconds word left = with_number_word left (with_number options setting.Seconds word)
+with_value options setting.Incarnation word left = with_number_word left (with_number options setting.Incarnation word)
+with_value options setting.Inactivity word left = with_number_word left (with_number options setting.Inactivity word)
+with_value options setting.Serial word left = with_number_word left (with_number options setting.Serial word)
+with_value options setting.Tcp word left = with_port_word options setting.Tcp left (port_of word)
+with_value options setting.Udp word left = with_port_word options setting.Udp left (port_of word)
+with_value options setting.PeerUdp word left = with_port_word options setting.PeerUdp left (port_of word)
+
+-- one of three: the word names no option, one without a value, or one with a value
+abbrev pub chosen : {A : Type 0} → A → (Flag → A) → (Setting → A) → Option OptionName → A
+chosen unknown lone valued None = unknown
+chosen unknown lone valued (Some (name.Alone given)) = lone given
+chosen unknown lone valued (Some (name.Valued named)) = valued named
+
+-- an option behind another
+abbrev pub and_then : {A B : Type 0} → (A → Result B StationMisuse) → Result A StationMisuse → Result B StationMisuse
+and_then next (Ok value) = next value
+and_then next (Err fault) = Err fault
+
+-- the options with those of the words
+abbrev pub options_after : Options → List (List ℕ) → Result Options StationMisuse
+options_after options [] = Ok options
+options_after options (first ∷ []) = chosen (Err (misuse.NoSuchOption 1)) (λ given. Ok (with_flag options given)) (λ _. Err (misuse.NoValue 1)) (option_of first)
+options_after options (first ∷ value ∷ rest) =
+    chosen (Err (misuse.NoSuchOption (length (first ∷ value ∷ rest))))
+    (λ given. options_after (with_flag options given) (value ∷ rest))
+    (λ named. and_then (λ next. options_after next rest) (with_value options named value (length (value ∷ rest))))
+    (option_of first)

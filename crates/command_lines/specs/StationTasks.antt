@@ -1,0 +1,63 @@
+-- The task that a command line requests.
+use Rattle.std.specs.Prelude.{ℕ, List, [], ◌∷◌, codes, length, Bool, false, true, Option, Some, None, Result, Ok, Err}
+use Rattle.trace_words.specs.Reader.{Meanings, meaning}
+use Rattle.command_lines.specs.StationOptions.{usual, options_after}
+use Rattle.command_lines.specs.declared.station_options.Options.{Options}
+use Rattle.command_lines.specs.declared.station_options.StationMisuse.{StationMisuse}
+use Rattle.command_lines.specs.declared.station_options.StationMisuse.TheVariants as misuse
+use Rattle.command_lines.specs.declared.station_task.StationCommand.{StationCommand}
+use Rattle.command_lines.specs.declared.station_task.StationCommand.TheVariants as command
+use Rattle.command_lines.specs.declared.station_task.ProgramTask.{ProgramTask}
+use Rattle.command_lines.specs.declared.station_task.ProgramTask.TheVariants as task
+
+-- the commands by their names
+abbrev pub command_meanings : Meanings (Option StationCommand)
+command_meanings =
+    (codes "adapter", Some command.Adapter)
+    ∷ (codes "scanner", Some command.Scanner)
+    ∷ (codes "replay", Some command.Replay)
+    ∷ (codes "pcap", Some command.Pcap)
+    ∷ (codes "explain", Some command.Explain)
+    ∷ (codes "--help", Some command.Help)
+    ∷ (codes "-h", Some command.Help)
+    ∷ (codes "--version", Some command.Version)
+    ∷ []
+
+unfoldable pub command_of : List ℕ → Option StationCommand
+command_of word = meaning command_meanings None word
+
+-- an adapter or a scanner, with its options
+abbrev pub station_with : Bool → Result Options StationMisuse → Result ProgramTask StationMisuse
+station_with scanner (Ok options) = Ok (task.Station (record { scanner = scanner; options = options }))
+station_with scanner (Err fault) = Err fault
+
+-- a station, whose words are the name of its profile and its options
+abbrev pub station_of : Bool → List (List ℕ) → Result ProgramTask StationMisuse
+station_of scanner [] = Err misuse.NoFile
+station_of scanner (file ∷ rest) = station_with scanner (options_after usual rest)
+
+-- a task whose words are the names of its files
+abbrev pub of_files : ProgramTask → List (List ℕ) → Result ProgramTask StationMisuse
+of_files given [] = Err misuse.NoFile
+of_files given (file ∷ files) = Ok given
+
+-- the task of a command with the words behind it
+abbrev pub task_with : StationCommand → List (List ℕ) → Result ProgramTask StationMisuse
+task_with command.Help words = Ok task.Help
+task_with command.Version words = Ok task.Version
+task_with command.Adapter words = station_of false words
+task_with command.Scanner words = station_of true words
+task_with command.Replay words = of_files task.Replay words
+task_with command.Pcap words = of_files task.Pcap words
+task_with command.Explain words = of_files task.Explain words
+
+-- the task of a command, if the word names one
+abbrev pub task_named : Option StationCommand → ℕ → List (List ℕ) → Result ProgramTask StationMisuse
+task_named None left rest = Err (misuse.NoSuchCommand left)
+task_named (Some named) left rest = task_with named rest
+
+-- the task that the words request, the first of which is the program's own name
+abbrev pub task_of : List (List ℕ) → Result ProgramTask StationMisuse
+task_of [] = Err misuse.NoCommand
+task_of (program ∷ []) = Err misuse.NoCommand
+task_of (program ∷ word ∷ rest) = task_named (command_of word) (length (word ∷ rest)) rest

@@ -1,0 +1,80 @@
+//! Values of options: addresses, ports and times.
+
+ghost use Rattle.std.specs.Prelude.{◌≡◌};
+ghost use Rattle.command_lines.specs.StationOptions.{inactivity_of, incarnation_of, port_of, seconds_of, serial_of};
+ghost use Rattle.trace_words.specs.Words.{node_of};
+
+use cip_types::Node;
+use std::net::Ipv4Addr;
+use trace_words::read_u64;
+
+/// The longest time of a station, in seconds: some 31 years.
+const LONGEST_S: u64 = 1_000_000_000;
+
+/// The longest time for which an adapter's stream may be silent, in seconds.
+const LONGEST_INACTIVITY_S: u64 = 3_600;
+
+/// The address of a word: four numbers below 256 with dots between them.
+pub fn address_of(word: &str) -> Option<Node>
+    ensures { result ≡ node_of word.now }
+{
+    match word.parse::<Ipv4Addr>() {
+        Ok(address) => Some(Node(address.to_bits())),
+        Err(_) => None,
+    }
+}
+
+/// The port of a word: 1 to 65,535.
+pub fn port_of(word: &str) -> Option<u16>
+    ensures { result ≡ port_of word.now }
+{
+    let number = read_u64(word)?;
+    if number == 0 || number > 65_535 {
+        return None;
+    }
+    Some(number as u16)
+}
+
+/// The seconds of a word: 1 to 1,000,000,000.
+pub fn seconds_of(word: &str) -> Option<u32>
+    ensures { result ≡ seconds_of word.now }
+{
+    let number = read_u64(word)?;
+    if number == 0 || number > LONGEST_S {
+        return None;
+    }
+    Some(number as u32)
+}
+
+/// The incarnation of a word: 1 to 255.
+pub fn incarnation_of(word: &str) -> Option<u8>
+    ensures { result ≡ incarnation_of word.now }
+{
+    let number = read_u64(word)?;
+    if number == 0 || number > 255 {
+        return None;
+    }
+    Some(number as u8)
+}
+
+/// The serial number of a word: 1 to 4,294,967,295.
+pub fn serial_of(word: &str) -> Option<u32>
+    ensures { result ≡ serial_of word.now }
+{
+    let number = read_u64(word)?;
+    if number == 0 || number > 4_294_967_295 {
+        return None;
+    }
+    Some(number as u32)
+}
+
+/// The seconds of a word: 0 to 3,600.
+pub fn inactivity_of(word: &str) -> Option<u16>
+    ensures { result ≡ inactivity_of word.now }
+{
+    let number = read_u64(word)?;
+    if number > LONGEST_INACTIVITY_S {
+        return None;
+    }
+    Some(number as u16)
+}

@@ -1,0 +1,331 @@
+//! The options of a station.
+
+ghost use Rattle.std.specs.Prelude.{◌≡◌, ◌≤◌, ◌+◌, ◌∷◌, Err, true, length, map, IfOk, IfErr};
+ghost use Rattle.command_lines.specs.StationOptions.{option_of, options_after, usual, with_file, with_flag, with_name, with_number, with_port, with_value};
+
+use crate::station_numbers::{
+    address_of, inactivity_of, incarnation_of, port_of, seconds_of, serial_of,
+};
+use cip_types::Node;
+use cip_types::limits::{TCP_PORT, UDP_PORT};
+use std::convert::AsStr;
+use thiserror::Error;
+
+/// The seconds for which an adapter's stream may be silent, if no option says it.
+///
+/// Volume 2, chapter 5, encapsulation inactivity timeout of the TCP/IP Interface object.
+const USUAL_INACTIVITY_S: u16 = 120;
+
+/// The longest name of a station, in bytes.
+const LONGEST_NAME: usize = 32;
+
+/// The options of a station, with the usual values of those that are left out.
+#[derive(Clone, Copy, PartialEq, Eq)]
+pub struct Options {
+    /// The address of the sockets; the profile's if it is left out.
+    pub address: Option<Node>,
+    /// An adapter's TCP port, or that of a scanner's targets.
+    pub tcp: u16,
+    /// The station's UDP port.
+    pub udp: u16,
+    /// The UDP port of the station's peers.
+    pub peer_udp: u16,
+    /// The seconds until the station ends.
+    pub seconds: Option<u32>,
+    /// The number of words from the record's file on.
+    pub record_from_end: Option<usize>,
+    /// The number of words from the file of the station's state on.
+    pub state_from_end: Option<usize>,
+    /// The incarnation of this start.
+    pub incarnation: Option<u8>,
+    /// The seconds for which an adapter's stream may be silent; 0: without end.
+    pub inactivity_s: u16,
+    /// The station's serial number.
+    pub serial: Option<u32>,
+    /// The number of words from the station's name on.
+    pub name_from_end: Option<usize>,
+    /// Whether T->O datagrams go once to the address of their group.
+    pub multicast: bool,
+    /// Whether the standard input is not read.
+    pub no_input: bool,
+    /// Whether only faults are reported.
+    pub quiet: bool,
+}
+
+/// The name of an option that has a value.
+#[derive(Clone, Copy, PartialEq, Eq)]
+pub enum Setting {
+    Address,
+    Tcp,
+    Udp,
+    PeerUdp,
+    Seconds,
+    Record,
+    State,
+    Incarnation,
+    Inactivity,
+    Serial,
+    Name,
+}
+
+/// The name of an option that has no value.
+#[derive(Clone, Copy, PartialEq, Eq)]
+pub enum Flag {
+    Multicast,
+    NoInput,
+    Quiet,
+}
+
+/// The name of an option.
+#[derive(Clone, Copy, PartialEq, Eq)]
+pub enum OptionName {
+    /// An option without a value.
+    Alone(Flag),
+    /// An option with a value, which is the next word.
+    Valued(Setting),
+}
+
+/// Why words request no task. A number says how many words are left, from the wrong one on.
+#[derive(Clone, Copy, Debug, PartialEq, Eq, Error)]
+pub enum StationMisuse {
+    /// There is no command.
+    #[error("a command is missing")]
+    NoCommand,
+    /// The word is no command.
+    #[error("no such command")]
+    NoSuchCommand(usize),
+    /// The command needs the name of a file.
+    #[error("the name of a file is missing")]
+    NoFile,
+    /// The word is no option.
+    #[error("no such option")]
+    NoSuchOption(usize),
+    /// The option needs a value.
+    #[error("the option needs a value")]
+    NoValue(usize),
+    /// The word is no value of its option.
+    #[error("no such value of this option")]
+    BadValue(usize),
+    /// The word is no address.
+    #[error("no address")]
+    BadAddress(usize),
+}
+
+/// The usual values.
+fn usual() -> Options
+    ensures { result ≡ usual }
+{
+    Options {
+        address: None,
+        tcp: TCP_PORT,
+        udp: UDP_PORT,
+        peer_udp: UDP_PORT,
+        seconds: None,
+        record_from_end: None,
+        state_from_end: None,
+        incarnation: None,
+        inactivity_s: USUAL_INACTIVITY_S,
+        serial: None,
+        name_from_end: None,
+        multicast: false,
+        no_input: false,
+        quiet: false,
+    }
+}
+
+/// The option that a word names.
+#[tactic(auto, unfolding(crate::specs::StationOptions::option_of))]
+fn option_of(word: &str) -> Option<OptionName>
+    ensures { result ≡ option_of word.now }
+{
+    match word {
+        "--address" => Some(OptionName::Valued(Setting::Address)),
+        "--tcp" => Some(OptionName::Valued(Setting::Tcp)),
+        "--udp" => Some(OptionName::Valued(Setting::Udp)),
+        "--peer-udp" => Some(OptionName::Valued(Setting::PeerUdp)),
+        "--seconds" => Some(OptionName::Valued(Setting::Seconds)),
+        "--record" => Some(OptionName::Valued(Setting::Record)),
+        "--state" => Some(OptionName::Valued(Setting::State)),
+        "--incarnation" => Some(OptionName::Valued(Setting::Incarnation)),
+        "--inactivity" => Some(OptionName::Valued(Setting::Inactivity)),
+        "--serial" => Some(OptionName::Valued(Setting::Serial)),
+        "--name" => Some(OptionName::Valued(Setting::Name)),
+        "--multicast" => Some(OptionName::Alone(Flag::Multicast)),
+        "--no-input" => Some(OptionName::Alone(Flag::NoInput)),
+        "--quiet" => Some(OptionName::Alone(Flag::Quiet)),
+        _ => None,
+    }
+}
+
+/// The options that the words give. A later word takes the place of an earlier one for the same option.
+///
+/// The faults, at the first word that is wrong: `NoSuchOption`, `NoValue`, `BadValue`, `BadAddress`.
+pub fn read_options<S: AsStr>(words: &[S]) -> Result<Options, StationMisuse>
+    ensures { result ≡ options_after usual (map S.text words.now) }
+{
+    let mut options = usual();
+    let mut rest = words;
+    while let Some((name, after)) = rest.split_first() {
+        let (next, behind) = with_option(options, name.as_str(), rest.len(), after)?;
+        options = next;
+        rest = behind;
+    }
+    Ok(options)
+}
+
+/// The options with the one of a word, and the words behind it and its value. So many words are left, from this one on.
+#[tactic(auto, using(crate::proofs::OptionWords::unknown_left, crate::proofs::OptionWords::flagged, crate::proofs::OptionWords::lone_left, crate::proofs::OptionWords::valued_on, crate::proofs::OptionWords::valued_not))]
+fn with_option<'a, S: AsStr>(
+    options: Options,
+    name: &str,
+    left: usize,
+    after: &'a [S],
+) -> Result<(Options, &'a [S]), StationMisuse>
+    requires { left ≡ length after.now + 1 }
+    ensures taken { IfOk result (λ next. options_after options (name.now ∷ map S.text after.now)
+        ≡ options_after next.0 (map S.text next.1.now)) }
+    ensures shorter { IfOk result (λ next. length next.1.now ≤ length after.now) }
+    ensures fault { IfErr result (λ fault. options_after options (name.now ∷ map S.text after.now) ≡ Err fault) }
+{
+    match option_of(name) {
+        None => Err(StationMisuse::NoSuchOption(left)),
+        Some(OptionName::Alone(flag)) => Ok((with_flag(options, flag), after)),
+        Some(OptionName::Valued(setting)) => {
+            let Some((value, behind)) = after.split_first() else {
+                return Err(StationMisuse::NoValue(left));
+            };
+            match with_value(options, setting, value.as_str(), after.len()) {
+                Ok(next) => Ok((next, behind)),
+                Err(misuse) => Err(misuse),
+            }
+        }
+    }
+}
+
+/// The options with one that has no value.
+fn with_flag(options: Options, flag: Flag) -> Options
+    ensures { result ≡ with_flag options flag }
+{
+    match flag {
+        Flag::Multicast => Options {
+            multicast: true,
+            ..options
+        },
+        Flag::NoInput => Options {
+            no_input: true,
+            ..options
+        },
+        Flag::Quiet => Options {
+            quiet: true,
+            ..options
+        },
+    }
+}
+
+/// The options with a value for one of them; so many words are left, from the value on.
+fn with_value(
+    options: Options,
+    setting: Setting,
+    word: &str,
+    left: usize,
+) -> Result<Options, StationMisuse>
+    ensures { result ≡ with_value options setting word.now left }
+{
+    match setting {
+        Setting::Address => match address_of(word) {
+            Some(address) => Ok(Options {
+                address: Some(address),
+                ..options
+            }),
+            None => Err(StationMisuse::BadAddress(left)),
+        },
+        Setting::Record | Setting::State => Ok(with_file(options, setting, left)),
+        Setting::Name => with_name(options, word, left),
+        Setting::Tcp | Setting::Udp | Setting::PeerUdp => match port_of(word) {
+            Some(port) => Ok(with_port(options, setting, port)),
+            None => Err(StationMisuse::BadValue(left)),
+        },
+        Setting::Seconds | Setting::Incarnation | Setting::Inactivity | Setting::Serial => {
+            match with_number(options, setting, word) {
+                Some(options) => Ok(options),
+                None => Err(StationMisuse::BadValue(left)),
+            }
+        }
+    }
+}
+
+/// The options with the file of one of them, from which on so many words are left.
+fn with_file(options: Options, setting: Setting, left: usize) -> Options
+    ensures { result ≡ with_file options setting left }
+{
+    match setting {
+        Setting::Record => Options {
+            record_from_end: Some(left),
+            ..options
+        },
+        Setting::State => Options {
+            state_from_end: Some(left),
+            ..options
+        },
+        _ => options,
+    }
+}
+
+/// The options with a name, from which on so many words are left: it has 1 to 32 bytes.
+fn with_name(options: Options, word: &str, left: usize) -> Result<Options, StationMisuse>
+    ensures { result ≡ with_name options word.now left }
+{
+    if word.is_empty() || word.len() > LONGEST_NAME {
+        return Err(StationMisuse::BadValue(left));
+    }
+    Ok(Options {
+        name_from_end: Some(left),
+        ..options
+    })
+}
+
+/// The options with a number for one of them, which is not a port; None if the word is no such number.
+fn with_number(options: Options, setting: Setting, word: &str) -> Option<Options>
+    ensures { result ≡ with_number options setting word.now }
+{
+    match setting {
+        Setting::Seconds => Some(Options {
+            seconds: Some(seconds_of(word)?),
+            ..options
+        }),
+        Setting::Incarnation => Some(Options {
+            incarnation: Some(incarnation_of(word)?),
+            ..options
+        }),
+        Setting::Inactivity => Some(Options {
+            inactivity_s: inactivity_of(word)?,
+            ..options
+        }),
+        Setting::Serial => Some(Options {
+            serial: Some(serial_of(word)?),
+            ..options
+        }),
+        _ => None,
+    }
+}
+
+/// The options with a port for one of them.
+fn with_port(options: Options, setting: Setting, port: u16) -> Options
+    ensures { result ≡ with_port options setting port }
+{
+    match setting {
+        Setting::Tcp => Options {
+            tcp: port,
+            ..options
+        },
+        Setting::Udp => Options {
+            udp: port,
+            ..options
+        },
+        Setting::PeerUdp => Options {
+            peer_udp: port,
+            ..options
+        },
+        _ => options,
+    }
+}

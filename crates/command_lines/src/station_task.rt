@@ -1,0 +1,126 @@
+//! The task that a command line requests.
+
+ghost use Rattle.std.specs.Prelude.{◌≡◌, map};
+ghost use Rattle.command_lines.specs.StationTasks.{command_of, of_files, station_of, task_of, task_with};
+
+use crate::station_options::{Options, StationMisuse, read_options};
+use std::convert::AsStr;
+
+/// A command of the program.
+#[derive(Clone, Copy, PartialEq, Eq)]
+pub enum StationCommand {
+    /// Serves a profile.
+    Adapter,
+    /// Keeps the connections of a profile open.
+    Scanner,
+    /// Plays a trace.
+    Replay,
+    /// Writes a trace as a capture file.
+    Pcap,
+    /// Explains a trace in words.
+    Explain,
+    /// Prints how the program is used.
+    Help,
+    /// Prints which version of the program it is.
+    Version,
+}
+
+/// A station: whether it is a scanner, and its options. Its profile is the third word.
+#[derive(Clone, Copy, PartialEq, Eq)]
+pub struct StationTask {
+    pub scanner: bool,
+    pub options: Options,
+}
+
+/// The task that a command line requests.
+#[derive(Clone, Copy, PartialEq, Eq)]
+pub enum ProgramTask {
+    /// Prints how the program is used.
+    Help,
+    /// Runs a station.
+    Station(StationTask),
+    /// Prints which version of the program it is.
+    Version,
+    /// Plays the trace of the files from the third word on.
+    Replay,
+    /// Writes the trace of the files from the third word on as a capture file.
+    Pcap,
+    /// Tells the trace of the files from the third word on in words.
+    Explain,
+}
+
+/// The command that a word names.
+#[tactic(auto, unfolding(crate::specs::StationTasks::command_of))]
+fn command_of(word: &str) -> Option<StationCommand>
+    ensures { result ≡ command_of word.now }
+{
+    match word {
+        "adapter" => Some(StationCommand::Adapter),
+        "scanner" => Some(StationCommand::Scanner),
+        "replay" => Some(StationCommand::Replay),
+        "pcap" => Some(StationCommand::Pcap),
+        "explain" => Some(StationCommand::Explain),
+        "--help" => Some(StationCommand::Help),
+        "-h" => Some(StationCommand::Help),
+        "--version" => Some(StationCommand::Version),
+        _ => None,
+    }
+}
+
+/// The task that the words request. The first word is the program's own name, the second the command, the third the name
+/// of a file. Options follow the profile of a station, and more files may follow that of a trace.
+///
+/// The faults, in order: `NoCommand`, `NoSuchCommand`, `NoFile`, and those of the options at the first word that is
+/// wrong. The words behind `--help` and `--version` are not read.
+pub fn read_station_task<S: AsStr>(words: &[S]) -> Result<ProgramTask, StationMisuse>
+    ensures { result ≡ task_of (map S.text words.now) }
+{
+    let Some((_program, words)) = words.split_first() else {
+        return Err(StationMisuse::NoCommand);
+    };
+    let Some((word, rest)) = words.split_first() else {
+        return Err(StationMisuse::NoCommand);
+    };
+    match command_of(word.as_str()) {
+        Some(command) => task_with(command, rest),
+        None => Err(StationMisuse::NoSuchCommand(words.len())),
+    }
+}
+
+/// The task of a command with the words behind it.
+fn task_with<S: AsStr>(command: StationCommand, words: &[S]) -> Result<ProgramTask, StationMisuse>
+    ensures { result ≡ task_with command (map S.text words.now) }
+{
+    match command {
+        StationCommand::Adapter => station_of(false, words),
+        StationCommand::Scanner => station_of(true, words),
+        StationCommand::Replay => of_files(ProgramTask::Replay, words),
+        StationCommand::Pcap => of_files(ProgramTask::Pcap, words),
+        StationCommand::Explain => of_files(ProgramTask::Explain, words),
+        StationCommand::Help => Ok(ProgramTask::Help),
+        StationCommand::Version => Ok(ProgramTask::Version),
+    }
+}
+
+/// A station, whose words are the name of its profile and its options.
+fn station_of<S: AsStr>(scanner: bool, words: &[S]) -> Result<ProgramTask, StationMisuse>
+    ensures { result ≡ station_of scanner (map S.text words.now) }
+{
+    let Some((_file, rest)) = words.split_first() else {
+        return Err(StationMisuse::NoFile);
+    };
+    match read_options(rest) {
+        Ok(options) => Ok(ProgramTask::Station(StationTask { scanner, options })),
+        Err(misuse) => Err(misuse),
+    }
+}
+
+/// A task whose words are the names of its files, of which there is one or more.
+fn of_files<S: AsStr>(task: ProgramTask, words: &[S]) -> Result<ProgramTask, StationMisuse>
+    ensures { result ≡ of_files task (map S.text words.now) }
+{
+    if words.is_empty() {
+        return Err(StationMisuse::NoFile);
+    }
+    Ok(task)
+}

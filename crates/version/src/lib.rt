@@ -1,5 +1,0 @@
-//! The version of this line's programs.
-#![tactic(auto)]
-
-/// The version that each program prints.
-pub const VERSION: &str = "1.51.0";
