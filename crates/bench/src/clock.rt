@@ -2,7 +2,7 @@
 
 ghost use Rattle.std.specs.Prelude.{◌<◌};
 
-use crate::fault::CodecBenchFault;
+use crate::fault::BenchFault;
 use std::fmt::{Display, Formatter, Write};
 use std::rt::CpuClock;
 use std::{fmt, io};
@@ -16,7 +16,7 @@ pub fn cpu_nanos(rt: &impl CpuClock) -> io::Result<u64> {
 }
 
 /// Copies data in pieces of this length.
-fn copy_pieces(out: &mut Vec<u8>, data: &[u8], piece_len: usize) -> Result<(), CodecBenchFault>
+fn copy_pieces(out: &mut Vec<u8>, data: &[u8], piece_len: usize) -> Result<(), BenchFault>
     requires { 0 < piece_len }
 {
     out.clear();
@@ -33,7 +33,7 @@ pub fn copy_nanos(
     data: &[u8],
     piece_len: usize,
     times: u32,
-) -> Result<u64, CodecBenchFault>
+) -> Result<u64, BenchFault>
     requires { 0 < piece_len }
 {
     let start = cpu_nanos(rt)?;

@@ -3,7 +3,7 @@
 ghost use Rattle.std.specs.Prelude.{◌<◌, ◌≤◌, length};
 
 use crate::clock::{Quotient, ROUNDS, copy_nanos, cpu_nanos};
-use crate::fault::CodecBenchFault;
+use crate::fault::BenchFault;
 use cip_datagram::{Datagram, write_datagram};
 use cip_types::ConnId;
 use std::alloc::Global;
@@ -37,7 +37,7 @@ fn sum(bytes: &[u8]) -> u64 {
         .fold(0u64, |sum, byte| sum.wrapping_add(u64::from(*byte)))
 }
 
-fn write_nanos(rt: &impl CpuClock, out: &mut Vec<u8>, data: &[u8]) -> Result<u64, CodecBenchFault>
+fn write_nanos(rt: &impl CpuClock, out: &mut Vec<u8>, data: &[u8]) -> Result<u64, BenchFault>
     requires { length «data».now ≤ 65533 }
 {
     out.clear();
@@ -47,13 +47,13 @@ fn write_nanos(rt: &impl CpuClock, out: &mut Vec<u8>, data: &[u8]) -> Result<u64
     }
     let nanos = cpu_nanos(rt)?.wrapping_sub(start);
     if sum(out) < u64::from(DATAGRAMS) {
-        return Err(CodecBenchFault::Differs);
+        return Err(BenchFault::Differs);
     }
     Ok(nanos)
 }
 
 /// Writes a datagram with data of this length.
-fn print_len(rt: &impl Print, alloc: Global, len: usize) -> Result<(), CodecBenchFault>
+fn print_len(rt: &impl Print, alloc: Global, len: usize) -> Result<(), BenchFault>
     requires { len ≤ 1400 }
 {
     let mut out = Vec::with_capacity(alloc, FRONT + len)?;
@@ -63,7 +63,7 @@ fn print_len(rt: &impl Print, alloc: Global, len: usize) -> Result<(), CodecBenc
 }
 
 /// Writes a datagram of each length.
-pub fn check(rt: &impl Print, alloc: Global) -> Result<(), CodecBenchFault> {
+pub fn check(rt: &impl Print, alloc: Global) -> Result<(), BenchFault> {
     print_len(rt, alloc, 4)?;
     print_len(rt, alloc, 32)?;
     print_len(rt, alloc, 500)?;
@@ -71,7 +71,7 @@ pub fn check(rt: &impl Print, alloc: Global) -> Result<(), CodecBenchFault> {
 }
 
 /// A line on datagrams with data of this length: the best of the rounds.
-fn report(rt: &(impl Print + CpuClock), alloc: Global, len: usize) -> Result<(), CodecBenchFault>
+fn report(rt: &(impl Print + CpuClock), alloc: Global, len: usize) -> Result<(), BenchFault>
     requires some { 0 < len }
     requires short { len ≤ 1400 }
 {
@@ -95,7 +95,7 @@ fn report(rt: &(impl Print + CpuClock), alloc: Global, len: usize) -> Result<(),
 }
 
 /// Prints the nanoseconds of a datagram of each length and of a copy of its data.
-pub fn print_times(rt: &(impl Print + CpuClock), alloc: Global) -> Result<(), CodecBenchFault> {
+pub fn print_times(rt: &(impl Print + CpuClock), alloc: Global) -> Result<(), BenchFault> {
     report(rt, alloc, 4)?;
     report(rt, alloc, 32)?;
     report(rt, alloc, 500)?;

@@ -2,7 +2,7 @@
 //! indices, and the wheel looks them up by number.
 
 use crate::clock::{Quotient, ROUNDS, cpu_nanos};
-use crate::fault::CodecBenchFault;
+use crate::fault::BenchFault;
 use crate::heap::Heap;
 use crate::list::SortedList;
 use crate::timers::{Load, Timers, WheelLoad};
@@ -13,7 +13,7 @@ use timer_wheel::Wheel;
 const TICKS: u32 = 200_000;
 
 /// Whether the three fire the same tokens in the same order.
-fn agree(alloc: Global, count: u64, work: WheelLoad, ticks: u32) -> Result<bool, CodecBenchFault> {
+fn agree(alloc: Global, count: u64, work: WheelLoad, ticks: u32) -> Result<bool, BenchFault> {
     let room = count as usize;
     let mut wheel = Load::new(alloc, Wheel::new(alloc, room)?, count, work)?;
     let mut list = Load::new(alloc, SortedList::new(alloc, room)?, count, work)?;
@@ -30,12 +30,12 @@ fn agree(alloc: Global, count: u64, work: WheelLoad, ticks: u32) -> Result<bool,
 }
 
 /// Short runs. In their last steps idle timers fire too.
-pub fn check(rt: &impl Print, alloc: Global) -> Result<(), CodecBenchFault> {
+pub fn check(rt: &impl Print, alloc: Global) -> Result<(), BenchFault> {
     for count in [8, 128, 1_024] {
         if !agree(alloc, count, WheelLoad::Busy, 2_000)?
             || !agree(alloc, count, WheelLoad::Idle(60_000), 300)?
         {
-            return Err(CodecBenchFault::Differs);
+            return Err(BenchFault::Differs);
         }
     }
     println!(rt; "wheel, list and heap agree")?;
@@ -43,7 +43,7 @@ pub fn check(rt: &impl Print, alloc: Global) -> Result<(), CodecBenchFault> {
 }
 
 /// Runs all ticks.
-fn tick_all<T: Timers>(load: &mut Load<T>) -> Result<(), CodecBenchFault> {
+fn tick_all<T: Timers>(load: &mut Load<T>) -> Result<(), BenchFault> {
     for _ in 0..TICKS {
         load.step()?;
     }
@@ -51,7 +51,7 @@ fn tick_all<T: Timers>(load: &mut Load<T>) -> Result<(), CodecBenchFault> {
 }
 
 /// The time of all ticks, in nanoseconds.
-fn tick_nanos<T: Timers>(rt: &impl CpuClock, load: &mut Load<T>) -> Result<u64, CodecBenchFault> {
+fn tick_nanos<T: Timers>(rt: &impl CpuClock, load: &mut Load<T>) -> Result<u64, BenchFault> {
     let start = cpu_nanos(rt)?;
     tick_all(load)?;
     Ok(cpu_nanos(rt)?.wrapping_sub(start))
@@ -62,7 +62,7 @@ fn wheel_nanos(
     alloc: Global,
     count: u64,
     work: WheelLoad,
-) -> Result<u64, CodecBenchFault> {
+) -> Result<u64, BenchFault> {
     let wheel = Wheel::new(alloc, count as usize)?;
     tick_nanos(rt, &mut Load::new(alloc, wheel, count, work)?)
 }
@@ -72,7 +72,7 @@ fn list_nanos(
     alloc: Global,
     count: u64,
     work: WheelLoad,
-) -> Result<u64, CodecBenchFault> {
+) -> Result<u64, BenchFault> {
     let list = SortedList::new(alloc, count as usize)?;
     tick_nanos(rt, &mut Load::new(alloc, list, count, work)?)
 }
@@ -82,7 +82,7 @@ fn heap_nanos(
     alloc: Global,
     count: u64,
     work: WheelLoad,
-) -> Result<u64, CodecBenchFault> {
+) -> Result<u64, BenchFault> {
     let heap = Heap::new(alloc, count as usize)?;
     tick_nanos(rt, &mut Load::new(alloc, heap, count, work)?)
 }
@@ -94,7 +94,7 @@ fn report(
     count: u64,
     name: &str,
     work: WheelLoad,
-) -> Result<(), CodecBenchFault> {
+) -> Result<(), BenchFault> {
     let (mut wheel, mut list, mut heap) = (u64::MAX, u64::MAX, u64::MAX);
     for _ in 0..ROUNDS {
         wheel = wheel.min(wheel_nanos(rt, alloc, count, work)?);
@@ -114,7 +114,7 @@ fn report(
 }
 
 /// Prints the nanoseconds of a tick of each.
-pub fn print_times(rt: &(impl Print + CpuClock), alloc: Global) -> Result<(), CodecBenchFault> {
+pub fn print_times(rt: &(impl Print + CpuClock), alloc: Global) -> Result<(), BenchFault> {
     for count in [8, 128, 1_024] {
         report(rt, alloc, count, "busy", WheelLoad::Busy)?;
         report(rt, alloc, count, "idle, steps of 1 ms", WheelLoad::Idle(1))?;

@@ -3,7 +3,7 @@
 ghost use Rattle.std.specs.Prelude.{◌<◌};
 
 use crate::clock::{Quotient, ROUNDS, copy_nanos, cpu_nanos};
-use crate::fault::CodecBenchFault;
+use crate::fault::BenchFault;
 use cip_encap::{MessageView, Splitter, write_message};
 use std::alloc::Global;
 use std::rt::CpuClock;
@@ -19,7 +19,7 @@ const LENGTHS: u32 = 1_477;
 const STEP: u32 = 389;
 
 /// The message with this number as its session handle.
-fn message_of(alloc: Global, number: u32) -> Result<Vec<u8>, CodecBenchFault> {
+fn message_of(alloc: Global, number: u32) -> Result<Vec<u8>, BenchFault> {
     let len = number.wrapping_mul(STEP) % LENGTHS;
     let data = [7; 1_476];
     let message = MessageView {
@@ -34,7 +34,7 @@ fn message_of(alloc: Global, number: u32) -> Result<Vec<u8>, CodecBenchFault> {
 }
 
 /// Messages of each length from 24 to 1,500 bytes, mixed, this number of times.
-fn stream(alloc: Global, times: u32) -> Result<Vec<u8>, CodecBenchFault> {
+fn stream(alloc: Global, times: u32) -> Result<Vec<u8>, BenchFault> {
     let mut stream = Vec::new(alloc);
     for number in 0..times.wrapping_mul(LENGTHS) {
         stream.extend_from_slice(&message_of(alloc, number)?)?;
@@ -48,7 +48,7 @@ fn feed(
     alloc: Global,
     stream: &[u8],
     piece_len: usize,
-) -> Result<(u64, u64), CodecBenchFault>
+) -> Result<(u64, u64), BenchFault>
     requires { 0 < piece_len }
 {
     let mut splitter = Splitter::new(alloc);
@@ -62,13 +62,13 @@ fn feed(
     }
     let nanos = cpu_nanos(rt)?.wrapping_sub(start);
     if bytes != stream.len() as u64 {
-        return Err(CodecBenchFault::Differs);
+        return Err(BenchFault::Differs);
     }
     Ok((nanos, messages))
 }
 
 /// Cuts a short stream in pieces of 1, 64 and 1,460 bytes.
-pub fn check(rt: &(impl Print + CpuClock), alloc: Global) -> Result<(), CodecBenchFault> {
+pub fn check(rt: &(impl Print + CpuClock), alloc: Global) -> Result<(), BenchFault> {
     let stream = stream(alloc, 1)?;
     for piece_len in [1, 64, 1_460] {
         let (_nanos, messages) = feed(rt, alloc, &stream, piece_len)?;
@@ -81,7 +81,7 @@ pub fn check(rt: &(impl Print + CpuClock), alloc: Global) -> Result<(), CodecBen
 }
 
 /// Prints the nanoseconds of a byte that is fed and of one that is copied: the best of the rounds.
-pub fn print_times(rt: &(impl Print + CpuClock), alloc: Global) -> Result<(), CodecBenchFault> {
+pub fn print_times(rt: &(impl Print + CpuClock), alloc: Global) -> Result<(), BenchFault> {
     let stream = stream(alloc, TIMES)?;
     let mut copied = Vec::with_capacity(alloc, stream.len())?;
     for piece_len in [1, 64, 1_460] {

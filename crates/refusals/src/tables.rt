@@ -13,7 +13,6 @@ use std::alloc::Global;
 use timer_wheel::Wheel;
 
 const PEER: Node = Node(0xC0A8_0114);
-
 /// An owner with a producer of its own.
 const OWNER: Row = Row {
     triad: Triad {
@@ -33,6 +32,7 @@ const OWNER: Row = Row {
     multicast: false,
     opening: 1,
     last: None,
+    mode: None,
     deadline: Ms(10_000),
     state: State::Established(Production {
         producer: 1,

@@ -2,8 +2,8 @@
 
 use crate::fault::SocketFault;
 use crate::peers::print_answer;
-use cip_types::Items;
-use port_streams::DatagramRoutes;
+use cip_types::{Items, Node};
+use port_streams::{DatagramRoute, DatagramRoutes, Destination};
 use socket_loop::LoopFault;
 use socket_port::{LOOPBACK, SocketPort, SystemClock, loopback};
 use std::io;
@@ -33,13 +33,19 @@ const DATAGRAM: Output<'_> = Output::Datagram {
     bytes: &[0],
 };
 
-/// The outcome of sending the datagram over a port that counts no failure yet.
-fn sent<R: System + Drop>(port: &mut SocketPort<R>) -> Option<Result<(), PortFault>> {
+/// A node that has a route.
+const ROUTED: Node = Node(0x0A00_0001);
+
+/// The outcome of sending an output over a port that counts no failure yet.
+fn sent<R: System + Drop>(
+    port: &mut SocketPort<R>,
+    output: &Output<'_>,
+) -> Option<Result<(), PortFault>> {
     // (`send` requires that the count of failures can rise)
     if port.failures() != 0 {
         return None;
     }
-    Some(port.send(&DATAGRAM))
+    Some(port.send(output))
 }
 
 /// A datagram for a node without a route is dropped.
@@ -48,7 +54,32 @@ where
     R: AllocGlobal + System + Net<Listener = TcpListener, Stream = TcpStream> + Copy + Drop,
 {
     let mut port = port(rt, DatagramRoutes::Listed(Items::new(rt.alloc())))?;
-    Ok(sent(&mut port) == Some(Ok(())) && port.failures() == 0)
+    Ok(sent(&mut port, &DATAGRAM) == Some(Ok(())) && port.failures() == 0)
+}
+
+/// Beside a node with a route, to this socket, the datagram of another node is dropped: the first one that the socket receives
+/// is that of the node with the route.
+fn drops_beside_a_route<R>(rt: R) -> Result<bool, SocketFault>
+where
+    R: AllocGlobal + System + Net<Listener = TcpListener, Stream = TcpStream> + Copy + Drop,
+{
+    let peer = UdpSocket::bind(&rt, loopback(0))?;
+    peer.set_read_timeout(Some(Duration::from_millis(CLOCK_MS)))?;
+    let to = Destination {
+        node: LOOPBACK,
+        port: peer.local_addr()?.port(),
+    };
+    let route = DatagramRoute { node: ROUTED, to };
+    let mut port = port(rt, DatagramRoutes::Listed(Items::one(rt.alloc(), route)?))?;
+    let routed = Output::Datagram {
+        node: ROUTED,
+        bytes: &[1],
+    };
+    let dropped = sent(&mut port, &DATAGRAM) == Some(Ok(()));
+    let passed = sent(&mut port, &routed) == Some(Ok(()));
+    let mut buffer = [0u8; 4];
+    let count = peer.recv(&mut buffer)?;
+    Ok(dropped && passed && buffer.get(..count) == Some(&[1]) && peer.recv(&mut buffer).is_err())
 }
 
 /// A datagram that the system does not send, since no socket can have port 0, is a failure of the port.
@@ -57,7 +88,7 @@ where
     R: AllocGlobal + System + Net<Listener = TcpListener, Stream = TcpStream> + Copy + Drop,
 {
     let mut port = port(rt, DatagramRoutes::Own(0))?;
-    Ok(sent(&mut port) == Some(Err(PortFault::Send)) && port.failures() == 1)
+    Ok(sent(&mut port, &DATAGRAM) == Some(Err(PortFault::Send)) && port.failures() == 1)
 }
 
 /// What is written over a stream of a port is sent at once.
@@ -109,6 +140,11 @@ where
     R: AllocGlobal + System + Print + Net<Listener = TcpListener, Stream = TcpStream> + Copy + Drop,
 {
     print_answer(&rt, "a node without a route", drops_without_a_route(rt)?)?;
+    print_answer(
+        &rt,
+        "a node without a route beside one",
+        drops_beside_a_route(rt)?,
+    )?;
     print_answer(&rt, "a datagram that is not sent", fails_at_no_port(rt)?)?;
     print_answer(&rt, "a stream without delay", sends_at_once(rt)?)?;
     print_answer(&rt, "milliseconds of the clock", keeps_the_rest(rt)?)

@@ -5,11 +5,10 @@ ghost use Rattle.std.specs.Prelude.{◌≡◌, false, []};
 use crate::station_run::TurnArrival;
 use cip_events::Arrival;
 use cip_types::Node;
-use kept_port::{EndCause, KeptPort, PortReport};
 use std::alloc::Global;
 use std::collections::VecDeque;
 use std::time::Duration;
-use udp_runner::{Output, Port, PortFault};
+use udp_runner::{EndCause, KeptPort, Output, Port, PortFault, PortReport};
 
 /// A port that receives what arrives at the turns of a run, and prints what it takes, sends and is told.
 #[derive(Drop)]
