@@ -38,7 +38,8 @@ static void check_numbers(void)
     static const int events[] = {EIP_DONE,          EIP_REFUSED_NO_MEMORY, EIP_TICK_TOO_LONG,   EIP_CLOCK_END,
                                  EIP_NO_SUCH_POINT, EIP_WRONG_LENGTH,      EIP_NO_SUCH_SLOT,    EIP_NOT_ALLOWED_NOW,
                                  EIP_KEPT_NO_ROOM};
-    static const int others[] = {EIP_NO_ANSWER, EIP_BAD_LINE, EIP_BAD_PROFILE, EIP_NO_INQUIRY, EIP_LONG_NAME};
+    static const int others[] = {EIP_NO_ANSWER, EIP_BAD_LINE, EIP_BAD_PROFILE, EIP_NO_INQUIRY, EIP_LONG_NAME,
+                                 EIP_NO_CONNECTION};
     static const int deliveries[] = {EIP_APPLIED, EIP_IDLE,       EIP_HEARTBEAT,  EIP_DUPLICATE,
                                      EIP_OLD,     EIP_UNKNOWN_ID, EIP_WRONG_SIZE, EIP_MALFORMED};
     static const int verdicts[] = {EIP_ITEM_DONE, EIP_ITEM_BAD_FRAME, EIP_ITEM_IGNORED, EIP_ITEM_VALUE, EIP_ITEM_DELIVERED};

@@ -11,6 +11,7 @@ PIDFD_GETFD = 438  # the number of the system's call on most machines; Python ha
 REFUSED = {errno.EPERM, errno.ENOSYS}  # what a system says that does not lend a socket of a child
 IP_RECVTTL = 12  # the number of the option on Linux; Python has no name for it
 MOST_WAKES = 200  # of an idle station in two seconds: one that asks each millisecond wakes 2,000 times
+MOST_WORK = 0.3  # seconds of the processors for an idle station in two seconds: one that never waits takes what it gets
 RETRY = 1.0  # seconds from a session that is refused to the next stream
 
 
@@ -157,14 +158,20 @@ def wakes_of(station):
         return next(int(line.split()[1]) for line in file if line.startswith("voluntary_ctxt_switches"))
 
 
+def worked_of(station):
+    """The seconds for which the processors have worked for the station."""
+    with open(f"/proc/{station.process.pid}/stat") as file:
+        return sum(map(int, file.read().rpartition(")")[2].split()[11:13])) / os.sysconf("SC_CLK_TCK")
+
+
 def run_idle(bench):
-    """A station waits until something comes or is due."""
+    """A station waits until something comes or is due: it neither wakes often nor works without a wait."""
     adapter = bench.adapter(log="idle")
     time.sleep(0.5)
-    before = wakes_of(adapter)
+    before, worked = wakes_of(adapter), worked_of(adapter)
     time.sleep(2)
-    wakes = wakes_of(adapter) - before
-    sure(wakes < MOST_WAKES, f"an adapter to which nothing comes wakes {wakes} times in 2 s")
+    wakes, seconds = wakes_of(adapter) - before, worked_of(adapter) - worked
+    sure(wakes < MOST_WAKES and seconds < MOST_WORK, f"an adapter to which nothing comes wakes {wakes} times and works {seconds:.2f} s in 2 s")
     need(adapter.end() == 0, "the adapter ends with status 0")
     bench.clear()
 
