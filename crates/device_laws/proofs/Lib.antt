@@ -26,3 +26,5 @@ mod SlotLemmas
 mod SmallTables
 mod LawSamples
 mod OwnerReports
+mod OwnerDataSteps
+mod OwnerDataRuns

@@ -24,3 +24,4 @@ pub mod Newest
 pub mod ScannerRuns
 pub mod Scanners
 pub mod States
+pub mod OwnerData

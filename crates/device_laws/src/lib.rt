@@ -50,4 +50,4 @@ pub use scanner_table::{
 };
 pub use scanner_ticks::ticks_leave_none_late;
 pub use sending::devices_send_over_their_streams;
-pub use states::owners_are_said;
+pub use states::{outputs_hold_newest_data, owners_are_said};
