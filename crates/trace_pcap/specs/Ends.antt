@@ -6,28 +6,37 @@ use Rattle.cip_tables.specs.declared.table.Config.TheVariants.{Adapter, Scanner}
 use Rattle.trace_pcap.specs.declared.ends.Side.{Side}
 use Rattle.trace_pcap.specs.declared.ends.Ends.{Ends}
 use Rattle.trace_pcap.specs.declared.ends.CapturedStream.{CapturedStream}
+use Rattle.trace_pcap.specs.declared.ends.Sender.{Sender}
+use Rattle.trace_pcap.specs.declared.ends.Sender.TheVariants.{Peer, Device}
 
 -- an adapter's peers open its streams; a scanner opens its streams
 abbrev pub side_of : Config → Side
 side_of (Adapter profile) = record { node = profile.node; opens = false }
 side_of (Scanner profile) = record { node = profile.node; opens = true }
 
--- the end that opens a stream has the stream's port, and the other end the port of explicit messages
-abbrev pub ends_from_device : Side → CapturedStream → Ends
-ends_from_device side stream = record {
+-- The ends of a segment from the device: the end that opens a stream has the stream's port, and the other end the port of
+-- explicit messages.
+abbrev pub device_ends : Side → CapturedStream → Ends
+device_ends side stream = record {
   source = side.node;
   source_port = (if side.opens then stream.port else 44818);
   destination = stream.peer;
   destination_port = (if side.opens then 44818 else stream.port);
 }
 
-abbrev pub ends_to_device : Side → CapturedStream → Ends
-ends_to_device side stream = record {
-  source = stream.peer;
-  source_port = (if side.opens then 44818 else stream.port);
-  destination = side.node;
-  destination_port = (if side.opens then stream.port else 44818);
+-- the ends of a packet that is sent back
+abbrev pub reversed : Ends → Ends
+reversed ends = record {
+  source = ends.destination;
+  source_port = ends.destination_port;
+  destination = ends.source;
+  destination_port = ends.source_port;
 }
+
+-- the ends of a segment of this sender
+abbrev pub ends_of : Sender → Side → CapturedStream → Ends
+ends_of Device side stream = device_ends side stream
+ends_of Peer side stream = reversed (device_ends side stream)
 
 abbrev pub datagram_ends : Node → Node → Ends
 datagram_ends source destination = record { source = source; source_port = 2222; destination = destination; destination_port = 2222 }

@@ -12,9 +12,12 @@ use Rattle.cip_events.specs.declared.event.Recipient.TheVariants.{Stream, Peer}
 use Rattle.cip_events.specs.declared.event.Notice.{Notice}
 use Rattle.cip_events.specs.declared.event.Notice.TheVariants.{StreamClosed}
 use Rattle.trace_pcap.specs.declared.ends.CapturedStream as opened
+use Rattle.trace_pcap.specs.declared.ends.Sender.{Sender}
+use Rattle.trace_pcap.specs.declared.ends.Sender.TheVariants as by
+use Rattle.trace_pcap.specs.declared.ends.Side.{Side}
 use Rattle.trace_pcap.specs.declared.headers.Control.{Control}
 use Rattle.trace_pcap.specs.declared.traffic.Moment.{Moment}
-use Rattle.trace_pcap.specs.Ends.{ends_to_device, ends_from_device, datagram_ends, is_multicast, stream_port}
+use Rattle.trace_pcap.specs.Ends.{ends_of, datagram_ends, is_multicast, stream_port}
 use Rattle.trace_pcap.specs.Packets.{shown, tcp_record, udp_record}
 
 -- STREAMS
@@ -35,101 +38,89 @@ replaced_stream stream streams = without stream.number streams ++ stream ∷ []
 
 -- SEGMENTS
 
-abbrev pub control_to_device : opened.CapturedStream → ℕ → Control
-control_to_device stream bits = record { sequence = stream.received; acknowledgement = stream.sent; bits = bits }
+-- the numbers of a segment: the next one of its sender, and the next one of the other end
+abbrev pub control_of : Sender → opened.CapturedStream → ℕ → Control
+control_of by.Peer stream bits = record { sequence = stream.received; acknowledgement = stream.sent; bits = bits }
+control_of by.Device stream bits = record { sequence = stream.sent; acknowledgement = stream.received; bits = bits }
 
-abbrev pub control_from_device : opened.CapturedStream → ℕ → Control
-control_from_device stream bits = record { sequence = stream.sent; acknowledgement = stream.received; bits = bits }
+-- a segment of a stream
+unfoldable pub segment_record : Moment → Sender → opened.CapturedStream → ℕ → List ℕ → List ℕ
+segment_record moment sender stream bits bytes =
+    tcp_record moment.time (ends_of sender moment.side stream) (control_of sender stream bits) bytes
 
--- a segment from the peer of a stream to the device
-unfoldable pub to_device_record : Moment → opened.CapturedStream → ℕ → List ℕ → List ℕ
-to_device_record moment stream bits bytes = tcp_record moment.time (ends_to_device moment.side stream) (control_to_device stream bits) bytes
-
--- a segment from the device to the peer of a stream
-unfoldable pub from_device_record : Moment → opened.CapturedStream → ℕ → List ℕ → List ℕ
-from_device_record moment stream bits bytes = tcp_record moment.time (ends_from_device moment.side stream) (control_from_device stream bits) bytes
+-- the stream after its sender took this many more numbers
+abbrev pub sent_more : Sender → ℕ → opened.CapturedStream → opened.CapturedStream
+sent_more by.Peer count stream = record stream { received = (stream.received + count) % 2 ^ 32 }
+sent_more by.Device count stream = record stream { sent = (stream.sent + count) % 2 ^ 32 }
 
 -- OPENING
 
--- a stream of which these bytes were sent, by its peer and by the device
-abbrev pub stream_at : Moment → ℕ → Node → ℕ → ℕ → opened.CapturedStream
-stream_at moment number peer received sent = record { number = number; peer = peer; port = stream_port moment.number; received = received; sent = sent }
+-- the end that opens a stream, and the other one
+abbrev pub opener : Side → Sender
+opener side = if side.opens then by.Device else by.Peer
+
+abbrev pub other_end : Sender → Sender
+other_end by.Peer = by.Device
+other_end by.Device = by.Peer
 
 -- The end that opens sends SYN, the other one SYN and ACK, the first one ACK (RFC 9293, section 3.5). The numbers of
 -- both ends begin at 0, which SYN takes.
-unfoldable pub dialed_records : Moment → ℕ → Node → List ℕ
-dialed_records moment number peer =
-    from_device_record moment (stream_at moment number peer 0 0) 2 []
-    ++ (to_device_record moment (stream_at moment number peer 0 1) 18 []
-    ++ from_device_record moment (stream_at moment number peer 1 1) 16 [])
+abbrev pub start_of : Moment → ℕ → Node → opened.CapturedStream
+start_of moment number peer = record { number = number; peer = peer; port = stream_port moment.number; received = 0; sent = 0 }
 
-unfoldable pub accepted_records : Moment → ℕ → Node → List ℕ
-accepted_records moment number peer =
-    to_device_record moment (stream_at moment number peer 0 0) 2 []
-    ++ (from_device_record moment (stream_at moment number peer 1 0) 18 []
-    ++ to_device_record moment (stream_at moment number peer 1 1) 16 [])
+abbrev pub opened_by : Sender → opened.CapturedStream → opened.CapturedStream
+opened_by first start = sent_more (other_end first) 1 (sent_more first 1 start)
 
-abbrev pub opening_records : Moment → ℕ → Node → List ℕ
-opening_records moment number peer = if moment.side.opens then dialed_records moment number peer else accepted_records moment number peer
-
-abbrev pub opened_streams : Moment → ℕ → Node → Streams → Streams
-opened_streams moment number peer streams = replaced_stream (stream_at moment number peer 1 1) streams
+unfoldable pub opening_records : Moment → Sender → opened.CapturedStream → List ℕ
+opening_records moment first start =
+    segment_record moment first start 2 []
+    ++ (segment_record moment (other_end first) (sent_more first 1 start) 18 []
+    ++ segment_record moment first (opened_by first start) 16 [])
 
 -- DATA: control bits PSH and ACK
 
-abbrev pub received_records : Moment → List ℕ → Option opened.CapturedStream → List ℕ
-received_records moment bytes None = []
-received_records moment bytes (Some stream) = to_device_record moment stream 24 bytes
+abbrev pub data_records : Moment → Sender → List ℕ → Option opened.CapturedStream → List ℕ
+data_records moment sender bytes None = []
+data_records moment sender bytes (Some stream) = segment_record moment sender stream 24 bytes
 
-abbrev pub received_streams : List ℕ → Option opened.CapturedStream → Streams → Streams
-received_streams bytes None streams = streams
-received_streams bytes (Some stream) streams =
-    replaced_stream (record stream { received = (stream.received + length (shown 65495 bytes)) % 2 ^ 32 }) streams
-
-abbrev pub sent_records : Moment → List ℕ → Option opened.CapturedStream → List ℕ
-sent_records moment bytes None = []
-sent_records moment bytes (Some stream) = from_device_record moment stream 24 bytes
-
-abbrev pub sent_streams : List ℕ → Option opened.CapturedStream → Streams → Streams
-sent_streams bytes None streams = streams
-sent_streams bytes (Some stream) streams =
-    replaced_stream (record stream { sent = (stream.sent + length (shown 65495 bytes)) % 2 ^ 32 }) streams
+abbrev pub data_streams : Sender → List ℕ → Option opened.CapturedStream → Streams → Streams
+data_streams sender bytes None streams = streams
+data_streams sender bytes (Some stream) streams = replaced_stream (sent_more sender (length (shown 65495 bytes)) stream) streams
 
 -- THE END OF A STREAM
 
--- a stream that breaks, or that its peer closes: RST and ACK of the peer
-abbrev pub cut_records : Moment → Option opened.CapturedStream → List ℕ
-cut_records moment None = []
-cut_records moment (Some stream) = to_device_record moment stream 20 []
+-- a stream that breaks, or that its peer closes: RST and ACK of the peer; one that the device closes: its FIN and ACK
+abbrev pub last_bits : Sender → ℕ
+last_bits by.Peer = 20
+last_bits by.Device = 17
 
--- a stream that the device closes: its FIN and ACK
-abbrev pub closed_records : Moment → Option opened.CapturedStream → List ℕ
-closed_records moment None = []
-closed_records moment (Some stream) = from_device_record moment stream 17 []
+abbrev pub end_records : Moment → Sender → Option opened.CapturedStream → List ℕ
+end_records moment sender None = []
+end_records moment sender (Some stream) = segment_record moment sender stream (last_bits sender) []
 
 -- WHAT ARRIVES
 
 abbrev pub event_records : Moment → Event → Streams → List ℕ
-event_records moment (StreamOpened stream peer) streams = opening_records moment stream peer
-event_records moment (Frame stream bytes) streams = received_records moment bytes (stream_of stream streams)
-event_records moment (StreamCut stream) streams = cut_records moment (stream_of stream streams)
+event_records moment (StreamOpened stream peer) streams = opening_records moment (opener moment.side) (start_of moment stream peer)
+event_records moment (Frame stream bytes) streams = data_records moment by.Peer bytes (stream_of stream streams)
+event_records moment (StreamCut stream) streams = end_records moment by.Peer (stream_of stream streams)
 event_records moment (Datagram peer bytes) streams = udp_record moment.time (datagram_ends peer moment.side.node) bytes
 event_records moment _ streams = []
 
 abbrev pub event_streams : Moment → Event → Streams → Streams
-event_streams moment (StreamOpened stream peer) streams = opened_streams moment stream peer streams
-event_streams moment (Frame stream bytes) streams = received_streams bytes (stream_of stream streams) streams
+event_streams moment (StreamOpened stream peer) streams = replaced_stream (opened_by (opener moment.side) (start_of moment stream peer)) streams
+event_streams moment (Frame stream bytes) streams = data_streams by.Peer bytes (stream_of stream streams) streams
 event_streams moment (StreamCut stream) streams = without stream streams
 event_streams moment _ streams = streams
 
 -- WHAT IS ANSWERED
 
 abbrev pub recipient_records : Moment → Recipient → List ℕ → Streams → List ℕ
-recipient_records moment (Stream number) bytes streams = sent_records moment bytes (stream_of number streams)
+recipient_records moment (Stream number) bytes streams = data_records moment by.Device bytes (stream_of number streams)
 recipient_records moment (Peer node) bytes streams = []
 
 abbrev pub recipient_streams : Recipient → List ℕ → Streams → Streams
-recipient_streams (Stream number) bytes streams = sent_streams bytes (stream_of number streams) streams
+recipient_streams (Stream number) bytes streams = data_streams by.Device bytes (stream_of number streams) streams
 recipient_streams (Peer node) bytes streams = streams
 
 -- a frame over a stream; a reply to a request without a stream is no packet
@@ -161,7 +152,7 @@ abbrev pub datagrams_records : Moment → List OutgoingDatagram → List ℕ
 datagrams_records moment datagrams = flat_map (outgoing_records moment) datagrams
 
 abbrev pub notice_records : Moment → Notice → Streams → List ℕ
-notice_records moment (StreamClosed number) streams = closed_records moment (stream_of number streams)
+notice_records moment (StreamClosed number) streams = end_records moment by.Device (stream_of number streams)
 notice_records moment _ streams = []
 
 abbrev pub notice_streams : Notice → Streams → Streams

@@ -1,7 +1,7 @@
 //! The ends of packets: the traced device and its peers.
 
 ghost use Rattle.std.specs.Prelude.{◌≡◌};
-ghost use Rattle.trace_pcap.specs.Ends.{side_of, ends_to_device, ends_from_device, datagram_ends, is_multicast, stream_port};
+ghost use Rattle.trace_pcap.specs.Ends.{side_of, device_ends, reversed, ends_of, datagram_ends, is_multicast, stream_port};
 
 use cip_tables::Config;
 use cip_types::Node;
@@ -18,6 +18,13 @@ pub const DATAGRAM_PORT: u16 = 2222;
 pub struct Side {
     pub node: Node,
     pub opens: bool,
+}
+
+/// The end that sends a segment of a stream: the peer of the stream, or the traced device.
+#[derive(Clone, Copy)]
+pub enum Sender {
+    Peer,
+    Device,
 }
 
 /// The source and the destination of a packet, each an address and a port.
@@ -64,11 +71,21 @@ pub fn side_of(config: &Config) -> Side
     }
 }
 
-/// The ends of a segment from the peer of a stream to the device.
-pub fn ends_to_device(side: Side, stream: &CapturedStream) -> Ends
-    ensures { result ≡ ends_to_device side stream.now }
+/// The ends of a segment of this sender.
+pub fn ends_of(sender: Sender, side: Side, stream: &CapturedStream) -> Ends
+    ensures { result ≡ ends_of sender side stream.now }
 {
-    let ends = ends_from_device(side, stream);
+    let ends = device_ends(side, stream);
+    match sender {
+        Sender::Device => ends,
+        Sender::Peer => reversed(ends),
+    }
+}
+
+/// The ends of a packet that is sent back.
+fn reversed(ends: Ends) -> Ends
+    ensures { result ≡ reversed ends }
+{
     Ends {
         source: ends.destination,
         source_port: ends.destination_port,
@@ -77,9 +94,9 @@ pub fn ends_to_device(side: Side, stream: &CapturedStream) -> Ends
     }
 }
 
-/// The ends of a segment from the device to the peer of a stream.
-pub fn ends_from_device(side: Side, stream: &CapturedStream) -> Ends
-    ensures { result ≡ ends_from_device side stream.now }
+/// The ends of a segment from the device.
+fn device_ends(side: Side, stream: &CapturedStream) -> Ends
+    ensures { result ≡ device_ends side stream.now }
 {
     let (source_port, destination_port) = if side.opens {
         (stream.port, ENCAPSULATION_PORT)

@@ -1,11 +1,10 @@
 //! The packets of a trace's events.
 
 ghost use Rattle.std.specs.Prelude.{◌≡◌, ◌++◌, OnOk};
-ghost use Rattle.trace_pcap.specs.Traffic.{without, replaced_stream, stream_of, control_to_device, control_from_device, to_device_record, from_device_record, stream_at, dialed_records, accepted_records, opening_records, opened_streams, received_records, received_streams, sent_records, sent_streams, cut_records, closed_records, event_records, event_streams, frame_records, frame_streams, frames_records, frames_streams, copies_records, outgoing_records, datagrams_records, notice_records, notice_streams, notices_records, notices_streams, answer_records, answer_streams};
+ghost use Rattle.trace_pcap.specs.Traffic.{without, replaced_stream, stream_of, control_of, segment_record, sent_more, opener, other_end, start_of, opened_by, opening_records, data_records, data_streams, last_bits, end_records, event_records, event_streams, frame_records, frame_streams, frames_records, frames_streams, copies_records, outgoing_records, datagrams_records, notice_records, notice_streams, notices_records, notices_streams, answer_records, answer_streams};
 
 use crate::ends::{
-    CapturedStream, Side, datagram_ends, ends_from_device, ends_to_device, is_multicast,
-    stream_port,
+    CapturedStream, Sender, Side, datagram_ends, ends_of, is_multicast, stream_port,
 };
 use crate::headers::Control;
 use crate::packets::{MOST_TCP, push_tcp, push_udp, shown};
@@ -50,133 +49,110 @@ fn replace_stream(
     add_stream(streams, stream)
 }
 
-fn control_to_device(stream: &CapturedStream, bits: u8) -> Control
-    ensures { result ≡ control_to_device stream.now bits }
+/// The numbers of a segment: the next one of its sender, and the next one of the other end.
+fn control_of(sender: Sender, stream: &CapturedStream, bits: u8) -> Control
+    ensures { result ≡ control_of sender stream.now bits }
 {
+    let (sequence, acknowledgement) = match sender {
+        Sender::Peer => (stream.received, stream.sent),
+        Sender::Device => (stream.sent, stream.received),
+    };
     Control {
-        sequence: stream.received,
-        acknowledgement: stream.sent,
+        sequence,
+        acknowledgement,
         bits,
     }
 }
 
-fn control_from_device(stream: &CapturedStream, bits: u8) -> Control
-    ensures { result ≡ control_from_device stream.now bits }
+/// Appends a segment of a stream.
+#[tactic(auto, unfolding(crate::specs::Traffic::segment_record))]
+fn push_segment(
+    out: &mut Vec<u8>,
+    moment: Moment,
+    sender: Sender,
+    stream: &CapturedStream,
+    bits: u8,
+    bytes: &[u8],
+) -> Result<(), OutOfMemory>
+    ensures { OnOk result (out.new.items ≡ out.old.items ++ segment_record moment sender stream.now bits bytes.now) }
 {
-    Control {
-        sequence: stream.sent,
-        acknowledgement: stream.received,
-        bits,
+    let ends = ends_of(sender, moment.side, stream);
+    let control = control_of(sender, stream, bits);
+    push_tcp(out, moment.time, &ends, control, bytes)
+}
+
+/// The stream after its sender took this many more numbers.
+fn sent_more(sender: Sender, count: u32, stream: CapturedStream) -> CapturedStream
+    ensures { result ≡ sent_more sender count stream }
+{
+    match sender {
+        Sender::Peer => CapturedStream {
+            received: stream.received.wrapping_add(count),
+            ..stream
+        },
+        Sender::Device => CapturedStream {
+            sent: stream.sent.wrapping_add(count),
+            ..stream
+        },
     }
 }
 
-/// Appends a segment from the peer of a stream to the device.
-#[tactic(auto, unfolding(crate::specs::Traffic::to_device_record))]
-fn push_to_device(
-    out: &mut Vec<u8>,
-    moment: Moment,
-    stream: &CapturedStream,
-    bits: u8,
-    bytes: &[u8],
-) -> Result<(), OutOfMemory>
-    ensures { OnOk result (out.new.items ≡ out.old.items ++ to_device_record moment stream.now bits bytes.now) }
+/// The end that opens a stream.
+fn opener(side: Side) -> Sender
+    ensures { result ≡ opener side }
 {
-    let ends = ends_to_device(moment.side, stream);
-    push_tcp(
-        out,
-        moment.time,
-        &ends,
-        control_to_device(stream, bits),
-        bytes,
-    )
+    if side.opens {
+        Sender::Device
+    } else {
+        Sender::Peer
+    }
 }
 
-/// Appends a segment from the device to the peer of a stream.
-#[tactic(auto, unfolding(crate::specs::Traffic::from_device_record))]
-fn push_from_device(
-    out: &mut Vec<u8>,
-    moment: Moment,
-    stream: &CapturedStream,
-    bits: u8,
-    bytes: &[u8],
-) -> Result<(), OutOfMemory>
-    ensures { OnOk result (out.new.items ≡ out.old.items ++ from_device_record moment stream.now bits bytes.now) }
+fn other_end(sender: Sender) -> Sender
+    ensures { result ≡ other_end sender }
 {
-    let ends = ends_from_device(moment.side, stream);
-    push_tcp(
-        out,
-        moment.time,
-        &ends,
-        control_from_device(stream, bits),
-        bytes,
-    )
+    match sender {
+        Sender::Peer => Sender::Device,
+        Sender::Device => Sender::Peer,
+    }
 }
 
-/// A stream of which this many bytes were sent, by its peer and by the device.
-fn stream_at(moment: Moment, number: u16, peer: Node, received: u32, sent: u32) -> CapturedStream
-    ensures { result ≡ stream_at moment number peer received sent }
+/// A stream of which nothing was sent.
+fn start_of(moment: Moment, number: u16, peer: Node) -> CapturedStream
+    ensures { result ≡ start_of moment number peer }
 {
     CapturedStream {
         number,
         peer,
         port: stream_port(moment.number),
-        received,
-        sent,
+        received: 0,
+        sent: 0,
     }
 }
 
-/// Appends the three segments by which the device opens a stream.
-#[tactic(auto, unfolding(crate::specs::Traffic::dialed_records))]
-fn push_dialed(
-    out: &mut Vec<u8>,
-    moment: Moment,
-    number: u16,
-    peer: Node,
-) -> Result<(), OutOfMemory>
-    ensures { OnOk result (out.new.items ≡ out.old.items ++ dialed_records moment number peer) }
+/// The stream after both ends opened it, this one first.
+fn opened_by(first: Sender, start: CapturedStream) -> CapturedStream
+    ensures { result ≡ opened_by first start }
 {
-    let start = stream_at(moment, number, peer, 0, 0);
-    let half = stream_at(moment, number, peer, 0, 1);
-    let open = stream_at(moment, number, peer, 1, 1);
-    push_from_device(out, moment, &start, OPENS, &[])?;
-    push_to_device(out, moment, &half, ACCEPTS, &[])?;
-    push_from_device(out, moment, &open, CONFIRMS, &[])?;
-    Ok(())
+    sent_more(other_end(first), 1, sent_more(first, 1, start))
 }
 
-/// Appends the three segments by which a peer opens a stream.
-#[tactic(auto, unfolding(crate::specs::Traffic::accepted_records))]
-fn push_accepted(
-    out: &mut Vec<u8>,
-    moment: Moment,
-    number: u16,
-    peer: Node,
-) -> Result<(), OutOfMemory>
-    ensures { OnOk result (out.new.items ≡ out.old.items ++ accepted_records moment number peer) }
-{
-    let start = stream_at(moment, number, peer, 0, 0);
-    let half = stream_at(moment, number, peer, 1, 0);
-    let open = stream_at(moment, number, peer, 1, 1);
-    push_to_device(out, moment, &start, OPENS, &[])?;
-    push_from_device(out, moment, &half, ACCEPTS, &[])?;
-    push_to_device(out, moment, &open, CONFIRMS, &[])?;
-    Ok(())
-}
-
-/// Appends the three segments that open a stream.
+/// Appends the three segments by which this end opens a stream.
+#[tactic(auto, unfolding(crate::specs::Traffic::opening_records))]
 fn push_opening(
     out: &mut Vec<u8>,
     moment: Moment,
-    number: u16,
-    peer: Node,
+    first: Sender,
+    start: CapturedStream,
 ) -> Result<(), OutOfMemory>
-    ensures { OnOk result (out.new.items ≡ out.old.items ++ opening_records moment number peer) }
+    ensures { OnOk result (out.new.items ≡ out.old.items ++ opening_records moment first start) }
 {
-    if moment.side.opens {
-        push_dialed(out, moment, number, peer)
-    } else {
-        push_accepted(out, moment, number, peer)
-    }
+    let half = sent_more(first, 1, start);
+    let open = opened_by(first, start);
+    push_segment(out, moment, first, &start, OPENS, &[])?;
+    push_segment(out, moment, other_end(first), &half, ACCEPTS, &[])?;
+    push_segment(out, moment, first, &open, CONFIRMS, &[])?;
+    Ok(())
 }
 
 /// A stream opens, or opens anew.
@@ -184,101 +160,62 @@ fn push_opened(
     out: &mut Vec<u8>,
     streams: &mut Vec<CapturedStream>,
     moment: Moment,
-    number: u16,
-    peer: Node,
+    first: Sender,
+    start: CapturedStream,
 ) -> Result<(), OutOfMemory>
-    ensures records { OnOk result (out.new.items ≡ out.old.items ++ opening_records moment number peer) }
-    ensures streams { OnOk result (streams.new.items ≡ opened_streams moment number peer streams.old.items) }
+    ensures records { OnOk result (out.new.items ≡ out.old.items ++ opening_records moment first start) }
+    ensures streams { OnOk result (streams.new.items ≡ replaced_stream (opened_by first start) streams.old.items) }
 {
-    push_opening(out, moment, number, peer)?;
-    replace_stream(streams, stream_at(moment, number, peer, 1, 1))
+    push_opening(out, moment, first, start)?;
+    replace_stream(streams, opened_by(first, start))
 }
 
-/// The peer of a stream sends bytes.
-fn push_received(
+/// An end of a stream sends bytes.
+fn push_data(
     out: &mut Vec<u8>,
     streams: &mut Vec<CapturedStream>,
     moment: Moment,
+    sender: Sender,
     number: u16,
     bytes: &[u8],
 ) -> Result<(), OutOfMemory>
     ensures records { OnOk result
-        (out.new.items ≡ out.old.items ++ received_records moment bytes.now (stream_of number streams.old.items)) }
+        (out.new.items ≡ out.old.items ++ data_records moment sender bytes.now (stream_of number streams.old.items)) }
     ensures streams { OnOk result
-        (streams.new.items ≡ received_streams bytes.now (stream_of number streams.old.items) streams.old.items) }
+        (streams.new.items ≡ data_streams sender bytes.now (stream_of number streams.old.items) streams.old.items) }
 {
     let Some(stream) = find_stream(streams.as_slice(), number) else {
         return Ok(());
     };
-    push_to_device(out, moment, &stream, DATA, bytes)?;
-    let len = shown(MOST_TCP, bytes).len() as u32;
-    replace_stream(
-        streams,
-        CapturedStream {
-            received: stream.received.wrapping_add(len),
-            ..stream
-        },
-    )
+    push_segment(out, moment, sender, &stream, DATA, bytes)?;
+    let count = shown(MOST_TCP, bytes).len() as u32;
+    replace_stream(streams, sent_more(sender, count, stream))
 }
 
-/// The device sends bytes over a stream.
-fn push_sent(
-    out: &mut Vec<u8>,
-    streams: &mut Vec<CapturedStream>,
-    moment: Moment,
-    number: u16,
-    bytes: &[u8],
-) -> Result<(), OutOfMemory>
-    ensures records { OnOk result
-        (out.new.items ≡ out.old.items ++ sent_records moment bytes.now (stream_of number streams.old.items)) }
-    ensures streams { OnOk result
-        (streams.new.items ≡ sent_streams bytes.now (stream_of number streams.old.items) streams.old.items) }
+/// The control bits of the last segment of a stream: it breaks, or its peer closes it; or the device closes it.
+fn last_bits(sender: Sender) -> u8
+    ensures { result ≡ last_bits sender }
 {
-    let Some(stream) = find_stream(streams.as_slice(), number) else {
-        return Ok(());
-    };
-    push_from_device(out, moment, &stream, DATA, bytes)?;
-    let len = shown(MOST_TCP, bytes).len() as u32;
-    replace_stream(
-        streams,
-        CapturedStream {
-            sent: stream.sent.wrapping_add(len),
-            ..stream
-        },
-    )
-}
-
-/// A stream breaks, or its peer closes it.
-fn push_cut(
-    out: &mut Vec<u8>,
-    streams: &mut Vec<CapturedStream>,
-    moment: Moment,
-    number: u16,
-) -> Result<(), OutOfMemory>
-    ensures records { OnOk result
-        (out.new.items ≡ out.old.items ++ cut_records moment (stream_of number streams.old.items)) }
-    ensures streams { OnOk result (streams.new.items ≡ without number streams.old.items) }
-{
-    if let Some(stream) = find_stream(streams.as_slice(), number) {
-        push_to_device(out, moment, &stream, BREAKS, &[])?;
+    match sender {
+        Sender::Peer => BREAKS,
+        Sender::Device => CLOSES,
     }
-    drop_stream(streams, number);
-    Ok(())
 }
 
-/// The device closes a stream.
-fn push_closed(
+/// An end of a stream ends it.
+fn push_end(
     out: &mut Vec<u8>,
     streams: &mut Vec<CapturedStream>,
     moment: Moment,
+    sender: Sender,
     number: u16,
 ) -> Result<(), OutOfMemory>
     ensures records { OnOk result
-        (out.new.items ≡ out.old.items ++ closed_records moment (stream_of number streams.old.items)) }
+        (out.new.items ≡ out.old.items ++ end_records moment sender (stream_of number streams.old.items)) }
     ensures streams { OnOk result (streams.new.items ≡ without number streams.old.items) }
 {
     if let Some(stream) = find_stream(streams.as_slice(), number) {
-        push_from_device(out, moment, &stream, CLOSES, &[])?;
+        push_segment(out, moment, sender, &stream, last_bits(sender), &[])?;
     }
     drop_stream(streams, number);
     Ok(())
@@ -295,11 +232,21 @@ pub fn push_event(
     ensures streams { OnOk result (streams.new.items ≡ event_streams moment event.now streams.old.items) }
 {
     match event {
-        Event::StreamOpened { stream, peer } => push_opened(out, streams, moment, *stream, *peer),
-        Event::Frame { stream, bytes } => {
-            push_received(out, streams, moment, *stream, bytes.as_slice())
+        Event::StreamOpened { stream, peer } => {
+            let start = start_of(moment, *stream, *peer);
+            push_opened(out, streams, moment, opener(moment.side), start)
         }
-        Event::StreamCut { stream } => push_cut(out, streams, moment, *stream),
+        Event::Frame { stream, bytes } => {
+            push_data(
+                out,
+                streams,
+                moment,
+                Sender::Peer,
+                *stream,
+                bytes.as_slice(),
+            )
+        }
+        Event::StreamCut { stream } => push_end(out, streams, moment, Sender::Peer, *stream),
         Event::Datagram { peer, bytes } => {
             let ends = datagram_ends(*peer, moment.side.node);
             push_udp(out, moment.time, &ends, bytes.as_slice())
@@ -319,7 +266,8 @@ fn push_frame(
 {
     match frame.to {
         Recipient::Stream(number) => {
-            push_sent(out, streams, moment, number, frame.bytes.as_slice())
+            let bytes = frame.bytes.as_slice();
+            push_data(out, streams, moment, Sender::Device, number, bytes)
         }
         Recipient::Peer(_) => Ok(()),
     }
@@ -396,7 +344,7 @@ fn push_notice(
     ensures streams { OnOk result (streams.new.items ≡ notice_streams notice.now streams.old.items) }
 {
     match notice {
-        Notice::StreamClosed(number) => push_closed(out, streams, moment, *number),
+        Notice::StreamClosed(number) => { push_end(out, streams, moment, Sender::Device, *number) }
         _ => Ok(()),
     }
 }
