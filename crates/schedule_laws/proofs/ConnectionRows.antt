@@ -15,7 +15,6 @@ use Rattle.cip_events.specs.declared.event.StepFault.TheVariants.{NotAllowedNow,
 use Rattle.cip_events.specs.declared.event.Verdict.TheVariants.{Done}
 use Rattle.cip_events.specs.Answers.{plain_answer, is_accepted}
 use Rattle.cip_events.specs.Clock.{longest_tick, clock_end}
-use Rattle.cip_router.specs.Requests.{opening}
 use Rattle.adapter_table.specs.declared.profile.InputPoint.{InputPoint}
 use Rattle.adapter_table.specs.declared.row.State.{State}
 use Rattle.adapter_table.specs.declared.row.State.TheVariants.{TimedOut}

@@ -3,7 +3,7 @@ use Rattle.std.proofs.Common.{◌≡◌, ◌≢◌, ◌⊎◌, inl, inr, ℕ, ze
 use Rattle.std.specs.List.{AllByRecursion, Contains}
 use Rattle.std.proofs.lemmas.List.Elements.{Contains-append_cases}
 use Rattle.std.proofs.lemmas.Option.{same_Some}
-use Rattle.schedule_laws.specs.Lemmas.Acts.{more_acts}
+use Rattle.schedule_laws.specs.Lemmas.Acts.{more_acts, nothing_yet}
 use Rattle.device_laws.specs.Lemmas.Stepping.{device_stepped, table_is}
 use Rattle.device_laws.specs.Lemmas.Folds.{scanner_is}
 use Rattle.base_lemmas.specs.Lists.{set_own, found_passes}
@@ -60,6 +60,7 @@ use Rattle.schedule_laws.specs.Lemmas.ProducedActs.{drawn_on}
 use Rattle.schedule_laws.specs.Lemmas.StreamActs.{FrameSent, EventArrives, OneEvent, StreamsOnly, ActCases, act_acts, answered_waits, streams_more}
 use Rattle.device_laws.specs.Lemmas.Books.{end_is}
 use Rattle.device_laws.specs.Lemmas.OpenedRows.{MessageMakes}
+use Rattle.schedule_laws.specs.MadeOnce.{AnIdOpensOneConnection}
 use Rattle.schedule_laws.specs.JoinedPoints.{HasPath, HasPaths, HavePaths, SchedulesJoinPoints}
 use Rattle.schedule_laws.proofs.Admitting.{joins, joins_on, opened_requested}
 use Rattle.schedule_laws.proofs.Asking.{OpeningsCome}
@@ -72,6 +73,7 @@ pub record JoinLaws : Type 0 where
   pub sends : AnswersSendWhatIsMade
   pub keep : SchedulesKeepIdsDrawn
   pub opens : OpeningWorldsHaveIdsDrawn
+  pub once : AnIdOpensOneConnection
   pub names : NameLaws
   pub paths : PathReadsBack
   pub items : ItemsReadBack
@@ -381,7 +383,7 @@ act_joined : JoinLaws → (configs : List Config) (so_far : Result Chronicle Act
 act_joined laws configs (Err fault) act at = tt
 act_joined laws configs (Ok c) act at =
     let w = c.story.world in
-    let openings = schedule_openings laws.sends laws.keep laws.opens laws.names configs at.acts c at.is in
+    let openings = schedule_openings laws.sends laws.keep laws.opens laws.once laws.names configs at.acts c at.is in
     let known = openings.openings in
     let named = known.named in
     let joined = at.joined in
@@ -414,10 +416,6 @@ all_have_paths [] n s have at = absurd (let e = at in cc)
 all_have_paths (made ∷ configs) zero s have at = has_paths made s have.0 (same_Some (opening_table made) (Scanner s) at)
 all_have_paths (made ∷ configs) (suc n) s have at = all_have_paths configs n s have.1 at
 
-nothing_yet : (configs : List Config) (acts : List Act) (c : Chronicle) → IsChronicle configs acts c → IsChronicle configs [] (blank (opening_world configs))
-unfolding chronicles
-nothing_yet configs acts c is = record { faultless = is.faultless; bytes = is.bytes; ran = refl }
-
 begins_joined : (configs : List Config) (acts : List Act) (c : Chronicle) → IsChronicle configs acts c → HavePaths configs → JoinsIn configs (blank (opening_world configs))
 begins_joined configs acts c is have = record {
   acts = [];
@@ -440,7 +438,7 @@ pub join_points : JoinLaws → SchedulesJoinPoints
 join_points laws configs acts c is have device t place number entry adapter row at there has among slot_is adapter_at in_rows opening_is =
     let all = schedule_joined laws configs acts c is have in
     let joined = all.joined in
-    let openings = schedule_openings laws.sends laws.keep laws.opens laws.names configs acts c is in
+    let openings = schedule_openings laws.sends laws.keep laws.opens laws.once laws.names configs acts c is in
     let known = openings.openings in
     let named = known.named in
     let e : IsEntry c.story.world c.opened entry = all_contains (IsEntry c.story.world c.opened) c.opened entry named.entries among in

@@ -7,6 +7,7 @@ use Rattle.std.proofs.lemmas.Option.{same_Some}
 use Rattle.adapter_table.specs.Connections.{Row}
 use Rattle.adapter_table.specs.declared.table.AdapterTable.{AdapterTable}
 use Rattle.adapter_table.specs.Productions.{is_produced_by}
+use Rattle.cip_tables.specs.declared.table.Config.{Config}
 use Rattle.cip_tables.specs.declared.table.DeviceTable.{DeviceTable}
 use Rattle.cip_tables.specs.declared.table.DeviceTable.TheVariants.{Adapter, Scanner}
 use Rattle.cip_tables.specs.Run.{table_of}
@@ -20,12 +21,13 @@ use Rattle.device_laws.specs.Lemmas.RowIds.{all_contained}
 use Rattle.device_laws.specs.Lemmas.Lists.{all_more}
 use Rattle.device_laws.specs.Made.{AnswersSendWhatIsMade, makes}
 use Rattle.device_laws.specs.Productions.{End, end_at, Production}
-use Rattle.schedule_laws.specs.Chronicle.{Opened, opens_row, frame_opens, Chronicle, with_event_at, recorded, after_act, then_act, chronicles, blank}
+use Rattle.schedule_laws.specs.Chronicle.{Opened, opens_row, frame_opens, Chronicle, with_event_at, recorded, after_act, chronicles, blank}
 use Rattle.schedule_laws.specs.MadeOnce.{AnIdOpensOneConnection}
 use Rattle.schedule_laws.specs.Names.{IsScannerIn, IsAdapterIn, IsOfGroup, IsOwn, IsEntry, IsOpenedFor, IsMadeBy, ProductionHasEntry, ProducerHasEntry, IsOfItsOpening, IsOfItsEntry}
 use Rattle.schedule_laws.specs.Order.{IsChronicle}
-use Rattle.schedule_laws.specs.Producers.{SchedulesNameOneProducer, WasOpenedLater, HasConnection, RowsAcceptNothingOlder, SlotsAcceptOfTheLiving, LaterConnectionsAcceptNothingOlder}
+use Rattle.schedule_laws.specs.Producers.{AreMoments, SchedulesNameOneProducer, WasOpenedLater, HasConnection, RowsAcceptNothingOlder, SlotsAcceptOfTheLiving, LaterConnectionsAcceptNothingOlder}
 use Rattle.schedule_laws.specs.Lemmas.AcceptedOpenings.{IsAccepted, entries_same}
+use Rattle.schedule_laws.specs.Lemmas.Acts.{acts_after}
 use Rattle.schedule_laws.specs.Lemmas.ApartIds.{Differ, DifferFromAll}
 use Rattle.schedule_laws.proofs.EndedProducers.{IsOld, EndedIn, act_ended}
 use Rattle.schedule_laws.specs.Lemmas.Entries.{IsDeviceIn, Waits}
@@ -37,11 +39,6 @@ use Rattle.schedule_laws.specs.Lemmas.ProducedActs.{ActsKeep, chronicles_keep}
 use Rattle.schedule_laws.specs.Lemmas.StreamActs.{act_acts}
 
 -- ---- two moments
-
-then_later : (acts late : List Act) (c : Result Chronicle ActFault) → chronicles c (acts ++ late) ≡ chronicles (chronicles c acts) late
-unfolding chronicles
-then_later [] late c = refl
-then_later (act ∷ acts) late c = then_later acts late (then_act c act)
 
 -- what was opened and what was produced stays
 pub record Grown (was c : Chronicle) : Type 0 where
@@ -64,7 +61,7 @@ both_ok : (P Q R : Chronicle → Type 0) → ((c : Chronicle) → P c → Q c �
 both_ok P Q R both (Err fault) p q = tt
 both_ok P Q R both (Ok c) p q = both c p q
 
-grown : (was now : Chronicle) (late : List Act) → chronicles (Ok was) late ≡ Ok now → Grown was now
+pub grown : (was now : Chronicle) (late : List Act) → chronicles (Ok was) late ≡ Ok now → Grown was now
 grown was now late is =
     subst (λ (r : Result Chronicle ActFault). IfOk r (Grown was)) is
     (chronicles_keep (Grown was) (λ c act holds. grown_by was c act (happens c.story.world act) holds) late (Ok was) (record { opened = λ e there. there; produced = λ p there. there }))
@@ -74,19 +71,19 @@ record EndedKnown (base : List Opened) (device n : ℕ) (c : Chronicle) : Type 0
   openings : OpeningsIn c
   ended : EndedIn base device n c
 
-ended_keep : AnswersSendWhatIsMade → SchedulesKeepIdsDrawn → NameLaws → (base : List Opened) (device n : ℕ) → ActsKeep (EndedKnown base device n)
-ended_keep sends keep laws base device n c act at =
+ended_keep : AnswersSendWhatIsMade → SchedulesKeepIdsDrawn → AnIdOpensOneConnection → NameLaws → (base : List Opened) (device n : ℕ) → ActsKeep (EndedKnown base device n)
+ended_keep sends keep once laws base device n c act at =
     let in_order = at.openings in
     let openings = in_order.openings in
     let named = openings.named in
     let produced = in_order.produced in
-    both_ok OpeningsIn (EndedIn base device n) (EndedKnown base device n) (λ d known ended. record { openings = known; ended = ended }) (after_act c act) (acts_keep sends keep laws c act at.openings)
+    both_ok OpeningsIn (EndedIn base device n) (EndedKnown base device n) (λ d known ended. record { openings = known; ended = ended }) (after_act c act) (acts_keep sends keep once laws c act at.openings)
     (act_ended laws base device n c act (happens c.story.world act) (act_acts (Waits c.story.world c.opened) c.story.world act named.streams) produced.drawn at.ended)
 
-ended_later : AnswersSendWhatIsMade → SchedulesKeepIdsDrawn → NameLaws → (base : List Opened) (device n : ℕ) (was now : Chronicle) (late : List Act) → chronicles (Ok was) late ≡ Ok now → OpeningsIn was → EndedIn base device n was → EndedIn base device n now
-ended_later sends keep laws base device n was now late is openings ended =
+ended_later : AnswersSendWhatIsMade → SchedulesKeepIdsDrawn → AnIdOpensOneConnection → NameLaws → (base : List Opened) (device n : ℕ) (was now : Chronicle) (late : List Act) → chronicles (Ok was) late ≡ Ok now → OpeningsIn was → EndedIn base device n was → EndedIn base device n now
+ended_later sends keep once laws base device n was now late is openings ended =
     let known : EndedKnown base device n now = subst (λ (r : Result Chronicle ActFault). IfOk r (EndedKnown base device n)) is
-    (chronicles_keep (EndedKnown base device n) (ended_keep sends keep laws base device n) late (Ok was) (record { openings = openings; ended = ended })) in
+    (chronicles_keep (EndedKnown base device n) (ended_keep sends keep once laws base device n) late (Ok was) (record { openings = openings; ended = ended })) in
     known.ended
 
 -- ---- devices keep their kind
@@ -126,11 +123,11 @@ scanner_made was now p (Adapter t) before after more there at scanner =
     absurd (never_both_kinds now.story.world p.producer.device scanner adapter)
 
 -- the device that made it
-maker_of : (c : Chronicle) (p : Production) → OpeningsIn c → Contains c.produced p → IsDeviceIn c.story.world p.producer.device
+pub maker_of : (c : Chronicle) (p : Production) → OpeningsIn c → Contains c.produced p → IsDeviceIn c.story.world p.producer.device
 maker_of c p in_order there =
     let openings = in_order.openings in
-    let apart = openings.apart in
-    all_contains (λ (q : Production). IsDeviceIn c.story.world q.producer.device) c.produced p apart.makers there
+    let nodes = openings.nodes in
+    all_contains (λ (q : Production). IsDeviceIn c.story.world q.producer.device) c.produced p nodes.makers there
 
 -- ---- at the adapter
 
@@ -194,14 +191,14 @@ has_ended was p t before there at none =
     next_of (Adapter x) = x.next_id
     next_of (Scanner x) = x.next_id
 
-living : AnswersSendWhatIsMade → SchedulesKeepIdsDrawn → NameLaws → (was now : Chronicle) (late : List Act) (e : Opened) (p : Production) (t : AdapterTable) (found : Option Row) → chronicles (Ok was) late ≡ Ok now → OpeningsIn was → WasOpenedLater was now e → e.producer ≡ p.producer → Contains was.produced p → slice_get was.story.world.tables p.producer.device ≡ Some (Adapter t) → find (is_produced_by p.producer.number) t.rows ≡ found → HasConnection was p.producer
-living sends keep laws was now late e p t (Some row) is before later same there at found = record { table = t; is = at; row = row; there = found }
-living sends keep laws was now late e p t None is before later same there at none =
-    let ended = ended_later sends keep laws was.opened p.producer.device p.producer.number was now late is before (has_ended was p t before there at none) in
+living : AnswersSendWhatIsMade → SchedulesKeepIdsDrawn → AnIdOpensOneConnection → NameLaws → (was now : Chronicle) (late : List Act) (e : Opened) (p : Production) (t : AdapterTable) (found : Option Row) → chronicles (Ok was) late ≡ Ok now → OpeningsIn was → WasOpenedLater was now e → e.producer ≡ p.producer → Contains was.produced p → slice_get was.story.world.tables p.producer.device ≡ Some (Adapter t) → find (is_produced_by p.producer.number) t.rows ≡ found → HasConnection was p.producer
+living sends keep once laws was now late e p t (Some row) is before later same there at found = record { table = t; is = at; row = row; there = found }
+living sends keep once laws was now late e p t None is before later same there at none =
+    let ended = ended_later sends keep once laws was.opened p.producer.device p.producer.number was now late is before (has_ended was p t before there at none) in
     absurd (later.later (all_contains (IsOld was.opened (end_at p.producer.device p.producer.number)) now.opened e ended.old later.there same))
 
-slots_later : AnswersSendWhatIsMade → SchedulesKeepIdsDrawn → NameLaws → (was now : Chronicle) (late : List Act) → chronicles (Ok was) late ≡ Ok now → OpeningsIn was → OpeningsIn now → OpenedOnce now.story.world now.opened → Grown was now → SlotsAcceptOfTheLiving was now
-slots_later sends keep laws was now late is before after once more e a later there consumer id older =
+slots_later : AnswersSendWhatIsMade → SchedulesKeepIdsDrawn → AnIdOpensOneConnection → NameLaws → (was now : Chronicle) (late : List Act) → chronicles (Ok was) late ≡ Ok now → OpeningsIn was → OpeningsIn now → OpenedOnce now.story.world now.opened → Grown was now → SlotsAcceptOfTheLiving was now
+slots_later sends keep law laws was now late is before after once more e a later there consumer id older =
     let new = after.openings in
     let new_named = new.named in
     let produced = after.produced in
@@ -217,7 +214,7 @@ slots_later sends keep laws was now late is before after once more e a later the
     record { table = entry.table; is = ap (slice_get now.story.world.tables) (ap (λ (r : End). r.device) (sym same) ∙ entry.maker) ∙ entry.there } in
     let maker = maker_of was a.production before older in
     let table = adapter_made was now a.production maker.table before after more older maker.is adapter in
-    living sends keep laws was now late e a.production table.table (find (is_produced_by a.production.producer.number) table.table.rows) is before later same older table.is refl
+    living sends keep law laws was now late e a.production table.table (find (is_produced_by a.production.producer.number) table.table.rows) is before later same older table.is refl
 
 -- ---- one producer
 
@@ -257,7 +254,7 @@ by_kinds c p q (Adapter t) (Scanner u) in_order once one two at_p at_q same = ab
 
 pub name_one_producer : AnswersSendWhatIsMade → SchedulesKeepIdsDrawn → OpeningWorldsHaveIdsDrawn → NameLaws → AnIdOpensOneConnection → SchedulesNameOneProducer
 name_one_producer sends keep opens laws once configs acts c is =
-    let in_order = schedule_openings sends keep opens laws configs acts c is in
+    let in_order = schedule_openings sends keep opens once laws configs acts c is in
     let openings = in_order.openings in
     let named = openings.named in
     let produced = in_order.produced in
@@ -271,18 +268,24 @@ name_one_producer sends keep opens laws once configs acts c is =
           one_producer c.story.world c.opened e f produced.drawn opened one two (all_contains (IsEntry c.story.world c.opened) c.opened e named.entries one) (all_contains (IsEntry c.story.world c.opened) c.opened f named.entries two) same;
     }
 
+-- the later moment of two is that of a chronicle
+pub later_moment : (configs : List Config) (was now : Chronicle) (moments : AreMoments configs was now) → IsChronicle configs (moments.early ++ moments.late) now
+later_moment configs was now moments =
+    let first = moments.first in
+    record {
+      lives = first.lives;
+      bytes = first.bytes;
+      ran = acts_after (Ok (blank (opening_world configs))) moments.early moments.late ∙ ap (λ (c : Result Chronicle ActFault). chronicles c moments.late) first.ran ∙ moments.rest;
+    }
+
 pub later_accept : AnswersSendWhatIsMade → SchedulesKeepIdsDrawn → OpeningWorldsHaveIdsDrawn → NameLaws → AnIdOpensOneConnection → LaterConnectionsAcceptNothingOlder
 later_accept sends keep opens laws once configs was now moments =
     let first = moments.first in
-    let whole : IsChronicle configs (moments.early ++ moments.late) now = record {
-      faultless = first.faultless;
-      bytes = first.bytes;
-      ran = then_later moments.early moments.late (Ok (blank (opening_world configs))) ∙ ap (λ (c : Result Chronicle ActFault). chronicles c moments.late) first.ran ∙ moments.rest;
-    } in
-    let before = schedule_openings sends keep opens laws configs moments.early was first in
-    let after = schedule_openings sends keep opens laws configs (moments.early ++ moments.late) now whole in
+    let whole = later_moment configs was now moments in
+    let before = schedule_openings sends keep opens once laws configs moments.early was first in
+    let after = schedule_openings sends keep opens once laws configs (moments.early ++ moments.late) now whole in
     let more = grown was now moments.late moments.rest in
     record {
       rows = rows_later was now before after more;
-      slots = slots_later sends keep laws was now moments.late moments.rest before after (opened_once now (once configs (moments.early ++ moments.late) now whole)) more;
+      slots = slots_later sends keep once laws was now moments.late moments.rest before after (opened_once now (once configs (moments.early ++ moments.late) now whole)) more;
     }

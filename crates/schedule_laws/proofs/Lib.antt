@@ -7,6 +7,9 @@ pub mod LaterSlots
 pub mod OutputsWritten
 pub mod EndedProducers
 pub mod LaterConnections
+pub mod Acted
+pub mod NewLives
+pub mod LifeIds
 pub mod WaitingCounts
 pub mod UsedOnce
 pub mod OneConnection

@@ -2,7 +2,7 @@
 use Rattle.std.proofs.Common.{◌≡◌, ◌≢◌, ◌⊎◌, inl, inr, ℕ, Bool, true, false, List, [], ◌∷◌, ◌++◌, set, slice_get, Option, Some, None, Result, Ok, Err, IfOk, unwrap_or, refl, sym, ◌∙◌, ap, subst, append_assoc, append-nil}
 use Rattle.std.specs.List.{AllByRecursion, Contains}
 use Rattle.std.proofs.lemmas.Option.{same_Some}
-use Rattle.schedule_laws.specs.Lemmas.Acts.{more_acts}
+use Rattle.schedule_laws.specs.Lemmas.Acts.{more_acts, nothing_yet}
 use Rattle.cip_events.specs.declared.event.Event.{Event}
 use Rattle.cip_events.specs.declared.event.Event.TheVariants.{Write}
 use Rattle.cip_events.specs.declared.event.StepFault.{StepFault}
@@ -192,10 +192,6 @@ acts_made configs before [] c last is made ran =
 acts_made configs before (act ∷ acts) c last is made ran =
     next_made configs before c last act acts (after_act c act) is refl (act_made configs before c act is made) ran
     (λ next is_next made_next so. acts_made configs (before ++ act ∷ []) acts next last is_next made_next so)
-
-nothing_yet : (configs : List Config) (acts : List Act) (c : Chronicle) → IsChronicle configs acts c → IsChronicle configs [] (blank (opening_world configs))
-unfolding chronicles
-nothing_yet configs acts c is = record { faultless = is.faultless; bytes = is.bytes; ran = refl }
 
 schedule_made : (configs : List Config) (acts : List Act) (c : Chronicle) → IsChronicle configs acts c → MadeBy configs acts c
 schedule_made configs acts c is =

@@ -1,10 +1,9 @@
 -- At each moment of a schedule: the chronicle is one of a schedule, what was accepted was produced, and outputs hold the
 -- values of what was produced.
-use Rattle.std.proofs.Common.{◌≡◌, ◌≢◌, ◌<◌, ℕ, ◌+◌, ◌%◌, ◌^◌, ◌==◌, Bool, true, false, List, [], ◌∷◌, ◌++◌, set, slice_get, Option, Some, None, Result, Ok, Err, IfOk, ◌⊎◌, inl, inr, refl, sym, ◌∙◌, ap, subst, arith, eqb-true}
+use Rattle.std.proofs.Common.{◌≡◌, ◌≢◌, ◌<◌, ℕ, ◌+◌, ◌%◌, ◌^◌, ◌==◌, Bool, true, false, List, [], ◌∷◌, ◌++◌, set, slice_get, Option, Some, None, Result, Ok, Err, ◌⊎◌, inl, inr, refl, sym, ◌∙◌, ap, subst, arith, eqb-true}
 use Rattle.std.specs.List.{AllByRecursion, Contains}
 use Rattle.std.proofs.lemmas.Option.{same_Some}
 use Rattle.std.proofs.lemmas.Bool.{eqb-false}
-use Rattle.schedule_laws.specs.Lemmas.Acts.{acts_after, one_act}
 use Rattle.base_lemmas.specs.Lists.{set_own, set_other}
 use Rattle.cip_datagram.specs.ReadsBack.{HeaderReadsBack}
 use Rattle.cip_events.specs.Answers.{is_accepted}
@@ -23,22 +22,20 @@ use Rattle.scanner_table.specs.declared.table.ScannerTable.{ScannerTable}
 use Rattle.scanner_table.specs.Effects.{Next as ScannerNext}
 use Rattle.scanner_table.specs.Step.{scanner_step}
 use Rattle.device_laws.specs.ScannerDeliveries.{reports_accepted}
-use Rattle.cip_tables.specs.declared.table.Config.{Config}
 use Rattle.cip_tables.specs.declared.table.DeviceTable.{DeviceTable}
 use Rattle.cip_tables.specs.declared.table.DeviceTable.TheVariants.{Adapter, Scanner}
 use Rattle.cip_tables.specs.Step.{DeviceNext, as_adapter, as_scanner, step}
 use Rattle.segment_world.specs.declared.act.Act.{Act}
 use Rattle.segment_world.specs.declared.act.ActFault.{ActFault}
-use Rattle.segment_world.specs.Configs.{opening_world}
 use Rattle.segment_world.specs.World.{World, ReportedEvent, happens}
 use Rattle.schedule_laws.specs.Ids.{SchedulesKeepIdsDrawn, OpeningWorldsHaveIdsDrawn}
 use Rattle.schedule_laws.specs.Lemmas.Moves.{Came}
 use Rattle.device_laws.specs.Made.{Made, AnswersSendWhatIsMade, makes}
 use Rattle.device_laws.specs.Productions.{end_at, Production, IsNumbered, numbered, produced_more}
 use Rattle.device_laws.specs.Lemmas.ListCounts.{Has}
-use Rattle.schedule_laws.specs.Chronicle.{Acceptance, accepted_by_verdict, blank, chronicles, Chronicle, after_act, newest, then_act, with_event_at, with_event, recorded}
+use Rattle.schedule_laws.specs.Chronicle.{Acceptance, accepted_by_verdict, Chronicle, after_act, newest, with_event_at, with_event, recorded}
 use Rattle.schedule_laws.specs.Names.{IsAdapterIn, IsScannerIn, SchedulesNameOpenings, SchedulesAcceptOneOpening}
-use Rattle.schedule_laws.specs.Order.{AreWithin, IsAdapterAt, IsChronicle}
+use Rattle.schedule_laws.specs.Order.{AreWithin, IsAdapterAt}
 use Rattle.schedule_laws.specs.Lemmas.AdapterNewest.{Entry}
 use Rattle.schedule_laws.specs.Lemmas.Found.{all_contains}
 use Rattle.schedule_laws.specs.Lemmas.ProducedActs.{Any}
@@ -51,29 +48,6 @@ use Rattle.schedule_laws.proofs.Holding.{TableHolds}
 use Rattle.schedule_laws.proofs.Later.{adapter_same}
 
 -- ---- a chronicle of a schedule
-
--- the chronicle is that of some acts
-pub record Reached (configs : List Config) (c : Chronicle) : Type 0 where
-  pub acts : List Act
-  pub is : IsChronicle configs acts c
-
-pub reached_by : (configs : List Config) (c c' : Chronicle) (act : Act) → Reached configs c → after_act c act ≡ Ok c' → Reached configs c'
-reached_by configs c c' act r goes = record {
-  acts = r.acts ++ act ∷ [];
-  is = record {
-    faultless = r.is.faultless;
-    bytes = r.is.bytes;
-    ran = acts_after (Ok (blank (opening_world configs))) r.acts (act ∷ []) ∙ ap (λ (s : Result Chronicle ActFault). chronicles s (act ∷ [])) r.is.ran ∙ one_act (Ok c) act ∙ goes;
-  };
-}
-
-reached_step : (configs : List Config) (c : Chronicle) (act : Act) (said : Result Chronicle ActFault) → after_act c act ≡ said → Reached configs c → IfOk said (Reached configs)
-reached_step configs c act (Err fault) is r = tt
-reached_step configs c act (Ok c') is r = reached_by configs c c' act r is
-
-pub reached_keeps : (configs : List Config) (so_far : Result Chronicle ActFault) (act : Act) → IfOk so_far (Reached configs) → IfOk (then_act so_far act) (Reached configs)
-reached_keeps configs (Err fault) act r = tt
-reached_keeps configs (Ok c) act r = reached_step configs c act (after_act c act) refl r
 
 abbrev went_on : Chronicle → Result Chronicle ActFault
 went_on c = Ok c

@@ -31,7 +31,7 @@ passing_one p z x xs is passes =
     let both = count_cons p z xs in
     omega (arith, one, both)
 
-counted : {X : Type 0} (p : X → Bool) (xs : List X) (x : X) → Contains xs x → p x ≡ true → 1 ≤ count_by p xs
+pub counted : {X : Type 0} (p : X → Bool) (xs : List X) (x : X) → Contains xs x → p x ≡ true → 1 ≤ count_by p xs
 counted p [] x there passes = none_in x there
 counted p (z ∷ xs) x there passes = by_case (first_or_rest z x xs there) (λ rest. counted p xs x rest passes) where
   by_case : (z ≡ x) ⊎ Contains xs x → (Contains xs x → 1 ≤ count_by p xs) → 1 ≤ count_by p (z ∷ xs)
@@ -52,7 +52,7 @@ only_one p (z ∷ xs) x y there other passes also one =
 
 -- ---- the law
 
-opened_at_most : (id n : ℕ) (w : Chronicle) → uses id w.story.world.streams w.opened ≤ n → count_by (has_id id) w.opened ≤ n
+pub opened_at_most : (id n : ℕ) (w : Chronicle) → uses id w.story.world.streams w.opened ≤ n → count_by (has_id id) w.opened ≤ n
 unfolding uses
 opened_at_most id n w is = omega (arith, is)
 

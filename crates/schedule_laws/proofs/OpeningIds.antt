@@ -1,4 +1,4 @@
--- A world that begins from configurations without a fault has no ids anywhere.
+-- A world that begins from configurations of lives has no ids anywhere.
 use Rattle.std.proofs.Common.{◌≡◌, ◌≢◌, ◌≤◌, ℕ, zero, suc, ◌==◌, Bool, false, List, [], ◌∷◌, map, slice_get, Some, None, refl, sym, ◌∙◌, ap, subst, arith}
 use Rattle.std.specs.List.{AllByRecursion, list_any}
 use Rattle.std.proofs.lemmas.Bool.{or_parts, eqb-false}
@@ -19,7 +19,7 @@ use Rattle.segment_world.specs.declared.configs.DeviceKey.TheVariants.{Incarnati
 use Rattle.segment_world.specs.Configs.{key_in, any_twice, first_fault}
 use Rattle.device_laws.specs.Carrying.{Passes, SlotIds, TableIds}
 use Rattle.schedule_laws.specs.Ids.{is_drawn, any_opening, AreBytes, OpeningWorldsHaveIdsDrawn}
-use Rattle.schedule_laws.proofs.Openings.{faultless, both_none, opens_whole}
+use Rattle.schedule_laws.proofs.Openings.{both_none, opens_whole}
 
 -- ---- incarnations
 
@@ -82,14 +82,13 @@ fresh_all test (made ∷ configs) zero t at = subst (TableIds test any_opening) 
 fresh_all test (made ∷ configs) (suc device) t at = fresh_all test configs device t at
 
 pub opening_worlds : FreshDevicesAreWhole → OpeningWorldsHaveIdsDrawn
-opening_worlds fresh configs none bytes =
-    let f = faultless configs none in
+opening_worlds fresh configs lives bytes =
     record {
-      whole = λ device t at. opens_whole fresh configs device t f.profiles at;
+      whole = λ device t at. opens_whole fresh configs device t lives.profiles at;
       apart = record {
-        begins = λ device t at. begins_all configs device t f.profiles at;
+        begins = λ device t at. begins_all configs device t lives.profiles at;
         ends = λ device t at. ends_all configs device t bytes at;
-        differ = λ a b t u at_a at_b same. differ_all configs a b t u f.incarnations at_a at_b same;
+        differ = λ a b t u at_a at_b same. differ_all configs a b t u lives.incarnations at_a at_b same;
       };
       tables = λ device t at. fresh_all (is_drawn (map opening_table configs)) configs device t at;
       sent = tt;

@@ -35,7 +35,7 @@ use Rattle.device_laws.specs.Made.{makes}
 use Rattle.device_laws.specs.Productions.{End, end_at, is_end, Production, IsNumbered}
 use Rattle.device_laws.specs.Lemmas.Books.{end_is}
 use Rattle.device_laws.specs.Lemmas.ListCounts.{Has, all_has, get_has}
-use Rattle.schedule_laws.specs.Chronicle.{Acceptance, accepted_by_verdict, accepted_sent, accepted_by_act, blank, chronicles, Chronicle, has_consumer, names, newest, opens_row, Opened, with_event}
+use Rattle.schedule_laws.specs.Chronicle.{Acceptance, accepted_by_verdict, accepted_sent, accepted_by_act, blank, Chronicle, has_consumer, names, newest, opens_row, Opened, with_event}
 use Rattle.schedule_laws.specs.Indexes.{sent_of}
 use Rattle.schedule_laws.specs.Names.{IsAdapterIn, IsEntry, IsScannerIn}
 use Rattle.schedule_laws.specs.Order.{AreNear, HalfCircle, IsAdapterAt, IsChronicle, IsNear, IsNearAct, IsNearNamed, IsNearSent, KeepsHalfCircle, step_accepts}
@@ -51,7 +51,8 @@ use Rattle.schedule_laws.specs.Outputs as law
 use Rattle.schedule_laws.specs.Outputs.{AppliedInOrder, OutputsHold}
 use Rattle.schedule_laws.proofs.Forms.{HasForm}
 use Rattle.schedule_laws.proofs.Holding.{AcceptFacts, FactsAt, IsSame, TableHolds, applied_runs, datagram_holds, quiet_holds}
-use Rattle.schedule_laws.proofs.Moments.{AdapterBefore, Holds, IsFormed, PointLaws, Reached, TableCases, WasAccepted, WasRunning, adapter_back, all_front, contains_has, goes_on_to, has_more, made_formed, makes_formed, near_new_data, other_holds, reached_by, reached_keeps, scanner_before, table_cases, noted_produced, was_accepted}
+use Rattle.schedule_laws.specs.Lemmas.Acts.{Reached, nothing_yet, reached_by, reached_keeps}
+use Rattle.schedule_laws.proofs.Moments.{AdapterBefore, Holds, IsFormed, PointLaws, TableCases, WasAccepted, WasRunning, adapter_back, all_front, contains_has, goes_on_to, has_more, made_formed, makes_formed, near_new_data, other_holds, scanner_before, table_cases, noted_produced, was_accepted}
 
 -- ---- a production that is accepted
 
@@ -303,13 +304,9 @@ blank_taken laws configs is = schedule_taken laws.sends laws.keep laws.opens law
 no_rows : (configs : List Config) (n device : ℕ) (t : AdapterTable) → slice_get (map opening_table configs) n ≡ Some (Adapter t) → TableHolds [] device t
 no_rows configs n device t at row has lives owns a newest_is run = absurd (let h = newest_is in cc)
 
-blank_is : (configs : List Config) (acts : List Act) (c : Chronicle) → IsChronicle configs acts c → IsChronicle configs [] (blank (opening_world configs))
-unfolding chronicles
-blank_is configs acts c is = record { faultless = is.faultless; bytes = is.bytes; ran = refl }
-
 pub schedule_holds : PointLaws → (configs : List Config) (acts : List Act) (c : Chronicle) → IsChronicle configs acts c → KeepsHalfCircle configs acts → Holds c
 schedule_holds laws configs acts c is half =
-    let begins = blank_is configs acts c is in
+    let begins = nothing_yet configs acts c is in
     subst (λ (r : Result Chronicle ActFault). IfOk r Holds) is.ran
     (near_keep (Reached configs) Holds (reached_keeps configs) (hold_cases laws configs) acts (Ok (blank (opening_world configs))) half
     (record { acts = []; is = begins })

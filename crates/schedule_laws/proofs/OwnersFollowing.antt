@@ -29,7 +29,7 @@ use Rattle.segment_world.specs.Story.{is_of, events_of}
 use Rattle.schedule_laws.specs.Stories.{led_by, led_to}
 use Rattle.schedule_laws.specs.Owners.{Brings, Ends, EndsWithin, EndsBetween, OwnersFollow, OpenedOwnersFollow}
 use Rattle.schedule_laws.proofs.Reporting.{Answers, AnswersIf, Reports, led_both, reports_rest, reports_first, is_run, is_performed, outcomes_of, story_leads}
-use Rattle.schedule_laws.proofs.Openings.{faultless, opens_whole}
+use Rattle.schedule_laws.proofs.Openings.{opens_whole}
 
 -- TURNS OF REPORTED EVENTS
 
@@ -232,6 +232,6 @@ owners_follow law start acts story device t ran at whole =
     ends_between_reported law t device story.reported whole (story_leads start acts story device t ran at).reports
 
 pub opened_owners_follow : FreshDevicesAreWhole → EndsStandBetween → OpenedOwnersFollow
-opened_owners_follow fresh law configs acts story device t none ran at =
-    let whole = opens_whole fresh configs device t (faultless configs none).profiles at in
+opened_owners_follow fresh law configs acts story device t lives ran at =
+    let whole = opens_whole fresh configs device t lives.profiles at in
     ends_between_reported law t device story.reported whole (story_leads _ acts story device t ran at).reports

@@ -17,8 +17,10 @@ use Rattle.device_laws.specs.Made.{AnswersSendWhatIsMade}
 use Rattle.schedule_laws.specs.Ids.{SchedulesKeepIdsDrawn, OpeningWorldsHaveIdsDrawn}
 use Rattle.schedule_laws.specs.Chronicle.{Chronicle, with_event_at, recorded, blank}
 use Rattle.schedule_laws.specs.Devices.{SchedulesKeepDevices}
+use Rattle.schedule_laws.specs.MadeOnce.{AnIdOpensOneConnection}
 use Rattle.schedule_laws.specs.Streams.{IsOpenTo}
 use Rattle.schedule_laws.specs.Order.{IsChronicle}
+use Rattle.schedule_laws.specs.Lemmas.Addresses.{own_node, tables_differ}
 use Rattle.schedule_laws.specs.Lemmas.Entries.{IsKnown, IsKnownTo, AdapterIsNamed, ScannerIsNamed}
 use Rattle.schedule_laws.specs.Lemmas.Found.{all_contains}
 use Rattle.schedule_laws.specs.Lemmas.NameActs.{NameLaws}
@@ -50,14 +52,17 @@ nodes_same configs acts c is =
 
 -- ---- streams
 
-pub devices_stand : AnswersSendWhatIsMade → SchedulesKeepIdsDrawn → OpeningWorldsHaveIdsDrawn → NameLaws → SchedulesKeepDevices
-devices_stand sends keep opens laws configs acts c is =
-    let all = schedule_openings sends keep opens laws configs acts c is in
+pub devices_stand : AnswersSendWhatIsMade → SchedulesKeepIdsDrawn → OpeningWorldsHaveIdsDrawn → AnIdOpensOneConnection → NameLaws → SchedulesKeepDevices
+devices_stand sends keep opens once laws configs acts c is =
+    let all = schedule_openings sends keep opens once laws configs acts c is in
     let openings = all.openings in
     let named = openings.named in
-    let apart = openings.apart in
     record {
-      nodes = record { nodes = nodes_same configs acts c is; own = apart.named; differ = apart.differ };
+      nodes = record {
+        nodes = nodes_same configs acts c is;
+        own = λ device t at. own_node c.story.world c.produced device t openings.nodes at;
+        differ = λ once a b t u at_a at_b same. tables_differ configs c.story.world c.produced a b t u once (nodes_same configs acts c is) openings.nodes at_a at_b same;
+      };
       streams = record {
         adapters = λ device t s at there. of_adapter device t s (named.tables device (Adapter t) at) there;
         scanners = λ device t s at there. of_scanner device t s (named.tables device (Scanner t) at) there;

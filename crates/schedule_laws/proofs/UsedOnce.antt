@@ -52,7 +52,7 @@ pub record OnceLaws : Type 0 where
 
 -- ---- numbers
 
-below_or_not : (k n : ℕ) → (k < n) ⊎ (n ≤ k)
+pub below_or_not : (k n : ℕ) → (k < n) ⊎ (n ≤ k)
 below_or_not k n = split (nat_lt k n) refl where
   split : (b : Bool) → nat_lt k n ≡ b → (k < n) ⊎ (n ≤ k)
   split true is = inl (grind (arith, nat_tests))
@@ -338,5 +338,5 @@ begins_used configs = record {
 pub ids_used_once : OnceLaws → SchedulesKeepIdsDrawn → OpeningWorldsHaveIdsDrawn → SchedulesUseIdsOnce
 ids_used_once laws keep opens configs acts c is =
     let all : OnceIn c = subst (λ (r : Result Chronicle ActFault). IfOk r OnceIn) is.ran
-    (chronicles_keep OnceIn (once_keeps laws keep) acts (Ok (blank (opening_world configs))) (record { drawn = opens configs is.faultless is.bytes; used = begins_used configs })) in
+    (chronicles_keep OnceIn (once_keeps laws keep) acts (Ok (blank (opening_world configs))) (record { drawn = opens configs is.lives is.bytes; used = begins_used configs })) in
     all.used

@@ -13,14 +13,16 @@ use Rattle.segment_world.specs.declared.act.Act.{Act}
 use Rattle.segment_world.specs.Configs.{opening_world}
 use Rattle.segment_world.specs.World.{node_at}
 use Rattle.schedule_laws.specs.Chronicle.{Chronicle}
+use Rattle.schedule_laws.specs.Lives.{DifferInAddress}
 use Rattle.schedule_laws.specs.Order.{IsChronicle, IsAdapterAt, IsScannerAt}
 use Rattle.schedule_laws.specs.Streams.{IsOpenTo}
 
--- The addresses are those of the beginning; each device's is that of its profile, and no two are equal.
+-- The addresses are those of the beginning, and each device's is that of its profile. No two are equal, if each device has one
+-- life: lives of one device have one address.
 pub record DevicesKeepNodes (configs : List Config) (c : Chronicle) : Type 0 where
   pub nodes : c.story.world.nodes ≡ (opening_world configs).nodes
   pub own : (device : ℕ) (t : DeviceTable) → slice_get c.story.world.tables device ≡ Some t → node_at c.story.world device ≡ node_of t
-  pub differ : (a b : ℕ) (t u : DeviceTable) → slice_get c.story.world.tables a ≡ Some t → slice_get c.story.world.tables b ≡ Some u → (node_of t).0 ≡ (node_of u).0 → a ≡ b
+  pub differ : DifferInAddress configs → (a b : ℕ) (t u : DeviceTable) → slice_get c.story.world.tables a ≡ Some t → slice_get c.story.world.tables b ≡ Some u → (node_of t).0 ≡ (node_of u).0 → a ≡ b
 
 -- each open stream of a device's table
 pub record OpenStreamsStand (c : Chronicle) : Type 0 where

@@ -1,6 +1,6 @@
 -- Connection ids in every schedule of many devices: no id that a device may still allocate is anywhere in the world. So a
 -- connection accepts nothing that was sent before its id was allocated (Volume 1, chapter 3, network connection ids).
-use Rattle.std.specs.Prelude.{ℕ, ◌≡◌, ◌≢◌, ◌+◌, ◌*◌, ◌^◌, ◌<◌, ◌≤◌, ◌&&◌, not, nat_lt, nat_le, Bool, true, false, List, [], ◌∷◌, ◌++◌, slice_get, Some, None, Ok}
+use Rattle.std.specs.Prelude.{ℕ, ◌≡◌, ◌≢◌, ◌+◌, ◌*◌, ◌^◌, ◌<◌, ◌≤◌, ◌&&◌, not, nat_lt, nat_le, Bool, true, false, List, [], ◌∷◌, ◌++◌, slice_get, Some, Ok}
 use Rattle.std.specs.List.{AllByRecursion, Contains, list_any}
 use Rattle.cip_datagram.specs.Datagram.{DatagramFields}
 use Rattle.cip_datagram.specs.Reading.{datagram_reading}
@@ -25,9 +25,10 @@ use Rattle.segment_traffic.specs.Streams.{QueueItem, Opening, Queued, Ending, Si
 use Rattle.segment_world.specs.declared.act.Act.{Act}
 use Rattle.segment_world.specs.World.{World, ReportedEvent}
 use Rattle.segment_world.specs.Story.{Story, runs, begins}
-use Rattle.segment_world.specs.Configs.{opening_world, world_fault}
+use Rattle.segment_world.specs.Configs.{opening_world}
 use Rattle.device_laws.specs.Ids.{FrameIds, DatagramId}
 use Rattle.device_laws.specs.Carrying.{Passes, TableIds, SlotCame}
+use Rattle.schedule_laws.specs.Lives.{AreLives}
 use Rattle.schedule_laws.specs.Stories.{led_to}
 
 -- IDS TO COME
@@ -88,9 +89,9 @@ SchedulesKeepIdsDrawn =
 abbrev pub AreBytes : List Config → Type 0
 AreBytes configs = AllByRecursion (λ config. incarnation_of (opening_table config) ≤ 255) configs
 
--- it holds of a world that begins from configurations without a fault
+-- it holds of a world that begins from configurations of lives
 abbrev pub OpeningWorldsHaveIdsDrawn : Type 0
-OpeningWorldsHaveIdsDrawn = (configs : List Config) → world_fault configs ≡ None → AreBytes configs → IdsAreDrawn (opening_world configs)
+OpeningWorldsHaveIdsDrawn = (configs : List Config) → AreLives configs → AreBytes configs → IdsAreDrawn (opening_world configs)
 
 -- LATER CONNECTIONS
 

@@ -30,3 +30,4 @@ pub mod Numbers
 pub mod ApartIds
 pub mod Acts
 pub mod Stories
+pub mod Lives

@@ -1,4 +1,5 @@
 pub mod Stories
+pub mod Lives
 pub mod Owners
 pub mod Ids
 pub mod Lemmas
@@ -8,6 +9,7 @@ pub mod Indexes
 pub mod Names
 pub mod Streams
 pub mod Producers
+pub mod Restarts
 pub mod MadeOnce
 pub mod Devices
 pub mod Marks

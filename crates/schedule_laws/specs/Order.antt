@@ -19,7 +19,8 @@ use Rattle.segment_world.specs.declared.act.Act.{Act}
 use Rattle.segment_world.specs.declared.act.Act.TheVariants.{Local, Deliver, NextFrame, OpenStream, CutStream}
 use Rattle.segment_world.specs.declared.act.ActFault.{ActFault}
 use Rattle.segment_world.specs.Story.{events_of}
-use Rattle.segment_world.specs.Configs.{opening_world, world_fault}
+use Rattle.segment_world.specs.Configs.{opening_world}
+use Rattle.schedule_laws.specs.Lives.{AreLives}
 use Rattle.schedule_laws.specs.Ids.{AreBytes}
 use Rattle.device_laws.specs.Productions.{end_at, Production}
 use Rattle.schedule_laws.specs.Chronicle.{Acceptance, Chronicle, names, newest, then_act, chronicles, blank}
@@ -74,9 +75,9 @@ HalfCircle c (act ∷ acts) = IsNearIn c act × HalfCircle (then_act c act) acts
 
 -- SCHEDULES
 
--- A schedule of a world that begins from configurations with nothing wrong, and its chronicle.
+-- A schedule of a world that begins from configurations of lives, and its chronicle.
 pub record IsChronicle (configs : List Config) (acts : List Act) (c : Chronicle) : Type 0 where
-  pub faultless : world_fault configs ≡ None
+  pub lives : AreLives configs
   pub bytes : AreBytes configs
   pub ran : chronicles (Ok (blank (opening_world configs))) acts ≡ Ok c
 

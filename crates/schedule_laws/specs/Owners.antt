@@ -2,7 +2,7 @@
 -- applied to one output of an adapter, the first connection was closed or timed out at that adapter (Volume 1, chapter 3,
 -- application connection types, Forward_Close and connection timeouts). A connection is named by its opening number, which
 -- an adapter gives once.
-use Rattle.std.specs.Prelude.{ℕ, ◌≡◌, ◌≢◌, List, [], ◌∷◌, ◌++◌, slice_get, Some, None, Ok}
+use Rattle.std.specs.Prelude.{ℕ, ◌≡◌, ◌≢◌, List, [], ◌∷◌, ◌++◌, slice_get, Some, Ok}
 use Rattle.std.specs.List.{Contains}
 use Rattle.adapter_table.specs.declared.table.AdapterTable.{AdapterTable}
 use Rattle.cip_tables.specs.declared.table.Config.{Config}
@@ -13,7 +13,8 @@ use Rattle.device_laws.specs.Turns.{brought, ended, brought_at, ended_at}
 use Rattle.segment_world.specs.declared.act.Act.{Act}
 use Rattle.segment_world.specs.World.{World, ReportedEvent}
 use Rattle.segment_world.specs.Story.{Story, runs, begins}
-use Rattle.segment_world.specs.Configs.{opening_world, world_fault}
+use Rattle.segment_world.specs.Configs.{opening_world}
+use Rattle.schedule_laws.specs.Lives.{AreLives}
 use Rattle.schedule_laws.specs.Stories.{led_to}
 
 -- the reported event is one of the device, after the events before it: a datagram whose data were applied to the output
@@ -55,9 +56,9 @@ OwnersFollow =
     runs (begins start) acts ≡ Ok story → slice_get start.tables device ≡ Some t → IsWholeDevice t →
     EndsBetween t device story.reported
 
--- it holds of each device of a world that begins from configurations without a fault
+-- it holds of each device of a world that begins from configurations of lives
 abbrev pub OpenedOwnersFollow : Type 0
 OpenedOwnersFollow =
     (configs : List Config) (acts : List Act) (story : Story) (device : ℕ) (t : DeviceTable) →
-    world_fault configs ≡ None → runs (begins (opening_world configs)) acts ≡ Ok story →
+    AreLives configs → runs (begins (opening_world configs)) acts ≡ Ok story →
     slice_get (opening_world configs).tables device ≡ Some t → EndsBetween t device story.reported

@@ -5,6 +5,7 @@ ghost use Rattle.cip_epath.specs.ReadsBack.{PathReadsBack};
 ghost use Rattle.schedule_laws.specs.JoinedPoints.{SchedulesJoinPoints};
 
 use crate::ids_are_drawn;
+use crate::made_once::an_id_opens_one_connection;
 use adapter_table::laws::profiles_stay;
 use answer_sizes::answers_are_small;
 use cip_tables::laws::{next_id_never_falls, tables_are_whole};
@@ -30,6 +31,7 @@ pub fn connections_join_points()
     answers_are_small();
     answers_send_what_is_made();
     ids_are_drawn();
+    an_id_opens_one_connection();
     ids_are_carried();
     tables_are_whole();
     next_id_never_falls();

@@ -4,6 +4,7 @@ ghost use Rattle.schedule_laws.specs.Devices.{SchedulesKeepDevices};
 ghost use Rattle.schedule_laws.specs.Marks.{SchedulesFollowMarks};
 
 use crate::ids_are_drawn;
+use crate::made_once::an_id_opens_one_connection;
 use adapter_table::laws::profiles_stay;
 use cip_tables::laws::{next_id_never_falls, tables_are_whole};
 use device_laws::{
@@ -13,8 +14,9 @@ use device_laws::{
     slots_have_the_ids_of_their_success,
 };
 
-/// Each device keeps the address of its profile, and no two devices have one address. A stream that is open in a device's
-/// table stands in the world, between the device and the one whose address is the stream's peer.
+/// Each device keeps the address of its profile, and no two devices have one address, unless two of the configurations have one,
+/// as lives of one device do. A stream that is open in a device's table stands in the world, between the device and the one whose
+/// address is the stream's peer.
 ///
 /// Volume 2, chapter 2, encapsulation sessions over TCP.
 pub fn devices_stand()
@@ -22,6 +24,7 @@ pub fn devices_stand()
 {
     answers_send_what_is_made();
     ids_are_drawn();
+    an_id_opens_one_connection();
     ids_are_carried();
     tables_are_whole();
     next_id_never_falls();

@@ -4,6 +4,9 @@
 //! Owners and ids are here at the root, over the definitions of `segment_world` alone. `slot_openings` says whose an opening
 //! number is. `order`, `devices` and `made_once` are the laws of order, over a chronicle beside the schedule; `points` says what
 //! outputs and images hold, `connections` which points a connection joins.
+//!
+//! A device that restarts is several devices of a schedule, one for each life, with one address. So no law of order asks that
+//! addresses differ, only that incarnations do; `restarts` says what follows for lives.
 #![tactic(auto)]
 
 ghost use Rattle.schedule_laws.specs.Owners.{OwnersFollow, OpenedOwnersFollow};
@@ -14,6 +17,7 @@ mod devices;
 mod made_once;
 mod order;
 mod points;
+mod restarts;
 mod slot_openings;
 
 use adapter_table::laws as adapters;
@@ -34,13 +38,14 @@ pub use points::{
     accepted_data_were_written, applied_outputs_are_in_order, images_are_in_order,
     images_hold_accepted_data,
 };
+pub use restarts::{a_life_is_named_by_its_byte, a_new_life_takes_nothing_older};
 pub use slot_openings::an_opening_number_names_one_slot;
 
 /// Between data of two connections that were applied to one output of an adapter, the first connection was closed or
 /// timed out at that adapter.
 ///
 /// - `follow`: in every schedule, for each device whose table is whole when the schedule begins.
-/// - `opened`: in every schedule of a world that begins from configurations without a fault, for each of its devices.
+/// - `opened`: in every schedule of a world that begins from configurations of lives, for each of its devices.
 ///
 /// Volume 1, chapter 3, application connection types.
 pub fn owners_follow_one_another()
@@ -57,7 +62,7 @@ pub fn owners_follow_one_another()
 /// differ.
 ///
 /// - `schedule`: if it holds of a world, it holds after every schedule from that world.
-/// - `opened`: it holds of a world that begins from configurations without a fault, whose incarnations are bytes.
+/// - `opened`: it holds of a world that begins from configurations of lives, whose incarnations are bytes.
 ///
 /// Volume 1, chapter 3, network connection ids.
 pub fn ids_are_drawn()

@@ -64,6 +64,7 @@ pub fn ids_name_openings()
 {
     answers_send_what_is_made();
     ids_are_drawn();
+    an_id_opens_one_connection();
     ids_are_carried();
     tables_are_whole();
     next_id_never_falls();

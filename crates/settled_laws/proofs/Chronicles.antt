@@ -15,6 +15,7 @@ use Rattle.schedule_laws.specs.Order.{IsChronicle, ProducedAsWritten}
 use Rattle.schedule_laws.specs.Producers.{SchedulesNameOneProducer}
 use Rattle.schedule_laws.specs.Images.{GatheredInOrder, SchedulesGatherImages}
 use Rattle.schedule_laws.specs.Outputs.{AppliedInOrder}
+use Rattle.schedule_laws.specs.Lemmas.Lives.{worlds_are_lives}
 use Rattle.schedule_laws.specs.Lemmas.Stories.{chronicle_runs, story_in}
 use Rattle.schedule_search.specs.Histories.{configs_of, events_of_all}
 use Rattle.schedule_search.specs.Schedules.{Projects}
@@ -45,7 +46,7 @@ have_chronicles hs rs acts faultless bytes settles =
     let found = runs_chronicle (configs_of hs) acts settled.story settled.runs_so in
     record {
       chronicle = found.chronicle;
-      is = record { faultless = faultless; bytes = bytes; ran = found.is };
+      is = record { lives = worlds_are_lives (configs_of hs) faultless; bytes = bytes; ran = found.is };
       projects = subst (Projects (events_of_all hs)) found.story_is settled.projects;
       stand = subst (λ (s : Story). AllStand hs s rs) found.story_is settles.stand;
     }

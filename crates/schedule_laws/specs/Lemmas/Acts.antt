@@ -1,5 +1,5 @@
 -- Acts one after another.
-use Rattle.std.proofs.Common.{◌≡◌, List, [], ◌∷◌, ◌++◌, Result, Ok, refl, ◌∙◌, ap}
+use Rattle.std.proofs.Common.{◌≡◌, List, [], ◌∷◌, ◌++◌, Result, Ok, Err, IfOk, refl, ◌∙◌, ap}
 use Rattle.cip_tables.specs.declared.table.Config.{Config}
 use Rattle.segment_world.specs.declared.act.Act.{Act}
 use Rattle.segment_world.specs.declared.act.ActFault.{ActFault}
@@ -18,7 +18,33 @@ one_act so_far act = refl
 
 pub more_acts : (configs : List Config) (acts : List Act) (c next : Chronicle) (act : Act) → IsChronicle configs acts c → after_act c act ≡ Ok next → IsChronicle configs (acts ++ act ∷ []) next
 more_acts configs acts c next act is goes = record {
-  faultless = is.faultless;
+  lives = is.lives;
   bytes = is.bytes;
   ran = acts_after (Ok (blank (opening_world configs))) acts (act ∷ []) ∙ ap (λ (s : Result Chronicle ActFault). chronicles s (act ∷ [])) is.ran ∙ one_act (Ok c) act ∙ goes;
 }
+
+-- ---- a chronicle of a schedule
+
+-- the chronicle is that of some acts
+pub record Reached (configs : List Config) (c : Chronicle) : Type 0 where
+  pub acts : List Act
+  pub is : IsChronicle configs acts c
+
+pub reached_by : (configs : List Config) (c next : Chronicle) (act : Act) → Reached configs c → after_act c act ≡ Ok next → Reached configs next
+reached_by configs c next act r goes = record { acts = r.acts ++ act ∷ []; is = more_acts configs r.acts c next act r.is goes }
+
+reached_step : (configs : List Config) (c : Chronicle) (act : Act) (said : Result Chronicle ActFault) → after_act c act ≡ said → Reached configs c → IfOk said (Reached configs)
+reached_step configs c act (Err fault) is r = tt
+reached_step configs c act (Ok next) is r = reached_by configs c next act r is
+
+pub reached_after : (configs : List Config) (c : Chronicle) (act : Act) → Reached configs c → IfOk (after_act c act) (Reached configs)
+reached_after configs c act r = reached_step configs c act (after_act c act) refl r
+
+pub reached_keeps : (configs : List Config) (so_far : Result Chronicle ActFault) (act : Act) → IfOk so_far (Reached configs) → IfOk (then_act so_far act) (Reached configs)
+reached_keeps configs (Err fault) act r = tt
+reached_keeps configs (Ok c) act r = reached_after configs c act r
+
+-- before any act
+pub nothing_yet : (configs : List Config) (acts : List Act) (c : Chronicle) → IsChronicle configs acts c → IsChronicle configs [] (blank (opening_world configs))
+unfolding chronicles
+nothing_yet configs acts c is = record { lives = is.lives; bytes = is.bytes; ran = refl }

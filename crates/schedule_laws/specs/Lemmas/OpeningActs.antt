@@ -23,13 +23,16 @@ use Rattle.device_laws.specs.Made.{Made, AnswersSendWhatIsMade, makes}
 use Rattle.device_laws.specs.Productions.{Production, numbered, produced_more}
 use Rattle.schedule_laws.specs.Ids.{IdsAreDrawn, SchedulesKeepIdsDrawn, OpeningWorldsHaveIdsDrawn}
 use Rattle.schedule_laws.specs.Chronicle.{Opened, frame_opens, Acceptance, accepted_by_act, Chronicle, with_event, with_event_at, recorded, blank}
+use Rattle.schedule_laws.specs.MadeOnce.{AnIdOpensOneConnection}
 use Rattle.schedule_laws.specs.Names.{HasEntry, SlotHasEntry, SlotAcceptsByEntry, WasProduced, SchedulesNameOpenings, IsOfItsOpening, SchedulesAcceptOneOpening, IsEntry, IsOpenedFor, ProductionHasEntry, AnIdNamesOneOpening}
 use Rattle.schedule_laws.specs.Order.{IsChronicle}
 use Rattle.schedule_laws.specs.Lemmas.AcceptedOpenings.{IsAccepted, AreOfOpenings, openings_later, event_of_opening, entries_same}
 use Rattle.schedule_laws.specs.Lemmas.Entries.{Later, same_later, Waits, AdapterIsNamed, ScannerIsNamed, TableIsNamed}
 use Rattle.schedule_laws.specs.Lemmas.Found.{all_contains}
 use Rattle.schedule_laws.specs.Lemmas.NameActs.{NamedAt, NameLaws, streams_named, event_later, event_named}
-use Rattle.schedule_laws.specs.Lemmas.Addresses.{AreNodesApart, apart_later, apart_more, opening_apart}
+use Rattle.schedule_laws.specs.Lemmas.Addresses.{HaveNodes, nodes_later, nodes_more, opening_nodes}
+use Rattle.schedule_laws.specs.Lemmas.Acts.{Reached, nothing_yet, reached_after}
+use Rattle.schedule_laws.specs.Lemmas.OneProducer.{OpenedOnce, opened_once}
 use Rattle.schedule_laws.specs.Lemmas.Beginning.{blank_produced, schedule_produced}
 use Rattle.schedule_laws.specs.Lemmas.ProducedActs.{ActsKeep, chronicles_keep, cases_keep, Produced, produced_cases}
 use Rattle.schedule_laws.specs.Lemmas.StreamActs.{StreamsOnly, OneEvent, ActCases, act_acts}
@@ -38,10 +41,12 @@ use Rattle.schedule_laws.specs.Lemmas.StreamActs.{StreamsOnly, OneEvent, ActCase
 
 pub record OpeningsAt (w : World) (opened : List Opened) (produced : List Production) (accepted : List Acceptance) : Type 0 where
   pub named : NamedAt w opened produced
-  pub apart : AreNodesApart w produced
+  pub nodes : HaveNodes w produced
   pub of_openings : AreOfOpenings w opened produced accepted
 
 pub record OpeningsIn (c : Chronicle) : Type 0 where
+  pub configs : List Config
+  pub reached : Reached configs c
   pub produced : Produced c
   pub openings : OpeningsAt c.story.world c.opened c.produced c.accepted
 
@@ -50,7 +55,7 @@ streams_openings w new opened produced accepted passes at =
     let later = same_later w new passes.tables passes.nodes passes.ends in
     record {
       named = streams_named w new opened produced passes at.named;
-      apart = apart_later w new produced later at.apart;
+      nodes = nodes_later w new produced later at.nodes;
       of_openings = subst (λ (l : List Opened). AreOfOpenings new l produced accepted) (append-nil opened) (openings_later w new opened [] produced produced accepted later (λ p there. there) at.of_openings);
     }
 
@@ -61,15 +66,15 @@ pub grows : (device : ℕ) (ms : List Made) (produced : List Production) (p : Pr
 grows device [] produced p there = there
 grows device (m ∷ ms) produced p there = grows device ms (produced ++ numbered device produced m ∷ []) p (Contains-append_left produced (numbered device produced m ∷ []) p there)
 
-event_openings : NameLaws → (c : Chronicle) (act : Act) (reported : ReportedEvent) (new : World) → happens c.story.world act ≡ Ok (Some reported, new) → (m : OneEvent (Waits c.story.world c.opened) c.story.world reported new) → Produced c → IdsAreDrawn new → OpeningsAt c.story.world c.opened c.produced c.accepted → OpeningsAt new (c.opened ++ frame_opens c.story.world reported.device m.before reported.event m.after) (produced_more reported.device c.produced (makes m.before reported.event)) (accepted_by_act c.story.world c.produced act reported.answer.verdict ++ c.accepted)
-event_openings laws c act reported new is m ok next_drawn at =
+event_openings : NameLaws → (c : Chronicle) (act : Act) (reported : ReportedEvent) (new : World) → happens c.story.world act ≡ Ok (Some reported, new) → (m : OneEvent (Waits c.story.world c.opened) c.story.world reported new) → Produced c → OpenedOnce c.story.world c.opened → IdsAreDrawn new → OpeningsAt c.story.world c.opened c.produced c.accepted → OpeningsAt new (c.opened ++ frame_opens c.story.world reported.device m.before reported.event m.after) (produced_more reported.device c.produced (makes m.before reported.event)) (accepted_by_act c.story.world c.produced act reported.answer.verdict ++ c.accepted)
+event_openings laws c act reported new is m ok once next_drawn at =
     let w = c.story.world in
     let later = event_later laws.steps (Waits c.story.world c.opened) c.story.world new reported m in
     let there = device_after c.story.world new reported.device m.before later m.is in
     record {
       named = event_named laws c.story.world new c.opened c.produced reported m ok.drawn next_drawn at.named;
-      apart = apart_more new reported.device (makes m.before reported.event) c.produced (record { table = there.0; is = there.1 }) (apart_later c.story.world new c.produced later at.apart);
-      of_openings = event_of_opening c.story.world new c.opened (frame_opens c.story.world reported.device m.before reported.event m.after) c.produced (produced_more reported.device c.produced (makes m.before reported.event)) c.accepted act reported m.before is m.is ok.sent at.named at.apart ok.drawn later
+      nodes = nodes_more new reported.device (makes m.before reported.event) c.produced (record { table = there.0; is = there.1 }) (nodes_later c.story.world new c.produced later at.nodes);
+      of_openings = event_of_opening c.story.world new c.opened (frame_opens c.story.world reported.device m.before reported.event m.after) c.produced (produced_more reported.device c.produced (makes m.before reported.event)) c.accepted act reported m.before is m.is ok.sent at.named at.nodes once ok.drawn later
           (grows reported.device (makes m.before reported.event) c.produced) at.of_openings;
     }
 
@@ -78,25 +83,32 @@ after_is t reported u is = ap (table_of t) is
 
 -- ---- an act
 
-by_act : NameLaws → (c : Chronicle) (act : Act) (said : Happened) → happens c.story.world act ≡ said → IfOk said (ActCases (Waits c.story.world c.opened) c.story.world) → Produced c → IfOk (recorded c act said) Produced → OpeningsAt c.story.world c.opened c.produced c.accepted → IfOk (recorded c act said) OpeningsIn
-by_act laws c act (Err fault) is acts ok next at = tt
-by_act laws c act (Ok (None, new)) is acts ok next at = record { produced = next; openings = streams_openings c.story.world new c.opened c.produced c.accepted acts at }
-by_act laws c act (Ok (Some reported, new)) is acts ok next at =
+by_act : NameLaws → (configs : List Config) (c : Chronicle) (act : Act) (said : Happened) → happens c.story.world act ≡ said → IfOk said (ActCases (Waits c.story.world c.opened) c.story.world) → Produced c → OpenedOnce c.story.world c.opened → IfOk (recorded c act said) (Reached configs) → IfOk (recorded c act said) Produced → OpeningsAt c.story.world c.opened c.produced c.accepted → IfOk (recorded c act said) OpeningsIn
+by_act laws configs c act (Err fault) is acts ok once reached next at = tt
+by_act laws configs c act (Ok (None, new)) is acts ok once reached next at = record { configs = configs; reached = reached; produced = next; openings = streams_openings c.story.world new c.opened c.produced c.accepted acts at }
+by_act laws configs c act (Ok (Some reported, new)) is acts ok once reached next at =
     let same : slice_get c.story.world.tables reported.device ≡ Some acts.before = acts.is in
     let produced : Produced (with_event c act reported new acts.before) = subst (λ (o : Option DeviceTable). Produced (with_event_at c act reported new o)) same next in
     subst (λ (o : Option DeviceTable). OpeningsIn (with_event_at c act reported new o)) (sym same)
     (record {
+      configs = configs;
+      reached = subst (λ (o : Option DeviceTable). Reached configs (with_event_at c act reported new o)) same reached;
       produced = produced;
       openings = subst (λ (u : DeviceTable). OpeningsAt new (c.opened ++ frame_opens c.story.world reported.device acts.before reported.event u) (produced_more reported.device c.produced (makes acts.before reported.event)) (accepted_by_act c.story.world c.produced act reported.answer.verdict ++ c.accepted))
           (sym (after_is acts.before reported acts.after acts.stepped))
-          (event_openings laws c act reported new is acts ok produced.drawn at);
+          (event_openings laws c act reported new is acts ok once produced.drawn at);
     })
 
-pub acts_keep : AnswersSendWhatIsMade → SchedulesKeepIdsDrawn → NameLaws → ActsKeep OpeningsIn
-acts_keep sends keep laws c act at =
+-- an id of a scanner has opened one connection at this moment
+once_at : AnIdOpensOneConnection → (configs : List Config) (c : Chronicle) → Reached configs c → OpenedOnce c.story.world c.opened
+once_at once configs c at = opened_once c (once configs at.acts c at.is)
+
+pub acts_keep : AnswersSendWhatIsMade → SchedulesKeepIdsDrawn → AnIdOpensOneConnection → NameLaws → ActsKeep OpeningsIn
+acts_keep sends keep once laws c act at =
     let openings = at.openings in
     let named = openings.named in
-    by_act laws c act (happens c.story.world act) refl (act_acts (Waits c.story.world c.opened) c.story.world act named.streams) at.produced
+    by_act laws at.configs c act (happens c.story.world act) refl (act_acts (Waits c.story.world c.opened) c.story.world act named.streams) at.produced
+    (once_at once at.configs c at.reached) (reached_after at.configs c act at.reached)
     (cases_keep Produced (produced_cases sends keep) c act at.produced) at.openings
 
 -- ---- at the beginning
@@ -114,24 +126,26 @@ all_fresh w [] n device t at = absurd (let e = at in cc)
 all_fresh w (made ∷ configs) zero device t at = subst (TableIsNamed w [] device) (same_Some (opening_table made) t at) (fresh_named w device made)
 all_fresh w (made ∷ configs) (suc n) device t at = all_fresh w configs n device t at
 
-pub schedule_openings : AnswersSendWhatIsMade → SchedulesKeepIdsDrawn → OpeningWorldsHaveIdsDrawn → NameLaws → (configs : List Config) (acts : List Act) (c : Chronicle) → IsChronicle configs acts c → OpeningsIn c
-schedule_openings sends keep opens laws configs acts c is =
+pub schedule_openings : AnswersSendWhatIsMade → SchedulesKeepIdsDrawn → OpeningWorldsHaveIdsDrawn → AnIdOpensOneConnection → NameLaws → (configs : List Config) (acts : List Act) (c : Chronicle) → IsChronicle configs acts c → OpeningsIn c
+schedule_openings sends keep opens once laws configs acts c is =
     subst (λ (r : Result Chronicle ActFault). IfOk r OpeningsIn) is.ran
-    (chronicles_keep OpeningsIn (acts_keep sends keep laws) acts (Ok (blank (opening_world configs)))
+    (chronicles_keep OpeningsIn (acts_keep sends keep once laws) acts (Ok (blank (opening_world configs)))
     (record {
+      configs = configs;
+      reached = record { acts = []; is = nothing_yet configs acts c is };
       produced = blank_produced opens configs acts c is;
       openings = record {
         named = record { entries = tt; apart = tt; tables = λ device t at. all_fresh (opening_world configs) configs device device t at; productions = tt; producers = tt; streams = tt };
-        apart = opening_apart configs is.faultless;
+        nodes = opening_nodes configs;
         of_openings = tt;
       };
     }))
 
 -- ---- the laws
 
-pub schedules_name : AnswersSendWhatIsMade → SchedulesKeepIdsDrawn → OpeningWorldsHaveIdsDrawn → NameLaws → SchedulesNameOpenings
-schedules_name sends keep opens laws configs acts c is =
-    let all = schedule_openings sends keep opens laws configs acts c is in
+pub schedules_name : AnswersSendWhatIsMade → SchedulesKeepIdsDrawn → OpeningWorldsHaveIdsDrawn → AnIdOpensOneConnection → NameLaws → SchedulesNameOpenings
+schedules_name sends keep opens once laws configs acts c is =
+    let all = schedule_openings sends keep opens once laws configs acts c is in
     let known = all.openings in
     let named = known.named in
     record {

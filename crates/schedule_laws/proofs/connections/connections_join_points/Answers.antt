@@ -6,6 +6,7 @@ returns c = join_points (record {
   sends = c.answers_send_what_is_made.ensures;
   keep = c.ids_are_drawn.ensures.schedule;
   opens = c.ids_are_drawn.ensures.opened;
+  once = c.an_id_opens_one_connection.ensures;
   names = record {
     steps = record {
       carry = c.ids_are_carried.ensures;

@@ -2,7 +2,7 @@ use Rattle.schedule_laws.proofs.StandingStreams.{devices_stand}
 use Rattle.schedule_laws.proofs.devices.devices_stand.Goals as goal
 
 pub returns : goal.returns
-returns c = devices_stand c.answers_send_what_is_made.ensures c.ids_are_drawn.ensures.schedule c.ids_are_drawn.ensures.opened (record {
+returns c = devices_stand c.answers_send_what_is_made.ensures c.ids_are_drawn.ensures.schedule c.ids_are_drawn.ensures.opened c.an_id_opens_one_connection.ensures (record {
   steps = record {
     carry = c.ids_are_carried.ensures;
     whole = c.tables_are_whole.ensures.run;
