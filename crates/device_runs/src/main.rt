@@ -2,8 +2,8 @@
 //!
 //! - Stories of devices on a simulated segment, act by act, from files; plain and fast devices answer alike. In the race
 //!   of two owners of one output, a datagram of the first owner is delivered after the next owner has opened its
-//!   connection, and changes nothing. Then a reply comes too late. The answer of a device is printed behind its name, in
-//!   the lines of its trace. Then come the faults of the making of a segment, and a scanner that has no connection id
+//!   connection, and changes nothing. Then a reply comes too late, and devices restart: what was sent to an earlier life or
+//!   by it changes nothing. The answer of a device is printed behind its name, in the lines of its trace. Then come the faults of the making of a segment, and a scanner that has no connection id
 //!   left.
 //! - Books of an adapter: their segments, the histories of these, a full book, and a book that two threads step.
 //! - Accounts of several devices that settle into a schedule, accounts that do not, and a book under a lock.
@@ -40,7 +40,7 @@ mod text;
 
 use adapter_engine::FastAdapter;
 use cip_tables::AnyDevice;
-use devices::{ADAPTER, FIRST, SECOND};
+use devices::{ADAPTER, FIRST, MEMBER, SECOND, TWO_SLOTS, WIDER_ADAPTER};
 use fault::DeviceRunFault;
 use scanner_engine::FastScanner;
 use std::alloc::Global;
@@ -53,10 +53,35 @@ use std::thread::Threads;
 /// The fast device of a profile of either kind.
 type FastDevice = AnyDevice<FastAdapter, FastScanner>;
 
+/// Stories of devices that restart.
+fn print_restarts<R: AllocGlobal + Files + Print>(rt: &R) -> Result<(), DeviceRunFault> {
+    stories::print_run(
+        rt,
+        "adapter_restarts_under_two_slots.story",
+        &[WIDER_ADAPTER, TWO_SLOTS],
+    )?;
+    stories::print_run(
+        rt,
+        "scanner_restarts_in_the_other_order.story",
+        &[WIDER_ADAPTER, TWO_SLOTS],
+    )?;
+    stories::print_run(
+        rt,
+        "restart_between_open_and_reply.story",
+        &[ADAPTER, FIRST],
+    )?;
+    stories::print_run(
+        rt,
+        "only_member_of_a_group_restarts.story",
+        &[ADAPTER, MEMBER],
+    )
+}
+
 /// Stories, faults of the making of a segment, a scanner without ids.
 fn print_segments<R: AllocGlobal + Files + Print>(rt: &R) -> Result<(), DeviceRunFault> {
     stories::print_run(rt, "race.story", &[ADAPTER, FIRST, SECOND])?;
     stories::print_run(rt, "late_reply.story", &[ADAPTER, FIRST])?;
+    print_restarts(rt)?;
     no_worlds::print_run(rt, rt.alloc())?;
     last_id::print_run(rt, rt.alloc())
 }

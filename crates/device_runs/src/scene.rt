@@ -7,7 +7,8 @@ use crate::fault::DeviceRunFault;
 use crate::text::{push_fault, push_line, push_lines};
 use cip_tables::{Answer, Device, Outcome};
 use cip_types::OutOfMemory;
-use segment_world::{Act, World};
+use segment_lives::Plant;
+use segment_world::Act;
 use std::alloc::Global;
 use std::mem;
 use trace_lines::write_outcome;
@@ -40,11 +41,11 @@ impl Counts {
     }
 }
 
-/// A segment, and the lines of its acts.
+/// A segment whose devices restart, and the lines of its acts.
 #[derive(Drop)]
 pub struct Scene<D: Device + Drop> {
     alloc: Global,
-    world: World<D>,
+    plant: Plant<D>,
     events: Counts,
     story: String,
 }
@@ -60,10 +61,10 @@ impl<D: Device + Drop> Scene<D> {
     pub fn new(alloc: Global, texts: &[&[u8]]) -> Result<Self, DeviceRunFault>
         requires accepts { AcceptsAll D.accepts }
     {
-        let world = World::new(alloc, configs(alloc, texts)?)?;
+        let plant = Plant::new(alloc, configs(alloc, texts)?)?;
         Ok(Scene {
             alloc,
-            world,
+            plant,
             events: Counts {
                 first: 0,
                 second: 0,
@@ -86,12 +87,22 @@ impl<D: Device + Drop> Scene<D> {
     /// Does one act, which makes an event of the device at this index, if it makes one. Appends the answer of the
     /// device behind its name, as in its trace; or the reason why the act was refused.
     pub fn act(&mut self, name: &str, place: u32, act: &Act) -> Result<(), OutOfMemory> {
-        match self.world.act(act) {
+        match self.plant.act(act) {
             Ok(Some(answer)) => {
                 let lines = lines_of(self.alloc, self.events.next(place), answer)?;
                 push_lines(&mut self.story, name, lines.as_str())
             }
             Ok(None) => Ok(()),
+            Err(fault) => push_fault(self.alloc, &mut self.story, fault),
+        }
+    }
+
+    /// Restarts the device at this index with an incarnation. Appends the reason if that was refused.
+    pub fn restart(&mut self, place: u32, incarnation: u8) -> Result<(), OutOfMemory>
+        requires accepts { AcceptsAll D.accepts }
+    {
+        match self.plant.restart(place, incarnation) {
+            Ok(()) => Ok(()),
             Err(fault) => push_fault(self.alloc, &mut self.story, fault),
         }
     }

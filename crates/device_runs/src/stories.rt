@@ -5,7 +5,8 @@
 //! - `takes INDEX`: a datagram is delivered, by its index in the log of all that were sent;
 //! - `cuts STREAM`: a stream breaks;
 //! - `start SLOT`, `run`, `read POINT`, `write POINT BYTES`: its application acts;
-//! - `tick MS`: time passes.
+//! - `tick MS`: time passes;
+//! - `restarts INCARNATION`: it restarts.
 //!
 //! A line that begins with `# ` is printed as it is.
 
@@ -56,8 +57,8 @@ fn frame_of(direction: Direction, words: &mut Words<'_>) -> Result<Act, TextFaul
     Ok(Act::NextFrame { stream, direction })
 }
 
-fn act_of(alloc: Global, device: u32, words: &mut Words<'_>) -> Result<Act, TextFault> {
-    match words.word()? {
+fn act_of(alloc: Global, device: u32, word: &str, words: &mut Words<'_>) -> Result<Act, TextFault> {
+    match word {
         "opens" => Ok(Act::OpenStream {
             from: device,
             to: place_of(words.word()?),
@@ -82,18 +83,27 @@ fn act<D: Device + Drop>(
     scene: &mut Scene<D>,
     alloc: Global,
     line: &str,
-) -> Result<(), DeviceRunFault> {
+) -> Result<(), DeviceRunFault>
+    requires accepts { AcceptsAll D.accepts }
+{
     let mut words = Words::of(line);
     let name = words.word()?;
-    let act = act_of(alloc, place_of(name), &mut words)?;
-    Ok(scene.act(name, place_of(name), &act)?)
+    match words.word()? {
+        "restarts" => Ok(scene.restart(place_of(name), words.u8()?)?),
+        word => {
+            let act = act_of(alloc, place_of(name), word, &mut words)?;
+            Ok(scene.act(name, place_of(name), &act)?)
+        }
+    }
 }
 
 fn play<D: Device + Drop>(
     scene: &mut Scene<D>,
     alloc: Global,
     text: &[u8],
-) -> Result<(), DeviceRunFault> {
+) -> Result<(), DeviceRunFault>
+    requires accepts { AcceptsAll D.accepts }
+{
     let Ok(text) = str::from_utf8(text) else {
         return Err(DeviceRunFault::Line);
     };

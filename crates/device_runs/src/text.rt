@@ -1,8 +1,8 @@
 //! Lines of text.
 
 use cip_types::OutOfMemory;
-use segment_world::ActFault;
 use std::alloc::Global;
+use std::fmt::Display;
 
 /// Appends a line of two parts, with a space between them.
 pub fn push_line(story: &mut String, first: &str, second: &str) -> Result<(), OutOfMemory> {
@@ -20,8 +20,12 @@ pub fn push_lines(story: &mut String, name: &str, lines: &str) -> Result<(), Out
     Ok(())
 }
 
-/// Appends a line with the reason why an act was refused.
-pub fn push_fault(alloc: Global, story: &mut String, fault: ActFault) -> Result<(), OutOfMemory> {
+/// Appends a line with the reason why an act or a restart was refused.
+pub fn push_fault<F: Display + Drop>(
+    alloc: Global,
+    story: &mut String,
+    fault: F,
+) -> Result<(), OutOfMemory> {
     let words = format!(in alloc; "{fault}\n")?;
     Ok(story.push_str(words.as_str())?)
 }

@@ -77,7 +77,7 @@ exchanged_fails = refl
 
 -- ---- later connections
 
-first_of : {X : Type 0} (x : X) (xs : List X) → Contains (x ∷ xs) x
+pub first_of : {X : Type 0} (x : X) (xs : List X) → Contains (x ∷ xs) x
 first_of x xs = (0, omega arith, refl)
 
 -- a connection that was opened since, and that has accepted this production

@@ -6,6 +6,7 @@ use Rattle.segment_world.specs.declared.act.Act.TheVariants.{Local}
 use Rattle.segment_world.specs.declared.act.Call.TheVariants as call
 use Rattle.segment_world.specs.World.{ReportedEvent, World}
 use Rattle.schedule_laws.specs.Chronicle.{Chronicle}
+use Rattle.schedule_laws.specs.Lives.{DifferInAddress}
 use Rattle.schedule_laws.specs.Devices.{DevicesStand}
 use Rattle.schedule_laws.specs.Indexes.{IsWellProduced}
 use Rattle.schedule_laws.specs.Marks.{StreamsFollowMarks}
@@ -87,8 +88,12 @@ doubled_fails : observed (λ c. nodes_differ 0 1 (doubled c)) (played owned twic
 unfolding playing
 doubled_fails = refl
 
+one_address_each : DifferInAddress owned
+unfolding playing
+one_address_each = refl
+
 one_address_of_two_is_refused : LawAt StandIn doubled (played owned twice_written) → ⊥
-one_address_of_two_is_refused law = refuses StandIn (nodes_differ 0 1) (differ_passes owned 0 1) doubled (played owned twice_written) doubled_fails law
+one_address_of_two_is_refused law = refuses StandIn (nodes_differ 0 1) (differ_passes owned one_address_each 0 1) doubled (played owned twice_written) doubled_fails law
 
 -- ---- streams
 

@@ -1,12 +1,15 @@
 -- The laws of order, at every schedule, give the tests that their chronicle passes. A law with one premise more, or of fewer
 -- schedules, gives them no more.
-use Rattle.std.proofs.Common.{◌≡◌, ℕ, true, List, Option, Some, None}
+use Rattle.std.proofs.Common.{◌≡◌, ℕ, true, List, Option, Some, None, Ok}
 use Rattle.std.specs.List.{Contains}
 use Rattle.cip_tables.specs.declared.table.Config.{Config}
 use Rattle.cip_tables.specs.declared.table.DeviceTable.{DeviceTable}
 use Rattle.cip_tables.specs.declared.table.DeviceTable.TheVariants.{Adapter, Scanner}
 use Rattle.segment_world.specs.declared.act.Act.{Act}
-use Rattle.schedule_laws.specs.Chronicle.{Acceptance, Chronicle}
+use Rattle.segment_world.specs.Configs.{opening_world, world_fault}
+use Rattle.schedule_laws.specs.Chronicle.{Acceptance, Chronicle, blank, chronicles}
+use Rattle.schedule_laws.specs.Ids.{AreBytes}
+use Rattle.schedule_laws.specs.Lives.{DifferInAddress}
 use Rattle.schedule_laws.specs.Devices.{SchedulesKeepDevices}
 use Rattle.schedule_laws.specs.Indexes.{ProducedInOrder}
 use Rattle.schedule_laws.specs.MadeOnce.{AnIdOpensOneConnection, SchedulesUseIdsOnce}
@@ -14,6 +17,8 @@ use Rattle.schedule_laws.specs.Marks.{SchedulesFollowMarks}
 use Rattle.schedule_laws.specs.Names.{AnIdNamesOneOpening, SchedulesAcceptOneOpening, SchedulesNameOpenings}
 use Rattle.schedule_laws.specs.Order.{AcceptedIndexesRise, IsChronicle, KeepsHalfCircle, ProducedAsWritten}
 use Rattle.schedule_laws.specs.Producers.{AreMoments, LaterAcceptNothingOlder, LaterConnectionsAcceptNothingOlder, SchedulesNameOneProducer}
+use Rattle.schedule_laws.specs.Restarts.{BytesNameIds, IsNew, LivesAreNamedByBytes, NewLivesTakeNothingOlder, TakesNothingOlder}
+use Rattle.schedule_laws.specs.Lemmas.Lives.{worlds_are_lives}
 use Rattle.schedule_laws.specs.Images.{GatheredInOrder, SchedulesGatherImages}
 use Rattle.schedule_laws.specs.Outputs.{AppliedInOrder}
 use Rattle.schedule_laws.specs.Written.{AcceptedDataWereWritten, GatheredDataWereInput}
@@ -92,14 +97,14 @@ producers_pass law configs acts c is =
     let holds = law configs acts c is in record { makes = one_makes_passes c holds.productions; sends = one_sends_passes c holds.connections }
 
 -- where devices and streams are
-record AreStanding (c : Chronicle) (a b : ℕ) : Type 0 where
+record AreStanding (configs : List Config) (c : Chronicle) (a b : ℕ) : Type 0 where
   node : keeps_node a c ≡ true
-  apart : nodes_differ a b c ≡ true
+  apart : DifferInAddress configs → nodes_differ a b c ≡ true
   streams : streams_stand a c ≡ true
 
-devices_pass : SchedulesKeepDevices → (configs : List Config) (acts : List Act) (c : Chronicle) (a b : ℕ) → IsChronicle configs acts c → AreStanding c a b
+devices_pass : SchedulesKeepDevices → (configs : List Config) (acts : List Act) (c : Chronicle) (a b : ℕ) → IsChronicle configs acts c → AreStanding configs c a b
 devices_pass law configs acts c a b is =
-    let holds = law configs acts c is in record { node = node_passes configs a c holds; apart = differ_passes configs a b c holds; streams = stand_passes configs a c holds }
+    let holds = law configs acts c is in record { node = node_passes configs a c holds; apart = λ once. differ_passes configs once a b c holds; streams = stand_passes configs a c holds }
 
 -- which streams have their marks
 record AreMarked (c : Chronicle) (device number : ℕ) (act : Act) : Type 0 where
@@ -156,3 +161,15 @@ images_pass law configs acts c device is near =
 
 later_holds : LaterConnectionsAcceptNothingOlder → (configs : List Config) (was now : Chronicle) → AreMoments configs was now → LaterAcceptNothingOlder was now
 later_holds law configs was now are = law configs was now are
+
+new_life_holds : NewLivesTakeNothingOlder → (configs : List Config) (was now : Chronicle) (life : ℕ) → AreMoments configs was now → IsNew was life → TakesNothingOlder was now life
+new_life_holds law configs was now life are new = law configs was now life are new
+
+-- ---- of lives
+
+named_by_bytes : LivesAreNamedByBytes → (configs : List Config) (acts : List Act) (c : Chronicle) → IsChronicle configs acts c → BytesNameIds configs c
+named_by_bytes law configs acts c is = law configs acts c is
+
+-- a world of devices is one of lives
+worlds_pass : (configs : List Config) (acts : List Act) (c : Chronicle) → world_fault configs ≡ None → AreBytes configs → chronicles (Ok (blank (opening_world configs))) acts ≡ Ok c → IsChronicle configs acts c
+worlds_pass configs acts c none bytes ran = record { lives = worlds_are_lives configs none; bytes = bytes; ran = ran }

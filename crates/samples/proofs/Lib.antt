@@ -4,6 +4,7 @@ pub mod Groups
 pub mod Capacity
 pub mod Deliveries
 pub mod AdapterStates
+mod OwnerData
 pub mod Productions
 pub mod Times
 pub mod Requests
@@ -41,5 +42,7 @@ mod BentNames
 mod BentImages
 mod BentSegment
 mod BentMoments
+mod LifeSamples
+mod PlantSamples
 mod StepTesting
 mod BentSteps

@@ -14,6 +14,7 @@ use Rattle.segment_world.specs.World.{Happened, ReportedEvent, World, happens, n
 use Rattle.device_laws.specs.Productions.{Production}
 use Rattle.device_laws.specs.OwnStreams.{has_stream}
 use Rattle.schedule_laws.specs.Chronicle.{Chronicle}
+use Rattle.schedule_laws.specs.Lives.{DifferInAddress}
 use Rattle.schedule_laws.specs.Devices.{DevicesStand}
 use Rattle.schedule_laws.specs.Indexes.{IsWellProduced, sent_of}
 use Rattle.schedule_laws.specs.Marks.{FollowsMark, StreamsFollowMarks}
@@ -45,14 +46,14 @@ node_step configs c device (Some t) at law = same_nodes (node_at c.story.world d
 pub node_passes : (configs : List Config) (device : ℕ) (c : Chronicle) → DevicesStand configs c → keeps_node device c ≡ true
 node_passes configs device c law = node_step configs c device (device_of c device) refl law
 
-differ_step : (configs : List Config) (c : Chronicle) (a b : ℕ) (one two : Option DeviceTable) → slice_get c.story.world.tables a ≡ one → slice_get c.story.world.tables b ≡ two → DevicesStand configs c → differ a b one two ≡ true
-differ_step configs c a b None two at there law = refl
-differ_step configs c a b (Some t) None at there law = refl
-differ_step configs c a b (Some t) (Some u) at there law =
-    then_passes ((node_of t).0 == (node_of u).0) (a == b) (λ same. number_is a b (law.nodes.differ a b t u at there (is_number (node_of t).0 (node_of u).0 same)))
+differ_step : (configs : List Config) → DifferInAddress configs → (c : Chronicle) (a b : ℕ) (one two : Option DeviceTable) → slice_get c.story.world.tables a ≡ one → slice_get c.story.world.tables b ≡ two → DevicesStand configs c → differ a b one two ≡ true
+differ_step configs once c a b None two at there law = refl
+differ_step configs once c a b (Some t) None at there law = refl
+differ_step configs once c a b (Some t) (Some u) at there law =
+    then_passes ((node_of t).0 == (node_of u).0) (a == b) (λ same. number_is a b (law.nodes.differ once a b t u at there (is_number (node_of t).0 (node_of u).0 same)))
 
-pub differ_passes : (configs : List Config) (a b : ℕ) (c : Chronicle) → DevicesStand configs c → nodes_differ a b c ≡ true
-differ_passes configs a b c law = differ_step configs c a b (device_of c a) (device_of c b) refl refl law
+pub differ_passes : (configs : List Config) → DifferInAddress configs → (a b : ℕ) (c : Chronicle) → DevicesStand configs c → nodes_differ a b c ≡ true
+differ_passes configs once a b c law = differ_step configs once c a b (device_of c a) (device_of c b) refl refl law
 
 -- ---- streams
 

@@ -17,4 +17,5 @@ pub mod ImageTests
 pub mod SegmentTests
 pub mod MomentTests
 pub mod Twofold
+pub mod Restarted
 pub mod StepTests

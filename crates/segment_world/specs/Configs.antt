@@ -1,5 +1,5 @@
 -- The configurations of a world, their first fault, and the world that they open.
-use Rattle.std.specs.Prelude.{◌≡◌, ℕ, ◌==◌, ◌||◌, if◌then◌else◌, Bool, false, List, [], ◌∷◌, map, Option, Some, None}
+use Rattle.std.specs.Prelude.{◌≡◌, ℕ, ◌==◌, ◌||◌, if◌then◌else◌, Bool, false, List, [], ◌∷◌, ◌++◌, map, Option, Some, None}
 use Rattle.std.specs.List.{list_any}
 use Rattle.cip_types.specs.declared.names.Node.{Node}
 use Rattle.cip_events.specs.declared.profile_fault.ProfileFault.{ProfileFault}
@@ -22,6 +22,10 @@ key_in Address config = (node_of_config config).0
 -- the world of fresh devices: nothing was sent, and no stream was opened
 abbrev pub opening_world : List Config → World
 opening_world configs = record { nodes = map node_of_config configs; tables = map opening_table configs; sent = []; streams = [] }
+
+-- the world after a fresh device has joined it, behind all others
+abbrev pub with_device : Config → World → World
+with_device config w = record w { nodes = w.nodes ++ node_of_config config ∷ []; tables = w.tables ++ opening_table config ∷ [] }
 
 -- two configurations have the same key
 unfoldable pub any_twice : DeviceKey → List Config → Bool

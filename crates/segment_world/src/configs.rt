@@ -20,7 +20,8 @@ pub enum DeviceKey {
     Address,
 }
 
-fn node_of(config: &Config) -> Node
+/// Returns the address of the device of a configuration.
+pub fn node_of(config: &Config) -> Node
     ensures { result ≡ node_of_config config.now }
 {
     match config {
@@ -41,7 +42,8 @@ fn key_of(key: DeviceKey, config: &Config) -> u32
     }
 }
 
-fn has_key(key: DeviceKey, configs: &[Config], value: u32) -> bool
+/// Returns whether a configuration has this value of a key. Takes no memory.
+pub fn has_key(key: DeviceKey, configs: &[Config], value: u32) -> bool
     ensures { result ≡ list_any (λ config. key_in key config == value) configs.now }
 {
     configs.iter().any(|config| key_of(key, config) == value)
@@ -131,8 +133,8 @@ pub fn devices_of<D: Device + Drop>(
     Ok(devices)
 }
 
-// The fresh device of a configuration without a fault.
-fn device_of<D: Device>(alloc: Global, config: Config) -> Result<D, OutOfMemory>
+/// Makes the fresh device of a configuration without a fault. `OutOfMemory` is the only error.
+pub fn device_of<D: Device>(alloc: Global, config: Config) -> Result<D, OutOfMemory>
     requires accepts { D.accepts config ≡ true }
     requires good { config_fault config ≡ None }
     ensures { IfOk result (λ device. D.table device ≡ opening_table config) }

@@ -1,16 +1,16 @@
 //! A world: the simulated network, and one act in it.
 
-ghost use Rattle.std.specs.Prelude.{◌≡◌, true, Err, None, Some, IfOk, IfErr, IfSome, IfNone, length, slice_get, nat_lt};
-ghost use Rattle.cip_tables.specs.Step.{AcceptsAll};
+ghost use Rattle.std.specs.Prelude.{◌≡◌, true, Err, None, Some, IfOk, IfErr, IfSome, IfNone, OnOk, OnErr, length, slice_get, nat_lt};
+ghost use Rattle.cip_tables.specs.Step.{AcceptsAll, config_fault};
 ghost use Rattle.segment_world.specs.World.{World as Segment, event_at_device, event_of_call, delivered, taken_at, happens, are_two, opened_if, cut_at, most_stream_numbers};
 ghost use Rattle.segment_world.specs.Follows.{ActFollows, takes_no_memory, NeverOutOfMemory};
 ghost use Rattle.std.specs.Option.{option_map};
 ghost use Rattle.segment_traffic.specs.Fronts.{endpoints_of, view_front, front_of, has_taken};
 ghost use Rattle.segment_world.specs.Receptions.{IsReception};
-ghost use Rattle.segment_world.specs.Configs.{opening_world, world_fault, IsRefused};
+ghost use Rattle.segment_world.specs.Configs.{opening_world, with_device, world_fault, IsRefused};
 
 use crate::act::{Act, ActFault, Call};
-use crate::configs::{devices_of, nodes_of, world_fault};
+use crate::configs::{device_of, devices_of, node_of as node_of_config, nodes_of, world_fault};
 use crate::devices::{call_at, deliver_at, step_at};
 use crate::fault::WorldFault;
 use crate::reception::{
@@ -25,7 +25,7 @@ use std::alloc::Global;
 use std::marker::Model;
 
 /// The most streams that a world ever opens, since a stream's number has 16 bits.
-const MOST_STREAM_NUMBERS: usize = 65_536;
+pub const MOST_STREAM_NUMBERS: usize = 65_536;
 
 /// Devices on a simulated network, the log of all datagrams that they ever sent, and the streams between them.
 ///
@@ -87,6 +87,26 @@ impl<D: Device + Drop> World<D> {
     }
 }
 
+impl<D: Device + Drop> World<D> {
+    /// Adds a fresh device of a configuration without a fault, behind all other devices. `OutOfMemory` is the only error,
+    /// and leaves the world unchanged.
+    ///
+    /// The addresses and the incarnations of a world with such a device may be equal.
+    pub fn add(&mut self, config: Config) -> Result<(), OutOfMemory>
+        requires accepts { D.accepts config ≡ true }
+        requires good { config_fault config ≡ None }
+        ensures added { OnOk result (self.new ≡ with_device config self.old) }
+        ensures kept { OnErr result (self.new ≡ self.old) }
+    {
+        let node = node_of_config(&config);
+        let device = device_of(self.alloc, config)?;
+        self.nodes.reserve(1)?;
+        self.devices.push(device)?;
+        self.nodes.push_reserved(node);
+        Ok(())
+    }
+}
+
 impl<D: Device> World<D> {
     /// Performs one act, and returns the answer of the device whose event it is, if it is an event. An act that fails
     /// leaves the world unchanged.
@@ -114,7 +134,10 @@ impl<D: Device> World<D> {
         }
     }
 
-    fn local(&mut self, device: u32, call: &Call) -> Result<Option<Answer>, ActFault>
+    /// Performs a call of the application of a device, or lets time pass there, as the act `Local` does.
+    ///
+    /// The errors, in order: `NoSuchDevice`, `OutOfMemory`, `Step` with the fault of the device.
+    pub fn local(&mut self, device: u32, call: &Call) -> Result<Option<Answer>, ActFault>
         ensures { ActFollows (event_at_device device (event_of_call call.now) self.old) self.old result self.new }
     {
         let Some(node) = node_of(&self.nodes, device) else {

@@ -1,0 +1,52 @@
+-- Stories of a plant as schedules of lives, with their chronicles: so each law over schedules is a law over lives.
+use Rattle.std.specs.Prelude.{◌≡◌, ◌≤◌, ℕ, List, None, Some, length}
+use Rattle.std.specs.List.{AllByRecursion}
+use Rattle.cip_tables.specs.declared.table.Config.{Config}
+use Rattle.segment_world.specs.Configs.{world_fault}
+use Rattle.segment_lives.specs.Stories.{Move, Performed, Restart, PlantStory, IsStory, plays, with_later}
+use Rattle.schedule_laws.specs.Chronicle.{Chronicle}
+use Rattle.schedule_laws.specs.Ids.{AreBytes}
+use Rattle.schedule_laws.specs.Order.{IsChronicle}
+use Rattle.schedule_laws.specs.Producers.{AreMoments}
+use Rattle.schedule_laws.specs.Restarts.{IsNew, TakesNothingOlder}
+
+-- an incarnation of a restart is a byte, as it is in the program
+abbrev pub IsByteMove : Move → Type 0
+IsByteMove (Performed act) = Unit {0}
+IsByteMove (Restart device byte) = byte ≤ 255
+
+-- a story of a plant that begins from configurations without fault, where incarnations are bytes
+pub record IsPlayed (configs : List Config) (moves : List Move) (h : PlantStory) : Type 0 where
+  pub faultless : world_fault configs ≡ None
+  pub bytes : AreBytes configs
+  pub moves_are : AllByRecursion IsByteMove moves
+  pub played : IsStory configs moves h
+
+-- the chronicle of the story's acts among its lives
+pub record IsChronicled (h : PlantStory) (c : Chronicle) : Type 0 where
+  pub is : IsChronicle h.plant.configs h.acts c
+  pub story_is : c.story ≡ record { world = h.plant.world; reported = h.reported }
+
+-- Each story has a chronicle of its lives. So what holds of every chronicle holds of it.
+abbrev pub StoriesAreChronicled : Type 0
+StoriesAreChronicled = (configs : List Config) (moves : List Move) (h : PlantStory) → IsPlayed configs moves h → (c : Chronicle) × IsChronicled h c
+
+-- Two moments of a plant: of all lives of the later one, as they begin, the acts of the earlier one lead to its chronicle, and
+-- the further acts from there to the later one's. Nothing has happened at a life that begins after the earlier one.
+pub record ArePlantMoments (early now : PlantStory) : Type 0 where
+  pub later : List Config
+  pub was_chronicle : Chronicle
+  pub now_chronicle : Chronicle
+  pub moments : AreMoments now.plant.configs was_chronicle now_chronicle
+  pub was_is : was_chronicle.story ≡ record { world = with_later later early.plant.world; reported = early.reported }
+  pub now_is : now_chronicle.story ≡ record { world = now.plant.world; reported = now.reported }
+  pub new_are : (life : ℕ) → length early.plant.configs ≤ life → IsNew was_chronicle life
+
+-- Of what was produced before a life began, by any life and for any life, that life takes nothing at any later moment, but what
+-- a group sends that lives then and that it joins.
+abbrev pub LaterLivesTakeNothingOlder : Type 0
+LaterLivesTakeNothingOlder =
+    (configs : List Config) (moves more : List Move) (early now : PlantStory) (life : ℕ) →
+    IsPlayed configs moves early → AllByRecursion IsByteMove more → plays (Some early) more ≡ Some now →
+    length early.plant.configs ≤ life →
+    (two : ArePlantMoments early now) × TakesNothingOlder two.was_chronicle two.now_chronicle life
