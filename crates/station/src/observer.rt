@@ -6,11 +6,12 @@ ghost use Rattle.station_watch.specs.Closing.{is_marked};
 
 use crate::fault::EarlyEnd;
 use cip_events::{Answer, Delivery, Event, Outcome, Verdict};
-use cip_tables::Config;
+use cip_tables::{Config, Device};
 use cip_types::{Node, OutOfMemory};
+use page_feed::{PageFeed, StationFacts};
 use station_lines::{EventMoment, LineSink, has_news};
 use station_record::{RecordFault, RecordSink, Recorder};
-use station_watch::{ClosingSlots, ConnectedPeers, SlotDuty, SlotWatches, Starved};
+use station_watch::{ClosingSlots, ConnectedPeers, SlotDuty, SlotWatches, Starved, StationTraffic};
 use std::alloc::Global;
 use trace_text::push_outcome;
 use udp_runner::Observer;
@@ -26,8 +27,10 @@ pub struct StationObserver<W, O, E> {
     closing: ClosingSlots,
     peers: ConnectedPeers,
     slots: SlotWatches,
+    traffic: StationTraffic,
     fault: Option<EarlyEnd>,
     record_fault: Option<RecordFault>,
+    page: Option<PageFeed>,
 }
 
 impl<W: RecordSink + Drop, O: LineSink, E: LineSink> StationObserver<W, O, E> {
@@ -53,9 +56,51 @@ impl<W: RecordSink + Drop, O: LineSink, E: LineSink> StationObserver<W, O, E> {
             closing: ClosingSlots::none(alloc)?,
             peers: ConnectedPeers::none(alloc),
             slots: SlotWatches::of(alloc, config)?,
+            traffic: StationTraffic::of(alloc, config)?,
             fault: None,
             record_fault: None,
+            page: None,
         })
+    }
+
+    /// Tells a page of the device from now on.
+    pub fn feed(&mut self, page: PageFeed)
+        ensures kept { self.new.recorder ≡ self.old.recorder }
+    {
+        self.page = Some(page);
+    }
+
+    /// Hands a snapshot of the device to the page, if there is one and it is time.
+    pub fn show_page<D: Device>(&mut self, device: &D)
+        ensures kept { self.new.recorder ≡ self.old.recorder }
+    {
+        let facts = self.facts();
+        if let Some(page) = &mut self.page {
+            page.show(device, facts);
+        }
+    }
+
+    /// Has the page note a step.
+    fn note_page(&mut self, event: &Event, outcome: &Outcome)
+        ensures kept { self.new.recorder ≡ self.old.recorder }
+    {
+        let facts = self.facts();
+        if let Some(page) = &mut self.page {
+            page.note(facts, event, outcome);
+        }
+    }
+
+    /// What the page is to know beside the device.
+    fn facts(&self) -> StationFacts {
+        let totals = self.traffic.totals();
+        StationFacts {
+            number: self.count(),
+            ms: self.now_ms(),
+            received: totals.received,
+            sent: totals.sent,
+            applied: totals.applied,
+            lost: totals.lost,
+        }
     }
 
     /// The milliseconds of all ticks.
@@ -120,6 +165,13 @@ impl<W: RecordSink + Drop, O: LineSink, E: LineSink> StationObserver<W, O, E> {
         self.slots.target(slot)
     }
 
+    /// What was counted of the device's datagrams.
+    pub fn traffic(&self) -> &StationTraffic
+        ensures { result.now ≡ self.now.traffic }
+    {
+        &self.traffic
+    }
+
     /// Fails once if there was no memory to note a step.
     pub fn check(&mut self) -> Result<(), EarlyEnd>
         ensures kept { self.new.recorder ≡ self.old.recorder }
@@ -171,14 +223,15 @@ impl<W: RecordSink + Drop, O: LineSink, E: LineSink> StationObserver<W, O, E> {
         }
     }
 
-    /// Notes what an answer says of connections and slots.
+    /// Notes what an answer says of connections and slots, and counts datagrams.
     fn note_answer(&mut self, event: &Event, answer: &Answer) -> Result<(), OutOfMemory>
         ensures kept { self.new.recorder ≡ self.old.recorder }
     {
         let notices = answer.notices.as_slice();
         self.closing.note(notices);
         self.peers.note(event, notices)?;
-        self.slots.note(event, answer)
+        self.slots.note(event, answer)?;
+        self.traffic.note(event, answer)
     }
 
     /// Notes a step. Reports why the record has ended, if it has, and prints the outcome, if it is to be printed.
@@ -213,6 +266,7 @@ impl<W: RecordSink + Drop, O: LineSink, E: LineSink> Observer for StationObserve
     fn stepped(&mut self, event: &Event, outcome: &Outcome) {
         let ended = self.recorder.note(event, outcome);
         self.report_step(event, outcome, ended);
+        self.note_page(event, outcome);
     }
 
     fn delivered(&mut self, event: &Event, delivery: Delivery) {

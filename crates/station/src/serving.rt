@@ -18,7 +18,7 @@ use cip_types::{Ms, Node, OutOfMemory};
 use scanner_table::Session;
 use station_lines::{InputLine, LineSink, Points, push_report, push_starved, read_line};
 use station_record::{RecordFault, RecordSink};
-use station_watch::SlotDuty;
+use station_watch::{SlotDuty, StationTraffic};
 use std::alloc::Global;
 use udp_runner::{Clock, KeptPort, Output, RunFault, act, turn_waiting};
 
@@ -102,6 +102,13 @@ impl<P: KeptPort, C: Clock, D: Device, W: RecordSink + Drop, O: LineSink, E: Lin
     /// Why the record has ended, if it has.
     pub fn record_fault(&self) -> Option<RecordFault> {
         self.observer.record_fault()
+    }
+
+    /// What was counted of the device's datagrams.
+    pub fn traffic(&self) -> &StationTraffic
+        ensures { result.now ≡ self.now.observer.traffic }
+    {
+        self.observer.traffic()
     }
 
     /// Makes a turn that waits at most so many milliseconds, and prints what has changed.
@@ -252,8 +259,8 @@ impl<P: KeptPort, C: Clock, D: Device, W: RecordSink + Drop, O: LineSink, E: Lin
         Ok(())
     }
 
-    /// Performs the call of a line, and prints its outcome and what has changed. An empty line and a comment are skipped.
-    /// A line that is no call is reported.
+    /// Performs the call of a line, and prints its outcome and what has changed, or its state if the line asks for that. An
+    /// empty line and a comment are skipped. A line that is no call is reported.
     #[tactic(auto, using(crate::proofs::Noting::at_rest, crate::proofs::Noting::unmoved))]
     pub fn call(&mut self, line: &[u8]) -> Result<(), EarlyEnd>
         ensures { Recorded W.contents P.is_scripted C.is_scripted C.coming P.tape P.failed D.table self.old self.new }
@@ -262,6 +269,7 @@ impl<P: KeptPort, C: Clock, D: Device, W: RecordSink + Drop, O: LineSink, E: Lin
         match read_line(self.alloc, line)? {
             InputLine::Skipped => Ok(()),
             InputLine::Call(event) => self.act(&event),
+            InputLine::Status => self.print_status(),
             InputLine::NoCall => self.report_line(),
         }
     }
@@ -375,6 +383,19 @@ impl<P: KeptPort, C: Clock, D: Device, W: RecordSink + Drop, O: LineSink, E: Lin
         self.points
             .push_changes(self.alloc, &mut self.text, &self.device, at)?;
         self.observer.print(self.text.as_bytes());
+        self.observer.show_page(&self.device);
+        Ok(())
+    }
+
+    /// Prints the lines of the call `status`, which is no event of the device. The fault: there was no memory for them.
+    fn print_status(&mut self) -> Result<(), EarlyEnd>
+        ensures { Rests P.is_scripted P.tape P.failed self.old self.new }
+    {
+        self.text.clear();
+        let at = self.observer.moment();
+        self.points
+            .push_status(&mut self.text, &self.device, self.observer.traffic(), at)?;
+        self.observer.print(self.text.as_bytes());
         Ok(())
     }
 
@@ -386,7 +407,7 @@ impl<P: KeptPort, C: Clock, D: Device, W: RecordSink + Drop, O: LineSink, E: Lin
         let number = self.lines;
         if write!(
             &mut self.text,
-            "eip_station: line {number} of standard input is no call: write POINT HEX, read POINT, mode run, mode idle, start SLOT, stop SLOT\n"
+            "eip_station: line {number} of standard input is no call: write POINT HEX, read POINT, mode run, mode idle, start SLOT, stop SLOT, status\n"
         )
         .is_err()
         {

@@ -21,3 +21,7 @@ behind old one new a b c d first second = second ∙ ap (λ t. t ++ d) first ∙
 -- a text of three parts, and two others
 pub behind_two : (old one mid new a b c d e : List ℕ) → one ≡ old ++ (a ++ (b ++ c)) → mid ≡ one ++ d → new ≡ mid ++ e → new ≡ old ++ (a ++ (b ++ (c ++ (d ++ e))))
 behind_two old one mid new a b c d e first second third = behind old one new a b c (d ++ e) first (two one mid new d e second third)
+
+-- five texts
+pub five : (old one mid late last new a b c d e : List ℕ) → one ≡ old ++ a → mid ≡ one ++ b → late ≡ mid ++ c → last ≡ late ++ d → new ≡ last ++ e → new ≡ old ++ (a ++ (b ++ (c ++ (d ++ e))))
+five old one mid late last new a b c d e first second third fourth fifth = two old one new a (b ++ (c ++ (d ++ e))) first (four one mid late last new b c d e second third fourth fifth)

@@ -1,5 +1,5 @@
 -- The calls of an application, and the events whose outcomes are printed.
-use Rattle.std.specs.Prelude.{ℕ, ◌||◌, ◌==◌, not, length, if◌then◌else◌, Bool, true, false, List, slice_index_or, option_and_then, Option, Some, None, Ok, Err}
+use Rattle.std.specs.Prelude.{ℕ, ◌||◌, ◌==◌, not, length, if◌then◌else◌, bytes_eq, codes, Bool, true, false, List, slice_index_or, option_and_then, Option, Some, None, Ok, Err}
 use Rattle.cip_events.specs.declared.event.Event.{Event}
 use Rattle.cip_events.specs.declared.event.Event.TheVariants as event
 use Rattle.cip_events.specs.declared.event.StepFault.TheVariants as fault
@@ -31,10 +31,14 @@ has_news given (Err other) = is_call given
 abbrev pub is_skipped : List ℕ → Bool
 is_skipped line = slice_index_or line 0 35 == 35
 
+-- the line is the word that asks for the state of the station
+abbrev pub is_status : List ℕ → Bool
+is_status line = bytes_eq line (codes "status")
+
 -- what a line of the input is
 abbrev pub line_with : Option Event → InputLine
 line_with (Some given) = input.Call given
 line_with None = input.NoCall
 
 abbrev pub line_of : List ℕ → InputLine
-line_of text = if is_skipped text then input.Skipped else line_with (call_of text)
+line_of text = if is_skipped text then input.Skipped else (if is_status text then input.Status else line_with (call_of text))

@@ -2,7 +2,7 @@
 
 ghost use Rattle.std.specs.Prelude.{◌≡◌, slice_index_or, IfOk};
 ghost use Rattle.trace_words.specs.Reader.{Finds};
-ghost use Rattle.station_lines.specs.Calls.{call_of, has_news, is_call, is_skipped, line_of};
+ghost use Rattle.station_lines.specs.Calls.{call_of, has_news, is_call, is_skipped, is_status, line_of};
 
 use cip_events::{Event, Outcome, StepFault};
 use cip_types::OutOfMemory;
@@ -44,6 +44,8 @@ pub enum InputLine {
     Skipped,
     /// A call of the application.
     Call(Event),
+    /// The call for the state of the station.
+    Status,
     /// Anything else.
     NoCall,
 }
@@ -54,6 +56,9 @@ pub fn read_line(alloc: Global, line: &[u8]) -> Result<InputLine, OutOfMemory>
 {
     if is_skipped(line) {
         return Ok(InputLine::Skipped);
+    }
+    if is_status(line) {
+        return Ok(InputLine::Status);
     }
     match read_call(alloc, line) {
         Ok(event) => Ok(InputLine::Call(event)),
@@ -67,6 +72,13 @@ fn is_skipped(line: &[u8]) -> bool
     ensures { result ≡ is_skipped line.now }
 {
     first_or_mark(line) == b'#'
+}
+
+/// Whether a line is the word `status` alone.
+fn is_status(line: &[u8]) -> bool
+    ensures { result ≡ is_status line.now }
+{
+    line == b"status".as_slice()
 }
 
 /// The first byte of a line; that of a comment if it has none.

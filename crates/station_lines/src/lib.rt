@@ -1,5 +1,5 @@
 //! The texts of a station: the calls of its application as lines that arrive while it runs, and the lines that it prints of
-//! points, streams and slots.
+//! points, streams, slots and its state.
 #![tactic(auto)]
 
 mod calls;
@@ -7,6 +7,7 @@ mod lines;
 mod points;
 mod reports;
 mod sink;
+mod status;
 
 pub use calls::{InputLine, has_news, is_call, read_call, read_line};
 pub use lines::{CallBuffer, CallLines, InputRead, NextLine, NoLines, input_read};

@@ -3,9 +3,12 @@
 ghost use Rattle.std.specs.Prelude.{◌≡◌, ◌++◌, map, OnOk, string_bytes};
 ghost use Rattle.cip_tables.specs.Step.{bytes_in};
 ghost use Rattle.station_lines.specs.Points.{change_of, change_text, changes_text, held_point, point_line, word_of};
+ghost use Rattle.station_lines.specs.Status.{status_text};
 
+use crate::status::push_status;
 use cip_tables::{Config, Device};
 use cip_types::{Items, OutOfMemory};
+use station_watch::StationTraffic;
 use std::alloc::Global;
 use trace_words::push_last_bytes;
 
@@ -28,9 +31,9 @@ pub struct EventMoment {
 /// A point, and the bytes that were printed last.
 #[derive(Drop)]
 pub struct WatchedPoint {
-    kind: PointKind,
-    point: u32,
-    bytes: Items<u8>,
+    pub kind: PointKind,
+    pub point: u32,
+    pub bytes: Items<u8>,
 }
 
 /// The points whose changes are printed.
@@ -75,6 +78,21 @@ impl Points {
     {
         push_lines(out, self.points.as_slice(), device, at)?;
         hold_all(alloc, &mut self.points, device)
+    }
+
+    /// Appends the lines of the call `status`: what the device says of itself and of each of these points, and what was
+    /// counted of its datagrams.
+    pub fn push_status<D: Device>(
+        &self,
+        out: &mut String,
+        device: &D,
+        traffic: &StationTraffic,
+        at: EventMoment,
+    ) -> Result<(), OutOfMemory>
+        ensures { OnOk result (string_bytes out.new ≡ string_bytes out.old
+            ++ status_text at (D.table device.now) traffic.now self.now.points.items) }
+    {
+        push_status(out, device, traffic, self.points.as_slice(), at)
     }
 }
 

@@ -59,9 +59,9 @@ abbrev pub number_of : Option (ℕ × List ℕ) → Option ℕ
 number_of None = None
 number_of (Some found) = Some found.0
 
--- the connection id behind so many bytes
-abbrev pub id_at : List ℕ → ℕ → Option ℕ
-id_at bytes before = number_of (field_at w32 (drop before bytes))
+-- the 32 bits behind so many bytes
+abbrev pub u32_behind : List ℕ → ℕ → Option ℕ
+u32_behind bytes before = number_of (field_at w32 (drop before bytes))
 
 -- what is said of the datagrams of this id
 abbrev pub data_with : Option ℕ → Option Node → Option OpenedData
@@ -71,7 +71,7 @@ data_with (Some id) group = Some (record { id = id; group = group })
 -- the T->O id is behind 8 bytes of the reply, and other items are behind the reply, which 16 bytes precede
 abbrev pub data_of_packet : List ℕ → Result PacketFields ItemFault → Option OpenedData
 data_of_packet items (Err fault) = None
-data_of_packet items (Ok packet) = data_with (id_at packet.payload 8) (group_in (drop (length packet.payload) (drop 16 items)))
+data_of_packet items (Ok packet) = data_with (u32_behind packet.payload 8) (group_in (drop (length packet.payload) (drop 16 items)))
 
 abbrev pub data_of_items : List ℕ → Option OpenedData
 data_of_items items = data_of_packet items (packet_reading items)

@@ -2,7 +2,7 @@
 
 ghost use Rattle.std.specs.Prelude.{◌≡◌, drop};
 ghost use Rattle.cip_types.specs.Fields.{Finds};
-ghost use Rattle.station_watch.specs.Groups.{as_group, data_of_items, data_with, group_in, id_at, is_group, last_group, opened_data, socket_at};
+ghost use Rattle.station_watch.specs.Groups.{as_group, data_of_items, data_with, group_in, u32_behind, is_group, last_group, opened_data, socket_at};
 
 use cip_encap::{read_items, read_message};
 use cip_types::Node;
@@ -27,6 +27,9 @@ const BEFORE_ID: usize = 8;
 
 /// The bytes of a datagram before its connection id: the number of items, and the head of the first item.
 const BEFORE_DATAGRAM_ID: usize = 6;
+
+/// The bytes of a datagram before its sequence number.
+const BEFORE_SEQUENCE: usize = 10;
 
 /// The bytes of a socket address.
 const SOCKET_ADDRESS_BYTES: u16 = 16;
@@ -69,7 +72,7 @@ fn data_of_items(items: &[u8]) -> Option<OpenedData>
     match read_items(items) {
         Ok(packet) => {
             let others = behind(behind(items, BEFORE_DATA), packet.data.len());
-            data_with(id_at(packet.data, BEFORE_ID), group_in(others))
+            data_with(u32_behind(packet.data, BEFORE_ID), group_in(others))
         }
         Err(_) => None,
     }
@@ -89,17 +92,26 @@ fn data_with(id: Option<u32>, group: Option<Node>) -> Option<OpenedData>
 ///
 /// Volume 2, chapter 2, sequenced address item.
 pub fn datagram_id(bytes: &[u8]) -> Option<u32>
-    ensures { result ≡ id_at bytes.now 6 }
+    ensures { result ≡ u32_behind bytes.now 6 }
 {
-    id_at(bytes, BEFORE_DATAGRAM_ID)
+    u32_behind(bytes, BEFORE_DATAGRAM_ID)
 }
 
-/// The connection id behind so many bytes.
-fn id_at(bytes: &[u8], before: usize) -> Option<u32>
-    ensures { result ≡ id_at bytes.now before }
+/// The sequence number of a datagram: it follows the connection id.
+///
+/// Volume 2, chapter 2, sequenced address item.
+pub fn datagram_sequence(bytes: &[u8]) -> Option<u32>
+    ensures { result ≡ u32_behind bytes.now 10 }
 {
-    let (id, _rest) = u32_at(behind(bytes, before))?;
-    Some(id)
+    u32_behind(bytes, BEFORE_SEQUENCE)
+}
+
+/// The 32 bits behind so many bytes.
+fn u32_behind(bytes: &[u8], before: usize) -> Option<u32>
+    ensures { result ≡ u32_behind bytes.now before }
+{
+    let (number, _rest) = u32_at(behind(bytes, before))?;
+    Some(number)
 }
 
 /// What is behind so many bytes: nothing, if there are no more.

@@ -1,12 +1,14 @@
 //! What a station notes of the steps of its device: the peers that have connections, what its port has to know of targets, slots
-//! whose data never came, and those that are being closed.
+//! whose data never came, those that are being closed, and how many datagrams came and were lost.
 #![tactic(auto)]
 
 mod closing;
 mod groups;
 mod peers;
 mod slots;
+mod traffic;
 
 pub use closing::ClosingSlots;
 pub use peers::ConnectedPeers;
 pub use slots::{SlotDuty, SlotWatches, Starved};
+pub use traffic::{CountedConnection, DataSource, StationTraffic, TrafficTotals};

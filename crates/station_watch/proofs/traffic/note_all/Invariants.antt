@@ -1,0 +1,7 @@
+use Rattle.std.proofs.Common.{◌≡◌, drop}
+use Rattle.station_watch.specs.Traffic.{after_notices}
+use Rattle.station_watch.proofs.traffic.note_all.Given as goal
+
+-- the notices that are left lead from the connections so far to those after all
+abbrev pub invariant-loop-notice : goal.invariant-loop-notice
+invariant-loop-notice l = after_notices l.event (drop l.notice-index l.notices) l.connections.items ≡ after_notices l.event l.notices l.initial.connections.items

@@ -1,0 +1,4 @@
+mod PlaceCounts
+mod PlaceEffects
+mod PlaceLemmas
+mod PlaceSteps

@@ -1,0 +1,149 @@
+-- Each effect on an adapter's table, with its notices, keeps the counted connections at their places.
+use Rattle.std.proofs.Common.{◌≡◌, ◌≤◌, ◌<◌, ◌||◌, ℕ, ◌+◌, ◌==◌, nat_le, Bool, true, false, cond, not, List, [], ◌∷◌, ◌++◌, length, map, find, option_map, Option, Some, None, refl, sym, ◌∙◌, subst, arith}
+use Rattle.std.specs.List.{list_any}
+use Rattle.std.proofs.lemmas.Bool.Decides.{nat_tests}
+use Rattle.std.proofs.lemmas.Grind.{common_steps}
+use Rattle.cip_types.specs.declared.names.Ms.{Ms}
+use Rattle.cip_types.specs.declared.names.Node.{Node}
+use Rattle.cip_types.specs.declared.names.Triad.{Triad}
+use Rattle.cip_datagram.specs.Datagram.{DatagramFields}
+use Rattle.cip_events.specs.declared.event.Delivery.{Delivery}
+use Rattle.cip_events.specs.declared.event.Event.{Event}
+use Rattle.cip_events.specs.declared.event.Notice.{Notice}
+use Rattle.cip_events.specs.declared.event.Notice.TheVariants as notice
+use Rattle.adapter_table.specs.Connections.{Row}
+use Rattle.adapter_table.specs.declared.row.State.TheVariants.{TimedOut}
+use Rattle.adapter_table.specs.declared.table.AdapterTable.{AdapterTable}
+use Rattle.adapter_table.specs.Rows.{most_rows, is_timed_out, is_unsupported, has_triad, others, written_row}
+use Rattle.adapter_table.specs.Checks.{Admitted}
+use Rattle.adapter_table.specs.Closing.{without_triad, unsupported, staying, dropped_notice, closed_table, closed_notices}
+use Rattle.adapter_table.specs.Datagrams.{accepted_if_for, accepted_table}
+use Rattle.adapter_table.specs.EachLemmas.{two_weak}
+use Rattle.adapter_table.specs.Opening.{is_replaced, is_replaced_by, opened_table, opened_notices, replaced_notices, triad_of}
+use Rattle.adapter_table.specs.Productions.{produced_row, changed_row}
+use Rattle.adapter_table.specs.Sound.{OpensBefore, OpeningsRise, TriadsDiffer}
+use Rattle.adapter_table.specs.Step.{written_table, changed_table}
+use Rattle.adapter_table.specs.Ticks.{has_expired, expired, expired_row, expired_rows, expiry_notices, clocked_table, expired_table, produced_table}
+use Rattle.adapter_table.specs.Lemmas.LikeLemmas.{Keeps, changed_keeps, due_keeps, fed_keeps, written_keeps}
+use Rattle.adapter_table.specs.Lemmas.SoundLemmas.{any_opened, triads_filter}
+use Rattle.traffic_laws.specs.Places.{AreAtPlaces}
+use Rattle.station_watch.specs.Traffic.{after_notices, begun, with_connection, without_originator}
+use Rattle.station_watch.specs.declared.traffic.CountedConnection.{CountedConnection}
+use Rattle.station_watch.specs.declared.traffic.DataSource.TheVariants as source
+use Rattle.traffic_laws.proofs.PlaceLemmas.{Alone, NamesStay, all_left, at_dropped, at_mapped, at_opened, at_removed, expired_stay, removed_all, same_others, triad_alone}
+
+-- the notices lead from the connections of one table to those of the next
+abbrev pub KeepsPlaces : Event → AdapterTable → List Notice → AdapterTable → Type 0
+KeepsPlaces given t notices next =
+    (counts : List CountedConnection) → AreAtPlaces counts t.rows → AreAtPlaces (after_notices given notices counts) next.rows
+
+pub unchanged : (given : Event) (t : AdapterTable) → KeepsPlaces given t [] t
+unchanged given t = λ counts at. at
+
+-- CHANGES OF SINGLE CONNECTIONS
+
+names_stay : (f : Row → Row) → Keeps f → NamesStay f
+names_stay f keeps = record { triad = λ row. (keeps.like row).triad; id = λ row. (keeps.like row).o_t_id }
+
+pub keeps_fed : (given : Event) (t : AdapterTable) (peer : Node) (d : DatagramFields) (to : Row) (delivery : Delivery) → KeepsPlaces given t [] (accepted_table t peer d to delivery)
+unfolding accepted_table
+keeps_fed given t peer d to delivery = λ counts at. at_mapped (accepted_if_for t.clock peer d) (names_stay (accepted_if_for t.clock peer d) (fed_keeps t.clock peer d)) counts t.rows at
+
+pub keeps_written : (given : Event) (t : AdapterTable) (input : ℕ) (bytes : List ℕ) → KeepsPlaces given t [] (changed_table (written_table t input bytes) input)
+unfolding written_table changed_table
+keeps_written given t input bytes = λ counts at.
+    at_mapped (changed_row t.clock input) (names_stay (changed_row t.clock input) (changed_keeps t.clock input)) counts (map (written_row input) t.rows)
+    (at_mapped (written_row input) (names_stay (written_row input) (written_keeps input)) counts t.rows at)
+
+-- LISTENERS THAT ARE DROPPED
+
+-- those that lose their support are dropped, by their triads
+at_staying : (given : Event) (counts : List CountedConnection) (rows : List Row) → TriadsDiffer rows → AreAtPlaces counts rows → AreAtPlaces (after_notices given (map dropped_notice (unsupported rows)) counts) (staying rows)
+at_staying given counts rows differ at =
+    subst (λ (xs : List Row). AreAtPlaces (after_notices given (map dropped_notice (unsupported rows)) counts) xs) (removed_all (is_unsupported rows) rows differ)
+    (at_dropped given (unsupported rows) counts rows at)
+
+-- A CLOSE
+
+pub keeps_closed : (given : Event) (t : AdapterTable) (removed : Row) → TriadsDiffer t.rows → KeepsPlaces given t (closed_notices t.rows removed) (closed_table t removed)
+unfolding closed_table
+keeps_closed given t removed differ = λ counts at.
+    at_staying given (without_originator removed.triad counts) (without_triad removed.triad t.rows) (triads_filter (λ row. not (has_triad removed.triad row)) t.rows differ)
+    (at_removed removed.triad counts t.rows at)
+
+-- AN OPENING
+
+other_opening : (a b c : ℕ) → a < b → (a == c) ≡ true → (b == c) ≡ false
+other_opening a b c less same = grind (arith, nat_tests)
+
+-- at most one connection is replaced
+replaced_alone : (b c : Bool) (first : Option Row) (triad : Triad) (rows : List Row) → TriadsDiffer rows → OpeningsRise rows → Alone (is_replaced_by b c first triad) rows
+replaced_alone true c first triad rows differ rise = triad_alone triad rows differ
+replaced_alone false true None triad rows differ rise = two_weak OpensBefore (λ x y. false ≡ true → false ≡ false) (λ x y before is. refl) rows rise
+replaced_alone false true (Some first) triad rows differ rise =
+    two_weak OpensBefore (λ x y. (x.opening == first.opening) ≡ true → (y.opening == first.opening) ≡ false) (λ x y before is. other_opening x.opening y.opening first.opening before is) rows rise
+replaced_alone false false first triad rows differ rise = two_weak OpensBefore (λ x y. false ≡ true → false ≡ false) (λ x y before is. refl) rows rise
+
+none_step : (b : Bool) (p : Row → Bool) (row : Row) (rows : List Row) → cond b (Some row) (find p rows) ≡ None → (find p rows ≡ None → list_any p rows ≡ false) → (b || list_any p rows) ≡ false
+none_step true p row rows is rest = absurd cc
+none_step false p row rows is rest = rest is
+
+none_found : (p : Row → Bool) (rows : List Row) → find p rows ≡ None → list_any p rows ≡ false
+none_found p [] is = refl
+none_found p (row ∷ rows) is = none_step (p row) p row rows is (none_found p rows)
+
+-- the new connection is the last one
+at_new : (row : Row) (counts : List CountedConnection) (left : List Row) → list_any (has_triad row.triad) left ≡ false → length left + 1 ≤ 64 → AreAtPlaces counts left → AreAtPlaces (with_connection (begun (source.Originator row.triad) (Some row.o_t_id.0)) (without_originator row.triad counts)) (left ++ row ∷ [])
+at_new row counts left none few at =
+    let left_over : AreAtPlaces (without_originator row.triad counts) left =
+    subst (λ (xs : List Row). AreAtPlaces (without_originator row.triad counts) xs) (all_left (has_triad row.triad) left none) (at_removed row.triad counts left at) in
+    at_opened (without_originator row.triad counts) left (begun (source.Originator row.triad) (Some row.o_t_id.0)) row left_over few (record { source = refl; id = refl })
+
+at_replaced : (given : Event) (row : Row) (p : Row → Bool) (rows : List Row) (found : Option Row) (counts : List CountedConnection) → find p rows ≡ found → TriadsDiffer rows → Alone p rows → list_any (has_triad row.triad) (others p rows) ≡ false → length (others p rows) + 1 ≤ 64 → AreAtPlaces counts rows → AreAtPlaces (after_notices given (replaced_notices (option_map triad_of found) ++ notice.Opened row.triad row.o_t_id ∷ []) counts) (others p rows ++ row ∷ [])
+at_replaced given row p rows None counts is differ alone none few at =
+    at_new row counts (others p rows) none few (subst (λ (xs : List Row). AreAtPlaces counts xs) (sym (all_left p rows (none_found p rows is))) at)
+at_replaced given row p rows (Some old) counts is differ alone none few at =
+    at_new row (without_originator old.triad counts) (others p rows) none few
+    (subst (λ (xs : List Row). AreAtPlaces (without_originator old.triad counts) xs) (sym (same_others p (has_triad old.triad) rows old is (grind (arith, nat_tests)) alone (triad_alone old.triad rows differ)))
+    (at_removed old.triad counts rows at))
+
+-- the connection that is replaced gives its place up, and the new one is the last
+pub keeps_opened : (given : Event) (t : AdapterTable) (row : Row) (admitted : Admitted) → TriadsDiffer t.rows → OpeningsRise t.rows → length (opened_table t row admitted).rows ≤ 64 → KeepsPlaces given t (opened_notices t.rows row) (opened_table t row admitted)
+unfolding opened_table
+keeps_opened given t row admitted differ rise few = λ counts at.
+    let b = list_any (has_triad row.triad) t.rows in
+    let c = nat_le most_rows (length t.rows) in
+    at_replaced given row (is_replaced t.rows row.triad) t.rows (find (is_replaced t.rows row.triad) t.rows) counts refl differ
+    (replaced_alone b c (find is_timed_out t.rows) row.triad t.rows differ rise)
+    (any_opened b c row.triad t.rows refl) (grind (arith, common_steps)) at
+
+-- TIME
+
+named_step : (b : Bool) (row : Row) → (cond b (record row { state = TimedOut }) row).triad ≡ row.triad
+named_step true row = refl
+named_step false row = refl
+
+id_step : (b : Bool) (row : Row) → (cond b (record row { state = TimedOut }) row).o_t_id ≡ row.o_t_id
+id_step true row = refl
+id_step false row = refl
+
+expired_names : (clock : Ms) → NamesStay (expired_row clock)
+expired_names clock = record { triad = λ row. named_step (has_expired clock row) row; id = λ row. id_step (has_expired clock row) row }
+
+any_named : (f : Row → Row) → NamesStay f → (triad : Triad) (rows : List Row) → list_any (has_triad triad) (map f rows) ≡ list_any (has_triad triad) rows
+any_named f stay triad [] = refl
+any_named f stay triad (row ∷ rows) = rw (stay.triad row, any_named f stay triad rows) refl
+
+triads_named : (f : Row → Row) → NamesStay f → (rows : List Row) → TriadsDiffer rows → TriadsDiffer (map f rows)
+triads_named f stay [] differ = tt
+triads_named f stay (row ∷ rows) (none, differ) = (rw (stay.triad row) (any_named f stay row.triad rows ∙ none), triads_named f stay rows differ)
+
+pub keeps_advanced : (given : Event) (t : AdapterTable) (ms : ℕ) → TriadsDiffer t.rows → KeepsPlaces given t (expiry_notices (clocked_table t ms).clock (clocked_table t ms).rows) (produced_table (expired_table (clocked_table t ms)))
+unfolding clocked_table expired_table produced_table
+keeps_advanced given t ms differ = λ counts at.
+    let clock : Ms = record { 0 = t.clock.0 + ms } in
+    let late = expired_rows clock t.rows in
+    let left : AreAtPlaces (after_notices given (map dropped_notice (unsupported late)) counts) (staying late) =
+    at_staying given counts late (triads_named (expired_row clock) (expired_names clock) t.rows differ) (at_mapped (expired_row clock) (expired_names clock) counts t.rows at) in
+    subst (λ (list : List CountedConnection). AreAtPlaces list (map (produced_row clock) (staying late))) (sym (expired_stay given (expired clock t.rows) (map dropped_notice (unsupported late)) counts))
+    (at_mapped (produced_row clock) (names_stay (produced_row clock) (due_keeps clock)) _ (staying late) left)
