@@ -7,7 +7,7 @@ use list_identity::StationIdentity;
 use port_streams::Destination;
 use socket_port::{LOOPBACK, loopback};
 use station_port::{SocketCause, StationFault, StationPlace, StationPort};
-use std::io;
+use std::io::{self, Write};
 use std::net::{Net, TcpListener, TcpStream, UdpSocket};
 use std::rt::Clock;
 use std::time::Duration;
@@ -15,6 +15,9 @@ use udp_runner::{Output, Port};
 
 /// An arrival has to come within so many polls, between which the port waits a millisecond.
 const MOST_POLLS: u32 = 5_000;
+
+/// A port to which nothing comes has asked each socket within so many polls.
+const DRAINING_POLLS: u32 = 40;
 
 /// Ports are looked for so often.
 const MOST_TRIES: u32 = 16;
@@ -154,4 +157,28 @@ pub fn is_sent<R: Net + Clock + Drop>(port: &mut StationPort<R>, output: &Output
 /// Whether the next arrival is the beginning of a stream.
 pub fn opens<R: Net + Clock + Drop>(port: &mut StationPort<R>) -> Result<bool, PortRunFault> {
     Ok(matches!(next_arrival(port)?, Some(Arrival::Opened { .. })))
+}
+
+/// Polls a port so often that it has asked each socket, and drops what arrives.
+pub fn drain<R: Net + Clock + Drop>(port: &mut StationPort<R>) -> Result<(), PortRunFault> {
+    for _ in 0..DRAINING_POLLS {
+        let _arrival = poll(port)?;
+    }
+    Ok(())
+}
+
+/// Writes bytes over a stream, as far as it takes them.
+pub fn write(mut peer: &TcpStream, bytes: &[u8]) {
+    // (what a full stream does not take is not sent)
+    let _ = peer.write(bytes);
+}
+
+/// A stream of a peer, which does not wait.
+pub fn stream_to<R>(rt: &R, tcp: u16) -> Result<TcpStream, PortRunFault>
+where
+    R: Net<Listener = TcpListener, Stream = TcpStream>,
+{
+    let peer = TcpStream::connect(rt, loopback(tcp))?;
+    peer.set_nonblocking(true)?;
+    Ok(peer)
 }

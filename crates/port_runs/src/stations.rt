@@ -3,13 +3,13 @@
 use crate::fault::PortRunFault;
 use crate::options::{StreamSide, sends_at_once, stays_within};
 use crate::station_line::{
-    AdapterPort, is_sent, next_arrival, opens, poll, print_line, scanner_port,
+    AdapterPort, drain, is_sent, next_arrival, opens, poll, print_line, scanner_port, stream_to,
+    write,
 };
 use cip_events::Arrival;
 use cip_types::Node;
 use socket_port::{LOOPBACK, loopback};
 use station_port::StationPort;
-use std::io::Write;
 use std::net::{Net, TcpListener, TcpStream, UdpSocket};
 use std::rt::Clock;
 use std::time::{Duration, Instant};
@@ -37,9 +37,6 @@ const WAIT_MS: u64 = 40;
 
 /// A wait that ends for a stream ends in half of this time, in milliseconds.
 const LONG_WAIT_MS: u64 = 8_000;
-
-/// A port to which nothing comes has asked each socket within so many polls.
-const DRAINING_POLLS: u32 = 40;
 
 /// A peer that receives waits so long for one datagram, in milliseconds.
 const PATIENCE_MS: u64 = 500;
@@ -131,14 +128,6 @@ fn loses_without_a_route<R: Net + Clock + Drop>(
             && is_sent(&mut adapter.port, &own)
             && receives(&adapter.peer, &[2]),
     )
-}
-
-/// Polls a port so often that it has asked each socket, and drops what arrives.
-fn drain<R: Net + Clock + Drop>(port: &mut StationPort<R>) -> Result<(), PortRunFault> {
-    for _ in 0..DRAINING_POLLS {
-        let _arrival = poll(port)?;
-    }
-    Ok(())
 }
 
 /// The side that closes a stream.
@@ -240,22 +229,6 @@ where
         }
     }
     Ok(false)
-}
-
-/// Writes bytes over a stream, as far as it takes them.
-fn write(mut peer: &TcpStream, bytes: &[u8]) {
-    // (what a full stream does not take is not sent)
-    let _ = peer.write(bytes);
-}
-
-/// A stream of a peer, which does not wait.
-fn stream_to<R>(rt: &R, tcp: u16) -> Result<TcpStream, PortRunFault>
-where
-    R: Net<Listener = TcpListener, Stream = TcpStream>,
-{
-    let peer = TcpStream::connect(rt, loopback(tcp))?;
-    peer.set_nonblocking(true)?;
-    Ok(peer)
 }
 
 /// As many messages and datagrams as a peer can send do not keep the request of another one from a station.

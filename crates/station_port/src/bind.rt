@@ -1,12 +1,14 @@
-//! Sockets that are bound to a station's address. None of their calls waits.
+//! Sockets that are bound to a station's address, whose calls do not wait; and the listener of its page, on which threads of
+//! their own wait.
 
 ghost use Rattle.std.specs.Prelude.{◌≡◌};
 ghost use Rattle.station_port.specs.Reaching.{group_hops};
 
 use crate::fault::{StationFault, StationSocket, cause_of};
+use cip_types::Node;
 use mio::net::{TcpListener, UdpSocket};
 use std::io;
-use std::net::{Net, SocketAddr};
+use std::net::{self, IpAddr, Ipv4Addr, Net, SocketAddr};
 
 /// The outcome of a call that makes a socket.
 pub(crate) fn made<T: Drop>(
@@ -22,6 +24,16 @@ pub(crate) fn made<T: Drop>(
 /// Listens for encapsulation messages.
 pub(crate) fn listen<R: Net>(rt: &R, at: SocketAddr) -> Result<TcpListener, StationFault> {
     made(StationSocket::Tcp, TcpListener::bind(rt, at))
+}
+
+/// Listens for browsers, at this address and port.
+pub fn page_listener<R: Net>(
+    rt: &R,
+    address: Node,
+    port: u16,
+) -> Result<R::Listener, StationFault> {
+    let at = SocketAddr::new(IpAddr::V4(Ipv4Addr::from_bits(address.0)), port);
+    made(StationSocket::Page, net::TcpListener::bind(rt, at))
 }
 
 /// Receives class 1 datagrams. What is sent to a group leaves no network.

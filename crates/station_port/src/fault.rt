@@ -20,6 +20,9 @@ pub enum StationSocket {
     /// The socket of ListIdentity requests.
     #[error("UDP port of ListIdentity")]
     Identity,
+    /// The listener of the page.
+    #[error("TCP port of the page")]
+    Page,
     /// What waits for all sockets.
     #[error("wait for sockets")]
     Wait,

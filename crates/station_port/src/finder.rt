@@ -79,6 +79,11 @@ impl Finder {
         Ok(())
     }
 
+    /// Whether the station is at each address of its host, so that a reply names the one that a peer reaches.
+    pub(crate) fn is_anywhere(&self) -> bool {
+        self.address == ANY
+    }
+
     /// The reply to a message of a stream, if it is a ListIdentity request. The device answers the other inquiries. The
     /// address is the stream's own, if it is known.
     pub(crate) fn reply(
@@ -132,7 +137,7 @@ impl Finder {
 
     /// Where a sender of a datagram reaches the station.
     fn address_for(&self, sender: SocketAddr) -> SocketAddress {
-        if self.address == ANY {
+        if self.is_anywhere() {
             self.address_at(own_address(sender))
         } else {
             self.address_at(None)

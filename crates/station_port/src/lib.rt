@@ -12,6 +12,7 @@ mod sockets;
 mod station;
 mod waits;
 
+pub use bind::page_listener;
 pub use fault::{SocketCause, StationFault, StationSocket};
 pub use place::StationPlace;
 pub use station::StationPort;

@@ -184,7 +184,7 @@ impl StationSockets {
     /// Accepts a connection, adds the streams that have opened, and answers a ListIdentity request.
     fn admit(&mut self, registry: &Registry, now_ms: u64) -> Result<(), PortFault> {
         if self.ready.listener {
-            self.ready.listener = self.accept(registry, now_ms)?;
+            self.accept(registry, now_ms)?;
         }
         if self.ready.openings {
             self.ready.openings = false;
@@ -199,27 +199,38 @@ impl StationSockets {
         Ok(())
     }
 
-    /// Accepts the connection that waits: first the one that was accepted before. Whether there was one. A connection
-    /// for which there is no place is closed without reading it.
-    fn accept(&mut self, registry: &Registry, now_ms: u64) -> Result<bool, PortFault> {
+    /// Accepts the connection that waits: first the one that was accepted before. A connection for which there is no place
+    /// is closed without reading it.
+    fn accept(&mut self, registry: &Registry, now_ms: u64) -> Result<(), PortFault> {
         if let Some(newcomer) = self.newcomer.take() {
             self.welcome(newcomer.peer, newcomer.socket, now_ms);
-            return Ok(true);
+            return Ok(());
         }
-        let Some(listener) = &self.listener else {
-            return Ok(false);
-        };
-        let Some((mut socket, from)) = accepted(listener.accept())? else {
-            return Ok(false);
+        let Some((mut socket, from)) = self.next_connection()? else {
+            return Ok(());
         };
         let Some(peer) = node_of(from) else {
-            return Ok(true);
+            return Ok(());
         };
         let watched = registry.register(&mut socket, STREAMS, Interest::READABLE);
         if watched.is_ok() && socket.set_nodelay(true).is_ok() {
             self.welcome(peer, socket, now_ms);
         }
-        Ok(true)
+        Ok(())
+    }
+
+    /// The connection that the listener has, and whether it may have another one.
+    fn next_connection(&mut self) -> Result<Option<(TcpStream, SocketAddr)>, PortFault> {
+        let Some(listener) = &self.listener else {
+            self.ready.listener = false;
+            return Ok(None);
+        };
+        let outcome = listener.accept();
+        self.ready.note_accept(match &outcome {
+            Ok(_) => None,
+            Err(error) => Some(error.kind()),
+        });
+        accepted(outcome)
     }
 
     /// Adds a stream that a peer opened, or has it wait for the end of another one.
@@ -341,7 +352,12 @@ impl StationSockets {
         let Some(finder) = &self.finder else {
             return Ok(false);
         };
-        match finder.reply(message, self.streams.own_address(stream)) {
+        let own = if finder.is_anywhere() {
+            self.streams.own_address(stream)
+        } else {
+            None
+        };
+        match finder.reply(message, own) {
             Ok(Some(reply)) => {
                 self.streams.send(stream, reply.as_slice());
                 Ok(true)

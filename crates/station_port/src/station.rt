@@ -7,17 +7,18 @@ use crate::fault::{StationFault, StationSocket};
 use crate::finder::Finder;
 use crate::place::StationPlace;
 use crate::sockets::StationSockets;
-use crate::waits::{poll_length, sleep_length, time_left, wait_length, whole_ms};
+use crate::waits::{wait_length, whole_ms};
 use cip_events::Arrival;
 use cip_types::{Items, Node};
 use list_identity::StationIdentity;
 use mio::{Events, Poll, Waker};
+use port_alarm::Alarm;
 use port_streams::Destination;
 use station_streams::{KeptStreams, Targets, WAKER, address_of};
 use std::alloc::Global;
 use std::net::Net;
 use std::rt::Clock as System;
-use std::thread;
+use std::sync::Wait;
 use std::time::{Duration, Instant};
 use udp_runner::{KeptPort, Output, Port, PortFault, PortReport};
 
@@ -37,6 +38,8 @@ pub struct StationPort<R: System + Drop> {
     poll: Poll,
     events: Events,
     sockets: StationSockets,
+    /// Ends a wait at its time, between two milliseconds.
+    alarm: Option<Alarm>,
     multicast: bool,
     failures: u64,
 }
@@ -115,14 +118,28 @@ impl<R: System + Net + Drop> StationPort<R> {
             poll,
             events,
             sockets,
+            alarm: None,
             multicast,
             failures: 0,
         })
     }
 
-    /// Ends a wait of this port from another thread. A port has one waker.
+    /// Ends a wait of this port from another thread.
     pub fn waker(&self) -> Result<Waker, StationFault> {
         made(StationSocket::Wait, Waker::new(self.poll.registry(), WAKER))
+    }
+
+    /// From now on this alarm ends a wait of this port at its time, if a thread keeps it ringing. Without one a wait ends at
+    /// the next whole millisecond.
+    pub fn set_alarm(&mut self, alarm: Alarm) -> Result<(), StationFault>
+    where
+        R: Wait,
+        ensures { self.new.failures ≡ self.old.failures }
+    {
+        let waker = self.waker()?;
+        alarm.ring_by(&self.rt, waker);
+        self.alarm = Some(alarm);
+        Ok(())
     }
 
     /// The arrival that is there now.
@@ -153,7 +170,7 @@ impl<R: System + Drop> StationPort<R> {
         self.passed_ns / NANOSECONDS
     }
 
-    /// Waits until a socket is reported, at most so long, and marks what is reported. Whether something was.
+    /// Waits until a socket is reported, at most so long, and marks what is reported. Whether the system has answered.
     fn mark_reported(&mut self, most: Duration) -> bool
         ensures { self.new.failures ≡ self.old.failures }
     {
@@ -161,39 +178,32 @@ impl<R: System + Drop> StationPort<R> {
             return false;
         }
         self.sockets.ready.mark_all(&self.events);
-        // A connection that could not be accepted is asked for again after each wait.
-        self.sockets.ready.listener = true;
-        !self.events.is_empty()
+        true
     }
 
-    /// Waits until a socket is reported, at most until this moment: whole milliseconds for the sockets, and the rest of
-    /// the last one asleep.
-    fn wait_until(&mut self, end: Instant)
+    /// Waits until a socket is reported, at most so long: the system counts the milliseconds, rounded up, and the alarm rings
+    /// at the end.
+    fn wait_for(&mut self, length: Duration)
         ensures { self.new.failures ≡ self.old.failures }
     {
-        if self.mark_reported(poll_length(self.left(end))) {
-            return;
-        }
-        let rest = self.left(end);
-        if !rest.is_zero() {
-            thread::sleep(&self.rt, sleep_length(rest));
+        self.set_alarm_for(length);
+        self.sockets.ready.reported = self.mark_reported(length);
+    }
+
+    /// Sets the alarm, if there is one, to the end of a wait of this length that begins at the last reading of the clock.
+    fn set_alarm_for(&self, length: Duration) {
+        if let (Some(alarm), Some(end)) = (&self.alarm, self.last.checked_add(length)) {
+            alarm.set(self.last, end);
         }
     }
 
-    /// The time until a moment.
-    fn left(&self, end: Instant) -> Duration {
-        time_left(Instant::now(&self.rt), end)
-    }
-
-    /// The end of a wait of this length, or of a shorter one if a stream is to be opened or ended before.
-    fn end_of(&mut self, most: Duration) -> Option<Instant>
+    /// The length of a wait of at most so long, which begins now: a shorter one if a stream is to be opened or ended before.
+    fn length_of(&mut self, most: Duration) -> Duration
         ensures { self.new.failures ≡ self.old.failures }
     {
-        let now = Instant::now(&self.rt).ok()?;
         let now_ms = self.now_ms();
         let most_ms = whole_ms(most).saturating_add(1);
-        let streams_ms = self.sockets.wait(now_ms, most_ms);
-        now.checked_add(wait_length(most, streams_ms))
+        wait_length(most, self.sockets.wait(now_ms, most_ms))
     }
 }
 
@@ -214,9 +224,8 @@ impl<R: System + Net + Drop> Port for StationPort<R> {
         if self.sockets.ready.any() {
             return;
         }
-        if let Some(end) = self.end_of(most) {
-            self.wait_until(end);
-        }
+        let length = self.length_of(most);
+        self.wait_for(length);
     }
 
     fn receive(&mut self) -> Result<Option<Arrival>, PortFault> {

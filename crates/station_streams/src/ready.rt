@@ -1,9 +1,10 @@
 //! Which sockets may have something.
 
-ghost use Rattle.std.specs.Prelude.{◌≡◌};
-ghost use Rattle.station_streams.specs.Readiness.{all_ready, any_ready, asks_system, marked};
+ghost use Rattle.std.specs.Prelude.{◌≡◌, false};
+ghost use Rattle.station_streams.specs.Readiness.{after_accept, all_ready, any_ready, asks_system, marked, with_refused};
 
 use mio::{Events, Token};
+use std::io::ErrorKind;
 
 /// The token of the listener.
 pub const LISTENER: Token = Token(0);
@@ -31,6 +32,10 @@ pub struct Ready {
     pub streams: bool,
     pub openings: bool,
     pub finder: bool,
+    /// A connection could not be accepted: the listener is asked again once the system was.
+    pub refused: bool,
+    /// A wait has reported, and no poll followed it yet.
+    pub reported: bool,
 }
 
 impl Ready {
@@ -44,6 +49,8 @@ impl Ready {
             streams: true,
             openings: true,
             finder: true,
+            refused: false,
+            reported: false,
         }
     }
 
@@ -54,18 +61,46 @@ impl Ready {
         self.listener || self.datagrams || self.streams || self.openings || self.finder
     }
 
-    /// The sockets of these events were reported.
+    /// The sockets of these events were reported, and no others.
     pub fn mark_all(&mut self, events: &Events) {
+        self.mark_refused();
         for event in events.iter() {
             self.mark(event.token());
         }
     }
 
-    /// Whether the system is asked which sockets have something: while one may have, only in a poll that asks them all.
-    pub fn asks_system(&self, all: bool) -> bool
-        ensures { result ≡ asks_system all self.now }
+    /// The system was asked: so is a listener whose connection could not be accepted.
+    fn mark_refused(&mut self)
+        ensures { self.new ≡ with_refused self.old }
     {
-        all || !self.any()
+        self.listener = self.listener || self.refused;
+        self.refused = false;
+    }
+
+    /// Whether a poll asks the system which sockets have something: not if the wait before it did. While one may have
+    /// something, only a poll does that asks them all.
+    pub fn asks_system(&mut self, all: bool) -> bool
+        ensures asks { result ≡ asks_system all self.old }
+        ensures begins { self.new ≡ record self.old { reported = false } }
+    {
+        let reported = self.reported;
+        self.reported = false;
+        !reported && (all || !self.any())
+    }
+
+    /// The listener gave a connection, or failed with this error. Another one may wait behind a connection, and none does
+    /// if the call would have to wait for it.
+    pub fn note_accept(&mut self, failure: Option<ErrorKind>)
+        ensures { self.new ≡ after_accept self.old failure }
+    {
+        match failure {
+            None => self.listener = true,
+            Some(ErrorKind::WouldBlock) => self.listener = false,
+            Some(_) => {
+                self.listener = false;
+                self.refused = true;
+            }
+        }
     }
 
     /// The sockets of this token were reported.
