@@ -27,7 +27,7 @@ impl From<OutOfMemory> for WorkFault {
 /// Why a run ends early.
 #[derive(Debug, Drop, Error)]
 pub enum BenchFault {
-    #[error("the word that may follow is check, wheel, splitter, datagrams, scanner, load, world, books, times, sockets or hold")]
+    #[error("the word that may follow is check, wheel, splitter, datagrams, scanner, load, world, books, times, steady, sum, sockets or hold")]
     Usage,
     #[error("no memory")]
     OutOfMemory,

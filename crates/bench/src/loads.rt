@@ -25,7 +25,7 @@ const GROUP: u8 = 0x28;
 
 /// A Forward_Open of an exclusive owner of output 150 for input 100, both point to point, O->T at 10 s with the
 /// longest time-out, T->O at 10 ms.
-const OWN: [u8; 50] = [
+pub const OWN: [u8; 50] = [
     0x54, 2, 0x20, 6, 0x24, 1, 0x0A, 0x0E, 0, 0, 0, 0, 1, 0, 0, 0x20, 1, 0, 0x34, 0x12, 0x78, 0x56,
     0x34, 0x12, 7, 0, 0, 0, 0x80, 0x96, 0x98, 0, 0x0A, 0x48, 0x10, 0x27, 0, 0, 6, 0x48, 1, 4, 0x20,
     4, 0x24, 0x97, 0x2C, 0x96, 0x2C, 0x64,
@@ -71,12 +71,13 @@ pub fn adapter<D: Device>(alloc: Global) -> Result<D, BenchFault> {
     Ok(D::new(alloc, Config::Adapter(profile(alloc)?))?)
 }
 
-fn peer(place: u8) -> Node {
+/// The peer at a place.
+pub fn peer(place: u8) -> Node {
     Node(CONTROLLER.0.wrapping_add(u32::from(place)))
 }
 
 /// A request of the peer at this place.
-fn request(alloc: Global, place: u8, bytes: &[u8]) -> Result<Event, OutOfMemory> {
+pub fn request(alloc: Global, place: u8, bytes: &[u8]) -> Result<Event, OutOfMemory> {
     Ok(Event::Request {
         peer: peer(place),
         bytes: Items::copy_of(alloc, bytes)?,

@@ -11,6 +11,8 @@
 //! - `world`: 100,000 acts on a simulated segment of nine devices, and by how much it grows;
 //! - `books`: what a book adds to a step of an adapter, beside a copy of the event;
 //! - `times`: both engines of an adapter, in nanoseconds of processor time;
+//! - `steady`: one kind of work at one kind of device in its steady state, for who counts instructions;
+//! - `sum`: the same, and a sum over all answers;
 //! - `sockets`: datagrams a second over sockets of this host, beside sockets alone;
 //! - `hold`: a fast adapter with all its connections, and nothing else.
 #![tactic(auto)]
@@ -34,6 +36,10 @@ mod servers;
 mod sockets;
 mod speed;
 mod splitter;
+mod steady;
+mod steady_slots;
+mod steady_words;
+mod taker;
 mod timers;
 mod times;
 mod wheel;
@@ -73,6 +79,8 @@ fn measure<R: Print + CpuClock + Files + AllocGlobal>(
         "world" => world::print_times(rt, alloc),
         "books" => books::print_times(rt, alloc),
         "times" => engines::print_times(rt, alloc),
+        "steady" => steady_words::run(alloc, rest),
+        "sum" => steady_words::print_sum(rt, alloc, rest),
         "hold" => engines::hold(alloc),
         _ => Err(BenchFault::Usage),
     }

@@ -18,7 +18,7 @@ const DATAGRAMS: u32 = 200_000;
 const TICKS: u32 = 900;
 
 /// The most slots of a scanner.
-const MOST: u8 = MOST_SLOTS as u8;
+pub const MOST: u8 = MOST_SLOTS as u8;
 
 /// The reply to RegisterSession, with session 1.
 const REGISTERED: [u8; 28] = [
@@ -26,7 +26,7 @@ const REGISTERED: [u8; 28] = [
 ];
 
 /// The reply to the first request, which opens the first slot.
-const OPEN_REPLY: [u8; 70] = [
+pub const OPEN_REPLY: [u8; 70] = [
     0x6F, 0, 0x2E, 0, 1, 0, 0, 0, 0, 0, 0, 0, 1, 0, 0, 0, 0, 0, 0, 0, 0, 0, 0, 0, 0, 0, 0, 0, 0, 0,
     2, 0, 0, 0, 0, 0, 0xB2, 0, 0x1E, 0, 0xD4, 0, 0, 0, 1, 0, 0, 0x10, 1, 0, 0, 0x20, 1, 0, 0x34,
     0x12, 0x78, 0x56, 0x34, 0x12, 0x10, 0x27, 0, 0, 0x10, 0x27, 0, 0, 0, 0,
@@ -99,7 +99,7 @@ fn establish_all(alloc: Global, device: &mut impl Device, slots: u8) -> Result<(
 }
 
 /// A scanner with so many slots, each of which is established.
-fn scanner<D: Device + Drop>(alloc: Global, slots: u8) -> Result<D, BenchFault> {
+pub fn scanner<D: Device + Drop>(alloc: Global, slots: u8) -> Result<D, BenchFault> {
     let mut device = D::new(alloc, Config::Scanner(profile(alloc, slots)?))?;
     establish_all(alloc, &mut device, slots)?;
     Ok(device)
@@ -238,7 +238,7 @@ fn work_of(word: &str) -> Result<Work, BenchFault> {
 }
 
 /// Sends so many datagrams, for all slots in turn.
-fn send_in_turn(device: &mut impl Device, slots: u8, count: u32) -> Result<(), BenchFault> {
+pub fn send_in_turn(device: &mut impl Device, slots: u8, count: u32) -> Result<(), BenchFault> {
     let mut slot: u8 = 0;
     let mut number: u32 = 0;
     for _ in 0..count {

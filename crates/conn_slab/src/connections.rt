@@ -5,7 +5,7 @@ ghost use Rattle.std.specs.List.{list_any};
 ghost use Rattle.slab.specs.Slab.{HasRoomFor};
 ghost use Rattle.indexmap.specs.IndexMap.{spare};
 ghost use Rattle.adapter_table.specs.Rows.{has_triad, holds_triad, written_row};
-ghost use Rattle.adapter_table.specs.Productions.{is_due, is_produced_by, group, produced_row, changed_row};
+ghost use Rattle.adapter_table.specs.Productions.{is_due, is_produced_by, group, produced_row, produces_on_change, changed_row};
 ghost use Rattle.adapter_table.specs.Closing.{without_triad};
 ghost use Rattle.adapter_table.specs.Datagrams.{is_for};
 ghost use Rattle.adapter_table.specs.Whole.{RowsFit};
@@ -24,7 +24,7 @@ use crate::index::{
     running, take_record,
 };
 use crate::peers::Peers;
-use crate::producers::{enter, has_due, leave, row_of};
+use crate::producers::{enter, has_at_once, has_due, leave, row_of};
 use crate::reception::{Received, receive_record};
 use crate::record::{Record, Source, key_for, record_of};
 use crate::rows::Rows;
@@ -378,6 +378,16 @@ impl Connections {
         ensures { result ≡ list_any (is_due clock) self.now }
     {
         has_due(self.pool.as_slice(), clock)
+    }
+
+    /// Whether a write of a point makes some producer produce at once. Takes no memory.
+    ///
+    /// Volume 1, chapter 3, production triggers and production inhibit time.
+    pub fn is_any_at_once(&self, clock: Ms, point: u32) -> bool
+        requires { clock.0 ≤ 2 ^ 48 }
+        ensures { result ≡ list_any (produces_on_change clock point) self.now }
+    {
+        has_at_once(self.pool.as_slice(), clock, point)
     }
 
     /// The producer of a number, which some connection has. The search tries one index first. Takes no memory.

@@ -1,14 +1,14 @@
 //! The productions of connections, in the pool of producers.
 
-ghost use Rattle.std.specs.Prelude.{◌≡◌, ◌<◌, ◌≤◌, ◌+◌};
+ghost use Rattle.std.specs.Prelude.{◌≡◌, ◌<◌, ◌≤◌, ◌+◌, ◌^◌};
 ghost use Rattle.std.specs.List.{list_any};
-ghost use Rattle.mcast_pool.specs.Groups.{subscribers, is_due};
+ghost use Rattle.mcast_pool.specs.Groups.{subscribers, is_due, is_at_once};
 ghost use Rattle.conn_slab.specs.Records.{state_of, row_of, entered, left_by};
 ghost use Rattle.conn_slab.specs.Layout.{IsLive, MayEnter};
 
 use crate::record::Record;
 use adapter_table::{Row, State, producer_in};
-use cip_productions::is_production_due;
+use cip_productions::{is_produced_on_change, is_production_due};
 use cip_types::Ms;
 use mcast_pool::{Group, Pool};
 
@@ -70,4 +70,14 @@ pub(crate) fn has_due(groups: &[Group], clock: Ms) -> bool
     ensures { result ≡ list_any (is_due clock) groups.now }
 {
     groups.iter().any(|group| is_production_due(&group.producer.production, clock))
+}
+
+/// Whether a write of the point makes one of the producers produce at once.
+pub(crate) fn has_at_once(groups: &[Group], clock: Ms, point: u32) -> bool
+    requires { clock.0 ≤ 2 ^ 48 }
+    ensures { result ≡ list_any (is_at_once clock point) groups.now }
+{
+    groups.iter().any(|group| {
+        group.producer.point == point && is_produced_on_change(&group.producer.production, clock)
+    })
 }

@@ -13,5 +13,4 @@ mod Numbers
 mod Settling
 mod Keyed
 mod Due
-mod DueInOrder
 mod Singles

@@ -1,5 +1,5 @@
 -- Producers and the nodes that consume their datagrams. No public clause cites this module.
-use Rattle.std.specs.Prelude.{Bool, if◌then◌else◌, List, [], ◌∷◌, map}
+use Rattle.std.specs.Prelude.{Bool, List, map}
 use Rattle.cip_types.specs.declared.names.Ms.{Ms}
 use Rattle.cip_types.specs.declared.names.Node.{Node}
 use Rattle.cip_events.specs.declared.event.OutgoingDatagram.{OutgoingDatagram}
@@ -31,9 +31,6 @@ has_turn clock turn = is_due clock turn.producer
 -- the datagram of a producer in its turn
 abbrev pub sent_turn : List PointValue → Turn → OutgoingDatagram
 sent_turn values turn = sent (produced_by turn.nodes (input_of values turn.producer) turn.producer)
-
-abbrev pub sent_if_due : Ms → List PointValue → Turn → List OutgoingDatagram
-sent_if_due clock values turn = if has_turn clock turn then sent_turn values turn ∷ [] else []
 
 -- turns by when their producers are due, and then by their numbers
 abbrev pub turn_before : Turn → Turn → Bool

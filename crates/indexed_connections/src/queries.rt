@@ -1,17 +1,14 @@
 //! Searches through connections, one after another. No call takes memory.
 
-ghost use Rattle.std.specs.Prelude.{◌≡◌, ◌≤◌, ◌^◌, find, length, slice_get};
+ghost use Rattle.std.specs.Prelude.{◌≡◌, ◌≤◌, find, length, slice_get};
 ghost use Rattle.std.specs.List.{list_any};
 ghost use Rattle.adapter_table.specs.Rows.{is_established, is_timed_out, drives, is_member};
 ghost use Rattle.adapter_table.specs.States.{count_consuming};
-ghost use Rattle.adapter_table.specs.Productions.{produces_on_change};
 ghost use Rattle.adapter_table.specs.Ticks.{has_expired};
 ghost use Rattle.cip_tables.specs.Wakes.{connections_due};
 ghost use Rattle.conn_slab.specs.Connections.{is_listening};
 
-use adapter_table::{
-    Row, consumes, drives, has_expired, is_established, is_member, is_timed_out, produces_on_change,
-};
+use adapter_table::{Row, consumes, drives, has_expired, is_established, is_member, is_timed_out};
 use cip_productions::Kind;
 use cip_types::Ms;
 use conn_slab::Rows;
@@ -23,19 +20,6 @@ pub fn is_any_established(rows: Rows<'_>) -> bool
 {
     for row in rows {
         if is_established(&row) {
-            return true;
-        }
-    }
-    false
-}
-
-/// Whether a write of the input makes the producer of some connection produce at once.
-pub fn is_any_on_change(rows: Rows<'_>, clock: Ms, point: u32) -> bool
-    requires { clock.0 ≤ 2 ^ 48 }
-    ensures { result ≡ list_any (produces_on_change clock point) rows.entry }
-{
-    for row in rows {
-        if produces_on_change(&row, clock, point) {
             return true;
         }
     }

@@ -11,7 +11,7 @@ use crate::counts::{close, close_each, counted, expire, open};
 use crate::from_list::{from_rows, replaced};
 use crate::queries::{
     count_consuming, first_due, first_expired, first_member, first_owner, first_timed_out,
-    is_any_established, is_any_on_change, is_listening, nth,
+    is_any_established, is_listening, nth,
 };
 use crate::{ConsumerTable, due_datagrams};
 use adapter_table::{Profile, Row, State};
@@ -320,7 +320,7 @@ impl ConnectionTable for IndexedConnections {
     }
 
     fn produces_at_once(&self, clock: Ms, point: u32) -> bool {
-        is_any_on_change(self.connections.rows(), clock, point)
+        self.connections.is_any_at_once(clock, point)
     }
 
     fn sent_on_change(

@@ -95,33 +95,33 @@ pub(crate) fn produced_group(group: Group, clock: Ms) -> Group
     with_production(group, produced(group.producer.production, clock, group.api))
 }
 
-/// The same, if it was due.
-pub(crate) fn produced_if_due(group: Group, clock: Ms) -> Group
+/// The producer has produced, if it was due.
+pub(crate) fn produce_if_due(group: &mut Group, clock: Ms)
     requires time { clock.0 ≤ 2 ^ 48 }
-    requires fits { FitsGroup group }
-    ensures { result ≡ produced_if_due clock group }
+    requires fits { FitsGroup group.old }
+    ensures { group.new ≡ produced_if_due clock group.old }
 {
     if is_production_due(&group.producer.production, clock) {
-        produced_group(group, clock)
-    } else {
-        group
+        group.producer.production = produced(group.producer.production, clock, group.api);
     }
 }
 
-/// A group whose producer has new data and has acted on the write, if it produces that point.
-pub(crate) fn written_and_changed(group: Group, clock: Ms, point: u32) -> Group
+/// The producer has new data and has acted on the write, if it produces that point.
+pub(crate) fn write_group(group: &mut Group, clock: Ms, point: u32)
     requires time { clock.0 ≤ 2 ^ 48 }
-    requires fits { FitsGroup group }
-    ensures { result ≡ written_and_changed clock point group }
+    requires fits { FitsGroup group.old }
+    ensures { group.new ≡ written_and_changed clock point group.old }
 {
     if group.producer.point != point {
-        return group;
+        return;
     }
-    let written = Production {
-        written: true,
-        ..group.producer.production
-    };
-    with_production(group, changed(written, clock, group.api))
+    group.producer.production.written = true;
+    match group.producer.production.trigger {
+        Trigger::Cyclic => {}
+        Trigger::ChangeOfState => {
+            group.producer.production = changed(group.producer.production, clock, group.api);
+        }
+    }
 }
 
 pub(crate) fn is_at_once(group: &Group, clock: Ms, point: u32) -> bool

@@ -7,8 +7,8 @@ ghost use Rattle.cip_productions.specs.Productions.{production_datagram};
 ghost use Rattle.mcast_pool.specs.Groups.{has_number, begun, production_of, producer_of, touched, produced_group, produced_if_due, written_and_changed, is_at_once, is_new_at_once, numbered, IsInUse, subscribers, joined_group, change_first, joined_by, joined, left, is_last, lowest, first_due, FitsGroup, MayProduce, AreGroups};
 
 use crate::group::{
-    Group, begun, has_number, is_at_once, is_new_at_once, produced_group, produced_if_due, touched,
-    written_and_changed,
+    Group, begun, has_number, is_at_once, is_new_at_once, produce_if_due, produced_group, touched,
+    write_group,
 };
 use crate::groups::{
     find_with_hint, index_for, index_of, index_with_hint, lower, subscribe, unsubscribe,
@@ -239,7 +239,7 @@ impl Pool {
         ensures { self.new ≡ map (produced_if_due clock) self.old }
     {
         for group in self.groups.iter_mut() {
-            *group = produced_if_due(*group, clock);
+            produce_if_due(group, clock);
         }
     }
 
@@ -252,7 +252,7 @@ impl Pool {
         ensures { self.new ≡ map (written_and_changed clock point) self.old }
     {
         for group in self.groups.iter_mut() {
-            *group = written_and_changed(*group, clock, point);
+            write_group(group, clock, point);
         }
     }
 

@@ -5,14 +5,14 @@ use Rattle.mcast_pool.proofs.Places.{fits_mapped, mapped_back}
 use Rattle.mcast_pool.proofs.Keeping.{pool_if_due}
 use Rattle.mcast_pool.proofs.pool.Pool.produce_due.Goals as goal
 
-pub produced_if_due-requires-clause-fits : goal.produced_if_due-requires-clause-fits
-produced_if_due-requires-clause-fits c =
+pub produce_if_due-requires-clause-fits : goal.produce_if_due-requires-clause-fits
+produce_if_due-requires-clause-fits c =
     fits_mapped (produced_if_due c.args.clock) c.deref_mut-group-items.result.now c.loop-group.group-items c.loop-group.group-index _
     (subst AreGroups (sym c.deref_mut-group-items.ensures.value) c.self.invariant.each) (omega arith) (omega arith) c.loop-group.invariant
 
 pub loop-group-preserved : goal.loop-group-preserved
 loop-group-preserved c =
-    map_more (produced_if_due c.args.clock) c.deref_mut-group-items.result.now c.loop-group.group-items c.loop-group.group-index _ _ (omega arith) (omega arith) c.loop-group.invariant c.produced_if_due.ensures
+    map_more (produced_if_due c.args.clock) c.deref_mut-group-items.result.now c.loop-group.group-items c.loop-group.group-index _ _ (omega arith) (omega arith) c.loop-group.invariant c.produce_if_due.ensures
 
 pub invariant_of-self : goal.invariant_of-self
 invariant_of-self c =

@@ -5,14 +5,14 @@ use Rattle.mcast_pool.proofs.Places.{fits_mapped, mapped_back}
 use Rattle.mcast_pool.proofs.Keeping.{pool_changed}
 use Rattle.mcast_pool.proofs.pool.Pool.write.Goals as goal
 
-pub written_and_changed-requires-clause-fits : goal.written_and_changed-requires-clause-fits
-written_and_changed-requires-clause-fits c =
+pub write_group-requires-clause-fits : goal.write_group-requires-clause-fits
+write_group-requires-clause-fits c =
     fits_mapped (written_and_changed c.args.clock c.args.point) c.deref_mut-group-items.result.now c.loop-group.group-items c.loop-group.group-index _
     (subst AreGroups (sym c.deref_mut-group-items.ensures.value) c.self.invariant.each) (omega arith) (omega arith) c.loop-group.invariant
 
 pub loop-group-preserved : goal.loop-group-preserved
 loop-group-preserved c =
-    map_more (written_and_changed c.args.clock c.args.point) c.deref_mut-group-items.result.now c.loop-group.group-items c.loop-group.group-index _ _ (omega arith) (omega arith) c.loop-group.invariant c.written_and_changed.ensures
+    map_more (written_and_changed c.args.clock c.args.point) c.deref_mut-group-items.result.now c.loop-group.group-items c.loop-group.group-index _ _ (omega arith) (omega arith) c.loop-group.invariant c.write_group.ensures
 
 pub invariant_of-self : goal.invariant_of-self
 invariant_of-self c =
