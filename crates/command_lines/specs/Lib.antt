@@ -1,5 +1,6 @@
 pub mod LineCommands
 pub mod LineTasks
 pub mod StationOptions
+pub mod Questions
 pub mod StationTasks
 pub mod Version

@@ -62,6 +62,9 @@ option_meanings =
     ∷ (codes "--multicast", Some (name.Alone flag.Multicast))
     ∷ (codes "--no-input", Some (name.Alone flag.NoInput))
     ∷ (codes "--quiet", Some (name.Alone flag.Quiet))
+    ∷ (codes "--page", Some (name.Valued setting.Page))
+    ∷ (codes "--page-address", Some (name.Valued setting.PageAddress))
+    ∷ (codes "--page-writes", Some (name.Alone flag.PageWrites))
     ∷ []
 
 unfoldable pub option_of : List ℕ → Option OptionName
@@ -69,17 +72,24 @@ option_of word = meaning option_meanings None word
 
 -- the usual values
 abbrev pub usual : Options
-usual = record { address = None; tcp = 44818; udp = 2222; peer_udp = 2222; seconds = None; record_from_end = None; state_from_end = None; incarnation = None; inactivity_s = 120; serial = None; name_from_end = None; multicast = false; no_input = false; quiet = false }
+usual = record { address = None; tcp = 44818; udp = 2222; peer_udp = 2222; seconds = None; record_from_end = None; state_from_end = None; incarnation = None; inactivity_s = 120; serial = None; name_from_end = None; multicast = false; no_input = false; quiet = false; page = None; page_address = None; page_writes = false }
 
 -- one that has no value
 abbrev pub with_flag : Options → Flag → Options
 with_flag options flag.Multicast = record options { multicast = true }
 with_flag options flag.NoInput = record options { no_input = true }
 with_flag options flag.Quiet = record options { quiet = true }
+with_flag options flag.PageWrites = record options { page_writes = true }
 
-abbrev pub with_address : Options → ℕ → Option Node → Result Options StationMisuse
-with_address options left None = Err (misuse.BadAddress left)
-with_address options left (Some address) = Ok (record options { address = Some address })
+-- an address for one of the options that are addresses
+abbrev pub with_address : Options → Setting → Node → Options
+with_address options setting.Address address = record options { address = Some address }
+with_address options setting.PageAddress address = record options { page_address = Some address }
+with_address options other address = options
+
+abbrev pub with_address_word : Options → Setting → ℕ → Option Node → Result Options StationMisuse
+with_address_word options given left None = Err (misuse.BadAddress left)
+with_address_word options given left (Some address) = Ok (with_address options given address)
 
 -- a number for one of the options that are numbers and no ports
 abbrev pub with_number : Options → Setting → List ℕ → Option Options
@@ -108,6 +118,7 @@ abbrev pub with_port : Options → Setting → ℕ → Options
 with_port options setting.Tcp port = record options { tcp = port }
 with_port options setting.Udp port = record options { udp = port }
 with_port options setting.PeerUdp port = record options { peer_udp = port }
+with_port options setting.Page port = record options { page = Some port }
 with_port options other port = options
 
 abbrev pub with_port_word : Options → Setting → ℕ → Option ℕ → Result Options StationMisuse
@@ -116,7 +127,8 @@ with_port_word options given left (Some port) = Ok (with_port options given port
 
 -- the options with the value of one of them; so many words are left, from the value on
 abbrev pub with_value : Options → Setting → List ℕ → ℕ → Result Options StationMisuse
-with_value options setting.Address word left = with_address options left (node_of word)
+with_value options setting.Address word left = with_address_word options setting.Address left (node_of word)
+with_value options setting.PageAddress word left = with_address_word options setting.PageAddress left (node_of word)
 with_value options setting.Record word left = Ok (with_file options setting.Record left)
 with_value options setting.State word left = Ok (with_file options setting.State left)
 with_value options setting.Name word left = with_name options word left
@@ -127,6 +139,7 @@ with_value options setting.Serial word left = with_number_word left (with_number
 with_value options setting.Tcp word left = with_port_word options setting.Tcp left (port_of word)
 with_value options setting.Udp word left = with_port_word options setting.Udp left (port_of word)
 with_value options setting.PeerUdp word left = with_port_word options setting.PeerUdp left (port_of word)
+with_value options setting.Page word left = with_port_word options setting.Page left (port_of word)
 
 -- one of three: the word names no option, one without a value, or one with a value
 abbrev pub chosen : {A : Type 0} → A → (Flag → A) → (Setting → A) → Option OptionName → A

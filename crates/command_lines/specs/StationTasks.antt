@@ -1,7 +1,10 @@
 -- The task that a command line requests.
 use Rattle.std.specs.Prelude.{ℕ, List, [], ◌∷◌, codes, length, Bool, false, true, Option, Some, None, Result, Ok, Err}
 use Rattle.trace_words.specs.Reader.{Meanings, meaning}
+use Rattle.command_lines.specs.Questions.{search_of, sheet_of}
 use Rattle.command_lines.specs.StationOptions.{usual, options_after}
+use Rattle.command_lines.specs.declared.question_task.SearchTask.{SearchTask}
+use Rattle.command_lines.specs.declared.question_task.SheetTask.{SheetTask}
 use Rattle.command_lines.specs.declared.station_options.Options.{Options}
 use Rattle.command_lines.specs.declared.station_options.StationMisuse.{StationMisuse}
 use Rattle.command_lines.specs.declared.station_options.StationMisuse.TheVariants as misuse
@@ -18,6 +21,8 @@ command_meanings =
     ∷ (codes "replay", Some command.Replay)
     ∷ (codes "pcap", Some command.Pcap)
     ∷ (codes "explain", Some command.Explain)
+    ∷ (codes "eds", Some command.Eds)
+    ∷ (codes "identity", Some command.Identity)
     ∷ (codes "--help", Some command.Help)
     ∷ (codes "-h", Some command.Help)
     ∷ (codes "--version", Some command.Version)
@@ -41,6 +46,21 @@ abbrev pub of_files : ProgramTask → List (List ℕ) → Result ProgramTask Sta
 of_files given [] = Err misuse.NoFile
 of_files given (file ∷ files) = Ok given
 
+-- a data sheet, and a search
+abbrev pub sheet_task : Result SheetTask StationMisuse → Result ProgramTask StationMisuse
+sheet_task (Ok given) = Ok (task.Sheet given)
+sheet_task (Err fault) = Err fault
+
+abbrev pub sheet_with : List (List ℕ) → Result ProgramTask StationMisuse
+sheet_with words = sheet_task (sheet_of words)
+
+abbrev pub search_task : Result SearchTask StationMisuse → Result ProgramTask StationMisuse
+search_task (Ok given) = Ok (task.Search given)
+search_task (Err fault) = Err fault
+
+abbrev pub search_with : List (List ℕ) → Result ProgramTask StationMisuse
+search_with words = search_task (search_of words)
+
 -- the task of a command with the words behind it
 abbrev pub task_with : StationCommand → List (List ℕ) → Result ProgramTask StationMisuse
 task_with command.Help words = Ok task.Help
@@ -50,6 +70,8 @@ task_with command.Scanner words = station_of true words
 task_with command.Replay words = of_files task.Replay words
 task_with command.Pcap words = of_files task.Pcap words
 task_with command.Explain words = of_files task.Explain words
+task_with command.Eds words = sheet_with words
+task_with command.Identity words = search_with words
 
 -- the task of a command, if the word names one
 abbrev pub task_named : Option StationCommand → ℕ → List (List ℕ) → Result ProgramTask StationMisuse

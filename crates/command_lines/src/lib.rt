@@ -3,12 +3,14 @@
 
 mod line_commands;
 mod line_task;
+mod question_task;
 mod station_numbers;
 mod station_options;
 mod station_task;
 mod version;
 
 pub use line_task::{LineTask, LoopTask, Misuse, Task, read_line_task};
+pub use question_task::{SearchTask, SheetTask};
 pub use station_options::{Flag, OptionName, Options, Setting, StationMisuse};
 pub use station_task::{ProgramTask, StationCommand, StationTask, read_station_task};
 pub use version::VERSION;

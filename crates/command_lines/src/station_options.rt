@@ -1,7 +1,7 @@
 //! The options of a station.
 
 ghost use Rattle.std.specs.Prelude.{◌≡◌, ◌≤◌, ◌+◌, ◌∷◌, Err, true, length, map, IfOk, IfErr};
-ghost use Rattle.command_lines.specs.StationOptions.{option_of, options_after, usual, with_file, with_flag, with_name, with_number, with_port, with_value};
+ghost use Rattle.command_lines.specs.StationOptions.{option_of, options_after, usual, with_address, with_file, with_flag, with_name, with_number, with_port, with_value};
 
 use crate::station_numbers::{
     address_of, inactivity_of, incarnation_of, port_of, seconds_of, serial_of,
@@ -50,6 +50,12 @@ pub struct Options {
     pub no_input: bool,
     /// Whether only faults are reported.
     pub quiet: bool,
+    /// The TCP port of the station's page.
+    pub page: Option<u16>,
+    /// The address of the page; that of this host alone if it is left out.
+    pub page_address: Option<Node>,
+    /// Whether the page takes calls.
+    pub page_writes: bool,
 }
 
 /// The name of an option that has a value.
@@ -66,6 +72,8 @@ pub enum Setting {
     Inactivity,
     Serial,
     Name,
+    Page,
+    PageAddress,
 }
 
 /// The name of an option that has no value.
@@ -74,6 +82,7 @@ pub enum Flag {
     Multicast,
     NoInput,
     Quiet,
+    PageWrites,
 }
 
 /// The name of an option.
@@ -97,6 +106,15 @@ pub enum StationMisuse {
     /// The command needs the name of a file.
     #[error("the name of a file is missing")]
     NoFile,
+    /// The command needs the address of a host.
+    #[error("the address of a host is missing")]
+    NoHost,
+    /// The command needs no names or three of them.
+    #[error("three names are needed: vendor, product, catalog number")]
+    ThreeNames(usize),
+    /// The word is no name of a data sheet.
+    #[error("no name: 1 to 32 printable characters, without quote and backslash")]
+    BadName(usize),
     /// The word is no option.
     #[error("no such option")]
     NoSuchOption(usize),
@@ -130,6 +148,9 @@ fn usual() -> Options
         multicast: false,
         no_input: false,
         quiet: false,
+        page: None,
+        page_address: None,
+        page_writes: false,
     }
 }
 
@@ -153,6 +174,9 @@ fn option_of(word: &str) -> Option<OptionName>
         "--multicast" => Some(OptionName::Alone(Flag::Multicast)),
         "--no-input" => Some(OptionName::Alone(Flag::NoInput)),
         "--quiet" => Some(OptionName::Alone(Flag::Quiet)),
+        "--page" => Some(OptionName::Valued(Setting::Page)),
+        "--page-address" => Some(OptionName::Valued(Setting::PageAddress)),
+        "--page-writes" => Some(OptionName::Alone(Flag::PageWrites)),
         _ => None,
     }
 }
@@ -219,6 +243,10 @@ fn with_flag(options: Options, flag: Flag) -> Options
             quiet: true,
             ..options
         },
+        Flag::PageWrites => Options {
+            page_writes: true,
+            ..options
+        },
     }
 }
 
@@ -232,16 +260,13 @@ fn with_value(
     ensures { result ≡ with_value options setting word.now left }
 {
     match setting {
-        Setting::Address => match address_of(word) {
-            Some(address) => Ok(Options {
-                address: Some(address),
-                ..options
-            }),
+        Setting::Address | Setting::PageAddress => match address_of(word) {
+            Some(address) => Ok(with_address(options, setting, address)),
             None => Err(StationMisuse::BadAddress(left)),
         },
         Setting::Record | Setting::State => Ok(with_file(options, setting, left)),
         Setting::Name => with_name(options, word, left),
-        Setting::Tcp | Setting::Udp | Setting::PeerUdp => match port_of(word) {
+        Setting::Tcp | Setting::Udp | Setting::PeerUdp | Setting::Page => match port_of(word) {
             Some(port) => Ok(with_port(options, setting, port)),
             None => Err(StationMisuse::BadValue(left)),
         },
@@ -251,6 +276,23 @@ fn with_value(
                 None => Err(StationMisuse::BadValue(left)),
             }
         }
+    }
+}
+
+/// The options with an address for one of them.
+fn with_address(options: Options, setting: Setting, address: Node) -> Options
+    ensures { result ≡ with_address options setting address }
+{
+    match setting {
+        Setting::Address => Options {
+            address: Some(address),
+            ..options
+        },
+        Setting::PageAddress => Options {
+            page_address: Some(address),
+            ..options
+        },
+        _ => options,
     }
 }
 
@@ -324,6 +366,10 @@ fn with_port(options: Options, setting: Setting, port: u16) -> Options
         },
         Setting::PeerUdp => Options {
             peer_udp: port,
+            ..options
+        },
+        Setting::Page => Options {
+            page: Some(port),
             ..options
         },
         _ => options,

@@ -1,8 +1,9 @@
 //! The task that a command line requests.
 
 ghost use Rattle.std.specs.Prelude.{◌≡◌, map};
-ghost use Rattle.command_lines.specs.StationTasks.{command_of, of_files, station_of, task_of, task_with};
+ghost use Rattle.command_lines.specs.StationTasks.{command_of, of_files, search_with, sheet_with, station_of, task_of, task_with};
 
+use crate::question_task::{SearchTask, SheetTask, search_of, sheet_of};
 use crate::station_options::{Options, StationMisuse, read_options};
 use std::convert::AsStr;
 
@@ -19,6 +20,10 @@ pub enum StationCommand {
     Pcap,
     /// Explains a trace in words.
     Explain,
+    /// Writes the data sheet of a profile.
+    Eds,
+    /// Searches for devices.
+    Identity,
     /// Prints how the program is used.
     Help,
     /// Prints which version of the program it is.
@@ -47,6 +52,10 @@ pub enum ProgramTask {
     Pcap,
     /// Tells the trace of the files from the third word on in words.
     Explain,
+    /// Writes the data sheet of the profile that is the third word.
+    Sheet(SheetTask),
+    /// Searches for devices.
+    Search(SearchTask),
 }
 
 /// The command that a word names.
@@ -60,6 +69,8 @@ fn command_of(word: &str) -> Option<StationCommand>
         "replay" => Some(StationCommand::Replay),
         "pcap" => Some(StationCommand::Pcap),
         "explain" => Some(StationCommand::Explain),
+        "eds" => Some(StationCommand::Eds),
+        "identity" => Some(StationCommand::Identity),
         "--help" => Some(StationCommand::Help),
         "-h" => Some(StationCommand::Help),
         "--version" => Some(StationCommand::Version),
@@ -70,8 +81,8 @@ fn command_of(word: &str) -> Option<StationCommand>
 /// The task that the words request. The first word is the program's own name, the second the command, the third the name
 /// of a file. Options follow the profile of a station, and more files may follow that of a trace.
 ///
-/// The faults, in order: `NoCommand`, `NoSuchCommand`, `NoFile`, and those of the options at the first word that is
-/// wrong. The words behind `--help` and `--version` are not read.
+/// The faults, in order: `NoCommand`, `NoSuchCommand`, `NoFile` or `NoHost`, and those of the options or names at the first
+/// word that is wrong. The words behind `--help` and `--version` are not read.
 pub fn read_station_task<S: AsStr>(words: &[S]) -> Result<ProgramTask, StationMisuse>
     ensures { result ≡ task_of (map S.text words.now) }
 {
@@ -97,6 +108,8 @@ fn task_with<S: AsStr>(command: StationCommand, words: &[S]) -> Result<ProgramTa
         StationCommand::Replay => of_files(ProgramTask::Replay, words),
         StationCommand::Pcap => of_files(ProgramTask::Pcap, words),
         StationCommand::Explain => of_files(ProgramTask::Explain, words),
+        StationCommand::Eds => sheet_with(words),
+        StationCommand::Identity => search_with(words),
         StationCommand::Help => Ok(ProgramTask::Help),
         StationCommand::Version => Ok(ProgramTask::Version),
     }
@@ -111,6 +124,26 @@ fn station_of<S: AsStr>(scanner: bool, words: &[S]) -> Result<ProgramTask, Stati
     };
     match read_options(rest) {
         Ok(options) => Ok(ProgramTask::Station(StationTask { scanner, options })),
+        Err(misuse) => Err(misuse),
+    }
+}
+
+/// A data sheet, whose words are the name of its profile, and three names or none.
+fn sheet_with<S: AsStr>(words: &[S]) -> Result<ProgramTask, StationMisuse>
+    ensures { result ≡ sheet_with (map S.text words.now) }
+{
+    match sheet_of(words) {
+        Ok(task) => Ok(ProgramTask::Sheet(task)),
+        Err(misuse) => Err(misuse),
+    }
+}
+
+/// A search, whose words are an address and its time.
+fn search_with<S: AsStr>(words: &[S]) -> Result<ProgramTask, StationMisuse>
+    ensures { result ≡ search_with (map S.text words.now) }
+{
+    match search_of(words) {
+        Ok(task) => Ok(ProgramTask::Search(task)),
         Err(misuse) => Err(misuse),
     }
 }

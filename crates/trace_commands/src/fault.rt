@@ -22,6 +22,12 @@ pub enum TracesFault {
     /// The files are no trace, and the output says why.
     #[error("is no trace")]
     NoTrace,
+    /// The profile has events behind its lines.
+    #[error("has events behind the profile")]
+    Events,
+    /// The profile is that of a scanner, which has no data sheet.
+    #[error("is the profile of a scanner, which has no data sheet")]
+    Scanner,
     /// An outcome is not as recorded. The last line of the output names the first such event.
     #[error("an outcome is not as recorded")]
     Differs,

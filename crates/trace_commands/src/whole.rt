@@ -45,7 +45,7 @@ where
 }
 
 /// The bytes of the files, one behind another.
-fn text_of<R>(rt: &R, files: &[String]) -> Result<Vec<u8>, TracesFault>
+pub(crate) fn text_of<R>(rt: &R, files: &[String]) -> Result<Vec<u8>, TracesFault>
 where
     R: AllocGlobal + Files<File = File>,
 {
@@ -69,7 +69,7 @@ fn first_line(text: &[u8]) -> &[u8] {
 }
 
 /// Prints a text.
-fn print<O: Write + Drop>(out: O, text: &[u8]) -> Result<(), TracesFault> {
+pub(crate) fn print<O: Write + Drop>(out: O, text: &[u8]) -> Result<(), TracesFault> {
     let mut out = out;
     write_text(&mut out, text)?;
     match out.flush() {

@@ -1,0 +1,69 @@
+-- Parts of data sheets, worked by hand, of a device with outputs 300 of 2 bytes and 151 of 1 byte, and input 70000 of 2 bytes.
+use Rattle.std.specs.Prelude.{◌≡◌, [], ◌∷◌, codes, Some, None, true, false, refl}
+use Rattle.adapter_table.specs.declared.profile.Profile.{Profile}
+use Rattle.adapter_table.specs.declared.profile.Action.TheVariants.{Zero}
+use Rattle.cip_productions.specs.declared.kind.Kind.TheVariants.{ExclusiveOwner, InputOnly, ListenOnly}
+use Rattle.cip_epath.specs.Written.{path_text}
+use Rattle.eds_text.specs.declared.connections.SheetConnection.{SheetConnection}
+use Rattle.eds_text.specs.Connections.{connections_of}
+use Rattle.eds_text.specs.Device.{name_line}
+use Rattle.eds_text.specs.Manager.{o_t_line, sheet_path}
+use Rattle.eds_text.specs.Names.{is_name, is_name_byte}
+
+island : Profile
+island = record {
+  incarnation = 16;
+  node = record { 0 = 0xC0A8010A };
+  mask = 0xFFFFFF00;
+  identity = record { vendor = 0; device_type = 43; product = 1; major = 1; minor = 1 };
+  outputs = record { instance = 300; len = 2; idle = Zero; fault = Zero } ∷ record { instance = 151; len = 1; idle = Zero; fault = Zero } ∷ [];
+  inputs = record { instance = 70000; len = 2 } ∷ [];
+  config = None;
+  input_only = 152;
+  listen_only = 153;
+}
+
+owner : SheetConnection
+owner = record { kind = ExclusiveOwner; consumed = 300; o_t_len = 2; produced = 70000; t_o_len = 2 }
+
+reader : SheetConnection
+reader = record { kind = InputOnly; consumed = 152; o_t_len = 0; produced = 70000; t_o_len = 2 }
+
+all_connections : connections_of island ≡
+    owner
+    ∷ record { kind = ExclusiveOwner; consumed = 151; o_t_len = 1; produced = 70000; t_o_len = 2 }
+    ∷ reader
+    ∷ record { kind = ListenOnly; consumed = 153; o_t_len = 0; produced = 70000; t_o_len = 2 }
+    ∷ []
+unfolding island owner reader
+all_connections = refl
+
+path_of_long_numbers : path_text (sheet_path None owner) ≡
+    0x20 ∷ 0x04 ∷ 0x2D ∷ 0x00 ∷ 0x2C ∷ 0x01 ∷ 0x2E ∷ 0x00 ∷ 0x70 ∷ 0x11 ∷ 0x01 ∷ 0x00 ∷ []
+unfolding owner
+path_of_long_numbers = refl
+
+path_with_a_configuration : path_text (sheet_path (Some (record { instance = 151; len = 0 })) reader) ≡
+    0x20 ∷ 0x04 ∷ 0x24 ∷ 0x97 ∷ 0x2C ∷ 0x98 ∷ 0x2E ∷ 0x00 ∷ 0x70 ∷ 0x11 ∷ 0x01 ∷ 0x00 ∷ []
+unfolding reader
+path_with_a_configuration = refl
+
+a_heartbeat : o_t_line reader ≡ codes "                Param1,0,,\n"
+unfolding o_t_line reader
+a_heartbeat = refl
+
+a_name : name_line (codes "VendName") (codes "Vendor") 4660 (Some (codes "Maker & Co")) ≡ codes "        VendName = \"Maker & Co\";\n"
+unfolding name_line
+a_name = refl
+
+a_quote_is_in_no_name : is_name (codes "A\"B") ≡ false
+unfolding is_name is_name_byte
+a_quote_is_in_no_name = refl
+
+a_line_end_is_in_no_name : is_name (codes "A\nB") ≡ false
+unfolding is_name is_name_byte
+a_line_end_is_in_no_name = refl
+
+words_are_a_name : is_name (codes "Valve island, 3 points") ≡ true
+unfolding is_name is_name_byte
+words_are_a_name = refl

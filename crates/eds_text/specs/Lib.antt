@@ -1,0 +1,7 @@
+pub mod Names
+pub mod Texts
+pub mod Device
+pub mod Connections
+pub mod Points
+pub mod Manager
+pub mod Sheet

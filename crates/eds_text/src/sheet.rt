@@ -1,0 +1,102 @@
+//! The whole data sheet.
+
+ghost use Rattle.std.specs.Prelude.{◌≡◌, ◌++◌, IfOk, OnOk, string_bytes};
+ghost use Rattle.eds_text.specs.Names.{shown_names};
+ghost use Rattle.eds_text.specs.Sheet.{capacity_text, sheet_text};
+ghost use Rattle.eds_text.specs.Texts.{params_text, port_text};
+
+use crate::connections::connections_of;
+use crate::device::{push_device, push_file};
+use crate::manager::push_manager;
+use crate::names::SheetNames;
+use crate::points::push_points;
+use adapter_table::Profile;
+use cip_types::OutOfMemory;
+use std::alloc::Global;
+use trace_words::push_text;
+
+/// The data sheet of a profile. `OutOfMemory` is the only fault.
+///
+/// Volume 1, chapter 7, electronic data sheets.
+#[tactic(auto, unfolding(crate::specs::Sheet::sheet_text))]
+pub fn write_sheet(
+    alloc: Global,
+    names: &SheetNames<'_>,
+    profile: &Profile,
+) -> Result<String, OutOfMemory>
+    ensures { IfOk result (λ text. string_bytes text ≡ sheet_text (shown_names names.now) profile.now) }
+{
+    let connections = connections_of(alloc, profile)?;
+    let mut out = String::new(alloc);
+    push_file(&mut out)?;
+    push_device(&mut out, names, profile.identity)?;
+    push_params(&mut out)?;
+    push_points(&mut out, profile)?;
+    push_manager(alloc, &mut out, profile.config, connections.as_slice())?;
+    push_port(&mut out)?;
+    push_capacity(&mut out, profile.inputs.as_slice().len())?;
+    Ok(out)
+}
+
+/// Appends the section of the parameters, which has the requested packet interval.
+#[tactic(auto, unfolding(crate::specs::Texts::params_text))]
+fn push_params(out: &mut String) -> Result<(), OutOfMemory>
+    ensures { OnOk result (string_bytes out.new ≡ string_bytes out.old ++ params_text) }
+{
+    push_text(
+        out,
+        "
+[Params]
+        Param1 =
+                0,
+                ,,
+                0x0000,
+                0xC8,
+                4,
+                \"RPI\",
+                \"microsecond\",
+                \"\",
+                1000,10000000,10000,
+                ,,,,
+                ,,,,
+                ;
+",
+    )
+}
+
+/// Appends the section of the port.
+#[tactic(auto, unfolding(crate::specs::Texts::port_text))]
+fn push_port(out: &mut String) -> Result<(), OutOfMemory>
+    ensures { OnOk result (string_bytes out.new ≡ string_bytes out.old ++ port_text) }
+{
+    push_text(
+        out,
+        "
+[Port]
+        Object_Name = \"Port Object\";
+        Object_Class_Code = 0xF4;
+        Port1 =
+                TCP,
+                \"EtherNet/IP port\",
+                \"20 F5 24 01\",
+                1;
+",
+    )
+}
+
+/// Appends the section of the capacity of an adapter with so many inputs.
+#[tactic(auto, unfolding(crate::specs::Sheet::capacity_text))]
+fn push_capacity(out: &mut String, inputs: usize) -> Result<(), OutOfMemory>
+    ensures { OnOk result (string_bytes out.new ≡ string_bytes out.old ++ capacity_text inputs) }
+{
+    Ok(write!(
+        out,
+        "
+[Capacity]
+        TSpec1 = TxRx, 1406, 1000;
+        MaxIOConnections = 64;
+        MaxIOMcastProducers = {inputs};
+        MaxConsumersPerMcast = 64;
+"
+    )?)
+}

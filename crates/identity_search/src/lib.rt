@@ -1,0 +1,12 @@
+//! The search for devices: a ListIdentity request to a host or to all hosts of a network, and a line for each answer.
+//!
+//! Volume 2, chapter 2, ListIdentity.
+#![tactic(auto)]
+
+mod asking;
+mod fault;
+mod line;
+
+pub use asking::search;
+pub use fault::SearchFault;
+pub use line::identity_line;
