@@ -200,11 +200,24 @@ def run_identity(bench):
     need(services == [(0x100, struct.pack("<HH", 1, 0x120) + b"Communications\0\0")], f"ListServices over UDP: {services}")
     interfaces = asked(bench, 0x64, address)
     sure(interfaces == [], "ListServices and ListInterfaces are answered over UDP")
+    run_command(bench, address, seen[0][1])
     here = identity(bench, bench.network.broadcast, broadcast=True)
     sure(here is not None and here[0] == address, "a directed broadcast is answered")
     here = identity(bench, "255.255.255.255", broadcast=True)
     sure(here is not None and here[0] == address, "a broadcast to 255.255.255.255 is answered")
     need(adapter.end() == 0, "the adapter ends with status 0")
+
+
+def run_command(bench, address, serial):
+    """`eip_station identity` prints who answers, and says so if nobody does."""
+    line = f"{address} vendor 1 type 12 product 7 revision 2.3 status 0000 serial {serial} state 3 name adapter\n"
+    # (on loopback the system lends no broadcast without a socket of that device)
+    for host in [address, bench.network.broadcast] if bench.network.own else [address]:
+        found = run(*bench.network.at("peer"), bench.program, "identity", host)
+        need((found.returncode, found.stdout.decode(), found.stderr) == (0, line, b""), f"identity {host}: {found}")
+    nobody = run(*bench.network.at("peer"), bench.program, "identity", bench.network.extra[3], "--seconds", "1")
+    sure((nobody.returncode, nobody.stdout, nobody.stderr) == (1, b"", b"eip_station: no device answered\n"),
+         f"the command `identity` prints the adapter, and status 1 where nobody is: {nobody.stderr}")
 
 
 def run_everywhere(bench, serial):

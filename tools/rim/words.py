@@ -2,10 +2,10 @@
 
 import contextlib, re, select, socket, subprocess, time
 from bad_profiles import BAD_PROFILES, BAD_PROFILE_LINES
-from rim.host import Station, holds, listens, need, run, sure, wait
+from rim.host import Station, holds, listens, need, run, sure, until, wait
 from rim.peers import INPUT_ONLY, MULTICAST, POINT_TO_POINT, Originator, Silent, Target
 
-CALLS = ["write POINT HEX", "read POINT", "mode run", "mode idle", "start SLOT", "stop SLOT"]
+CALLS = ["write POINT HEX", "read POINT", "mode run", "mode idle", "start SLOT", "stop SLOT", "status"]
 MUTE = "scanner 32 {owner} 1 101 1000 1000\nslot {adapter} input - 152 100 0 4 10000 10000 2 multicast - -\n"
 FED = "slot {adapter} input - 152 100 0 4 10000 10000 2 p2p - -\n"
 
@@ -55,6 +55,35 @@ def run_lines(bench):
     lines = station.said()[count:]
     sure(len(lines) == 1 and all(call in lines[0] for call in CALLS), f"a line that is no call gets the list of calls: {lines}")
     need(station.end() == 0, "it ends with status 0")
+
+
+def asked(station, pattern, text):
+    """Asks a station for its state until a line of it has this form."""
+    form = re.compile(r"\d+ at \d+ " + pattern)
+
+    def answers():
+        station.call("status")
+        time.sleep(0.1)
+        return any(form.fullmatch(line) for line in station.lines())
+
+    until(answers, f"status: {text}")
+
+
+def run_states(bench):
+    """What the call `status` says of an owner that runs, and is lost."""
+    peer = re.escape(bench.address["peer"])
+    station = bench.adapter(log="states")
+    asked(station, "owner 150 none", "an output has no owner")
+    first = Originator(bench)
+    feeder = first.feed(first.open(), "11223344")
+    named = rf"connection [0-9a-f]{{8}} {peer} exclusive 150 100 api \d+ \d+"
+    asked(station, rf"owner 150 {peer} run age \d+", "its owner runs")
+    asked(station, rf"{named} open run age \d+ received \d+ applied [1-9].* lost 0", "datagrams of its connection are counted")
+    feeder.stop()
+    asked(station, rf"{named} timed-out run age \d+ .*", "its connection timed out")
+    sure(station.lines()[-1].endswith("owner 150 none"), "an owner that timed out is none")
+    need(station.end() == 0, "it ends with status 0")
+    bench.clear()
 
 
 def run_scanner_lines(bench):

@@ -4,6 +4,8 @@ use Rattle.std.specs.declared.io.ErrorKind.{ErrorKind}
 use Rattle.std.specs.declared.io.ErrorKind.TheVariants.{OutOfMemory}
 use Rattle.station_port.specs.declared.fault.SocketCause.TheVariants as cause
 use Rattle.command_lines.specs.declared.station_options.StationMisuse.TheVariants as misuse
+use Rattle.identity_search.specs.declared.fault.SearchFault.{SearchFault}
+use Rattle.identity_search.specs.declared.fault.SearchFault.TheVariants as search
 use Rattle.trace_commands.specs.declared.fault.TracesFault.{TracesFault}
 use Rattle.trace_commands.specs.declared.fault.TracesFault.TheVariants as traces
 use Rattle.eip_station.specs.declared.failure.Failure.{Failure}
@@ -14,22 +16,32 @@ abbrev pub traces_status : TracesFault → ℕ
 traces_status (traces.Unread place) = 3
 traces_status (traces.Trace fault) = 3
 traces_status traces.NoTrace = 3
+traces_status traces.Events = 3
+traces_status traces.Scanner = 3
 traces_status traces.Differs = 1
 traces_status traces.Write = 1
 traces_status traces.OutOfMemory = 7
+
+-- where no device is found
+abbrev pub search_status : SearchFault → ℕ
+search_status search.NoAnswer = 1
+search_status search.Output = 1
+search_status search.Socket = 5
+search_status search.OutOfMemory = 7
 
 -- why the file of a profile is not read to its end
 abbrev pub unread_failure : ErrorKind → Failure
 unread_failure OutOfMemory = failure.OutOfMemory
 unread_failure _ = failure.Unread
 
--- 1 after an early end or where the output takes nothing, 2 after a wrong word, 3 after a bad profile or state, 4 after an
+-- 1 after an early end, where the output takes nothing or no device answers, 2 after a wrong word, 3 after a bad profile or state, 4 after an
 -- address that is none, 5 where a socket cannot be made, 6 where the record or the state cannot be written, 7 where there is
 -- no memory
 abbrev pub status_of : Failure → ℕ
 status_of (failure.Early end) = 1
 status_of failure.Output = 1
 status_of (failure.Traces fault) = traces_status fault
+status_of (failure.Search fault) = search_status fault
 status_of (failure.Words (misuse.BadAddress left)) = 4
 status_of (failure.Words other) = 2
 status_of failure.Unread = 3
@@ -39,6 +51,7 @@ status_of failure.WrongKind = 3
 status_of failure.State = 3
 status_of (failure.Socket socket cause.NoAddress) = 4
 status_of (failure.Socket socket _) = 5
+status_of failure.Token = 5
 status_of failure.Record = 6
 status_of failure.RecordEnd = 6
 status_of failure.NoState = 6

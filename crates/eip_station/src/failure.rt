@@ -1,11 +1,12 @@
 //! Why the program fails: the line on standard error, and the status.
 
 ghost use Rattle.std.specs.Prelude.{◌≡◌};
-ghost use Rattle.eip_station.specs.Failures.{is_reported, status_of, traces_status, unread_failure};
+ghost use Rattle.eip_station.specs.Failures.{is_reported, search_status, status_of, traces_status, unread_failure};
 
 use cip_tables::NewFault;
 use cip_types::OutOfMemory;
 use command_lines::StationMisuse;
+use identity_search::SearchFault;
 use station::EarlyEnd;
 use station_files::StateFault;
 use station_port::{SocketCause, StationFault, StationSocket};
@@ -43,6 +44,9 @@ pub enum Failure {
     /// Files are not played, written as a capture file or explained to their end.
     #[error(transparent)]
     Traces(TracesFault),
+    /// No device is found.
+    #[error(transparent)]
+    Search(SearchFault),
     /// The file of the state cannot be read, or holds no state.
     #[error("holds no state of a station: --state FILE names another file, --incarnation N needs none")]
     State,
@@ -58,6 +62,9 @@ pub enum Failure {
     /// The standard output does not take a text.
     #[error("standard output cannot be written")]
     Output,
+    /// The system gives no random bytes for the token of the page.
+    #[error("no token can be drawn: --page without --page-writes needs none")]
+    Token,
     /// An allocation was refused.
     #[error("no memory")]
     OutOfMemory,
@@ -74,6 +81,7 @@ pub fn status_of(failure: Failure) -> u8
         Failure::Early(_) => 1,
         Failure::Output => 1,
         Failure::Traces(fault) => traces_status(fault),
+        Failure::Search(fault) => search_status(fault),
         Failure::Words(StationMisuse::BadAddress(_)) => 4,
         Failure::Words(_) => 2,
         Failure::Unread => 3,
@@ -83,6 +91,7 @@ pub fn status_of(failure: Failure) -> u8
         Failure::State => 3,
         Failure::Socket(_, SocketCause::NoAddress) => 4,
         Failure::Socket(_, _) => 5,
+        Failure::Token => 5,
         Failure::Record => 6,
         Failure::RecordEnd => 6,
         Failure::NoState => 6,
@@ -98,9 +107,23 @@ fn traces_status(fault: TracesFault) -> u8
         TracesFault::Unread(_) => 3,
         TracesFault::Trace(_) => 3,
         TracesFault::NoTrace => 3,
+        TracesFault::Events => 3,
+        TracesFault::Scanner => 3,
         TracesFault::Differs => 1,
         TracesFault::Write => 1,
         TracesFault::OutOfMemory => 7,
+    }
+}
+
+/// The status of the program where no device is found.
+fn search_status(fault: SearchFault) -> u8
+    ensures { result ≡ search_status fault }
+{
+    match fault {
+        SearchFault::NoAnswer => 1,
+        SearchFault::Output => 1,
+        SearchFault::Socket => 5,
+        SearchFault::OutOfMemory => 7,
     }
 }
 
@@ -154,6 +177,12 @@ impl From<RecordFault> for Failure {
 impl From<TracesFault> for Failure {
     fn from(fault: TracesFault) -> Failure {
         Failure::Traces(fault)
+    }
+}
+
+impl From<SearchFault> for Failure {
+    fn from(fault: SearchFault) -> Failure {
+        Failure::Search(fault)
     }
 }
 
@@ -214,6 +243,10 @@ pub fn subject_of(words: &[String], failure: Failure) -> &str {
                 None => "",
             }
         }
+        Failure::Traces(TracesFault::Events | TracesFault::Scanner) => match words.get(2) {
+            Some(word) => word.as_str(),
+            None => "",
+        },
         Failure::Traces(TracesFault::Unread(place)) => match words.get(place.saturating_add(2)) {
             Some(word) => word.as_str(),
             None => "",
@@ -226,7 +259,9 @@ pub fn subject_of(words: &[String], failure: Failure) -> &str {
 /// The wrong word of a command line.
 fn wrong_word(words: &[String], misuse: StationMisuse) -> &str {
     let left = match misuse {
-        StationMisuse::NoCommand | StationMisuse::NoFile => return "",
+        StationMisuse::NoCommand | StationMisuse::NoFile | StationMisuse::NoHost => return "",
+        StationMisuse::ThreeNames(left) => left,
+        StationMisuse::BadName(left) => left,
         StationMisuse::NoSuchCommand(left) => left,
         StationMisuse::NoSuchOption(left) => left,
         StationMisuse::NoValue(left) => left,

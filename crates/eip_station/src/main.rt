@@ -3,46 +3,65 @@
 
 mod failure;
 mod opening;
+mod paging;
 mod profiles;
 mod program;
 mod stationing;
 mod usage;
 
 use failure::{Failure, NO_MEMORY, status_of};
-use station_rim::{Rim, begin_output};
+use port_alarm::Alarm;
+use station_rim::{PAGE_THREADS, Rim, begin_output, begin_page};
 use std::io::Write;
 use std::process::ExitCode;
-use std::thread;
+use std::rt::Clock;
+use std::sync::Wait;
+use std::thread::{self, Threads};
 
 /// Performs what the command line requests, and ends with its status. A station has threads of their own for its input, its
-/// outputs and its record; they are not joined, and end with the program.
+/// outputs, its record, its page and its alarm; they are not joined, and end with the program.
 fn main(rt: HostRuntime) -> ExitCode {
-    let Ok(rim) = Rim::new(rt.alloc()) else {
+    let (Ok(rim), Ok(alarm)) = (Rim::new(rt.alloc()), Alarm::new(rt.alloc(), &rt)) else {
+        return no_memory(rt.stderr());
+    };
+    let (Ok(record), Ok(input)) = (rim.record.share(), rim.input.share()) else {
         return no_memory(rt.stderr());
     };
     let needs = program::needs_of(&rt);
-    if needs.station
-        && !(begin_output(rt, &rim.out, rt.stdout()) && begin_output(rt, &rim.err, rt.stderr()))
-    {
+    let is_begun = !needs.station
+        || (begin_output(rt, &rim.out, rt.stdout())
+            && begin_output(rt, &rim.err, rt.stderr())
+            && begin_alarm(rt, &alarm));
+    if !is_begun || (needs.page && !begin_page(rt, &rim)) {
         return no_memory(rt.stderr());
     }
-    if needs.record {
-        let Ok(record) = rim.record.share() else {
+    if needs.record && thread::spawn(&rt, move || record.write_files(&rt)).is_err() {
+        return no_memory(rt.stderr());
+    }
+    if needs.input && thread::spawn(&rt, move || input.fill(&rt, rt.reader())).is_err() {
+        return no_memory(rt.stderr());
+    }
+    let page_threads = if needs.page { PAGE_THREADS } else { 0 };
+    for _ in 0..page_threads {
+        let Ok(page) = rim.page.share() else {
             return no_memory(rt.stderr());
         };
-        if thread::spawn(&rt, move || record.write_files(&rt)).is_err() {
+        if thread::spawn(&rt, move || page.serve(&rt)).is_err() {
             return no_memory(rt.stderr());
         }
     }
-    if needs.input {
-        let Ok(input) = rim.input.share() else {
-            return no_memory(rt.stderr());
-        };
-        if thread::spawn(&rt, move || input.fill(&rt, rt.reader())).is_err() {
-            return no_memory(rt.stderr());
-        }
+    program::run(rt, rim, alarm, rt.stdout(), rt.stderr())
+}
+
+/// Begins the thread that rings the alarm of a station. Whether it could begin.
+fn begin_alarm<R>(rt: R, alarm: &Alarm) -> bool
+where
+    R: Threads + Wait + Clock + Copy + Send + Drop + 'static,
+{
+    match alarm.share() {
+        Ok(alarm) => thread::spawn(&rt, move || alarm.keep_ringing(&rt)).is_ok(),
+        Err(_) => false,
     }
-    program::run(rt, rim, rt.stdout(), rt.stderr())
 }
 
 /// Reports that there is no memory to begin with, as far as the stream takes the line, and answers the status for that.

@@ -1,36 +1,41 @@
 //! The program, at its command line and its streams.
 
 use crate::failure::{Failure, NO_MEMORY, is_reported, status_of, subject_of};
+use crate::paging::HostNet;
 use crate::stationing::run_task;
 use crate::usage::USAGE;
-use command_lines::{ProgramTask, VERSION, read_station_task};
+use command_lines::{ProgramTask, SheetTask, VERSION, read_station_task};
+use eds_text::SheetNames;
+use identity_search::search;
+use port_alarm::Alarm;
 use station_rim::Rim;
 use std::alloc::Global;
 use std::env::{self, Env};
 use std::fs::File;
 use std::io::Write;
-use std::net::Net;
 use std::process::ExitCode;
 use std::random::RandomSource;
 use std::rt::{Clock, Files};
 use std::sync::Wait;
-use trace_commands::{explain, pcap, replay};
+use trace_commands::{data_sheet, explain, pcap, replay};
 
 /// The threads that a command line needs.
-#[derive(Clone, Copy)]
+#[derive(Clone, Copy, Default)]
 pub struct Needs {
-    /// Those of a station's outputs.
+    /// Those of a station's outputs and of its alarm.
     pub station: bool,
     /// That of its input.
     pub input: bool,
     /// That of its record.
     pub record: bool,
+    /// Those of its page.
+    pub page: bool,
 }
 
 /// Performs what the command line requests, and answers the status. A failure is one line on `err`.
-pub fn run<R, O, E>(rt: R, rim: Rim, out: O, err: E) -> ExitCode
+pub fn run<R, O, E>(rt: R, rim: Rim, alarm: Alarm, out: O, err: E) -> ExitCode
 where
-    R: AllocGlobal + Env + Files<File = File> + Clock + Net + RandomSource + Wait + Copy + Drop,
+    R: AllocGlobal + Env + Files<File = File> + Clock + HostNet + RandomSource + Wait + Copy + Drop,
     O: Write + Drop,
     E: Write + Drop,
 {
@@ -39,7 +44,7 @@ where
         let _ = err.write_all(NO_MEMORY);
         return ExitCode::from(status_of(Failure::OutOfMemory));
     };
-    match perform(rt, words.as_slice(), rim, out, &mut err) {
+    match perform(rt, words.as_slice(), rim, alarm, out, &mut err) {
         Ok(()) => ExitCode::SUCCESS,
         Err(failure) => ExitCode::from(status_of(failure)),
     }
@@ -47,21 +52,17 @@ where
 
 /// The threads that the command line needs.
 pub fn needs_of<R: AllocGlobal + Env>(rt: &R) -> Needs {
-    let none = Needs {
-        station: false,
-        input: false,
-        record: false,
-    };
     let Some(words) = words_of(rt) else {
-        return none;
+        return Needs::default();
     };
     match read_station_task(words.as_slice()) {
         Ok(ProgramTask::Station(task)) => Needs {
             station: true,
             input: !task.options.no_input,
             record: task.options.record_from_end.is_some(),
+            page: task.options.page.is_some(),
         },
-        _ => none,
+        _ => Needs::default(),
     }
 }
 
@@ -71,14 +72,21 @@ fn words_of<R: AllocGlobal + Env>(rt: &R) -> Option<Vec<String>> {
 }
 
 /// Performs the task of the words, and reports its failure.
-fn perform<R, O, E>(rt: R, words: &[String], rim: Rim, out: O, err: &mut E) -> Result<(), Failure>
+fn perform<R, O, E>(
+    rt: R,
+    words: &[String],
+    rim: Rim,
+    alarm: Alarm,
+    out: O,
+    err: &mut E,
+) -> Result<(), Failure>
 where
-    R: AllocGlobal + Files<File = File> + Clock + Net + RandomSource + Wait + Copy + Drop,
+    R: AllocGlobal + Files<File = File> + Clock + HostNet + RandomSource + Wait + Copy + Drop,
     O: Write + Drop,
     E: Write,
 {
     match read_station_task(words) {
-        Ok(ProgramTask::Station(task)) => run_task(rt, words, task, &rim),
+        Ok(ProgramTask::Station(task)) => run_task(rt, words, task, &rim, &alarm),
         Ok(task) => {
             let done = write(&rt, words, task, out);
             report(rt.alloc(), words, done, err)
@@ -90,9 +98,10 @@ where
 /// Performs a task that writes a text or a capture file.
 fn write<R, O>(rt: &R, words: &[String], task: ProgramTask, out: O) -> Result<(), Failure>
 where
-    R: AllocGlobal + Files<File = File>,
+    R: AllocGlobal + Files<File = File> + Clock + HostNet,
     O: Write + Drop,
 {
+    let mut out = out;
     match task {
         ProgramTask::Help => print(out, USAGE.as_bytes()),
         ProgramTask::Version => {
@@ -102,16 +111,38 @@ where
         ProgramTask::Replay => Ok(replay(rt, files_of(words), out)?),
         ProgramTask::Pcap => Ok(pcap(rt, files_of(words), out)?),
         ProgramTask::Explain => Ok(explain(rt, files_of(words), out)?),
+        ProgramTask::Sheet(sheet) => {
+            Ok(data_sheet(rt, profile_of(words), &names_of(words, sheet), out)?)
+        }
+        ProgramTask::Search(task) => Ok(search(rt, task.host, task.seconds, &mut out)?),
         ProgramTask::Station(_) => Ok(()),
+    }
+}
+
+/// The file of the profile that the words name.
+fn profile_of(words: &[String]) -> &[String] {
+    words.get(2..3).unwrap_or(&[])
+}
+
+/// The names of a data sheet that the words have.
+fn names_of(words: &[String], sheet: SheetTask) -> SheetNames<'_> {
+    match (sheet, words) {
+        (SheetTask::Named, [_, _, _, vendor, product, catalog]) => SheetNames {
+            vendor: Some(vendor.as_str()),
+            product: Some(product.as_str()),
+            catalog: Some(catalog.as_str()),
+        },
+        _ => SheetNames {
+            vendor: None,
+            product: None,
+            catalog: None,
+        },
     }
 }
 
 /// The files that the words name.
 fn files_of(words: &[String]) -> &[String] {
-    match words.get(2..) {
-        Some(files) => files,
-        None => &[],
-    }
+    words.get(2..).unwrap_or(&[])
 }
 
 /// Prints a text.

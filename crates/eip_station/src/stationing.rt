@@ -5,11 +5,13 @@ ghost use Rattle.eip_station.specs.Settings.{ending_of, ms_of};
 
 use crate::failure::{Failure, NO_MEMORY};
 use crate::opening::{place_of, scanner_port};
+use crate::paging::{HostNet, begin_page};
 use crate::profiles::{FastDevice, incarnation_of, profile_of, with_incarnation};
 use crate::program::line_of;
 use cip_tables::{Config, Device};
 use command_lines::{Options, StationTask, VERSION};
 use list_identity::StationIdentity;
+use port_alarm::Alarm;
 use socket_port::SystemClock;
 use station::{Ending, Station, StationObserver, Voice};
 use station_files::{begin_in_file, name_of, place_of_record, push_moment, stem_of};
@@ -19,7 +21,6 @@ use station_record::Recorder;
 use station_rim::{Entries, Rim, drain_lines, drain_record, report_line};
 use station_state::StationState;
 use std::fs::File;
-use std::net::Net;
 use std::random::RandomSource;
 use std::rt::{Clock, Files};
 use std::sync::Wait;
@@ -29,23 +30,31 @@ const NO_NETWORK: u32 = 0xFFFF_FFFF;
 
 /// The words of a station, its options, and what it shares with its threads.
 #[derive(Clone, Copy)]
-struct Stationed<'a, R> {
-    rt: R,
-    words: &'a [String],
-    options: &'a Options,
-    rim: &'a Rim,
+pub struct Stationed<'a, R> {
+    pub rt: R,
+    pub words: &'a [String],
+    pub options: &'a Options,
+    pub rim: &'a Rim,
+    pub alarm: &'a Alarm,
 }
 
 /// Runs a station to its end, and reports its failure.
-pub fn run_task<R>(rt: R, words: &[String], task: StationTask, rim: &Rim) -> Result<(), Failure>
+pub fn run_task<R>(
+    rt: R,
+    words: &[String],
+    task: StationTask,
+    rim: &Rim,
+    alarm: &Alarm,
+) -> Result<(), Failure>
 where
-    R: AllocGlobal + Files<File = File> + Clock + Net + RandomSource + Wait + Copy + Drop,
+    R: AllocGlobal + Files<File = File> + Clock + HostNet + RandomSource + Wait + Copy + Drop,
 {
     let setting = Stationed {
         rt,
         words,
         options: &task.options,
         rim,
+        alarm,
     };
     let ran = begin(&setting, task.scanner);
     let done = with_record(&setting, ran);
@@ -83,7 +92,7 @@ where
 /// Reads the profile, begins the state, and runs the station.
 fn begin<R>(setting: &Stationed<'_, R>, scanner: bool) -> Result<(), Failure>
 where
-    R: AllocGlobal + Files<File = File> + Clock + Net + RandomSource + Wait + Copy + Drop,
+    R: AllocGlobal + Files<File = File> + Clock + HostNet + RandomSource + Wait + Copy + Drop,
 {
     let config = profile_of(setting.rt, setting.rim, file_of(setting.words), scanner)?;
     let state = state_of(setting, incarnation_of(&config))?;
@@ -124,7 +133,7 @@ where
 /// Opens the port of a station, begins its record, and runs it.
 fn open<R>(setting: &Stationed<'_, R>, config: Config, state: StationState) -> Result<(), Failure>
 where
-    R: AllocGlobal + Files<File = File> + Clock + Net + Wait + Copy + Drop,
+    R: AllocGlobal + Files<File = File> + Clock + HostNet + RandomSource + Wait + Copy + Drop,
 {
     let options = setting.options;
     let alloc = setting.rt.alloc();
@@ -151,7 +160,7 @@ where
 }
 
 /// The name of a station: that of its options, or that of its profile's file.
-fn station_name<'a, R>(setting: &Stationed<'a, R>) -> &'a str {
+pub fn station_name<'a, R>(setting: &Stationed<'a, R>) -> &'a str {
     match setting.options.name_from_end {
         Some(left) => word_from_end(setting.words, left),
         None => stem_of(file_of(setting.words)),
@@ -188,22 +197,26 @@ where
 fn serve<R>(
     setting: &Stationed<'_, R>,
     config: &Config,
-    port: StationPort<R>,
+    mut port: StationPort<R>,
     start: &str,
     slots: u32,
 ) -> Result<(), Failure>
 where
-    R: AllocGlobal + Files<File = File> + Clock + Net + Wait + Copy + Drop,
+    R: AllocGlobal + Files<File = File> + Clock + HostNet + RandomSource + Wait + Copy + Drop,
 {
     let rt = setting.rt;
     let alloc = rt.alloc();
+    port.set_alarm(setting.alarm.share()?)?;
     let waker = port.waker()?;
     let recorder = recorder_of(setting, config)?;
     if !setting.options.quiet {
         report_line(rt, setting.rim, start.as_bytes());
     }
     let (out, err) = (setting.rim.out.sink(rt)?, setting.rim.err.sink(rt)?);
-    let observer = StationObserver::new(alloc, config, recorder, out, err)?;
+    let mut observer = StationObserver::new(alloc, config, recorder, out, err)?;
+    if let Some(port) = setting.options.page {
+        observer.feed(begin_page(setting, config, port)?);
+    }
     let device = FastDevice::new(alloc, config.copy(alloc)?)?;
     let clock = SystemClock::new(rt);
     let voice = Voice {
@@ -212,7 +225,7 @@ where
     };
     let mut station = Station::new(alloc, config, port, clock, device, observer, voice)?;
     let ending = ending_of(setting.options, slots);
-    let ended = if setting.options.no_input {
+    let ended = if setting.options.no_input && !setting.options.page_writes {
         station.run(&mut NoLines, ending)
     } else {
         let mut lines = setting.rim.input.share()?.lines(rt, waker);
@@ -285,7 +298,7 @@ fn file_of(words: &[String]) -> &str {
 }
 
 /// The word from which on so many words are left.
-fn word_from_end(words: &[String], left: usize) -> &str {
+pub fn word_from_end(words: &[String], left: usize) -> &str {
     match words.get(words.len().saturating_sub(left)) {
         Some(word) => word.as_str(),
         None => "",

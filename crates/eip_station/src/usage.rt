@@ -12,6 +12,11 @@ usage: eip_station adapter PROFILE [options]
            writes the frames and datagrams of a trace as a capture file for tshark to standard output
        eip_station explain TRACE ..
            explains a trace in words, or why the files are none
+       eip_station eds PROFILE [VENDOR PRODUCT CATALOG]
+           writes the electronic data sheet of an adapter's profile, with these names or with the numbers in their place
+       eip_station identity HOST [--seconds N]
+           asks the host, or all hosts of the network of which HOST is the broadcast address, which device it is, and prints
+           a line for each answer that comes within N seconds (1 if it is left out)
        eip_station --help | --version
            prints this text, or the version
 PROFILE is a file with the profile's lines of a trace (docs/PROFILE.md, section 14).
@@ -31,11 +36,14 @@ options:
   --multicast    a datagram of a multicast connection is sent once, to the address of its group
   --no-input     does not read the standard input, and runs on without it
   --quiet        says only faults on standard error, not what streams do
+  --page PORT    serves a live page of the station there, on this host alone; a line on standard error has its address
+  --page-address A  serves it at this address of the host, to others too
+  --page-writes  the page takes write, mode, start and stop, from who has the token in that line
 The station runs until its standard input ends, and at most N seconds. Each line of the input is a call:
-  write POINT HEX, read POINT, mode run, mode idle, start SLOT, stop SLOT
+  write POINT HEX, read POINT, mode run, mode idle, start SLOT, stop SLOT, status
 It prints the outcome of each call and of each event with a notice, in the lines of a trace, and for each output or
 image that has changed N at MS output POINT HEX or N at MS image SLOT HEX: the number of the last event, and the time.
 It waits for no reader: lines that nobody reads are lost, and a line says how many.
-status: 0 done; 1 the station ended before its time; 2 a wrong word; 3 a bad profile, trace or state; 4 an address that is none;
+status: 0 done; 1 the station ended before its time, or no device answered; 2 a wrong word; 3 a bad profile, trace or state; 4 an address that is none;
         5 a socket cannot be made, as for a port in use; 6 the record or the state cannot be written; 7 no memory
 ";

@@ -16,10 +16,11 @@ use std::time::Duration;
 /// A read takes at most so many bytes.
 const CHUNK_BYTES: usize = 4_096;
 
-/// What was read and not yet taken, and what wakes the station that takes it.
+/// What was read and not yet taken, the lines of a page, and what wakes the station that takes them.
 #[derive(Drop)]
 struct UnreadCalls {
     buffer: CallBuffer,
+    offered: CallBuffer,
     waker: Option<Waker>,
 }
 
@@ -35,6 +36,7 @@ impl SharedInput {
     pub fn new(alloc: Global) -> Result<SharedInput, OutOfMemory> {
         let unread = Mutex::new(UnreadCalls {
             buffer: CallBuffer::new(alloc),
+            offered: CallBuffer::new(alloc),
             waker: None,
         });
         match Arc::new(alloc, unread) {
@@ -99,6 +101,16 @@ impl SharedInput {
         pushed
     }
 
+    /// Appends a line of a page, with its LF, and wakes the station. Answers whether there was room: the page never waits
+    /// here, and its lines never stand within those of the input.
+    pub fn offer<R: Wait>(&self, rt: &R, line: &[u8]) -> bool {
+        let mut unread = self.unread.lock(rt);
+        let taken = !unread.offered.is_full() && unread.offered.push(line).is_ok();
+        drop(unread);
+        self.wake(rt);
+        taken
+    }
+
     /// Ends the input, and wakes the station.
     fn end<R: Wait>(&self, rt: &R) {
         self.unread.lock(rt).buffer.end();
@@ -106,7 +118,7 @@ impl SharedInput {
     }
 
     /// Wakes the station, if it waits at a port already.
-    fn wake<R: Wait>(&self, rt: &R) {
+    pub fn wake<R: Wait>(&self, rt: &R) {
         if let Some(waker) = &self.unread.lock(rt).waker {
             let _ = waker.wake();
         }
@@ -123,7 +135,11 @@ pub struct InputLines<R: Wait + Drop> {
 impl<R: Wait + Drop> CallLines for InputLines<R> {
     fn next_line(&mut self) -> Result<NextLine, OutOfMemory> {
         let alloc = self.input.alloc;
-        self.input.unread.lock(&self.rt).buffer.next_line(alloc)
+        let mut unread = self.input.unread.lock(&self.rt);
+        match unread.offered.next_line(alloc)? {
+            NextLine::Line(line) => Ok(NextLine::Line(line)),
+            _ => unread.buffer.next_line(alloc),
+        }
     }
 }
 

@@ -12,4 +12,4 @@ mod requests;
 mod statuses;
 mod values;
 
-pub use lines::{EventLine, event_lines, explain_trace};
+pub use lines::{EventLine, event_lines, explain_event, explain_trace};

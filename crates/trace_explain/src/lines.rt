@@ -5,7 +5,7 @@ ghost use Rattle.trace_explain.specs.Lines.{moment_of_line, moments, later, is_r
 
 use crate::answers::push_outcome;
 use crate::events::push_event;
-use cip_events::Event;
+use cip_events::{Event, Outcome};
 use cip_tables::Config;
 use cip_types::OutOfMemory;
 use std::alloc::Global;
@@ -96,6 +96,20 @@ fn entry_words(
     if let Some(outcome) = recorded.get() {
         push_outcome(alloc, &mut out, config, outcome)?;
     }
+    Ok(out)
+}
+
+/// An event and its outcome in words: what happened, and behind it the lines of the outcome, indented. OutOfMemory is the only
+/// fault.
+pub fn explain_event(
+    alloc: Global,
+    config: &Config,
+    event: &Event,
+    outcome: &Outcome,
+) -> Result<String, OutOfMemory> {
+    let mut out = String::new(alloc);
+    push_event(alloc, &mut out, config, event)?;
+    push_outcome(alloc, &mut out, config, outcome)?;
     Ok(out)
 }
 

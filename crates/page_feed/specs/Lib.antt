@@ -1,0 +1,4 @@
+pub mod Connections
+pub mod Facts
+pub mod Points
+pub mod Snapshots

@@ -1,0 +1,14 @@
+//! What a station tells its page: snapshots of its device with the last events in words, through a place for one text.
+#![tactic(auto)]
+
+mod connections;
+mod facts;
+mod feed;
+mod last_events;
+mod place;
+mod points;
+mod snapshots;
+
+pub use facts::StationFacts;
+pub use feed::PageFeed;
+pub use place::{FeedEnd, PageEnd, page_place};

@@ -1,0 +1,190 @@
+//! Points in a snapshot: the outputs and inputs of an adapter, the images of a scanner's slots.
+
+ghost use Rattle.std.specs.Prelude.{◌≡◌, ◌++◌, OnOk, string_bytes, flat_map, codes};
+ghost use Rattle.cip_tables.specs.States.{slot_in};
+ghost use Rattle.page_feed.specs.Points.{bytes_text, consumers_text, input_text, inputs_text, output_text, outputs_text, slot_end, slot_head, slot_image, slot_state, slot_text};
+
+use crate::connections::{push_owner, push_state};
+use adapter_table::{ConsumerCounts, InputPoint, OutputPoint};
+use cip_tables::Device;
+use cip_types::{Node, OutOfMemory};
+use scanner_table::SlotReport;
+use trace_words::{push_bytes, push_node, push_text};
+
+/// Appends the bytes that a device has at a point; a dash for none.
+fn push_point_bytes<D: Device>(out: &mut String, device: &D, point: u32) -> Result<(), OutOfMemory>
+    ensures { OnOk result (string_bytes out.new ≡ string_bytes out.old ++ bytes_text (D.table device.now) point) }
+{
+    match device.read_point(point) {
+        Ok(bytes) => push_bytes(out, bytes),
+        Err(_) => push_text(out, "-"),
+    }
+}
+
+/// Appends an output: its number, its bytes, its owner.
+pub fn push_output<D: Device>(
+    out: &mut String,
+    device: &D,
+    output: &OutputPoint,
+) -> Result<(), OutOfMemory>
+    ensures { OnOk result (string_bytes out.new ≡ string_bytes out.old ++ output_text (D.table device.now) output.now) }
+{
+    let point = output.instance;
+    write!(out, "{{\"point\":{point},\"bytes\":\"")?;
+    push_point_bytes(out, device, point)?;
+    push_text(out, "\",\"owner\":")?;
+    push_owner(out, device.owner(point))?;
+    push_text(out, "}")
+}
+
+/// Appends the outputs of an adapter.
+pub fn push_outputs<D: Device>(
+    out: &mut String,
+    device: &D,
+    outputs: &[OutputPoint],
+) -> Result<(), OutOfMemory>
+    ensures { OnOk result (string_bytes out.new ≡ string_bytes out.old
+        ++ outputs_text (D.table device.now) outputs.now) }
+{
+    let [first, others @ ..] = outputs else {
+        return Ok(());
+    };
+    push_output(out, device, first)?;
+    push_more_outputs(out, device, others)
+}
+
+/// Appends outputs behind others.
+fn push_more_outputs<D: Device>(
+    out: &mut String,
+    device: &D,
+    outputs: &[OutputPoint],
+) -> Result<(), OutOfMemory>
+    ensures { OnOk result (string_bytes out.new ≡ string_bytes out.old
+        ++ flat_map (λ other. codes "," ++ output_text (D.table device.now) other) outputs.now) }
+{
+    for output in outputs {
+        push_text(out, ",")?;
+        push_output(out, device, output)?;
+    }
+    Ok(())
+}
+
+/// Appends an input: its number, its bytes, how many connections consume it.
+pub fn push_input<D: Device>(
+    out: &mut String,
+    device: &D,
+    input: &InputPoint,
+) -> Result<(), OutOfMemory>
+    ensures { OnOk result (string_bytes out.new ≡ string_bytes out.old ++ input_text (D.table device.now) input.now) }
+{
+    let point = input.instance;
+    write!(out, "{{\"point\":{point},\"bytes\":\"")?;
+    push_point_bytes(out, device, point)?;
+    push_consumers(out, device.consumers(point))
+}
+
+fn push_consumers(out: &mut String, counts: ConsumerCounts) -> Result<(), OutOfMemory>
+    ensures { OnOk result (string_bytes out.new ≡ string_bytes out.old ++ consumers_text counts) }
+{
+    let (owners, inputs, listeners) = (
+        counts.exclusive_owners,
+        counts.input_only,
+        counts.listen_only,
+    );
+    write!(
+        out,
+        "\",\"exclusive_owners\":{owners},\"input_only\":{inputs},\"listen_only\":{listeners}}}"
+    )?;
+    Ok(())
+}
+
+/// Appends the inputs of an adapter.
+pub fn push_inputs<D: Device>(
+    out: &mut String,
+    device: &D,
+    inputs: &[InputPoint],
+) -> Result<(), OutOfMemory>
+    ensures { OnOk result (string_bytes out.new ≡ string_bytes out.old ++ inputs_text (D.table device.now) inputs.now) }
+{
+    let [first, others @ ..] = inputs else {
+        return Ok(());
+    };
+    push_input(out, device, first)?;
+    push_more_inputs(out, device, others)
+}
+
+/// Appends inputs behind others.
+fn push_more_inputs<D: Device>(
+    out: &mut String,
+    device: &D,
+    inputs: &[InputPoint],
+) -> Result<(), OutOfMemory>
+    ensures { OnOk result (string_bytes out.new ≡ string_bytes out.old
+        ++ flat_map (λ other. codes "," ++ input_text (D.table device.now) other) inputs.now) }
+{
+    for input in inputs {
+        push_text(out, ",")?;
+        push_input(out, device, input)?;
+    }
+    Ok(())
+}
+
+/// Appends a slot: its number, its target, its image, its state.
+pub fn push_slot<D: Device>(
+    out: &mut String,
+    device: &D,
+    number: u32,
+    target: Node,
+) -> Result<(), OutOfMemory>
+    ensures { OnOk result (string_bytes out.new ≡ string_bytes out.old
+        ++ slot_text (D.table device.now) number target) }
+{
+    push_slot_head(out, number, target)?;
+    push_slot_image(out, device, number)?;
+    push_slot_end(out, device, number)?;
+    Ok(())
+}
+
+/// Appends the number of a slot and its target.
+fn push_slot_head(out: &mut String, number: u32, target: Node) -> Result<(), OutOfMemory>
+    ensures { OnOk result (string_bytes out.new ≡ string_bytes out.old ++ slot_head number target) }
+{
+    write!(out, "{{\"slot\":{number},\"target\":\"")?;
+    push_node(out, target)
+}
+
+/// Appends the image of a slot.
+fn push_slot_image<D: Device>(out: &mut String, device: &D, number: u32) -> Result<(), OutOfMemory>
+    ensures { OnOk result (string_bytes out.new ≡ string_bytes out.old
+        ++ slot_image (D.table device.now) number) }
+{
+    push_text(out, "\",\"bytes\":\"")?;
+    push_point_bytes(out, device, number)?;
+    push_text(out, "\",\"state\":")
+}
+
+/// Appends the state of a slot, and the end of the object.
+fn push_slot_end<D: Device>(out: &mut String, device: &D, number: u32) -> Result<(), OutOfMemory>
+    ensures { OnOk result (string_bytes out.new ≡ string_bytes out.old
+        ++ slot_end (slot_state (slot_in (D.table device.now) number))) }
+{
+    push_slot_state(out, device.slot(number))
+}
+
+/// Appends a state of a slot, and the end of the object. A slot that is not there is idle.
+fn push_slot_state(out: &mut String, report: Option<SlotReport>) -> Result<(), OutOfMemory>
+    ensures { OnOk result (string_bytes out.new ≡ string_bytes out.old ++ slot_end (slot_state report)) }
+{
+    match report {
+        Some(report) => push_ended_state(out, report),
+        None => push_ended_state(out, SlotReport::Idle),
+    }
+}
+
+/// Appends a state, and the end of the object.
+fn push_ended_state(out: &mut String, report: SlotReport) -> Result<(), OutOfMemory>
+    ensures { OnOk result (string_bytes out.new ≡ string_bytes out.old ++ slot_end report) }
+{
+    push_state(out, report)?;
+    push_text(out, "}")
+}

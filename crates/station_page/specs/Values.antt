@@ -1,0 +1,39 @@
+-- What the words of a request's head say (RFC 9112, sections 2 to 5).
+use Rattle.std.specs.Prelude.{ℕ, ◌==◌, ◌&&◌, nat_lt, bytes_eq, if◌then◌else◌, Bool, List, take, drop, codes, Option, Some, None}
+use Rattle.trace_words.specs.Words.{number_of}
+use Rattle.station_page.specs.declared.request.Body.{Body}
+use Rattle.station_page.specs.declared.request.Body.TheVariants as body
+use Rattle.station_page.specs.declared.request.Method.{Method}
+use Rattle.station_page.specs.declared.request.Method.TheVariants as method
+use Rattle.station_page.specs.declared.request.PagePath.{PagePath}
+use Rattle.station_page.specs.declared.request.PagePath.TheVariants as page
+
+-- the method of a word
+abbrev pub method_of : List ℕ → Method
+method_of word = if bytes_eq word (codes "GET") then method.Get else (if bytes_eq word (codes "POST") then method.Post else method.Other)
+
+-- what a path names
+abbrev pub path_of : List ℕ → PagePath
+path_of word =
+    if bytes_eq word (codes "/") then page.Page
+    else (if bytes_eq word (codes "/events") then page.Events
+    else (if bytes_eq word (codes "/call") then page.Call
+    else (if bytes_eq word (codes "/record") then page.Record
+    else (if bytes_eq word (codes "/record.pcap") then page.Capture
+    else page.Unknown))))
+
+-- a body of so many bytes: a call has at most 4,096
+abbrev pub body_with : ℕ → Body
+body_with count = if count == 0 then body.Empty else (if nat_lt 4096 count then body.TooLong else body.Bytes count)
+
+abbrev pub body_read : Option ℕ → Body
+body_read (Some count) = body_with count
+body_read None = body.Bad
+
+-- the body of a length in digits
+abbrev pub body_of : List ℕ → Body
+body_of digits = body_read (number_of 64 digits)
+
+-- an origin is that of the page at a host
+abbrev pub is_from_host : List ℕ → List ℕ → Bool
+is_from_host origin host = bytes_eq (take 7 origin) (codes "http://") && bytes_eq (drop 7 origin) host

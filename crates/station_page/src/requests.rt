@@ -1,0 +1,221 @@
+//! The head of a request, as a browser sends it.
+
+ghost use Rattle.std.specs.Prelude.{◌≡◌, IfOk, IsUtf8};
+ghost use Rattle.station_page.specs.Requests.{AreNames, Announces, Shows, ReadsAs, found_at, found_in, is_foreign, is_named, is_own, is_own_host, is_own_token, is_token, text_at, view_field};
+ghost use Rattle.station_page.specs.Values.{body_of};
+
+use crate::request::{Body, PageRequest};
+use crate::values::{body_of, is_from_host, method_of, path_of};
+use cip_types::{Node, OutOfMemory};
+use httparse::Status;
+use httparse::spans::{EMPTY_HEADER_SPAN, HeaderSpan, RequestSpans, Span, parse_request};
+use std::alloc::Global;
+use std::str;
+use trace_words::push_node;
+
+/// The head of a request has at most so many fields.
+const MOST_FIELDS: usize = 48;
+
+/// The names of a page, which a request has to use, and the token that its calls have to show.
+#[derive(Drop)]
+pub struct OwnNames {
+    address: String,
+    local: String,
+    token: Vec<u8>,
+}
+
+impl OwnNames {
+    /// The names of a page at this address and port: that address, and `localhost`. The fault: an allocation was refused.
+    pub fn new(
+        alloc: Global,
+        address: Node,
+        port: u16,
+        token: &[u8],
+    ) -> Result<OwnNames, OutOfMemory>
+        ensures { IfOk result (AreNames address port token.now) }
+    {
+        let mut name = String::new(alloc);
+        push_node(&mut name, address)?;
+        write!(name, ":{port}")?;
+        Ok(OwnNames {
+            address: name,
+            local: format!(in alloc; "localhost:{port}")?,
+            token: Vec::from_slice(alloc, token)?,
+        })
+    }
+
+    /// Whether a host is a name of the page.
+    fn is_own(&self, host: &[u8]) -> bool
+        ensures { result ≡ is_own self.now host.now }
+    {
+        host == self.address.as_bytes() || host == self.local.as_bytes()
+    }
+
+    /// Whether a head has a host that is a name of the page.
+    fn is_own_host(&self, host: Field<'_>) -> bool
+        ensures { result ≡ is_own_host self.now (view_field host.entry) }
+    {
+        match host {
+            Field::One(host) => self.is_own(host),
+            _ => false,
+        }
+    }
+
+    /// Whether a token is the page's, which is not empty.
+    fn is_token(&self, token: &[u8]) -> bool
+        ensures { result ≡ is_token self.now token.now }
+    {
+        !token.is_empty() && token == self.token.as_slice()
+    }
+
+    /// Whether a head shows the page's token.
+    fn is_own_token(&self, token: Field<'_>) -> bool
+        ensures { result ≡ is_own_token self.now (view_field token.entry) }
+    {
+        match token {
+            Field::One(token) => self.is_token(token),
+            _ => false,
+        }
+    }
+}
+
+/// What the bytes that arrived so far are.
+#[derive(Clone, Copy, PartialEq, Eq)]
+pub enum RequestReading {
+    /// The front of a head.
+    Partial,
+    /// No request.
+    Bad,
+    /// A whole head of so many bytes, which asks for this.
+    Whole(PageRequest, usize),
+}
+
+/// What the bytes that arrived so far ask of the page with these names.
+///
+/// RFC 9112, sections 2 to 5.
+pub fn read_request(bytes: &[u8], names: &OwnNames) -> RequestReading
+    ensures { ReadsAs names.now bytes.now result }
+{
+    let mut fields = [EMPTY_HEADER_SPAN; MOST_FIELDS];
+    match parse_request(bytes, &mut fields) {
+        Ok(Status::Complete(spans)) => {
+            let known = fields.get(..spans.headers).unwrap_or(&[]);
+            RequestReading::Whole(request_in(names, bytes, &spans, known), spans.len)
+        }
+        Ok(Status::Partial) => RequestReading::Partial,
+        Err(_) => RequestReading::Bad,
+    }
+}
+
+/// What a whole head asks for.
+fn request_in(
+    names: &OwnNames,
+    bytes: &[u8],
+    spans: &RequestSpans,
+    fields: &[HeaderSpan],
+) -> PageRequest
+    ensures { Shows names.now bytes.now spans.now fields.now result }
+{
+    let host = sole(bytes, fields, b"host");
+    let origin = sole(bytes, fields, b"origin");
+    let token = sole(bytes, fields, b"x-station-token");
+    let coding = sole(bytes, fields, b"transfer-encoding");
+    let count = sole(bytes, fields, b"content-length");
+    PageRequest {
+        method: method_of(text_at(bytes, spans.method)),
+        path: path_of(text_at(bytes, spans.path)),
+        has_own_host: names.is_own_host(host),
+        is_foreign: is_foreign(host, origin),
+        has_token: names.is_own_token(token),
+        body: announced(coding, count),
+    }
+}
+
+/// A field of a head.
+#[derive(Clone, Copy)]
+enum Field<'a> {
+    /// The head does not have it.
+    Missing,
+    /// The head has it once, with this value.
+    One(&'a [u8]),
+    /// The head has it more than once.
+    Several,
+}
+
+/// The field of a name.
+fn sole<'a>(bytes: &'a [u8], fields: &[HeaderSpan], name: &[u8]) -> Field<'a>
+    ensures { view_field result ≡ found_in bytes.entry.now name.now fields.now }
+{
+    let mut found = Field::Missing;
+    for field in fields {
+        found = found_at(bytes, name, found, field);
+    }
+    found
+}
+
+/// What was found so far of a field, and with one field more.
+fn found_at<'a>(bytes: &'a [u8], name: &[u8], found: Field<'a>, field: &HeaderSpan) -> Field<'a>
+    ensures { view_field result ≡ found_at bytes.entry.now name.now (view_field found.entry) field.now }
+{
+    if !is_named(text_at(bytes, field.name), name) {
+        return found;
+    }
+    match found {
+        Field::Missing => Field::One(text_at(bytes, field.value)),
+        _ => Field::Several,
+    }
+}
+
+/// Whether a field has this name, whatever the case of its letters.
+///
+/// RFC 9110, section 5.1.
+fn is_named(name: &[u8], other: &[u8]) -> bool
+    ensures { result ≡ is_named name.now other.now }
+{
+    name.eq_ignore_ascii_case(other)
+}
+
+/// Whether a page at another host makes a request.
+fn is_foreign(host: Field<'_>, origin: Field<'_>) -> bool
+    ensures { result ≡ is_foreign (view_field host.entry) (view_field origin.entry) }
+{
+    match (host, origin) {
+        (_, Field::Missing) => false,
+        (Field::One(host), Field::One(origin)) => !is_from_host(origin, host),
+        _ => true,
+    }
+}
+
+/// The body that a head with these fields announces.
+///
+/// RFC 9112, section 6.
+fn announced(coding: Field<'_>, count: Field<'_>) -> Body
+    ensures { Announces (view_field coding.entry) (view_field count.entry) result }
+{
+    match (coding, count) {
+        (Field::Missing, Field::Missing) => Body::Empty,
+        (Field::Missing, Field::One(digits)) => body_in(digits),
+        _ => Body::Bad,
+    }
+}
+
+/// The body of a length in digits. What is no text is no length.
+fn body_in(digits: &[u8]) -> Body
+    ensures { IsUtf8 digits.now → result ≡ body_of digits.now }
+{
+    match str::from_utf8(digits) {
+        Ok(digits) => body_of(digits),
+        Err(_) => Body::Bad,
+    }
+}
+
+/// The bytes of a span.
+fn text_at(bytes: &[u8], span: Span) -> &[u8]
+    ensures { result.now ≡ text_at bytes.entry.now span }
+{
+    if span.start <= span.end && span.end <= bytes.len() {
+        span.of(bytes)
+    } else {
+        &[]
+    }
+}

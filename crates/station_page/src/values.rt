@@ -1,0 +1,94 @@
+//! What the words of a request's head say.
+
+ghost use Rattle.std.specs.Prelude.{◌≡◌};
+ghost use Rattle.station_page.specs.Values.{body_of, body_with, is_from_host, method_of, path_of};
+
+use crate::request::{Body, Method, PagePath};
+use trace_words::read_u64;
+
+/// A call has at most so many bytes: the digits of the longest point, and the words before them.
+const LONGEST_CALL: u64 = 4_096;
+
+/// The paths of the page, of its event stream, of calls, of the record and of its capture file.
+const PAGE_PATH: &[u8] = b"/";
+
+const EVENTS_PATH: &[u8] = b"/events";
+
+const CALL_PATH: &[u8] = b"/call";
+
+const RECORD_PATH: &[u8] = b"/record";
+
+const CAPTURE_PATH: &[u8] = b"/record.pcap";
+
+/// What stands before the host in the origin of a page.
+const SCHEME: &[u8] = b"http://";
+
+/// The method of a word.
+pub fn method_of(word: &[u8]) -> Method
+    ensures { result ≡ method_of word.now }
+{
+    match word {
+        b"GET" => Method::Get,
+        b"POST" => Method::Post,
+        _ => Method::Other,
+    }
+}
+
+/// What a path names.
+pub fn path_of(path: &[u8]) -> PagePath
+    ensures { result ≡ path_of path.now }
+{
+    if path == PAGE_PATH {
+        return PagePath::Page;
+    }
+    if path == EVENTS_PATH {
+        return PagePath::Events;
+    }
+    if path == CALL_PATH {
+        return PagePath::Call;
+    }
+    if path == RECORD_PATH {
+        return PagePath::Record;
+    }
+    if path == CAPTURE_PATH {
+        return PagePath::Capture;
+    }
+    PagePath::Unknown
+}
+
+/// The body of a length in digits.
+///
+/// RFC 9110, section 8.6.
+pub fn body_of(digits: &str) -> Body
+    ensures { result ≡ body_of digits.now }
+{
+    match read_u64(digits) {
+        Some(count) => body_with(count),
+        None => Body::Bad,
+    }
+}
+
+/// A body of so many bytes.
+fn body_with(count: u64) -> Body
+    ensures { result ≡ body_with count }
+{
+    if count == 0 {
+        return Body::Empty;
+    }
+    if count > LONGEST_CALL {
+        return Body::TooLong;
+    }
+    Body::Bytes(count as usize)
+}
+
+/// Whether an origin is that of the page at a host.
+///
+/// RFC 6454, section 7.
+pub fn is_from_host(origin: &[u8], host: &[u8]) -> bool
+    ensures { result ≡ is_from_host origin.now host.now }
+{
+    match origin.split_at_checked(SCHEME.len()) {
+        Some((scheme, rest)) => scheme == SCHEME && rest == host,
+        None => false,
+    }
+}

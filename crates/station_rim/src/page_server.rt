@@ -1,0 +1,205 @@
+//! The page of a station, which threads of its own serve. A station waits for none of them.
+
+use crate::inbox::SharedInput;
+use crate::page_talk::{refuse_at_once, talk};
+use cip_types::OutOfMemory;
+use page_feed::{FeedEnd, PageEnd, page_place};
+use station_page::{Allowed, OwnNames, PageRefusal};
+use std::alloc::Global;
+use std::fs::File;
+use std::net::{TcpListener, TcpStream};
+use std::rt::{Clock, Files};
+use std::sync::{Arc, Condvar, Mutex, Wait};
+use std::thread;
+use std::time::Duration;
+
+/// So many threads serve browsers, one at a time each.
+pub const PAGE_THREADS: usize = 8;
+
+/// Where a page is served, and what it allows.
+#[derive(Drop)]
+pub struct PageSetting {
+    pub listener: TcpListener,
+    pub names: OwnNames,
+    pub allowed: Allowed,
+    /// What an event stream begins with.
+    pub greeting: String,
+    /// The name of the record's first file.
+    pub record: Option<String>,
+}
+
+/// What the threads of a page share.
+#[derive(Drop)]
+pub(crate) struct Desk {
+    pub(crate) alloc: Global,
+    pub(crate) names: OwnNames,
+    pub(crate) allowed: Allowed,
+    pub(crate) greeting: String,
+    pub(crate) record: Option<String>,
+    pub(crate) texts: PageEnd,
+    pub(crate) input: SharedInput,
+}
+
+/// A desk that several threads use.
+type SharedDesk = Arc<Desk, Global>;
+
+/// A browser that is to be served.
+#[derive(Drop)]
+struct Visit {
+    desk: SharedDesk,
+    stream: TcpStream,
+}
+
+/// The threads that wait for a browser, and the browsers for which one of them waits.
+#[derive(Drop)]
+struct Visits {
+    idle: usize,
+    visits: Vec<Visit>,
+}
+
+/// The places where a page's threads find its setting, and the browsers.
+#[derive(Drop)]
+struct PageOpening {
+    setting: Mutex<Option<PageSetting>>,
+    more: Condvar,
+    visits: Mutex<Visits>,
+    came: Condvar,
+}
+
+/// The page of a station, before and while it is served.
+#[derive(Drop)]
+pub struct SharedPage {
+    alloc: Global,
+    opening: Arc<PageOpening, Global>,
+    texts: PageEnd,
+}
+
+impl SharedPage {
+    /// A page that is not served. OutOfMemory is the only fault.
+    pub fn new(alloc: Global) -> Result<SharedPage, OutOfMemory> {
+        let opening = PageOpening {
+            setting: Mutex::new(None),
+            more: Condvar::new(),
+            visits: Mutex::new(Visits {
+                idle: 0,
+                visits: Vec::new(alloc),
+            }),
+            came: Condvar::new(),
+        };
+        let texts = page_place(alloc)?;
+        match Arc::new(alloc, opening) {
+            Ok(opening) => Ok(SharedPage {
+                alloc,
+                opening,
+                texts,
+            }),
+            Err(_) => Err(OutOfMemory),
+        }
+    }
+
+    /// The same page, for another thread. OutOfMemory is the only fault.
+    pub fn share(&self) -> Result<SharedPage, OutOfMemory> {
+        let texts = self.texts.share()?;
+        match Arc::try_clone(&self.opening) {
+            Ok(opening) => Ok(SharedPage {
+                alloc: self.alloc,
+                opening,
+                texts,
+            }),
+            Err(_) => Err(OutOfMemory),
+        }
+    }
+
+    /// The end at which a station tells its page. OutOfMemory is the only fault.
+    pub fn feed_end(&self) -> Result<FeedEnd, OutOfMemory> {
+        self.texts.feed_end()
+    }
+
+    /// Begins to serve.
+    pub fn open<R: Wait>(&self, rt: &R, setting: PageSetting) {
+        *self.opening.setting.lock(rt) = Some(setting);
+        self.opening.more.notify_one();
+    }
+
+    /// Accepts browsers without end, once the page is open, for the threads that serve them. An extra browser is refused.
+    pub fn accept<R: Wait + Clock>(&self, rt: &R, input: SharedInput) {
+        let Some((listener, desk)) = self.desk(rt, input) else {
+            return;
+        };
+        for _ in rt.forever() {
+            match listener.accept() {
+                Ok((stream, _)) => {
+                    if let Some(stream) = self.hand(rt, &desk, stream) {
+                        refuse_at_once(stream, PageRefusal::Busy);
+                    }
+                }
+                // (as where too many files are open)
+                Err(_) => thread::sleep(rt, Duration::from_millis(10)),
+            }
+        }
+    }
+
+    /// Serves browsers without end, one at a time.
+    pub fn serve<R>(&self, rt: &R)
+    where
+        R: Wait + Clock + AllocGlobal + Files<File = File>,
+    {
+        for _ in rt.forever() {
+            if let Some(visit) = self.next_visit(rt) {
+                talk(rt, &visit.desk, visit.stream);
+            }
+        }
+    }
+
+    /// Waits for the setting of the page: its listener, and what its threads share. None without memory.
+    fn desk<R: Wait>(&self, rt: &R, input: SharedInput) -> Option<(TcpListener, SharedDesk)> {
+        let setting = self.setting(rt)?;
+        let desk = Desk {
+            alloc: self.alloc,
+            names: setting.names,
+            allowed: setting.allowed,
+            greeting: setting.greeting,
+            record: setting.record,
+            texts: self.texts.share().ok()?,
+            input,
+        };
+        let desk = Arc::new(self.alloc, desk).ok()?;
+        Some((setting.listener, desk))
+    }
+
+    /// Hands a browser to a thread that waits for one. Gives it back if none does.
+    fn hand<R: Wait>(&self, rt: &R, desk: &SharedDesk, stream: TcpStream) -> Option<TcpStream> {
+        let mut visits = self.opening.visits.lock(rt);
+        if visits.visits.len() >= visits.idle || visits.visits.reserve(1).is_err() {
+            return Some(stream);
+        }
+        let Ok(desk) = Arc::try_clone(desk) else {
+            return Some(stream);
+        };
+        let _ = visits.visits.push(Visit { desk, stream });
+        self.opening.came.notify_one();
+        None
+    }
+
+    /// Waits for a browser.
+    fn next_visit<R: Wait>(&self, rt: &R) -> Option<Visit> {
+        let mut visits = self.opening.visits.lock(rt);
+        visits.idle = visits.idle.saturating_add(1);
+        let mut visits = self
+            .opening
+            .came
+            .wait_while(rt, visits, |visits| visits.visits.is_empty());
+        visits.idle = visits.idle.saturating_sub(1);
+        visits.visits.pop()
+    }
+
+    /// Waits for the setting of the page.
+    fn setting<R: Wait>(&self, rt: &R) -> Option<PageSetting> {
+        let setting = self.opening.setting.lock(rt);
+        let mut setting = self
+            .opening
+            .more
+            .wait_while(rt, setting, |setting| setting.is_none());
+        setting.take()
+    }
+}

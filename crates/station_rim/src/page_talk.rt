@@ -1,0 +1,263 @@
+//! What is said to one browser. Each read and each write has a time, and so has the whole request.
+
+use crate::page_calls::is_page_call;
+use crate::page_files::{send_capture, send_record};
+use crate::page_server::Desk;
+use cip_types::OutOfMemory;
+use station_page::{
+    Body, PAGE, PageAnswer, PageRefusal, PageRequest, RequestReading, answer_to, head_of,
+    read_request,
+};
+use std::alloc::AllocError;
+use std::fs::File;
+use std::io::{ErrorKind, Read, Write};
+use std::net::{Shutdown, TcpStream};
+use std::rt::{Clock, Files};
+use std::sync::Wait;
+use std::time::{Duration, Instant};
+
+/// A request has at most so many bytes, its body included.
+const MOST_BYTES: usize = 12_288;
+
+/// A request is to arrive within so many milliseconds.
+const REQUEST_MS: u64 = 3_000;
+
+/// A write waits at most so long for a browser that does not read, in milliseconds.
+const WRITE_MS: u64 = 3_000;
+
+/// A browser that is refused unheard has so many milliseconds to say why it came.
+const UNHEARD_MS: u64 = 20;
+
+/// An event stream says at least so often that it is there, in milliseconds.
+const BEAT_MS: u64 = 1_000;
+
+/// A read takes at most so many bytes.
+const CHUNK_BYTES: usize = 2_048;
+
+/// Why a request is not answered as it asks.
+#[derive(Clone, Copy, PartialEq, Eq)]
+pub(crate) enum Unheard {
+    /// It is refused.
+    Refused(PageRefusal),
+    /// The browser has left.
+    Left,
+}
+
+impl From<OutOfMemory> for Unheard {
+    fn from(_refused: OutOfMemory) -> Unheard {
+        Unheard::Refused(PageRefusal::Busy)
+    }
+}
+
+impl From<AllocError> for Unheard {
+    fn from(_refused: AllocError) -> Unheard {
+        Unheard::Refused(PageRefusal::Busy)
+    }
+}
+
+/// Reads a request of a browser, and answers it.
+pub(crate) fn talk<R>(rt: &R, desk: &Desk, stream: TcpStream)
+where
+    R: Wait + Clock + AllocGlobal + Files<File = File>,
+{
+    let mut stream = stream;
+    let _ = stream.set_nodelay(true);
+    let _ = stream.set_write_timeout(Some(Duration::from_millis(WRITE_MS)));
+    let mut bytes = Vec::new(desk.alloc);
+    let answered = match read_whole(rt, desk, &mut stream, &mut bytes) {
+        Ok((request, head)) => answer(rt, desk, &mut stream, &bytes, request, head),
+        Err(unheard) => Err(unheard),
+    };
+    if let Err(Unheard::Refused(refusal)) = answered {
+        let _ = stream.write_all(head_of(PageAnswer::Refused(refusal)).as_bytes());
+    }
+    close(&stream);
+}
+
+/// Reads until a head is whole, and behind it the body that it announces.
+fn read_whole<R: Clock>(
+    rt: &R,
+    desk: &Desk,
+    stream: &mut TcpStream,
+    bytes: &mut Vec<u8>,
+) -> Result<(PageRequest, usize), Unheard> {
+    let Ok(begin) = Instant::now(rt) else {
+        return Err(Unheard::Left);
+    };
+    for _ in 0..u64::MAX {
+        match read_request(bytes.as_slice(), &desk.names) {
+            RequestReading::Whole(request, head) if is_whole(request, head, bytes.len()) => {
+                return Ok((request, head));
+            }
+            RequestReading::Bad => return Err(Unheard::Refused(PageRefusal::Bad)),
+            _ => {}
+        }
+        if bytes.len() >= MOST_BYTES {
+            return Err(Unheard::Refused(PageRefusal::TooLarge));
+        }
+        read_more(rt, begin, stream, bytes)?;
+    }
+    Err(Unheard::Left)
+}
+
+/// Whether the body that a head announces has arrived. One that is refused is not waited for.
+fn is_whole(request: PageRequest, head: usize, arrived: usize) -> bool {
+    match request.body {
+        Body::Bytes(count) => head.saturating_add(count) <= arrived,
+        _ => true,
+    }
+}
+
+/// Reads what there is, until the request's time is over.
+fn read_more<R: Clock>(
+    rt: &R,
+    begin: Instant,
+    stream: &mut TcpStream,
+    bytes: &mut Vec<u8>,
+) -> Result<(), Unheard> {
+    let Ok(now) = Instant::now(rt) else {
+        return Err(Unheard::Left);
+    };
+    let passed = now.saturating_duration_since(begin);
+    let left = Duration::from_millis(REQUEST_MS).saturating_sub(passed);
+    if left.is_zero() || stream.set_read_timeout(Some(left)).is_err() {
+        return Err(Unheard::Refused(PageRefusal::Late));
+    }
+    let mut chunk = [0u8; CHUNK_BYTES];
+    match stream.read(&mut chunk) {
+        Ok(0) => Err(Unheard::Left),
+        Ok(count) => match bytes.extend_from_slice(chunk.get(..count).unwrap_or(&[])) {
+            Ok(()) => Ok(()),
+            Err(_) => Err(Unheard::Refused(PageRefusal::Busy)),
+        },
+        Err(error) => match error.kind() {
+            ErrorKind::Interrupted => Ok(()),
+            ErrorKind::WouldBlock | ErrorKind::TimedOut => Err(Unheard::Refused(PageRefusal::Late)),
+            _ => Err(Unheard::Left),
+        },
+    }
+}
+
+/// Answers a request.
+fn answer<R>(
+    rt: &R,
+    desk: &Desk,
+    stream: &mut TcpStream,
+    bytes: &[u8],
+    request: PageRequest,
+    head: usize,
+) -> Result<(), Unheard>
+where
+    R: Wait + Clock + AllocGlobal + Files<File = File>,
+{
+    let answer = answer_to(request, desk.allowed);
+    match answer {
+        PageAnswer::Page => {
+            send(stream, head_of(answer).as_bytes())?;
+            send(stream, PAGE.as_bytes())
+        }
+        PageAnswer::Events => {
+            send(stream, head_of(answer).as_bytes())?;
+            desk.texts.watch();
+            let sent = send_events(rt, desk, stream);
+            desk.texts.leave();
+            sent
+        }
+        PageAnswer::Call(count) => {
+            let body = bytes.get(head..).unwrap_or(&[]);
+            hand_on(rt, desk, body.get(..count).unwrap_or(&[]))?;
+            send(stream, head_of(answer).as_bytes())
+        }
+        PageAnswer::Record => send_record(rt, desk, stream),
+        PageAnswer::Capture => send_capture(rt, desk, stream),
+        PageAnswer::Refused(refusal) => Err(Unheard::Refused(refusal)),
+    }
+}
+
+/// Sends bytes whole.
+pub(crate) fn send(stream: &mut TcpStream, bytes: &[u8]) -> Result<(), Unheard> {
+    match stream.write_all(bytes) {
+        Ok(()) => Ok(()),
+        Err(_) => Err(Unheard::Left),
+    }
+}
+
+/// Sends each new snapshot, as long as the browser reads.
+fn send_events<R: Wait + Clock>(
+    rt: &R,
+    desk: &Desk,
+    stream: &mut TcpStream,
+) -> Result<(), Unheard> {
+    let greeting = desk.greeting.as_bytes();
+    send(stream, b"event: station\ndata: ")?;
+    send(stream, greeting)?;
+    send(stream, b"\n\n")?;
+    let mut number = desk.texts.number(rt);
+    // (a station that waits for its peers makes a turn, and with it a snapshot)
+    desk.input.wake(rt);
+    let mut text = Vec::new(desk.alloc);
+    for _ in rt.forever() {
+        text.clear();
+        let came = next_event(rt, desk, number, &mut text)?;
+        if came == number {
+            send(stream, b":\n\n")?;
+        } else {
+            send(stream, text.as_slice())?;
+        }
+        number = came;
+    }
+    Ok(())
+}
+
+/// Waits for the snapshot behind the one of this number, and writes it as an event. Answers its number.
+fn next_event<R: Wait + Clock>(
+    rt: &R,
+    desk: &Desk,
+    number: u64,
+    text: &mut Vec<u8>,
+) -> Result<u64, Unheard> {
+    text.extend_from_slice(b"data: ")?;
+    let came = desk.texts.wait_for(rt, number, BEAT_MS, text)?;
+    text.extend_from_slice(b"\n\n")?;
+    Ok(came)
+}
+
+/// Hands a call on to the station, as if it was typed.
+fn hand_on<R: Wait>(rt: &R, desk: &Desk, call: &[u8]) -> Result<(), Unheard> {
+    if !is_page_call(desk.alloc, call)? {
+        return Err(Unheard::Refused(PageRefusal::Bad));
+    }
+    let mut line = Vec::from_slice(desk.alloc, call)?;
+    line.extend_from_slice(b"\n")?;
+    if desk.input.offer(rt, line.as_slice()) {
+        Ok(())
+    } else {
+        Err(Unheard::Refused(PageRefusal::Busy))
+    }
+}
+
+/// Refuses a browser whose request is not read to its end.
+pub(crate) fn refuse_at_once(stream: TcpStream, refusal: PageRefusal) {
+    let mut stream = stream;
+    let mut unread = [0u8; 1_024];
+    let unheard = Some(Duration::from_millis(UNHEARD_MS));
+    if stream.set_read_timeout(unheard).is_err() || stream.set_write_timeout(unheard).is_err() {
+        return;
+    }
+    let _ = stream.read(&mut unread);
+    let _ = stream.write_all(head_of(PageAnswer::Refused(refusal)).as_bytes());
+    let _ = stream.shutdown(Shutdown::Write);
+}
+
+/// Ends a stream so that the browser gets what was written, though not all of its request may be read.
+fn close(stream: &TcpStream) {
+    let mut unread = [0u8; 1_024];
+    let _ = stream.shutdown(Shutdown::Write);
+    let _ = stream.set_read_timeout(Some(Duration::from_millis(UNHEARD_MS)));
+    for _ in 0..4 {
+        match (&mut &*stream).read(&mut unread) {
+            Ok(count) if count > 0 => {}
+            _ => return,
+        }
+    }
+}

@@ -1,0 +1,255 @@
+"""The live page of a station: who gets it, what it takes, and that it slows no device."""
+
+import contextlib, json, os, re, socket, struct, subprocess, time
+from rim.host import holds, need, run, sure, until, wait
+from rim.outputs import LARGE, devices_go_on
+from rim.peers import Originator
+
+PORT = 8044
+HOST = f"127.0.0.1:{PORT}"
+TOKEN = re.compile(rf"eip_station: page at http://127\.0\.0\.1:{PORT}/#([0-9a-f]{{32}})")
+BUSY, LATE, MOST = 503, 408, 8
+
+
+def connected(bench):
+    """A stream to the page."""
+    with bench.network.inside("adapter"):
+        stream = bench.later(socket.create_connection(("127.0.0.1", PORT), 5))
+    stream.settimeout(8)
+    return stream
+
+
+def told(stream):
+    """All that a stream tells until it ends."""
+    text = b""
+    with contextlib.suppress(OSError):
+        while got := stream.recv(65536):
+            text += got
+    return text
+
+
+def asked(bench, method="GET", path="/", host=HOST, body=b"", **fields):
+    """The status and the body of an answer."""
+    head = [f"{method} {path} HTTP/1.1", *([f"Host: {host}"] if host else [])]
+    head += [f"{name.replace('_', '-')}: {value}" for name, value in fields.items()]
+    if body or method == "POST":
+        head.append(f"Content-Length: {len(body)}")
+    stream = connected(bench)
+    stream.sendall(("\r\n".join(head) + "\r\n\r\n").encode() + body)
+    answer = told(stream)
+    stream.close()
+    return status_of(answer), answer.partition(b"\r\n\r\n")[2]
+
+
+def status_of(answer):
+    found = re.match(rb"HTTP/1\.1 (\d{3}) ", answer)
+    return int(found[1]) if found else None
+
+
+class Events:
+    """The event stream of a page, which is read as far as it is asked for."""
+
+    def __init__(self, bench):
+        self.stream = connected(bench)
+        self.stream.sendall(f"GET /events HTTP/1.1\r\nHost: {HOST}\r\n\r\n".encode())
+        self.text = b""
+
+    def next(self, wanted=lambda snapshot: True, seconds=5.0):
+        """The next snapshot of which this holds; None if none comes, or the stream ends."""
+        end = time.monotonic() + seconds
+        while time.monotonic() < end:
+            front, found, rest = self.text.partition(b"\n\n")
+            if not found:
+                if not (got := self.stream.recv(65536)):
+                    return None
+                self.text += got
+                continue
+            self.text = rest
+            if front.startswith(b"data: ") and wanted(snapshot := json.loads(front[6:])):
+                return snapshot
+        return None
+
+
+def output(snapshot, point=150):
+    return next(it for it in snapshot["outputs"] if it["point"] == point)
+
+
+def run_page(bench):
+    """The page of an adapter, which takes no call."""
+    adapter = bench.adapter("--page", str(PORT), log="page")
+    status, page = asked(bench)
+    sure(status == 200 and page.startswith(b"<!doctype html>"), f"--page {PORT}: the page is served ({len(page)} bytes)")
+    links = re.findall(rb"https?://|src=|@import|url\(", page)
+    sure(not links, f"nothing of it comes from elsewhere {links}")
+    need(asked(bench, host=f"localhost:{PORT}")[0] == 200, "localhost is a name of the page")
+    strangers = [asked(bench, host=host)[0] for host in ("evil.example", f"evil.example:{PORT}", "127.0.0.1", HOST + "0", "")]
+    strangers += [asked(bench, path="/events", Origin=origin)[0] for origin in ("http://evil.example", "null", f"https://{HOST}")]
+    sure(set(strangers) == {403}, f"another Host, and a page of another origin, are refused: {strangers}")
+    need(status_of_two_hosts(bench) == 403, "two Hosts are refused")
+    told_so = [asked(bench, path="/nothing")[0], asked(bench, path="/record")[0], asked(bench, "DELETE")[0], asked(bench, "POST")[0],
+               asked(bench, path="/call")[0], asked(bench, body=b"x")[0], asked(bench, Content_Length="x")[0],
+               asked(bench, Cookie="x" * 20000)[0], garbage(bench)]
+    sure(told_so == [404, 404, 405, 405, 405, 400, 400, 413, 400], f"what is no request of the page is refused: {told_so}")
+    calls = [asked(bench, "POST", "/call", body=b"write 100 01020304", X_Station_Token=token)[0] for token in ("", "0" * 32)]
+    events = Events(bench)
+    need(events.next(), "the event stream begins")
+    need(calls == [403, 403], f"a call is refused without --page-writes: {calls}")
+    owner = Originator(bench)
+    feeder = bench.later(owner.feed(owner.open(), "11223344"))
+    run_state(events, lambda it: it["bytes"] == "11223344" and it["owner"] and it["owner"]["mode"] == "run", "runs")
+    adapter.call("write 100 0a0b0c0d")
+    until(lambda: events.next()["inputs"][0]["bytes"] == "0a0b0c0d", "an input that the application writes is shown")
+    words = [it["words"] for it in events.next()["events"]]
+    sure(any("Forward_Open" in it for it in words) and any("writes point 100" in it for it in words), "the last events are told in words")
+    feeder.stop()
+    run_state(events, lambda it: it["owner"] is None and it["bytes"] == "00000000", "is lost")
+    need(not any("01020304" in line for line in adapter.lines()), "no call reached the device")
+    sure(adapter.end() == 0, "a call is refused without --page-writes, and the adapter ends with status 0")
+
+
+def run_state(events, holds_of, what):
+    found = events.next(lambda snapshot: holds_of(output(snapshot)))
+    sure(found, f"the page shows that the owner of output 150 {what}")
+
+
+def status_of_two_hosts(bench):
+    stream = connected(bench)
+    stream.sendall(f"GET / HTTP/1.1\r\nHost: {HOST}\r\nHost: {HOST}\r\n\r\n".encode())
+    return status_of(told(stream))
+
+
+def garbage(bench):
+    stream = connected(bench)
+    stream.sendall(b"\x16\x03\x01\x02\x00\x01\r\n\r\n")
+    return status_of(told(stream))
+
+
+def run_page_writes(bench):
+    """The calls of a page, and its record."""
+    trace = bench.file("paged.trace")
+    adapter = bench.adapter("--page", str(PORT), "--page-writes", "--record", trace, log="page_writes")
+    wait(lambda: any(TOKEN.fullmatch(line) for line in adapter.said()), "the token is printed")
+    token = next(found[1] for found in map(TOKEN.fullmatch, adapter.said()) if found)
+    call = lambda body, **fields: asked(bench, "POST", "/call", body=body, **fields)[0]
+    wrong = [call(b"write 100 01010101"), call(b"write 100 01010101", X_Station_Token=token[:-1]),
+             call(b"write 100 01010101", X_Station_Token=token.upper() if token.upper() != token else "0" * 32),
+             call(b"write 100 01010101", X_Station_Token=token, Origin="http://evil.example"),
+             call(b"write 100 01010101", X_Station_Token=token, host="evil.example")]
+    sure(set(wrong) == {403}, f"a call without the right token, or of another page, is refused: {wrong}")
+    bad = [call(body, X_Station_Token=token) for body in
+           (b"read 100", b"status", b"write 100 0", b"write 100 01020304\nwrite 100 05060708", b"tick 1", b"\xff\xfe", b"")]
+    bad += [call(b"write 100 01020304", X_Station_Token=token, **field) for field in ({"Transfer_Encoding": "chunked"}, {"Content_Length": "18"})]
+    sure(set(bad) == {400}, f"what is no such call is refused, nor is one in chunks or of two lengths taken: {bad}")
+    need(call(b"write 100 " + b"0" * 5000, X_Station_Token=token) == 413, "a long one is refused")
+    before, count = len(adapter.lines()), 5
+    os.write(adapter.process.stdin.fileno(), b"write 100 ")
+    taken = [call(f"write 100 0000000{at}".encode(), X_Station_Token=token) for at in range(count)]
+    need(taken == [204] * count, f"calls with the token are taken: {taken}")
+    wait(lambda: len(adapter.lines()) >= before + count, "the calls of the page are performed")
+    os.write(adapter.process.stdin.fileno(), b"0a0b0c0d\n")
+    watch = Originator(bench)
+    until(lambda: watch.read(100) == "0a0b0c0d", "calls with the token are performed, between whole lines of the input")
+    said = [line for line in adapter.said() if "no call" in line]
+    need(not said, f"each line is whole, and not {said}")
+    run_downloads(bench, trace)
+    sure(adapter.end() == 0, "the adapter ends with status 0")
+    bench.clear()
+    run_no_input(bench)
+
+
+def run_no_input(bench):
+    """A service without an input takes the calls of its page."""
+    adapter = bench.adapter("--page", str(PORT), "--page-writes", "--no-input", "--seconds", "8", log="page_alone")
+    wait(lambda: any(TOKEN.fullmatch(line) for line in adapter.said()), "the token is printed")
+    token = next(found[1] for found in map(TOKEN.fullmatch, adapter.said()) if found)
+    need(asked(bench, "POST", "/call", body=b"write 100 0c0d0e0f", X_Station_Token=token)[0] == 204, "the call is taken")
+    watch = Originator(bench)
+    until(lambda: watch.read(100) == "0c0d0e0f", "--no-input --page-writes: a station without an input takes the calls of its page")
+    bench.clear()
+
+
+def run_downloads(bench, trace):
+    status, record = asked(bench, path="/record")
+    with open(trace, "rb") as file:
+        need(status == 200 and file.read().startswith(record) and b"write 100" in record, "the record is handed out as it is so far")
+    path = bench.file("handed.trace")
+    with open(path, "wb") as file:
+        file.write(record[:record.rfind(b"\n") + 1])
+    need(run(bench.program, "replay", path).returncode == 0, "it replays")
+    status, capture = asked(bench, path="/record.pcap")
+    sure(status == 200 and capture[:4] == bytes.fromhex("d4c3b2a1"), "the record and its capture file are handed out while it is written")
+
+
+def run_slow_browsers(bench):
+    """Browsers that read nothing, send half a request, or come in crowds, and a device with large points."""
+    bench.write("large.profile", LARGE)
+    adapter = bench.adapter("--page", str(PORT), "--record", bench.file("slow.trace"), profile="large", log="slow_page")
+    unread = [Events(bench) for _ in range(3)]
+    for it in unread:
+        it.stream.setsockopt(socket.SOL_SOCKET, socket.SO_RCVBUF, 4096)
+    half = [connected(bench) for _ in range(MOST - len(unread))]
+    for it in half:
+        it.sendall(b"GET / HTTP/1.1\r\nHost: 127.")
+    time.sleep(0.3)
+    refused = asked(bench)[0]
+    need(refused == BUSY, f"a ninth browser is refused, and not {refused}")
+    begin = time.monotonic()
+    devices_go_on(bench, adapter, "browsers read nothing and send half a request", ["read 101"] * 200)
+    late = {status_of(told(it)) for it in half}
+    seconds = time.monotonic() - begin
+    sure(late == {LATE} and seconds < 6, f"eight browsers are served at once, the ninth has status {refused}; half a request has status "
+         f"{late} within {seconds:.1f} s")
+    for it in unread:
+        it.stream.close()
+    run_unread_record(bench, adapter)
+    crowd(bench)
+    devices_go_on(bench, adapter, "after a crowd of browsers", ["read 101"] * 20)
+    until(lambda: asked(bench)[0] == 200, "the page is served again", 10)
+    need(adapter.end() == 0, "the adapter ends with status 0")
+    bench.clear()
+
+
+def run_unread_record(bench, adapter):
+    """Eight browsers ask for a record that is longer than what the system keeps for them, and read nothing."""
+    long = f"write 101 {os.urandom(1400).hex()}"
+    for _ in range(8):
+        adapter.call(*[long] * 200)
+        wait(lambda: bool(adapter.lines()), "the calls are taken")
+    wait(lambda: os.path.getsize(bench.file("slow.trace")) > 4_000_000, "the record grows")
+    time.sleep(1.2)  # (a station notices at the next snapshot that a browser has left)
+    unread = [connected(bench) for _ in range(MOST)]
+    for it in unread:
+        it.sendall(f"GET /record HTTP/1.1\r\nHost: {HOST}\r\n\r\n".encode())
+    begin = time.monotonic()
+    time.sleep(0.3)
+    refused = asked(bench)[0]
+    need(refused == BUSY, f"all of them are served, and not {refused}")
+    devices_go_on(bench, adapter, "eight browsers do not read the record", ["read 101"] * 20)
+    wait(lambda: asked(bench)[0] == 200, "others are served again", 10)
+    holds(f"browsers that read nothing lose their streams: another one is served after {time.monotonic() - begin:.1f} s")
+    need(len(unread) == MOST, "they have not closed their ends")
+
+
+def crowd(bench):
+    """Browsers that come one behind another, and leave at once, or with a reset."""
+    for turn in range(300):
+        stream = connected(bench)
+        if turn % 3:
+            stream.sendall(b"GET / HTTP/1.1\r\n" if turn % 2 else os.urandom(300))
+        if turn % 5 == 0:
+            stream.setsockopt(socket.SOL_SOCKET, socket.SO_LINGER, struct.pack("ii", 1, 0))
+        stream.close()
+    holds("300 browsers came and left")
+
+
+def run_page_port(bench):
+    """The port of a page is in use, or no port."""
+    with bench.network.inside("adapter"):
+        taken = bench.later(socket.socket())
+        taken.setsockopt(socket.SOL_SOCKET, socket.SO_REUSEADDR, 1)
+        taken.bind(("127.0.0.1", PORT))
+        taken.listen()
+    words = [bench.program, "adapter", bench.file("adapter.profile"), "--page", str(PORT)]
+    done = run(*bench.network.at("adapter"), *words, stdin=subprocess.DEVNULL, timeout=20)
+    lines = [line for line in done.stderr.decode().splitlines() if "page" in line]
+    sure(done.returncode == 5 and len(lines) == 1 and "in use" in lines[0], f"a page's port in use: status {done.returncode}, {lines}")
