@@ -299,8 +299,8 @@ static inline uint32_t eip_next_wake(eip_device *device, uint32_t *ms)
  * What the device knows now. These calls take no memory, and change nothing: neither the device nor the answer that it
  * keeps. With any other status than EIP_DONE nothing is written. */
 
-/* Writes who owns an adapter's output, in which mode it is, and how old its newest data are: EIP_DONE; EIP_NO_CONNECTION if
- * nobody owns it, and at a scanner; EIP_NULL. */
+/* Writes the owner of an adapter's output, its mode and the age of its newest data: EIP_DONE; EIP_NO_CONNECTION if no
+ * connection owns it, and at a scanner; EIP_NULL. */
 static inline uint32_t eip_owner(eip_device *device, uint32_t output, eip_connection_state *connection)
 {
     if (!device || !device->at || !connection)

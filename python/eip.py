@@ -691,7 +691,7 @@ class Device:
     # States
 
     def owner(self, output: int) -> Optional[Connection]:
-        """Who owns an adapter's output. None if nobody does, and at a scanner. Changes nothing."""
+        """The owner of an adapter's output. None if no connection owns it, and at a scanner. Changes nothing."""
         return self._connection(self._calls.eip_c_owner, _number(output, 0xFFFFFFFF, "output"))
 
     def connection(self, place: int) -> Optional[Connection]:
