@@ -221,6 +221,7 @@ def run_pause(bench):
     wait(lambda: any(line.endswith("output 150 00000000") for line in adapter.lines()), "the owner of before the pause times out")
     feeder.stop()
     fed(bench, "0a0b0c0d")
+    wait(lambda: any(line.endswith("output 150 0a0b0c0d") for line in adapter.lines()), "the data of the next owner are printed")
     passed = time_of(adapter)
     sure(70_000 <= passed <= 70_010 + 1000 * (time.monotonic() - begin), f"a pause of 70 s is given to the device whole: {passed} ms")
     need(adapter.end() == 0, "the adapter ends with status 0")
