@@ -87,6 +87,8 @@ older moments schedules eventless grow names older_law configs moves more early 
         was_chronicle = was.chronicle;
         now_chronicle = last.chronicle;
         moments = two;
+        acts_are = refl;
+        more_are = grown.acts_are;
         was_is = was.story_is;
         now_is = last.story_is;
         new_are = new;

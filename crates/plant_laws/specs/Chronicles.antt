@@ -1,5 +1,5 @@
 -- Stories of a plant as schedules of lives, with their chronicles: so each law over schedules is a law over lives.
-use Rattle.std.specs.Prelude.{◌≡◌, ◌≤◌, ℕ, List, None, Some, length}
+use Rattle.std.specs.Prelude.{◌≡◌, ◌≤◌, ℕ, List, ◌++◌, None, Some, length}
 use Rattle.std.specs.List.{AllByRecursion}
 use Rattle.cip_tables.specs.declared.table.Config.{Config}
 use Rattle.segment_world.specs.Configs.{world_fault}
@@ -38,6 +38,8 @@ pub record ArePlantMoments (early now : PlantStory) : Type 0 where
   pub was_chronicle : Chronicle
   pub now_chronicle : Chronicle
   pub moments : AreMoments now.plant.configs was_chronicle now_chronicle
+  pub acts_are : moments.early ≡ early.acts
+  pub more_are : now.acts ≡ early.acts ++ moments.late
   pub was_is : was_chronicle.story ≡ record { world = with_later later early.plant.world; reported = early.reported }
   pub now_is : now_chronicle.story ≡ record { world = now.plant.world; reported = now.reported }
   pub new_are : (life : ℕ) → length early.plant.configs ≤ life → IsNew was_chronicle life
