@@ -18,6 +18,7 @@ use Rattle.scanner_table.specs.declared.report.TargetReport.{TargetReport}
 use Rattle.station_lines.specs.declared.points.EventMoment.{EventMoment}
 use Rattle.station_lines.specs.declared.points.PointKind.{PointKind}
 use Rattle.station_lines.specs.declared.points.PointKind.TheVariants.{Output, Image}
+use Rattle.station_lines.specs.declared.points.SlotTerms.{SlotTerms}
 use Rattle.station_lines.specs.declared.points.WatchedPoint.{WatchedPoint}
 use Rattle.station_watch.specs.Traffic.{TrafficSeen}
 use Rattle.datagram_counts.specs.declared.counts.DatagramCounts.{DatagramCounts}
@@ -139,6 +140,20 @@ owner_text (Some owner) = node_word owner.peer ++ (codes " " ++ (mode_word owner
 abbrev pub owner_line : EventMoment → ℕ → Option ConnectionReport → List ℕ
 owner_line at point owner = point_head at (codes "owner ") point ++ (owner_text owner ++ codes "\n")
 
+-- the configuration that the path of a slot's connection names; a dash for none
+abbrev pub config_text : Option ℕ → List ℕ
+config_text (Some instance) = decimal instance
+config_text None = codes "-"
+
+-- kind and points of a slot's connection
+abbrev pub slot_kind_text : SlotTerms → List ℕ
+slot_kind_text terms =
+    codes " " ++ (kind_word terms.kind ++ (codes " " ++ (decimal terms.consumed ++ (codes " " ++ (decimal terms.produced ++ codes " config ")))))
+
+-- target, kind, points and configuration
+abbrev pub terms_text : SlotTerms → List ℕ
+terms_text terms = node_word terms.target ++ (slot_kind_text terms ++ (config_text terms.config ++ codes " "))
+
 -- an established slot by its packet intervals and the age of its data
 abbrev pub target_text : TargetReport → List ℕ
 target_text target = codes "established" ++ (apis_text target.o_t_api_ms target.t_o_api_ms ++ age_text target.age)
@@ -150,18 +165,18 @@ slot_state (slot.Established target) = target_text target
 slot_state slot.TimedOut = codes "timed-out"
 slot_state slot.Closing = codes "closing"
 
-abbrev pub slot_line : EventMoment → ℕ → SlotReport → DatagramCounts → List ℕ
-slot_line at number report counts = point_head at (codes "slot ") number ++ (slot_state report ++ counts_text counts)
+abbrev pub slot_line : EventMoment → ℕ → SlotTerms → SlotReport → DatagramCounts → List ℕ
+slot_line at number terms report counts = point_head at (codes "slot ") number ++ (terms_text terms ++ (slot_state report ++ counts_text counts))
 
-abbrev pub slot_of : EventMoment → ℕ → Option SlotReport → Option CountedConnection → List ℕ
-slot_of at number None counted = []
-slot_of at number (Some report) None = []
-slot_of at number (Some report) (Some counted) = slot_line at number report counted.counts
+abbrev pub slot_of : EventMoment → ℕ → SlotTerms → Option SlotReport → Option CountedConnection → List ℕ
+slot_of at number terms None counted = []
+slot_of at number terms (Some report) None = []
+slot_of at number terms (Some report) (Some counted) = slot_line at number terms report counted.counts
 
 -- the owner of an output, or the state of a slot
 abbrev pub point_status : EventMoment → DeviceTable → List CountedConnection → ℕ → PointKind → List ℕ
 point_status at table connections point Output = owner_line at point (owner_in table point)
-point_status at table connections point Image = slot_of at point (slot_in table point) (slice_get connections point)
+point_status at table connections point (Image terms) = slot_of at point terms (slot_in table point) (slice_get connections point)
 
 abbrev pub points_status : EventMoment → DeviceTable → List CountedConnection → List WatchedPoint → List ℕ
 points_status at table connections [] = []

@@ -1,24 +1,41 @@
 //! The points whose changes a station prints: the outputs of an adapter, the images of a scanner's slots.
 
-ghost use Rattle.std.specs.Prelude.{◌≡◌, ◌++◌, map, OnOk, string_bytes};
+ghost use Rattle.std.specs.Prelude.{◌≡◌, ◌++◌, map, IfOk, OnOk, string_bytes};
 ghost use Rattle.cip_tables.specs.Step.{bytes_in};
-ghost use Rattle.station_lines.specs.Points.{change_of, change_text, changes_text, held_point, point_line, word_of};
+ghost use Rattle.station_lines.specs.Points.{change_of, change_text, changes_text, held_point, point_line, terms_of, watched_output, watched_point, watched_points, watched_slot, watched_slots, word_of};
 ghost use Rattle.station_lines.specs.Status.{status_text};
 
 use crate::status::push_status;
-use cip_tables::{Config, Device};
-use cip_types::{Items, OutOfMemory};
+use cip_tables::{Config, Device, Kind, OutputPoint, SlotConfig};
+use cip_types::{Items, Node, OutOfMemory};
 use station_watch::StationTraffic;
 use std::alloc::Global;
 use trace_words::push_last_bytes;
+
+/// What the profile says of the connection that a slot keeps open.
+///
+/// Volume 1, chapter 3, connection path.
+#[derive(Clone, Copy, PartialEq, Eq)]
+pub struct SlotTerms {
+    /// The adapter that the scanner connects to.
+    pub target: Node,
+    /// The application connection type.
+    pub kind: Kind,
+    /// The point that the target consumes into.
+    pub consumed: u32,
+    /// The point that the target produces from.
+    pub produced: u32,
+    /// The target's configuration, if the path names one.
+    pub config: Option<u32>,
+}
 
 /// A kind of point.
 #[derive(Clone, Copy, PartialEq, Eq)]
 pub enum PointKind {
     /// An output of an adapter.
     Output,
-    /// The image of a scanner's slot.
-    Image,
+    /// The image of a scanner's slot, which keeps such a connection open.
+    Image(SlotTerms),
 }
 
 /// When points changed: behind the event of this number, at this time in milliseconds.
@@ -43,22 +60,15 @@ pub struct Points {
 }
 
 impl Points {
-    /// The outputs of an adapter, or the images of a scanner: at first each is zeros.
-    pub fn of(alloc: Global, config: &Config) -> Result<Points, OutOfMemory> {
-        let mut points = Vec::new(alloc);
-        match config {
-            Config::Adapter(profile) => {
-                for output in profile.outputs.as_slice() {
-                    points.push(zeros(alloc, PointKind::Output, output.instance, output.len)?)?;
-                }
-            }
-            Config::Scanner(profile) => {
-                for (slot, config) in profile.slots.as_slice().iter().enumerate() {
-                    let point = u32::try_from(slot).unwrap_or(u32::MAX);
-                    points.push(zeros(alloc, PointKind::Image, point, config.in_len)?)?;
-                }
-            }
-        }
+    /// The outputs of an adapter, or the images of a scanner's slots, in the order of the profile: at first each is zeros.
+    /// OutOfMemory is the only fault.
+    pub fn of(alloc: Global, config: &Config) -> Result<Points, OutOfMemory>
+        ensures { IfOk result (λ made. made.points.items ≡ watched_points config.now) }
+    {
+        let points = match config {
+            Config::Adapter(profile) => watch_outputs(alloc, profile.outputs.as_slice())?,
+            Config::Scanner(profile) => watch_slots(alloc, profile.slots.as_slice())?,
+        };
         Ok(Points { points })
     }
 
@@ -96,14 +106,63 @@ impl Points {
     }
 }
 
+/// The outputs of an adapter.
+fn watch_outputs(alloc: Global, outputs: &[OutputPoint]) -> Result<Vec<WatchedPoint>, OutOfMemory>
+    ensures { IfOk result (λ points. points.items ≡ map watched_output outputs.now) }
+{
+    let mut points = Vec::new(alloc);
+    for output in outputs {
+        points.push(watch_output(alloc, output)?)?;
+    }
+    Ok(points)
+}
+
+/// An output of an adapter.
+fn watch_output(alloc: Global, output: &OutputPoint) -> Result<WatchedPoint, OutOfMemory>
+    ensures { IfOk result (λ watched. watched ≡ watched_output output.now) }
+{
+    zeros(alloc, PointKind::Output, output.instance, output.len)
+}
+
+/// The images of a scanner's slots.
+fn watch_slots(alloc: Global, slots: &[SlotConfig]) -> Result<Vec<WatchedPoint>, OutOfMemory>
+    ensures { IfOk result (λ points. points.items ≡ watched_slots slots.now) }
+{
+    let mut points = Vec::new(alloc);
+    let count = u32::try_from(slots.len()).unwrap_or(u32::MAX);
+    for number in 0..count {
+        if let Some(slot) = slots.get(number as usize) {
+            points.push(watch_slot(alloc, number, slot)?)?;
+        }
+    }
+    Ok(points)
+}
+
+/// The image of a slot.
+fn watch_slot(alloc: Global, number: u32, slot: &SlotConfig) -> Result<WatchedPoint, OutOfMemory>
+    ensures { IfOk result (λ watched. watched ≡ watched_slot number slot.now) }
+{
+    zeros(alloc, PointKind::Image(terms_of(slot)), number, slot.in_len)
+}
+
+/// What the profile says of a slot's connection.
+fn terms_of(slot: &SlotConfig) -> SlotTerms
+    ensures { result ≡ terms_of slot.now }
+{
+    SlotTerms {
+        target: slot.target,
+        kind: slot.kind,
+        consumed: slot.consumed,
+        produced: slot.produced,
+        config: slot.config,
+    }
+}
+
 /// A point of zeros.
-fn zeros(
-    alloc: Global,
-    kind: PointKind,
-    point: u32,
-    len: u64,
-) -> Result<WatchedPoint, OutOfMemory> {
-    let len = usize::try_from(len).unwrap_or(0);
+fn zeros(alloc: Global, kind: PointKind, point: u32, len: u64) -> Result<WatchedPoint, OutOfMemory>
+    ensures { IfOk result (λ watched. watched ≡ watched_point kind point len) }
+{
+    let len = len as usize;
     Ok(WatchedPoint {
         kind,
         point,
@@ -216,6 +275,6 @@ fn word_of(kind: PointKind) -> &'static str
 {
     match kind {
         PointKind::Output => "output",
-        PointKind::Image => "image",
+        PointKind::Image(_) => "image",
     }
 }

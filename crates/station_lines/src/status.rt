@@ -2,9 +2,9 @@
 
 ghost use Rattle.std.specs.Prelude.{◌≡◌, ◌++◌, OnOk, slice_get, string_bytes};
 ghost use Rattle.cip_tables.specs.States.{connection_in, totals_of};
-ghost use Rattle.station_lines.specs.Status.{age_text, apis_text, connection_at, connection_head, connection_line, connection_lines, counts_text, id_text, kind_word, mode_word, moment_text, owner_line, owner_text, point_head, point_status, points_status, purpose_text, slot_line, slot_of, slot_state, state_word, status_lines, status_text, target_text, totals_line};
+ghost use Rattle.station_lines.specs.Status.{age_text, apis_text, config_text, connection_at, connection_head, connection_line, connection_lines, counts_text, id_text, kind_word, mode_word, moment_text, owner_line, owner_text, point_head, point_status, points_status, purpose_text, slot_kind_text, slot_line, slot_of, slot_state, state_word, status_lines, status_text, target_text, terms_text, totals_line};
 
-use crate::points::{EventMoment, PointKind, WatchedPoint};
+use crate::points::{EventMoment, PointKind, SlotTerms, WatchedPoint};
 use cip_tables::{
     Age, ConnectionReport, Device, DeviceTotals, Kind, Mode, SlotReport, TargetReport,
 };
@@ -15,7 +15,7 @@ use station_watch::{CountedConnection, StationTraffic, TrafficTotals};
 use trace_words::{push_digits, push_node, push_text};
 
 /// Appends the lines of a device's state: one of its totals, then one for each connection of an adapter in the order of the
-/// openings, then one for each of these points: the owner of an output, the state of a slot.
+/// openings, then one for each of these points: the owner of an output, the connection and the state of a slot.
 pub(crate) fn push_status<D: Device>(
     out: &mut String,
     device: &D,
@@ -241,7 +241,7 @@ fn push_points<D: Device>(
     Ok(())
 }
 
-/// Appends the line of a point: the owner of an output, or the state of a slot.
+/// Appends the line of a point: the owner of an output, or the connection and the state of a slot.
 fn push_point<D: Device>(
     out: &mut String,
     device: &D,
@@ -255,7 +255,9 @@ fn push_point<D: Device>(
     let point = watched.point;
     match watched.kind {
         PointKind::Output => push_owner(out, point, device.owner(point), at),
-        PointKind::Image => push_slot_of(out, point, device.slot(point), connections, at),
+        PointKind::Image(terms) => {
+            push_slot_of(out, point, terms, device.slot(point), connections, at)
+        }
     }
 }
 
@@ -306,12 +308,13 @@ fn push_owner_text(out: &mut String, owner: Option<ConnectionReport>) -> Result<
 fn push_slot_of(
     out: &mut String,
     slot: u32,
+    terms: SlotTerms,
     report: Option<SlotReport>,
     connections: &[CountedConnection],
     at: EventMoment,
 ) -> Result<(), OutOfMemory>
     ensures { OnOk result (string_bytes out.new ≡ string_bytes out.old
-        ++ slot_of at slot report (slice_get connections.now slot)) }
+        ++ slot_of at slot terms report (slice_get connections.now slot)) }
 {
     let Some(report) = report else {
         return Ok(());
@@ -319,23 +322,58 @@ fn push_slot_of(
     let Some(counted) = connections.get(slot as usize) else {
         return Ok(());
     };
-    push_slot(out, slot, report, counted.counts, at)
+    push_slot(out, slot, terms, report, counted.counts, at)
 }
 
 /// Appends the line of a slot.
 fn push_slot(
     out: &mut String,
     slot: u32,
+    terms: SlotTerms,
     report: SlotReport,
     counts: DatagramCounts,
     at: EventMoment,
 ) -> Result<(), OutOfMemory>
-    ensures { OnOk result (string_bytes out.new ≡ string_bytes out.old ++ slot_line at slot report counts) }
+    ensures { OnOk result (string_bytes out.new ≡ string_bytes out.old ++ slot_line at slot terms report counts) }
 {
     push_point_head(out, "slot ", slot, at)?;
+    push_terms(out, terms)?;
     push_slot_state(out, report)?;
     push_counts(out, counts)?;
     Ok(())
+}
+
+/// Appends what the profile says of a slot's connection: its target, kind, points and configuration.
+fn push_terms(out: &mut String, terms: SlotTerms) -> Result<(), OutOfMemory>
+    ensures { OnOk result (string_bytes out.new ≡ string_bytes out.old ++ terms_text terms) }
+{
+    push_node(out, terms.target)?;
+    push_slot_kind(out, terms)?;
+    push_config(out, terms.config)?;
+    push_text(out, " ")?;
+    Ok(())
+}
+
+/// Appends the kind and the points of a slot's connection.
+fn push_slot_kind(out: &mut String, terms: SlotTerms) -> Result<(), OutOfMemory>
+    ensures { OnOk result (string_bytes out.new ≡ string_bytes out.old ++ slot_kind_text terms) }
+{
+    let (kind, consumed, produced) = (kind_word(terms.kind), terms.consumed, terms.produced);
+    write!(out, " {kind} {consumed} {produced} config ")?;
+    Ok(())
+}
+
+/// Appends the configuration that a path names; a dash for none.
+fn push_config(out: &mut String, config: Option<u32>) -> Result<(), OutOfMemory>
+    ensures { OnOk result (string_bytes out.new ≡ string_bytes out.old ++ config_text config) }
+{
+    match config {
+        Some(instance) => {
+            write!(out, "{instance}")?;
+            Ok(())
+        }
+        None => push_text(out, "-"),
+    }
 }
 
 /// Appends the state of a slot; of an established one the packet intervals and the age of its data too.
