@@ -1,14 +1,16 @@
--- Points in a snapshot, as JSON (RFC 8259): the outputs and inputs of an adapter, the images of a scanner's slots.
-use Rattle.std.specs.Prelude.{ℕ, List, [], ◌∷◌, ◌++◌, codes, decimal, flat_map, Option, Some, None}
+-- Points in a snapshot, as JSON (RFC 8259): the outputs and inputs of an adapter, the images and outputs of a scanner's slots.
+use Rattle.std.specs.Prelude.{ℕ, List, [], ◌∷◌, ◌++◌, codes, decimal, flat_map, slice_get, Option, Some, None}
 use Rattle.adapter_table.specs.declared.profile.InputPoint.{InputPoint}
 use Rattle.adapter_table.specs.declared.profile.OutputPoint.{OutputPoint}
 use Rattle.adapter_table.specs.declared.report.ConsumerCounts.{ConsumerCounts}
 use Rattle.cip_tables.specs.declared.table.DeviceTable.{DeviceTable}
+use Rattle.cip_tables.specs.declared.table.DeviceTable.TheVariants.{Adapter, Scanner}
 use Rattle.cip_tables.specs.States.{consumers_in, owner_in, slot_in}
 use Rattle.cip_tables.specs.Step.{bytes_in}
 use Rattle.cip_types.specs.declared.names.Node.{Node}
 use Rattle.scanner_table.specs.declared.report.SlotReport.{SlotReport}
 use Rattle.scanner_table.specs.declared.report.SlotReport.TheVariants.{Idle}
+use Rattle.scanner_table.specs.declared.slot.Slot.{Slot}
 use Rattle.trace_words.specs.Words.{bytes_word, node_word}
 use Rattle.page_feed.specs.Connections.{owner_text, state_text}
 
@@ -51,7 +53,22 @@ abbrev pub inputs_text : DeviceTable → List InputPoint → List ℕ
 inputs_text table [] = []
 inputs_text table (input ∷ inputs) = input_text table input ++ flat_map (λ other. codes "," ++ input_text table other) inputs
 
--- a slot: its number, its target, its image, its state
+-- THE SLOTS OF A SCANNER
+
+-- the slots of a table; an adapter has none
+abbrev pub slots_in : DeviceTable → List Slot
+slots_in (Adapter t) = []
+slots_in (Scanner t) = t.slots
+
+-- the bytes that a slot sends: none, if there is no such slot or it sends no data
+abbrev pub sent_by : Option Slot → List ℕ
+sent_by (Some slot) = slot.output
+sent_by None = []
+
+abbrev pub output_at : List Slot → ℕ → List ℕ
+output_at slots number = sent_by (slice_get slots number)
+
+-- a slot: its number, its target, its image, its output, its state
 abbrev pub slot_state : Option SlotReport → SlotReport
 slot_state (Some report) = report
 slot_state None = Idle
@@ -60,10 +77,14 @@ abbrev pub slot_head : ℕ → Node → List ℕ
 slot_head number target = codes "{\"slot\":" ++ (decimal number ++ (codes ",\"target\":\"" ++ node_word target))
 
 abbrev pub slot_image : DeviceTable → ℕ → List ℕ
-slot_image table number = codes "\",\"bytes\":\"" ++ (bytes_text table number ++ codes "\",\"state\":")
+slot_image table number = codes "\",\"bytes\":\"" ++ bytes_text table number
+
+abbrev pub slot_output : List ℕ → List ℕ
+slot_output output = codes "\",\"output\":\"" ++ (bytes_word output ++ codes "\",\"state\":")
 
 abbrev pub slot_end : SlotReport → List ℕ
 slot_end report = state_text report ++ codes "}"
 
-abbrev pub slot_text : DeviceTable → ℕ → Node → List ℕ
-slot_text table number target = slot_head number target ++ (slot_image table number ++ slot_end (slot_state (slot_in table number)))
+abbrev pub slot_text : DeviceTable → ℕ → Node → List ℕ → List ℕ
+slot_text table number target output =
+    slot_head number target ++ (slot_image table number ++ (slot_output output ++ slot_end (slot_state (slot_in table number))))

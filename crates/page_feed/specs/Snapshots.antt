@@ -10,10 +10,11 @@ use Rattle.cip_tables.specs.declared.totals.DeviceTotals.{DeviceTotals}
 use Rattle.cip_tables.specs.States.{connection_in, totals_of}
 use Rattle.cip_types.specs.declared.names.Node.{Node}
 use Rattle.scanner_table.specs.declared.profile.SlotConfig.{SlotConfig}
+use Rattle.scanner_table.specs.declared.slot.Slot.{Slot}
 use Rattle.page_feed.specs.Connections.{connection_text}
 use Rattle.page_feed.specs.declared.facts.StationFacts.{StationFacts}
 use Rattle.page_feed.specs.Facts.{counts_text, moment_text}
-use Rattle.page_feed.specs.Points.{inputs_text, outputs_text, slot_text}
+use Rattle.page_feed.specs.Points.{inputs_text, output_at, outputs_text, slot_text, slots_in}
 
 -- what stands before the one at a place
 abbrev pub separator : ℕ → List ℕ
@@ -51,26 +52,31 @@ adapter_text outputs inputs table = all_outputs outputs table ++ (all_inputs inp
 -- THE SLOTS OF A SCANNER
 
 -- a slot behind those before
-abbrev pub placed_slot : DeviceTable → ℕ → Node → List ℕ
-placed_slot table number target = separator number ++ slot_text table number target
+abbrev pub placed_slot : DeviceTable → ℕ → Node → List ℕ → List ℕ
+placed_slot table number target output = separator number ++ slot_text table number target output
 
-abbrev pub slot_with : DeviceTable → ℕ → Option SlotConfig → List ℕ
-slot_with table number (Some slot) = placed_slot table number slot.target
-slot_with table number None = []
+abbrev pub slot_with : DeviceTable → ℕ → Option SlotConfig → List ℕ → List ℕ
+slot_with table number (Some slot) output = placed_slot table number slot.target output
+slot_with table number None output = []
 
-abbrev pub slot_at_text : List SlotConfig → DeviceTable → ℕ → List ℕ
-slot_at_text slots table number = slot_with table number (slice_get slots number)
+-- the slot of a number, of these profiles and of these slots of the table
+abbrev pub slot_at_text : List SlotConfig → List Slot → DeviceTable → ℕ → List ℕ
+slot_at_text configs slots table number = slot_with table number (slice_get configs number) (output_at slots number)
 
 -- the slots of numbers below this one
-abbrev pub slots_below : List SlotConfig → DeviceTable → ℕ → List ℕ
-slots_below slots table zero = []
-slots_below slots table (suc number) = slots_below slots table number ++ slot_at_text slots table number
+abbrev pub slots_below : List SlotConfig → List Slot → DeviceTable → ℕ → List ℕ
+slots_below configs slots table zero = []
+slots_below configs slots table (suc number) = slots_below configs slots table number ++ slot_at_text configs slots table number
 
-abbrev pub slots_text : List SlotConfig → DeviceTable → List ℕ
-slots_text slots table = slots_below slots table (min (length slots) (2 ^ 32 - 1))
+abbrev pub slots_text : List SlotConfig → List Slot → DeviceTable → List ℕ
+slots_text configs slots table = slots_below configs slots table (min (length configs) (2 ^ 32 - 1))
 
+abbrev pub array_text : List SlotConfig → List Slot → DeviceTable → List ℕ
+array_text configs slots table = codes ",\"slots\":[" ++ (slots_text configs slots table ++ codes "]")
+
+-- its slots, with the outputs of the table
 abbrev pub scanner_text : List SlotConfig → DeviceTable → List ℕ
-scanner_text slots table = codes ",\"slots\":[" ++ (slots_text slots table ++ codes "]")
+scanner_text configs table = array_text configs (slots_in table) table
 
 -- THE WHOLE
 

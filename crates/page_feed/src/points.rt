@@ -1,14 +1,14 @@
-//! Points in a snapshot: the outputs and inputs of an adapter, the images of a scanner's slots.
+//! Points in a snapshot: the outputs and inputs of an adapter, the images and outputs of a scanner's slots.
 
 ghost use Rattle.std.specs.Prelude.{◌≡◌, ◌++◌, OnOk, string_bytes, flat_map, codes};
 ghost use Rattle.cip_tables.specs.States.{slot_in};
-ghost use Rattle.page_feed.specs.Points.{bytes_text, consumers_text, input_text, inputs_text, output_text, outputs_text, slot_end, slot_head, slot_image, slot_state, slot_text};
+ghost use Rattle.page_feed.specs.Points.{bytes_text, consumers_text, input_text, inputs_text, output_at, output_text, outputs_text, slot_end, slot_head, slot_image, slot_output, slot_state, slot_text, slots_in};
 
 use crate::connections::{push_owner, push_state};
 use adapter_table::{ConsumerCounts, InputPoint, OutputPoint};
-use cip_tables::Device;
+use cip_tables::{Device, DeviceTable};
 use cip_types::{Node, OutOfMemory};
-use scanner_table::SlotReport;
+use scanner_table::{Slot, SlotReport};
 use trace_words::{push_bytes, push_node, push_text};
 
 /// Appends the bytes that a device has at a point; a dash for none.
@@ -129,18 +129,40 @@ fn push_more_inputs<D: Device>(
     Ok(())
 }
 
-/// Appends a slot: its number, its target, its image, its state.
+/// The slots of a scanner's table. An adapter has none.
+pub fn slots_in(table: &DeviceTable) -> &[Slot]
+    ensures { result.now ≡ slots_in table.now }
+{
+    match table {
+        DeviceTable::Scanner(table) => table.slots.as_slice(),
+        DeviceTable::Adapter(_) => &[],
+    }
+}
+
+/// The bytes that the slot of a number sends: none, if there is no such slot or it sends no data.
+pub fn output_at(slots: &[Slot], number: u32) -> &[u8]
+    ensures { result.now ≡ output_at slots.now number }
+{
+    match slots.get(number as usize) {
+        Some(slot) => slot.output.as_slice(),
+        None => &[],
+    }
+}
+
+/// Appends a slot: its number, its target, its image, its output, its state.
 pub fn push_slot<D: Device>(
     out: &mut String,
     device: &D,
     number: u32,
     target: Node,
+    output: &[u8],
 ) -> Result<(), OutOfMemory>
     ensures { OnOk result (string_bytes out.new ≡ string_bytes out.old
-        ++ slot_text (D.table device.now) number target) }
+        ++ slot_text (D.table device.now) number target output.now) }
 {
     push_slot_head(out, number, target)?;
     push_slot_image(out, device, number)?;
+    push_slot_output(out, output)?;
     push_slot_end(out, device, number)?;
     Ok(())
 }
@@ -159,8 +181,17 @@ fn push_slot_image<D: Device>(out: &mut String, device: &D, number: u32) -> Resu
         ++ slot_image (D.table device.now) number) }
 {
     push_text(out, "\",\"bytes\":\"")?;
-    push_point_bytes(out, device, number)?;
-    push_text(out, "\",\"state\":")
+    push_point_bytes(out, device, number)
+}
+
+/// Appends the output of a slot; a dash for none.
+fn push_slot_output(out: &mut String, output: &[u8]) -> Result<(), OutOfMemory>
+    ensures { OnOk result (string_bytes out.new ≡ string_bytes out.old ++ slot_output output.now) }
+{
+    push_text(out, "\",\"output\":\"")?;
+    push_bytes(out, output)?;
+    push_text(out, "\",\"state\":")?;
+    Ok(())
 }
 
 /// Appends the state of a slot, and the end of the object.

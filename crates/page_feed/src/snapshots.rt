@@ -2,15 +2,15 @@
 
 ghost use Rattle.std.specs.Prelude.{◌≡◌, ◌++◌, OnOk, string_bytes};
 ghost use Rattle.cip_tables.specs.States.{totals_of};
-ghost use Rattle.page_feed.specs.Snapshots.{adapter_text, all_inputs, all_outputs, connection_at_text, connections_below, connections_text, device_text, parts_text, placed_slot, scanner_text, separator, slot_at_text, slots_text, totals_text};
+ghost use Rattle.page_feed.specs.Snapshots.{adapter_text, all_inputs, all_outputs, array_text, connection_at_text, connections_below, connections_text, device_text, parts_text, placed_slot, scanner_text, separator, slot_at_text, slots_text, totals_text};
 
 use crate::connections::push_connection;
 use crate::facts::{StationFacts, push_counts, push_moment};
-use crate::points::{push_inputs, push_outputs, push_slot};
+use crate::points::{output_at, push_inputs, push_outputs, push_slot, slots_in};
 use adapter_table::{InputPoint, OutputPoint};
 use cip_tables::{Config, Device, DeviceTotals};
 use cip_types::{Node, OutOfMemory};
-use scanner_table::SlotConfig;
+use scanner_table::{Slot, SlotConfig};
 use trace_words::push_text;
 
 /// An adapter has at most so many connections.
@@ -137,32 +137,47 @@ fn separator(place: u32) -> &'static str
     if place == 0 { "" } else { "," }
 }
 
-/// Appends the slots of a scanner.
+/// Appends the slots of a scanner. Their outputs are those of a copy of its table, since a device reads out images alone.
 fn push_scanner<D: Device>(
     out: &mut String,
-    slots: &[SlotConfig],
+    configs: &[SlotConfig],
     device: &D,
 ) -> Result<(), OutOfMemory>
     ensures { OnOk result (string_bytes out.new ≡ string_bytes out.old
-        ++ scanner_text slots.now (D.table device.now)) }
+        ++ scanner_text configs.now (D.table device.now)) }
+{
+    let copy = device.copy()?;
+    push_array(out, configs, slots_in(copy.table()), device)
+}
+
+/// Appends the slots of a scanner, as an array.
+fn push_array<D: Device>(
+    out: &mut String,
+    configs: &[SlotConfig],
+    slots: &[Slot],
+    device: &D,
+) -> Result<(), OutOfMemory>
+    ensures { OnOk result (string_bytes out.new ≡ string_bytes out.old
+        ++ array_text configs.now slots.now (D.table device.now)) }
 {
     push_text(out, ",\"slots\":[")?;
-    push_slots(out, slots, device)?;
+    push_slots(out, configs, slots, device)?;
     push_text(out, "]")
 }
 
 /// Appends each slot.
 fn push_slots<D: Device>(
     out: &mut String,
-    slots: &[SlotConfig],
+    configs: &[SlotConfig],
+    slots: &[Slot],
     device: &D,
 ) -> Result<(), OutOfMemory>
     ensures { OnOk result (string_bytes out.new ≡ string_bytes out.old
-        ++ slots_text slots.now (D.table device.now)) }
+        ++ slots_text configs.now slots.now (D.table device.now)) }
 {
-    let count = u32::try_from(slots.len()).unwrap_or(u32::MAX);
+    let count = u32::try_from(configs.len()).unwrap_or(u32::MAX);
     for number in 0..count {
-        push_slot_at(out, slots, device, number)?;
+        push_slot_at(out, configs, slots, device, number)?;
     }
     Ok(())
 }
@@ -170,15 +185,17 @@ fn push_slots<D: Device>(
 /// Appends the slot of a number, behind those before.
 fn push_slot_at<D: Device>(
     out: &mut String,
-    slots: &[SlotConfig],
+    configs: &[SlotConfig],
+    slots: &[Slot],
     device: &D,
     number: u32,
 ) -> Result<(), OutOfMemory>
     ensures { OnOk result (string_bytes out.new ≡ string_bytes out.old
-        ++ slot_at_text slots.now (D.table device.now) number) }
+        ++ slot_at_text configs.now slots.now (D.table device.now) number) }
 {
-    match slots.get(number as usize) {
-        Some(slot) => push_placed_slot(out, device, number, slot.target),
+    let output = output_at(slots, number);
+    match configs.get(number as usize) {
+        Some(slot) => push_placed_slot(out, device, number, slot.target, output),
         None => Ok(()),
     }
 }
@@ -189,12 +206,13 @@ fn push_placed_slot<D: Device>(
     device: &D,
     number: u32,
     target: Node,
+    output: &[u8],
 ) -> Result<(), OutOfMemory>
     ensures { OnOk result (string_bytes out.new ≡ string_bytes out.old
-        ++ placed_slot (D.table device.now) number target) }
+        ++ placed_slot (D.table device.now) number target output.now) }
 {
     push_text(out, separator(number))?;
-    push_slot(out, device, number, target)
+    push_slot(out, device, number, target, output)
 }
 
 /// Appends how much of a device is in use.

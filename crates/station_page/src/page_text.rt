@@ -161,10 +161,13 @@ function ownerOf(output, snapshot) {
   return made;
 }
 
-function pointRow(kind, point, bytes, says) {
+function pointRow(kind, point, bytes, says, name = point) {
   const values = bytesOf(bytes);
-  return [kind, point, hexOf(values, point), bitsOf(values), numbersOf(values), says];
+  return [kind, point, hexOf(values, name), bitsOf(values), numbersOf(values), says];
 }
+
+// the name of what a slot sends, beside that of its image
+function outputOf(it) { return `${it.slot} out`; }
 
 function consumersOf(input) {
   return `${input.exclusive_owners} exclusive, ${input.input_only} input only, ${input.listen_only} listen only`;
@@ -174,7 +177,10 @@ function renderPoints(snapshot) {
   const rows = [];
   for (const it of snapshot.outputs || []) rows.push(pointRow('output', it.point, it.bytes, ownerOf(it, snapshot)));
   for (const it of snapshot.inputs || []) rows.push(pointRow('input', it.point, it.bytes, consumersOf(it)));
-  for (const it of snapshot.slots || []) rows.push(pointRow('image', it.slot, it.bytes, it.target));
+  for (const it of snapshot.slots || []) {
+    rows.push(pointRow('image', it.slot, it.bytes, `from ${it.target}`));
+    if (it.output !== '-') rows.push(pointRow('output', it.slot, it.output, `to ${it.target}`, outputOf(it)));
+  }
   show('points', table(['', 'point', 'bytes', 'bits', 'numbers of 16 bits', 'owner, consumers, target'], rows));
 }
 
@@ -220,16 +226,16 @@ function keepEvents(events) {
 // THE CHART
 
 function pointsOf(snapshot) {
-  return [...(snapshot.outputs || []), ...(snapshot.inputs || []), ...(snapshot.slots || [])];
+  const points = [...(snapshot.outputs || []), ...(snapshot.inputs || [])].map((it) => [it.point, it.bytes]);
+  const slots = (snapshot.slots || []).flatMap((it) => [[it.slot, it.bytes], [outputOf(it), it.output]]);
+  return [...points, ...slots];
 }
 
 function takeSample(snapshot, before) {
   const seconds = before ? (snapshot.ms - before.ms) / 1000 : 0;
   const rate = (name) => seconds > 0 ? (snapshot.counts[name] - before.counts[name]) / seconds : 0;
   const values = {};
-  for (const it of pointsOf(snapshot)) {
-    bytesOf(it.bytes).forEach((byte, at) => { values[`${it.point ?? it.slot}:${at}`] = byte; });
-  }
+  for (const [name, bytes] of pointsOf(snapshot)) bytesOf(bytes).forEach((byte, at) => { values[`${name}:${at}`] = byte; });
   samples.push({ ms: snapshot.ms, received: rate('received'), sent: rate('sent'), lost: rate('lost'), values });
   samples = samples.filter((it) => it.ms > snapshot.ms - KEPT_MS && it.ms <= snapshot.ms);
 }
