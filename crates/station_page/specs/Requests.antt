@@ -1,4 +1,5 @@
--- What the head of a request asks for and shows (RFC 9112, sections 2 to 5; RFC 9110, sections 5.1 and 7.2).
+-- What the head of a request asks for and shows (RFC 9112, sections 2 to 5; RFC 9110, sections 5.1 and 7.2; W3C Fetch Metadata
+-- Request Headers, section 2.3).
 use Rattle.std.specs.Prelude.{◌≡◌, ℕ, ◌&&◌, ◌||◌, not, nat_le, nat_lt, bytes_eq, map, if◌then◌else◌, Bool, true, false, List, [], ◌∷◌, ◌++◌, length, take, slice_range, string_bytes, codes, decimal, IsUtf8, ⊤}
 use Rattle.std.specs.Char.{to_ascii_lowercase}
 use Rattle.cip_types.specs.declared.names.Node.{Node}
@@ -15,7 +16,7 @@ use Rattle.station_page.specs.declared.requests.Field.TheVariants as field
 use Rattle.station_page.specs.declared.requests.OwnNames.{OwnNames}
 use Rattle.station_page.specs.declared.requests.RequestReading.{RequestReading}
 use Rattle.station_page.specs.declared.requests.RequestReading.TheVariants as reading
-use Rattle.station_page.specs.Values.{body_of, is_from_host, method_of, path_of}
+use Rattle.station_page.specs.Values.{body_of, is_from_host, is_other_site, method_of, path_of}
 
 -- FIELDS
 
@@ -78,11 +79,21 @@ abbrev pub is_own_token : OwnNames → Found → Bool
 is_own_token names (One token) = is_token names token
 is_own_token names other = false
 
--- another page makes the request: it has an origin, and not that of its host
-abbrev pub is_foreign : Found → Found → Bool
-is_foreign host Missing = false
-is_foreign (One host) (One origin) = not (is_from_host origin host)
-is_foreign host origin = true
+-- the request has an origin, and not that of its host
+abbrev pub has_other_origin : Found → Found → Bool
+has_other_origin host Missing = false
+has_other_origin (One host) (One origin) = not (is_from_host origin host)
+has_other_origin host origin = true
+
+-- its browser says that a page of another site makes it, or another page of this host
+abbrev pub is_of_other_site : Found → Bool
+is_of_other_site Missing = false
+is_of_other_site (One site) = is_other_site site
+is_of_other_site Several = true
+
+-- another page makes the request
+abbrev pub is_foreign : Found → Found → Found → Bool
+is_foreign host origin site = has_other_origin host origin || is_of_other_site site
 
 -- The body of a head with these fields of its coding and of its length: one that is coded, or has two lengths, is bad. A length is
 -- read as text.
@@ -97,7 +108,7 @@ pub record Shows (names : OwnNames) (bytes : List ℕ) (spans : RequestSpans) (f
   pub way : request.method ≡ method_of (text_at bytes spans.method)
   pub place : request.path ≡ path_of (text_at bytes spans.path)
   pub host : request.has_own_host ≡ is_own_host names (found_in bytes (codes "host") fields)
-  pub page : request.is_foreign ≡ is_foreign (found_in bytes (codes "host") fields) (found_in bytes (codes "origin") fields)
+  pub page : request.is_foreign ≡ is_foreign (found_in bytes (codes "host") fields) (found_in bytes (codes "origin") fields) (found_in bytes (codes "sec-fetch-site") fields)
   pub token : request.has_token ≡ is_own_token names (found_in bytes (codes "x-station-token") fields)
   pub announces : Announces (found_in bytes (codes "transfer-encoding") fields) (found_in bytes (codes "content-length") fields) request.body
 

@@ -1,5 +1,5 @@
--- What the words of a request's head say (RFC 9112, sections 2 to 5).
-use Rattle.std.specs.Prelude.{ℕ, ◌==◌, ◌&&◌, nat_lt, bytes_eq, if◌then◌else◌, Bool, List, take, drop, codes, Option, Some, None}
+-- What the words of a request's head say (RFC 9112, sections 2 to 5; W3C Fetch Metadata Request Headers, section 2.3).
+use Rattle.std.specs.Prelude.{ℕ, ◌==◌, ◌&&◌, ◌||◌, nat_lt, bytes_eq, if◌then◌else◌, Bool, List, take, drop, codes, Option, Some, None}
 use Rattle.trace_words.specs.Words.{number_of}
 use Rattle.station_page.specs.declared.request.Body.{Body}
 use Rattle.station_page.specs.declared.request.Body.TheVariants as body
@@ -37,3 +37,8 @@ body_of digits = body_read (number_of 64 digits)
 -- an origin is that of the page at a host
 abbrev pub is_from_host : List ℕ → List ℕ → Bool
 is_from_host origin host = bytes_eq (take 7 origin) (codes "http://") && bytes_eq (drop 7 origin) host
+
+-- A browser says that a page of another site makes a request, or another page of this host. Words that it may say in future
+-- are not judged.
+abbrev pub is_other_site : List ℕ → Bool
+is_other_site word = bytes_eq word (codes "cross-site") || bytes_eq word (codes "same-site")

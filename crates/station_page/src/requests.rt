@@ -1,11 +1,11 @@
 //! The head of a request, as a browser sends it.
 
 ghost use Rattle.std.specs.Prelude.{◌≡◌, IfOk, IsUtf8};
-ghost use Rattle.station_page.specs.Requests.{AreNames, Announces, Shows, ReadsAs, found_at, found_in, is_foreign, is_named, is_own, is_own_host, is_own_token, is_token, text_at, view_field};
+ghost use Rattle.station_page.specs.Requests.{AreNames, Announces, Shows, ReadsAs, found_at, found_in, has_other_origin, is_foreign, is_named, is_of_other_site, is_own, is_own_host, is_own_token, is_token, text_at, view_field};
 ghost use Rattle.station_page.specs.Values.{body_of};
 
 use crate::request::{Body, PageRequest};
-use crate::values::{body_of, is_from_host, method_of, path_of};
+use crate::values::{body_of, is_from_host, is_other_site, method_of, path_of};
 use cip_types::{Node, OutOfMemory};
 use httparse::Status;
 use httparse::spans::{EMPTY_HEADER_SPAN, HeaderSpan, RequestSpans, Span, parse_request};
@@ -118,6 +118,7 @@ fn request_in(
 {
     let host = sole(bytes, fields, b"host");
     let origin = sole(bytes, fields, b"origin");
+    let site = sole(bytes, fields, b"sec-fetch-site");
     let token = sole(bytes, fields, b"x-station-token");
     let coding = sole(bytes, fields, b"transfer-encoding");
     let count = sole(bytes, fields, b"content-length");
@@ -125,7 +126,7 @@ fn request_in(
         method: method_of(text_at(bytes, spans.method)),
         path: path_of(text_at(bytes, spans.path)),
         has_own_host: names.is_own_host(host),
-        is_foreign: is_foreign(host, origin),
+        is_foreign: is_foreign(host, origin, site),
         has_token: names.is_own_token(token),
         body: announced(coding, count),
     }
@@ -175,9 +176,27 @@ fn is_named(name: &[u8], other: &[u8]) -> bool
     name.eq_ignore_ascii_case(other)
 }
 
-/// Whether a page at another host makes a request.
-fn is_foreign(host: Field<'_>, origin: Field<'_>) -> bool
-    ensures { result ≡ is_foreign (view_field host.entry) (view_field origin.entry) }
+/// Whether another page makes a request: by its origin, or by what its browser says of the page's site.
+fn is_foreign(host: Field<'_>, origin: Field<'_>, site: Field<'_>) -> bool
+    ensures { result ≡ is_foreign (view_field host.entry) (view_field origin.entry) (view_field site.entry) }
+{
+    has_other_origin(host, origin) || is_of_other_site(site)
+}
+
+/// Whether a browser says that a page of another site makes a request, or another page of this host.
+fn is_of_other_site(site: Field<'_>) -> bool
+    ensures { result ≡ is_of_other_site (view_field site.entry) }
+{
+    match site {
+        Field::Missing => false,
+        Field::One(word) => is_other_site(word),
+        Field::Several => true,
+    }
+}
+
+/// Whether a request has an origin, and not that of its host.
+fn has_other_origin(host: Field<'_>, origin: Field<'_>) -> bool
+    ensures { result ≡ has_other_origin (view_field host.entry) (view_field origin.entry) }
 {
     match (host, origin) {
         (_, Field::Missing) => false,

@@ -1,7 +1,7 @@
 //! What the words of a request's head say.
 
 ghost use Rattle.std.specs.Prelude.{◌≡◌};
-ghost use Rattle.station_page.specs.Values.{body_of, body_with, is_from_host, method_of, path_of};
+ghost use Rattle.station_page.specs.Values.{body_of, body_with, is_from_host, is_other_site, method_of, path_of};
 
 use crate::request::{Body, Method, PagePath};
 use trace_words::read_u64;
@@ -22,6 +22,11 @@ const CAPTURE_PATH: &[u8] = b"/record.pcap";
 
 /// What stands before the host in the origin of a page.
 const SCHEME: &[u8] = b"http://";
+
+/// What a browser says of a request that a page of another site makes, or another page of the same host.
+const OTHER_SITE: &[u8] = b"cross-site";
+
+const OTHER_ORIGIN: &[u8] = b"same-site";
 
 /// The method of a word.
 pub fn method_of(word: &[u8]) -> Method
@@ -91,4 +96,13 @@ pub fn is_from_host(origin: &[u8], host: &[u8]) -> bool
         Some((scheme, rest)) => scheme == SCHEME && rest == host,
         None => false,
     }
+}
+
+/// Whether a browser says that another page makes a request. A word that it may say in future is not judged.
+///
+/// W3C Fetch Metadata Request Headers, section 2.3.
+pub fn is_other_site(word: &[u8]) -> bool
+    ensures { result ≡ is_other_site word.now }
+{
+    word == OTHER_SITE || word == OTHER_ORIGIN
 }

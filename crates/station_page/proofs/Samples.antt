@@ -1,0 +1,51 @@
+-- Which requests another page makes, worked by hand from the fields of their heads.
+use Rattle.std.proofs.Common.{◌≡◌, ◌∷◌, [], true, false, refl}
+use Rattle.std.specs.Prelude.{codes}
+use Rattle.station_page.specs.Answers.{answer_to}
+use Rattle.station_page.specs.Requests.{Missing, One, Several, found_in, is_foreign}
+use Rattle.station_page.specs.declared.answers.PageAnswer.TheVariants as answer
+use Rattle.station_page.specs.declared.answers.PageRefusal.TheVariants as refusal
+use Rattle.station_page.specs.declared.request.Allowed.{Allowed}
+use Rattle.station_page.specs.declared.request.Body.TheVariants.{Empty}
+use Rattle.station_page.specs.declared.request.Method.TheVariants.{Get}
+use Rattle.station_page.specs.declared.request.PagePath.TheVariants.{Events}
+
+-- a browser that says nothing of the page, an address that was typed, and the page itself
+silent_browser : is_foreign (One (codes "127.0.0.1:8080")) Missing Missing ≡ false
+silent_browser = refl
+
+typed_address : is_foreign (One (codes "127.0.0.1:8080")) Missing (One (codes "none")) ≡ false
+typed_address = refl
+
+own_page : is_foreign (One (codes "127.0.0.1:8080")) (One (codes "http://127.0.0.1:8080")) (One (codes "same-origin")) ≡ false
+own_page = refl
+
+-- a page of another site, another page of this host, and a word that no browser says yet
+other_site : is_foreign (One (codes "127.0.0.1:8080")) Missing (One (codes "cross-site")) ≡ true
+other_site = refl
+
+other_page : is_foreign (One (codes "localhost:8080")) Missing (One (codes "same-site")) ≡ true
+other_page = refl
+
+unknown_word : is_foreign (One (codes "127.0.0.1:8080")) Missing (One (codes "elsewhere")) ≡ false
+unknown_word = refl
+
+-- two such fields, and another origin whatever is said of its site
+two_fields : is_foreign (One (codes "127.0.0.1:8080")) Missing Several ≡ true
+two_fields = refl
+
+other_origin : is_foreign (One (codes "127.0.0.1:8080")) (One (codes "http://127.0.0.1:8081")) (One (codes "same-origin")) ≡ true
+other_origin = refl
+
+-- the field of a head, whose name has other letters
+field_of_a_head :
+    found_in (codes "GET / HTTP/1.1\r\nSec-Fetch-Site: cross-site\r\n\r\n") (codes "sec-fetch-site")
+    (record { name = record { start = 16; end = 30 }; value = record { start = 32; end = 42 } } ∷ [])
+    ≡ One (codes "cross-site")
+field_of_a_head = refl
+
+-- a foreign request of the event stream is refused
+foreign_is_forbidden : (allowed : Allowed) →
+    answer_to (record { method = Get; path = Events; has_own_host = true; is_foreign = true; has_token = false; body = Empty }) allowed
+    ≡ answer.Refused refusal.Forbidden
+foreign_is_forbidden allowed = refl
