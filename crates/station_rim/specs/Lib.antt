@@ -1,2 +1,3 @@
 pub mod PageCalls
 pub mod Reads
+pub mod Waits

@@ -7,6 +7,7 @@ mod inbox;
 mod outlets;
 mod page_calls;
 mod page_files;
+mod page_sending;
 mod page_server;
 mod page_talk;
 mod record_queue;

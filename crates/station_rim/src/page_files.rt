@@ -1,14 +1,15 @@
 //! The record of a station, and its capture file, as a page hands them out.
 
+use crate::page_sending::Sending;
 use crate::page_server::Desk;
-use crate::page_talk::{Unheard, send};
+use crate::page_talk::Unheard;
 use station_page::{PageAnswer, PageRefusal, head_of};
 use station_record::file_name;
 use std::alloc::Global;
 use std::fs::{self, File};
 use std::io::Read;
 use std::net::TcpStream;
-use std::rt::Files;
+use std::rt::{Clock, Files};
 use trace_commands::pcap;
 
 /// A file is sent in pieces of so many bytes.
@@ -23,16 +24,17 @@ const MOST_FILES: u32 = 1_000_000;
 /// Sends the files of the record, one behind another: they are one trace.
 pub(crate) fn send_record<R>(rt: &R, desk: &Desk, stream: &mut TcpStream) -> Result<(), Unheard>
 where
-    R: Files<File = File>,
+    R: Clock + Files<File = File>,
 {
     let name = record_name(desk)?;
-    send(stream, head_of(PageAnswer::Record).as_bytes())?;
+    let mut sending = Sending::begin(rt)?;
+    sending.send(rt, stream, head_of(PageAnswer::Record).as_bytes())?;
     for number in 1..MOST_FILES {
         let path = file_name(desk.alloc, name, number)?;
         let Ok(file) = File::open(rt, path.as_str()) else {
             return Ok(());
         };
-        send_file(stream, file)?;
+        send_file(rt, &mut sending, stream, file)?;
     }
     Ok(())
 }
@@ -46,13 +48,18 @@ fn record_name(desk: &Desk) -> Result<&str, Unheard> {
 }
 
 /// Sends a file to its present end.
-fn send_file(stream: &mut TcpStream, file: File) -> Result<(), Unheard> {
+fn send_file<R: Clock>(
+    rt: &R,
+    sending: &mut Sending,
+    stream: &mut TcpStream,
+    file: File,
+) -> Result<(), Unheard> {
     let mut file = file;
     let mut piece = [0u8; PIECE];
     for _ in 0..u64::MAX {
         match file.read(&mut piece) {
             Ok(0) | Err(_) => return Ok(()),
-            Ok(count) => send(stream, piece.get(..count).unwrap_or(&[]))?,
+            Ok(count) => sending.send(rt, stream, piece.get(..count).unwrap_or(&[]))?,
         }
     }
     Ok(())
@@ -61,7 +68,7 @@ fn send_file(stream: &mut TcpStream, file: File) -> Result<(), Unheard> {
 /// Sends the record as a capture file.
 pub(crate) fn send_capture<R>(rt: &R, desk: &Desk, stream: &mut TcpStream) -> Result<(), Unheard>
 where
-    R: AllocGlobal + Files<File = File>,
+    R: AllocGlobal + Clock + Files<File = File>,
 {
     let files = record_files(rt, desk.alloc, record_name(desk)?)?;
     let mut capture = Vec::new(desk.alloc);
@@ -69,8 +76,9 @@ where
         // (the writer of the record may be within an event)
         return Err(Unheard::Refused(PageRefusal::Busy));
     }
-    send(stream, head_of(PageAnswer::Capture).as_bytes())?;
-    send(stream, capture.as_slice())
+    let mut sending = Sending::begin(rt)?;
+    sending.send(rt, stream, head_of(PageAnswer::Capture).as_bytes())?;
+    sending.send(rt, stream, capture.as_slice())
 }
 
 /// The files of a record that is short enough.

@@ -1,7 +1,9 @@
-//! What is said to one browser. Each read and each write has a time, and so has the whole request.
+//! What is said to one browser. Each read and each write has a time, and so have the whole request and the whole answer, if it
+//! is no event stream.
 
 use crate::page_calls::is_page_call;
 use crate::page_files::{send_capture, send_record};
+use crate::page_sending::Sending;
 use crate::page_server::Desk;
 use cip_types::OutOfMemory;
 use station_page::{
@@ -22,8 +24,8 @@ const MOST_BYTES: usize = 12_288;
 /// A request is to arrive within so many milliseconds.
 const REQUEST_MS: u64 = 3_000;
 
-/// A write waits at most so long for a browser that does not read, in milliseconds.
-const WRITE_MS: u64 = 3_000;
+/// A write of an event waits at most so long for a browser that does not read, in milliseconds.
+const EVENT_WRITE_MS: u64 = 3_000;
 
 /// A browser that is refused unheard has so many milliseconds to say why it came.
 const UNHEARD_MS: u64 = 20;
@@ -62,14 +64,13 @@ where
 {
     let mut stream = stream;
     let _ = stream.set_nodelay(true);
-    let _ = stream.set_write_timeout(Some(Duration::from_millis(WRITE_MS)));
     let mut bytes = Vec::new(desk.alloc);
     let answered = match read_whole(rt, desk, &mut stream, &mut bytes) {
         Ok((request, head)) => answer(rt, desk, &mut stream, &bytes, request, head),
         Err(unheard) => Err(unheard),
     };
     if let Err(Unheard::Refused(refusal)) = answered {
-        let _ = stream.write_all(head_of(PageAnswer::Refused(refusal)).as_bytes());
+        let _ = send(rt, &mut stream, head_of(PageAnswer::Refused(refusal)));
     }
     close(&stream);
 }
@@ -153,11 +154,11 @@ where
     let answer = answer_to(request, desk.allowed);
     match answer {
         PageAnswer::Page => {
-            send(stream, head_of(answer).as_bytes())?;
-            send(stream, PAGE.as_bytes())
+            let mut sending = Sending::begin(rt)?;
+            sending.send(rt, stream, head_of(answer).as_bytes())?;
+            sending.send(rt, stream, PAGE.as_bytes())
         }
         PageAnswer::Events => {
-            send(stream, head_of(answer).as_bytes())?;
             desk.texts.watch();
             let sent = send_events(rt, desk, stream);
             desk.texts.leave();
@@ -166,7 +167,7 @@ where
         PageAnswer::Call(count) => {
             let body = bytes.get(head..).unwrap_or(&[]);
             hand_on(rt, desk, body.get(..count).unwrap_or(&[]))?;
-            send(stream, head_of(answer).as_bytes())
+            send(rt, stream, head_of(answer))
         }
         PageAnswer::Record => send_record(rt, desk, stream),
         PageAnswer::Capture => send_capture(rt, desk, stream),
@@ -174,8 +175,13 @@ where
     }
 }
 
-/// Sends bytes whole.
-pub(crate) fn send(stream: &mut TcpStream, bytes: &[u8]) -> Result<(), Unheard> {
+/// Sends an answer that is one text.
+fn send<R: Clock>(rt: &R, stream: &mut TcpStream, text: &str) -> Result<(), Unheard> {
+    Sending::begin(rt)?.send(rt, stream, text.as_bytes())
+}
+
+/// Sends a part of an event stream, as long as the browser reads.
+fn send_part(stream: &mut TcpStream, bytes: &[u8]) -> Result<(), Unheard> {
     match stream.write_all(bytes) {
         Ok(()) => Ok(()),
         Err(_) => Err(Unheard::Left),
@@ -188,10 +194,11 @@ fn send_events<R: Wait + Clock>(
     desk: &Desk,
     stream: &mut TcpStream,
 ) -> Result<(), Unheard> {
-    let greeting = desk.greeting.as_bytes();
-    send(stream, b"event: station\ndata: ")?;
-    send(stream, greeting)?;
-    send(stream, b"\n\n")?;
+    let _ = stream.set_write_timeout(Some(Duration::from_millis(EVENT_WRITE_MS)));
+    send_part(stream, head_of(PageAnswer::Events).as_bytes())?;
+    send_part(stream, b"event: station\ndata: ")?;
+    send_part(stream, desk.greeting.as_bytes())?;
+    send_part(stream, b"\n\n")?;
     let mut number = desk.texts.number(rt);
     // (a station that waits for its peers makes a turn, and with it a snapshot)
     desk.input.wake(rt);
@@ -200,9 +207,9 @@ fn send_events<R: Wait + Clock>(
         text.clear();
         let came = next_event(rt, desk, number, &mut text)?;
         if came == number {
-            send(stream, b":\n\n")?;
+            send_part(stream, b":\n\n")?;
         } else {
-            send(stream, text.as_slice())?;
+            send_part(stream, text.as_slice())?;
         }
         number = came;
     }

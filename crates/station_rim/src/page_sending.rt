@@ -1,0 +1,92 @@
+//! Answers on their way to a browser. Each write has a time, and so has the whole answer.
+
+ghost use Rattle.std.specs.Prelude.{◌≡◌};
+ghost use Rattle.station_rim.specs.Waits.{write_wait_ms};
+
+use crate::page_talk::Unheard;
+use std::io::{ErrorKind, Write};
+use std::net::TcpStream;
+use std::rt::Clock;
+use std::time::{Duration, Instant};
+
+/// A write waits at most so long for a browser that does not read, in milliseconds.
+const WRITE_MS: u64 = 3_000;
+
+/// A whole answer may take so many milliseconds.
+const ANSWER_MS: u64 = 5_000;
+
+/// It may take a millisecond more for each so many bytes that the system has taken.
+const BYTES_PER_MS: u64 = 100;
+
+/// A whole answer that is being sent.
+#[derive(Drop)]
+pub(crate) struct Sending {
+    begin: Instant,
+    /// The bytes that the system has taken.
+    sent: u64,
+}
+
+impl Sending {
+    /// An answer begins now. The fault: the clock could not be read.
+    pub(crate) fn begin<R: Clock>(rt: &R) -> Result<Sending, Unheard> {
+        match Instant::now(rt) {
+            Ok(begin) => Ok(Sending { begin, sent: 0 }),
+            Err(_) => Err(Unheard::Left),
+        }
+    }
+
+    /// Sends bytes whole. The fault: the browser has left, or does not read them in time.
+    pub(crate) fn send<R: Clock>(
+        &mut self,
+        rt: &R,
+        stream: &mut TcpStream,
+        bytes: &[u8],
+    ) -> Result<(), Unheard> {
+        let mut rest = bytes;
+        for _ in 0..u64::MAX {
+            if rest.is_empty() {
+                return Ok(());
+            }
+            let wait = self.wait(rt)?;
+            let count = write_within(stream, rest, wait)?;
+            self.sent = self.sent.saturating_add(count as u64);
+            rest = rest.get(count..).unwrap_or(&[]);
+        }
+        Err(Unheard::Left)
+    }
+
+    /// How long the next write may wait. The fault: the answer's time is over.
+    fn wait<R: Clock>(&self, rt: &R) -> Result<Duration, Unheard> {
+        let Ok(now) = Instant::now(rt) else {
+            return Err(Unheard::Left);
+        };
+        let passed = now.saturating_duration_since(self.begin).as_millis();
+        let passed = u64::try_from(passed).unwrap_or(u64::MAX);
+        match write_wait_ms(passed, self.sent) {
+            0 => Err(Unheard::Left),
+            ms => Ok(Duration::from_millis(ms)),
+        }
+    }
+}
+
+/// How long a write of an answer may wait, in milliseconds, if so many have passed since the answer began, and the system has
+/// taken so many bytes of it: at most 3,000, and 0 if the answer's time is over, which is 5,000 and 1 more for each 100 bytes.
+pub(crate) fn write_wait_ms(passed_ms: u64, sent: u64) -> u64
+    ensures { result ≡ write_wait_ms passed_ms sent }
+{
+    let whole = ANSWER_MS + sent / BYTES_PER_MS;
+    WRITE_MS.min(whole.saturating_sub(passed_ms))
+}
+
+/// Writes what the system takes, and waits for it at most so long. Answers how many bytes it took.
+fn write_within(stream: &mut TcpStream, bytes: &[u8], wait: Duration) -> Result<usize, Unheard> {
+    if stream.set_write_timeout(Some(wait)).is_err() {
+        return Err(Unheard::Left);
+    }
+    match stream.write(bytes) {
+        Ok(0) => Err(Unheard::Left),
+        Ok(count) => Ok(count),
+        Err(error) if error.kind() == ErrorKind::Interrupted => Ok(0),
+        Err(_) => Err(Unheard::Left),
+    }
+}
