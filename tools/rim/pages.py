@@ -1,7 +1,7 @@
 """The live page of a station: who gets it, what it takes, and that it slows no device."""
 
-import contextlib, json, os, re, socket, struct, subprocess, time
-from rim.host import holds, need, run, sure, until, wait
+import contextlib, json, os, re, socket, struct, subprocess, threading, time
+from rim.host import OWNER, holds, need, run, sure, until, wait
 from rim.outputs import LARGE, devices_go_on
 from rim.peers import Originator
 
@@ -9,13 +9,25 @@ PORT = 8044
 HOST = f"127.0.0.1:{PORT}"
 TOKEN = re.compile(rf"eip_station: page at http://127\.0\.0\.1:{PORT}/#([0-9a-f]{{32}})")
 BUSY, LATE, MOST = 503, 408, 8
+SMALL_SEGMENTS = 536  # with such ones, the system keeps little of what a browser has not read
 
 
-def connected(bench):
+def connected(bench, host="adapter"):
     """A stream to the page."""
-    with bench.network.inside("adapter"):
+    with bench.network.inside(host):
         stream = bench.later(socket.create_connection(("127.0.0.1", PORT), 5))
     stream.settimeout(8)
+    return stream
+
+
+def slowly_connected(bench):
+    """A stream to the page of which the system keeps little that is not read."""
+    with bench.network.inside("adapter"):
+        stream = bench.later(socket.socket())
+    stream.setsockopt(socket.IPPROTO_TCP, socket.TCP_MAXSEG, SMALL_SEGMENTS)
+    stream.setsockopt(socket.SOL_SOCKET, socket.SO_RCVBUF, 8192)
+    stream.settimeout(8)
+    stream.connect(("127.0.0.1", PORT))
     return stream
 
 
@@ -49,8 +61,8 @@ def status_of(answer):
 class Events:
     """The event stream of a page, which is read as far as it is asked for."""
 
-    def __init__(self, bench):
-        self.stream = connected(bench)
+    def __init__(self, bench, host="adapter"):
+        self.stream = connected(bench, host)
         self.stream.sendall(f"GET /events HTTP/1.1\r\nHost: {HOST}\r\n\r\n".encode())
         self.text = b""
 
@@ -84,7 +96,10 @@ def run_page(bench):
     need(asked(bench, host=f"localhost:{PORT}")[0] == 200, "localhost is a name of the page")
     strangers = [asked(bench, host=host)[0] for host in ("evil.example", f"evil.example:{PORT}", "127.0.0.1", HOST + "0", "")]
     strangers += [asked(bench, path="/events", Origin=origin)[0] for origin in ("http://evil.example", "null", f"https://{HOST}")]
-    sure(set(strangers) == {403}, f"another Host, and a page of another origin, are refused: {strangers}")
+    strangers += [asked(bench, path=path, Sec_Fetch_Site=site)[0] for site in ("cross-site", "same-site") for path in ("/", "/events")]
+    sure(set(strangers) == {403}, f"another Host, and a page of another origin or site, are refused: {strangers}")
+    own = [asked(bench, Sec_Fetch_Site=site)[0] for site in ("same-origin", "none")]
+    need(own == [200, 200], f"the page itself and an address that is typed are served: {own}")
     need(status_of_two_hosts(bench) == 403, "two Hosts are refused")
     told_so = [asked(bench, path="/nothing")[0], asked(bench, path="/record")[0], asked(bench, "DELETE")[0], asked(bench, "POST")[0],
                asked(bench, path="/call")[0], asked(bench, body=b"x")[0], asked(bench, Content_Length="x")[0],
@@ -105,6 +120,24 @@ def run_page(bench):
     run_state(events, lambda it: it["owner"] is None and it["bytes"] == "00000000", "is lost")
     need(not any("01020304" in line for line in adapter.lines()), "no call reached the device")
     sure(adapter.end() == 0, "a call is refused without --page-writes, and the adapter ends with status 0")
+
+
+def run_page_scanner(bench):
+    """The page of a scanner: what its slots receive and send."""
+    bench.write("both.profile", OWNER.format(cast="multicast", **bench.address) + f"slot {bench.address['peer']} input - 152 100 0 4 10000 10000 2 p2p - -\n")
+    adapter = bench.adapter(log="paged_adapter")
+    scanner = bench.scanner("owner", "--page", str(PORT), profile="both", log="paged_scanner")
+    wait(lambda: any(" page at " in line for line in scanner.said()), "its page is served")
+    events = Events(bench, "owner")
+    sure(events.next(lambda it: it["slots"][0]["state"] == "established" and it["slots"][0]["output"] == "00000000", 15),
+         "the page of a scanner shows that its slot is established, and sends zeros")
+    scanner.call("write 0 11223344")
+    adapter.call("write 100 0a0b0c0d")
+    sure(events.next(lambda it: it["slots"][0]["output"] == "11223344" and it["slots"][0]["bytes"] == "0a0b0c0d"),
+         "it shows what the slot sends, and what it receives")
+    need(events.next()["slots"][1]["output"] == "-", "a slot that sends no data has no output")
+    need(scanner.end() == 0 == adapter.end(), "both end with status 0")
+    bench.clear()
 
 
 def run_state(events, holds_of, what):
@@ -228,6 +261,41 @@ def run_unread_record(bench, adapter):
     wait(lambda: asked(bench)[0] == 200, "others are served again", 10)
     holds(f"browsers that read nothing lose their streams: another one is served after {time.monotonic() - begin:.1f} s")
     need(len(unread) == MOST, "they have not closed their ends")
+    for it in unread:
+        it.close()
+    run_slowly_read_record(bench, adapter)
+
+
+def run_slowly_read_record(bench, adapter):
+    """Eight browsers read that record, a fifth as fast as they have to: 4,096 bytes each 200 ms."""
+    slow, over, begin = [slowly_connected(bench) for _ in range(MOST)], threading.Event(), time.monotonic()
+    for it in slow:
+        it.sendall(f"GET /record HTTP/1.1\r\nHost: {HOST}\r\n\r\n".encode())
+        it.setblocking(False)
+    read = [0] * MOST
+
+    def read_slowly():
+        while not over.wait(0.2):
+            for at, it in enumerate(slow):
+                with contextlib.suppress(OSError):
+                    read[at] += len(it.recv(4096))
+
+    reader = threading.Thread(target=read_slowly)
+    reader.start()
+    try:
+        time.sleep(0.3)
+        refused = asked(bench)[0]
+        need(refused == BUSY, f"all of them are served, and not {refused}")
+        devices_go_on(bench, adapter, "eight browsers read the record slowly", ["read 101"] * 20)
+        time.sleep(max(0.0, begin + 4 - time.monotonic()))
+        need(asked(bench)[0] == BUSY, "they are served for a while, though each write may wait 3 s")
+        wait(lambda: asked(bench)[0] == 200, "others are served again", 20)
+    finally:
+        over.set()
+        reader.join()
+    seconds = time.monotonic() - begin
+    sure(min(read) > 50_000, f"browsers that read slowly lose their streams too: another one is served after {seconds:.1f} s, "
+         f"in which each read {min(read)} bytes or more")
 
 
 def crowd(bench):
