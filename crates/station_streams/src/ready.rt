@@ -61,8 +61,11 @@ impl Ready {
         self.listener || self.datagrams || self.streams || self.openings || self.finder
     }
 
-    /// The sockets of these events were reported, and no others.
-    pub fn mark_all(&mut self, events: &Events) {
+    /// The sockets of these events were reported, and no others. A listener whose connection could not be accepted is asked
+    /// again.
+    pub fn mark_all(&mut self, events: &Events)
+        ensures { self.new.refused ≡ false }
+    {
         self.mark_refused();
         for event in events.iter() {
             self.mark(event.token());
