@@ -74,7 +74,7 @@ const KEPT_MS = 180000;
 const COLOURS = ['#2563c9', '#1a7f4b', '#c22f2f', '#8a3fc7', '#b26a00', '#0f8b8d', '#c7347f', '#5b6472'];
 const token = location.hash.slice(1);
 const byId = (id) => document.getElementById(id);
-const chosen = new Set();  // the bytes of the chart, as `150:0`
+const chosen = new Set();  // the bytes of the chart, as `150:0`, and `output 2:0` of what slot 2 sends
 let station = { writes: false, record: false, name: 'station' };
 let samples = [], last = null, contact = 0, known = new Map();
 
@@ -167,7 +167,7 @@ function pointRow(kind, point, bytes, says, name = point) {
 }
 
 // the name of what a slot sends, beside that of its image
-function outputOf(it) { return `${it.slot} out`; }
+function outputOf(it) { return `output ${it.slot}`; }
 
 function consumersOf(input) {
   return `${input.exclusive_owners} exclusive, ${input.input_only} input only, ${input.listen_only} listen only`;
@@ -287,7 +287,8 @@ function stroke(pen, places, colour) {
 // CALLS
 
 function fillChoices(snapshot) {
-  const points = snapshot.slots ? snapshot.slots.map((it) => it.slot) : snapshot.inputs.map((it) => it.point);
+  const senders = (snapshot.slots || []).filter((it) => it.output !== '-');
+  const points = snapshot.slots ? senders.map((it) => it.slot) : snapshot.inputs.map((it) => it.point);
   for (const [id, values] of [['write-point', points], ['slot', (snapshot.slots || []).map((it) => it.slot)]]) {
     if (byId(id).options.length === values.length) continue;
     byId(id).replaceChildren(...values.map((value) => element('option', value)));
