@@ -10,8 +10,10 @@ mod stationing;
 mod usage;
 
 use failure::{Failure, NO_MEMORY, status_of};
+use page_server::{PAGE_THREADS, SharedPage, begin_page};
 use port_alarm::Alarm;
-use station_rim::{PAGE_THREADS, Rim, begin_output, begin_page};
+use program::Surroundings;
+use station_rim::{Rim, begin_output};
 use std::io::Write;
 use std::process::ExitCode;
 use std::rt::Clock;
@@ -24,6 +26,9 @@ fn main(rt: HostRuntime) -> ExitCode {
     let (Ok(rim), Ok(alarm)) = (Rim::new(rt.alloc()), Alarm::new(rt.alloc(), &rt)) else {
         return no_memory(rt.stderr());
     };
+    let Ok(page) = SharedPage::new(rt.alloc()) else {
+        return no_memory(rt.stderr());
+    };
     let (Ok(record), Ok(input)) = (rim.record.share(), rim.input.share()) else {
         return no_memory(rt.stderr());
     };
@@ -32,7 +37,7 @@ fn main(rt: HostRuntime) -> ExitCode {
         || (begin_output(rt, &rim.out, rt.stdout())
             && begin_output(rt, &rim.err, rt.stderr())
             && begin_alarm(rt, &alarm));
-    if !is_begun || (needs.page && !begin_page(rt, &rim)) {
+    if !is_begun || (needs.page && !begin_page(rt, &page, &rim.input)) {
         return no_memory(rt.stderr());
     }
     if needs.record && thread::spawn(&rt, move || record.write_files(&rt)).is_err() {
@@ -43,14 +48,15 @@ fn main(rt: HostRuntime) -> ExitCode {
     }
     let page_threads = if needs.page { PAGE_THREADS } else { 0 };
     for _ in 0..page_threads {
-        let Ok(page) = rim.page.share() else {
+        let Ok(page) = page.share() else {
             return no_memory(rt.stderr());
         };
         if thread::spawn(&rt, move || page.serve(&rt)).is_err() {
             return no_memory(rt.stderr());
         }
     }
-    program::run(rt, rim, alarm, rt.stdout(), rt.stderr())
+    let shared = Surroundings { rim, page, alarm };
+    program::run(rt, shared, rt.stdout(), rt.stderr())
 }
 
 /// Begins the thread that rings the alarm of a station. Whether it could begin.

@@ -5,10 +5,10 @@ use crate::stationing::{Stationed, station_name, word_from_end};
 use cip_tables::Config;
 use cip_types::Node;
 use page_feed::PageFeed;
-use serde_json::Value;
+use page_server::{PageSetting, greeting_text};
 use station_page::{Allowed, OwnNames};
 use station_port::page_listener;
-use station_rim::{PageSetting, report_line};
+use station_rim::report_line;
 use std::fs::{self, File};
 use std::net::{Net, TcpListener, TcpStream};
 use std::random::RandomSource;
@@ -50,12 +50,12 @@ where
         listener,
         names: OwnNames::new(alloc, address, port, token.as_bytes())?,
         allowed,
-        greeting: greeting_of(setting, allowed)?,
+        greeting: greeting_text(alloc, station_name(setting), allowed)?,
         record,
     };
-    setting.rim.page.open(&rt, page);
+    setting.page.open(&rt, page);
     report_page(setting, address, port, token.as_str())?;
-    let end = setting.rim.page.feed_end()?;
+    let end = setting.page.feed_end()?;
     Ok(PageFeed::new(alloc, config.copy(alloc)?, end))
 }
 
@@ -89,18 +89,6 @@ where
         return Ok(Some(format!(in setting.rt.alloc(); "{path}")?));
     }
     Ok(None)
-}
-
-/// What the page's event stream begins with: the name of the station, and what the page allows.
-fn greeting_of<R>(setting: &Stationed<'_, R>, allowed: Allowed) -> Result<String, Failure>
-where
-    R: AllocGlobal,
-{
-    let alloc = setting.rt.alloc();
-    let name = station_name(setting);
-    let name = Value::String(format!(in alloc; "{name}")?).to_string(alloc)?;
-    let (name, writes, record) = (name.as_str(), allowed.writes, allowed.record);
-    Ok(format!(in alloc; "{{\"name\":{name},\"writes\":{writes},\"record\":{record}}}")?)
 }
 
 /// Reports where the page is. Only who reads this line has the token.

@@ -7,6 +7,7 @@ use crate::usage::USAGE;
 use command_lines::{ProgramTask, SheetTask, VERSION, read_station_task};
 use eds_text::SheetNames;
 use identity_search::search;
+use page_server::SharedPage;
 use port_alarm::Alarm;
 use station_rim::Rim;
 use std::alloc::Global;
@@ -18,6 +19,14 @@ use std::random::RandomSource;
 use std::rt::{Clock, Files};
 use std::sync::Wait;
 use trace_commands::{data_sheet, explain, pcap, replay};
+
+/// What a station shares with its threads.
+#[derive(Drop)]
+pub struct Surroundings {
+    pub rim: Rim,
+    pub page: SharedPage,
+    pub alarm: Alarm,
+}
 
 /// The threads that a command line needs.
 #[derive(Clone, Copy, Default)]
@@ -33,7 +42,7 @@ pub struct Needs {
 }
 
 /// Performs what the command line requests, and answers the status. A failure is one line on `err`.
-pub fn run<R, O, E>(rt: R, rim: Rim, alarm: Alarm, out: O, err: E) -> ExitCode
+pub fn run<R, O, E>(rt: R, shared: Surroundings, out: O, err: E) -> ExitCode
 where
     R: AllocGlobal + Env + Files<File = File> + Clock + HostNet + RandomSource + Wait + Copy + Drop,
     O: Write + Drop,
@@ -44,7 +53,7 @@ where
         let _ = err.write_all(NO_MEMORY);
         return ExitCode::from(status_of(Failure::OutOfMemory));
     };
-    match perform(rt, words.as_slice(), rim, alarm, out, &mut err) {
+    match perform(rt, words.as_slice(), &shared, out, &mut err) {
         Ok(()) => ExitCode::SUCCESS,
         Err(failure) => ExitCode::from(status_of(failure)),
     }
@@ -75,8 +84,7 @@ fn words_of<R: AllocGlobal + Env>(rt: &R) -> Option<Vec<String>> {
 fn perform<R, O, E>(
     rt: R,
     words: &[String],
-    rim: Rim,
-    alarm: Alarm,
+    shared: &Surroundings,
     out: O,
     err: &mut E,
 ) -> Result<(), Failure>
@@ -86,7 +94,7 @@ where
     E: Write,
 {
     match read_station_task(words) {
-        Ok(ProgramTask::Station(task)) => run_task(rt, words, task, &rim, &alarm),
+        Ok(ProgramTask::Station(task)) => run_task(rt, words, task, shared),
         Ok(task) => {
             let done = write(&rt, words, task, out);
             report(rt.alloc(), words, done, err)

@@ -7,10 +7,11 @@ use crate::failure::{Failure, NO_MEMORY};
 use crate::opening::{place_of, scanner_port};
 use crate::paging::{HostNet, begin_page};
 use crate::profiles::{FastDevice, incarnation_of, profile_of, with_incarnation};
-use crate::program::line_of;
+use crate::program::{Surroundings, line_of};
 use cip_tables::{Config, Device};
 use command_lines::{Options, StationTask, VERSION};
 use list_identity::StationIdentity;
+use page_server::SharedPage;
 use port_alarm::Alarm;
 use socket_port::SystemClock;
 use station::{Ending, Station, StationObserver, Voice};
@@ -35,6 +36,7 @@ pub struct Stationed<'a, R> {
     pub words: &'a [String],
     pub options: &'a Options,
     pub rim: &'a Rim,
+    pub page: &'a SharedPage,
     pub alarm: &'a Alarm,
 }
 
@@ -43,8 +45,7 @@ pub fn run_task<R>(
     rt: R,
     words: &[String],
     task: StationTask,
-    rim: &Rim,
-    alarm: &Alarm,
+    shared: &Surroundings,
 ) -> Result<(), Failure>
 where
     R: AllocGlobal + Files<File = File> + Clock + HostNet + RandomSource + Wait + Copy + Drop,
@@ -53,18 +54,19 @@ where
         rt,
         words,
         options: &task.options,
-        rim,
-        alarm,
+        rim: &shared.rim,
+        page: &shared.page,
+        alarm: &shared.alarm,
     };
     let ran = begin(&setting, task.scanner);
     let done = with_record(&setting, ran);
     if let Err(failure) = done {
         match line_of(rt.alloc(), words, failure) {
-            Ok(line) => report_line(rt, rim, line.as_bytes()),
-            Err(_) => report_line(rt, rim, NO_MEMORY),
+            Ok(line) => report_line(rt, &shared.rim, line.as_bytes()),
+            Err(_) => report_line(rt, &shared.rim, NO_MEMORY),
         }
     }
-    drain_lines(&rt, rim);
+    drain_lines(&rt, &shared.rim);
     done
 }
 

@@ -1,3 +1,1 @@
-pub mod PageCalls
 pub mod Reads
-pub mod Waits

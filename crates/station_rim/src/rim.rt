@@ -2,20 +2,18 @@
 
 use crate::inbox::SharedInput;
 use crate::outlets::SharedLines;
-use crate::page_server::SharedPage;
 use crate::record_queue::SharedRecord;
 use cip_types::OutOfMemory;
 use line_queue::NoticeForm;
 use std::alloc::Global;
 
-/// The input, the outputs, the record and the page of a station.
+/// The input, the outputs and the record of a station.
 #[derive(Drop)]
 pub struct Rim {
     pub input: SharedInput,
     pub out: SharedLines,
     pub err: SharedLines,
     pub record: SharedRecord,
-    pub page: SharedPage,
 }
 
 impl Rim {
@@ -26,7 +24,6 @@ impl Rim {
             out: SharedLines::new(alloc, NoticeForm::Comment)?,
             err: SharedLines::new(alloc, NoticeForm::Report)?,
             record: SharedRecord::new(alloc)?,
-            page: SharedPage::new(alloc)?,
         })
     }
 }

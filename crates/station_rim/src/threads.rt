@@ -1,7 +1,6 @@
-//! The threads of a station's outputs and of its page's door. They are not joined, and end with the program.
+//! The threads of a station's outputs. They are not joined, and end with the program.
 
 use crate::outlets::SharedLines;
-use crate::rim::Rim;
 use std::io::Write;
 use std::rt::Clock;
 use std::sync::Wait;
@@ -16,16 +15,5 @@ where
     match lines.share() {
         Ok(lines) => thread::spawn(&rt, move || lines.write_to(&rt, stream)).is_ok(),
         Err(_) => false,
-    }
-}
-
-/// Begins the thread that accepts the browsers of a station's page. Whether it could begin.
-pub fn begin_page<R>(rt: R, rim: &Rim) -> bool
-where
-    R: Threads + Wait + Clock + Copy + Send + Drop + 'static,
-{
-    match (rim.page.share(), rim.input.share()) {
-        (Ok(page), Ok(input)) => thread::spawn(&rt, move || page.accept(&rt, input)).is_ok(),
-        _ => false,
     }
 }

@@ -1,10 +1,10 @@
 //! What is said to one browser. Each read and each write has a time, and so have the whole request and the whole answer, if it
 //! is no event stream.
 
-use crate::page_calls::is_page_call;
-use crate::page_files::{send_capture, send_record};
-use crate::page_sending::Sending;
-use crate::page_server::Desk;
+use crate::calls::is_page_call;
+use crate::files::{send_capture, send_record};
+use crate::sent_answer::SentAnswer;
+use crate::server::Desk;
 use cip_types::OutOfMemory;
 use station_page::{
     Body, PAGE, PageAnswer, PageRefusal, PageRequest, RequestReading, answer_to, head_of,
@@ -154,9 +154,9 @@ where
     let answer = answer_to(request, desk.allowed);
     match answer {
         PageAnswer::Page => {
-            let mut sending = Sending::begin(rt)?;
-            sending.send(rt, stream, head_of(answer).as_bytes())?;
-            sending.send(rt, stream, PAGE.as_bytes())
+            let mut sent = SentAnswer::begin(rt)?;
+            sent.send(rt, stream, head_of(answer).as_bytes())?;
+            sent.send(rt, stream, PAGE.as_bytes())
         }
         PageAnswer::Events => {
             desk.texts.watch();
@@ -177,7 +177,7 @@ where
 
 /// Sends an answer that is one text.
 fn send<R: Clock>(rt: &R, stream: &mut TcpStream, text: &str) -> Result<(), Unheard> {
-    Sending::begin(rt)?.send(rt, stream, text.as_bytes())
+    SentAnswer::begin(rt)?.send(rt, stream, text.as_bytes())
 }
 
 /// Sends a part of an event stream, as long as the browser reads.

@@ -1,8 +1,8 @@
 //! The record of a station, and its capture file, as a page hands them out.
 
-use crate::page_sending::Sending;
-use crate::page_server::Desk;
-use crate::page_talk::Unheard;
+use crate::sent_answer::SentAnswer;
+use crate::server::Desk;
+use crate::talk::Unheard;
 use station_page::{PageAnswer, PageRefusal, head_of};
 use station_record::file_name;
 use std::alloc::Global;
@@ -27,14 +27,14 @@ where
     R: Clock + Files<File = File>,
 {
     let name = record_name(desk)?;
-    let mut sending = Sending::begin(rt)?;
-    sending.send(rt, stream, head_of(PageAnswer::Record).as_bytes())?;
+    let mut sent = SentAnswer::begin(rt)?;
+    sent.send(rt, stream, head_of(PageAnswer::Record).as_bytes())?;
     for number in 1..MOST_FILES {
         let path = file_name(desk.alloc, name, number)?;
         let Ok(file) = File::open(rt, path.as_str()) else {
             return Ok(());
         };
-        send_file(rt, &mut sending, stream, file)?;
+        send_file(rt, &mut sent, stream, file)?;
     }
     Ok(())
 }
@@ -50,7 +50,7 @@ fn record_name(desk: &Desk) -> Result<&str, Unheard> {
 /// Sends a file to its present end.
 fn send_file<R: Clock>(
     rt: &R,
-    sending: &mut Sending,
+    sent: &mut SentAnswer,
     stream: &mut TcpStream,
     file: File,
 ) -> Result<(), Unheard> {
@@ -59,7 +59,7 @@ fn send_file<R: Clock>(
     for _ in 0..u64::MAX {
         match file.read(&mut piece) {
             Ok(0) | Err(_) => return Ok(()),
-            Ok(count) => sending.send(rt, stream, piece.get(..count).unwrap_or(&[]))?,
+            Ok(count) => sent.send(rt, stream, piece.get(..count).unwrap_or(&[]))?,
         }
     }
     Ok(())
@@ -76,9 +76,9 @@ where
         // (the writer of the record may be within an event)
         return Err(Unheard::Refused(PageRefusal::Busy));
     }
-    let mut sending = Sending::begin(rt)?;
-    sending.send(rt, stream, head_of(PageAnswer::Capture).as_bytes())?;
-    sending.send(rt, stream, capture.as_slice())
+    let mut sent = SentAnswer::begin(rt)?;
+    sent.send(rt, stream, head_of(PageAnswer::Capture).as_bytes())?;
+    sent.send(rt, stream, capture.as_slice())
 }
 
 /// The files of a record that is short enough.

@@ -1,16 +1,17 @@
 //! The page of a station, which threads of its own serve. A station waits for none of them.
 
-use crate::inbox::SharedInput;
-use crate::page_talk::{refuse_at_once, talk};
+use crate::talk::{refuse_at_once, talk};
 use cip_types::OutOfMemory;
 use page_feed::{FeedEnd, PageEnd, page_place};
+use serde_json::Value;
 use station_page::{Allowed, OwnNames, PageRefusal};
+use station_rim::SharedInput;
 use std::alloc::Global;
 use std::fs::File;
 use std::net::{TcpListener, TcpStream};
 use std::rt::{Clock, Files};
 use std::sync::{Arc, Condvar, Mutex, Wait};
-use std::thread;
+use std::thread::{self, Threads};
 use std::time::Duration;
 
 /// So many threads serve browsers, one at a time each.
@@ -26,6 +27,13 @@ pub struct PageSetting {
     pub greeting: String,
     /// The name of the record's first file.
     pub record: Option<String>,
+}
+
+/// What an event stream begins with, as JSON: the name of the station, and what the page allows. OutOfMemory is the only fault.
+pub fn greeting_text(alloc: Global, name: &str, allowed: Allowed) -> Result<String, OutOfMemory> {
+    let name = Value::String(format!(in alloc; "{name}")?).to_string(alloc)?;
+    let (name, writes, record) = (name.as_str(), allowed.writes, allowed.record);
+    Ok(format!(in alloc; "{{\"name\":{name},\"writes\":{writes},\"record\":{record}}}")?)
 }
 
 /// What the threads of a page share.
@@ -201,5 +209,16 @@ impl SharedPage {
             .more
             .wait_while(rt, setting, |setting| setting.is_none());
         setting.take()
+    }
+}
+
+/// Begins the thread that accepts the browsers of a station's page, whose calls go to this input. Whether it could begin.
+pub fn begin_page<R>(rt: R, page: &SharedPage, input: &SharedInput) -> bool
+where
+    R: Threads + Wait + Clock + Copy + Send + Drop + 'static,
+{
+    match (page.share(), input.share()) {
+        (Ok(page), Ok(input)) => thread::spawn(&rt, move || page.accept(&rt, input)).is_ok(),
+        _ => false,
     }
 }

@@ -1,9 +1,9 @@
 //! Answers on their way to a browser. Each write has a time, and so has the whole answer.
 
 ghost use Rattle.std.specs.Prelude.{◌≡◌};
-ghost use Rattle.station_rim.specs.Waits.{write_wait_ms};
+ghost use Rattle.page_server.specs.Waits.{write_wait_ms};
 
-use crate::page_talk::Unheard;
+use crate::talk::Unheard;
 use std::io::{ErrorKind, Write};
 use std::net::TcpStream;
 use std::rt::Clock;
@@ -20,17 +20,17 @@ const BYTES_PER_MS: u64 = 100;
 
 /// A whole answer that is being sent.
 #[derive(Drop)]
-pub(crate) struct Sending {
+pub(crate) struct SentAnswer {
     begin: Instant,
     /// The bytes that the system has taken.
     sent: u64,
 }
 
-impl Sending {
+impl SentAnswer {
     /// An answer begins now. The fault: the clock could not be read.
-    pub(crate) fn begin<R: Clock>(rt: &R) -> Result<Sending, Unheard> {
+    pub(crate) fn begin<R: Clock>(rt: &R) -> Result<SentAnswer, Unheard> {
         match Instant::now(rt) {
-            Ok(begin) => Ok(Sending { begin, sent: 0 }),
+            Ok(begin) => Ok(SentAnswer { begin, sent: 0 }),
             Err(_) => Err(Unheard::Left),
         }
     }

@@ -2,7 +2,7 @@
 
 ghost use Rattle.std.specs.Prelude.{◌≡◌, IfOk};
 ghost use Rattle.station_lines.specs.Calls.{call_of};
-ghost use Rattle.station_rim.specs.PageCalls.{is_page_call, writes};
+ghost use Rattle.page_server.specs.Calls.{is_page_call, writes};
 
 use cip_events::Event;
 use cip_types::OutOfMemory;
