@@ -16,7 +16,7 @@ no_listener true true s none = absurd (true≢false none)
 no_listener true false s none = refl
 no_listener false k s none = refl
 
-none_dropped : (all rows : List Row) → list_any is_listening rows ≡ false → filter (is_unsupported all) rows ≡ []
+pub none_dropped : (all rows : List Row) → list_any is_listening rows ≡ false → filter (is_unsupported all) rows ≡ []
 none_dropped all [] none = refl
 none_dropped all (row ∷ rows) none =
     let parts = neither (is_listening row) (list_any is_listening rows) none in

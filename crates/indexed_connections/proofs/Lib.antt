@@ -12,5 +12,7 @@ mod Entries
 mod Numbers
 mod Settling
 mod Keyed
-mod Due
+mod Sending
+mod Written
 mod Singles
+mod Remaining

@@ -10,11 +10,13 @@
 mod consumer_table;
 mod counts;
 mod datagrams;
+mod expiries;
 mod from_list;
 mod keys;
+mod occasion;
 mod queries;
 mod table;
 
 pub use consumer_table::ConsumerTable;
-pub use datagrams::due_datagrams;
+pub use datagrams::{changed_datagrams, due_datagrams, remaining_datagrams};
 pub use table::IndexedConnections;

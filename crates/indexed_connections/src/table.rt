@@ -8,12 +8,13 @@ ghost use Rattle.conn_slab.specs.Connections.{is_listening};
 ghost use Rattle.indexed_connections.specs.ConsumerTables.{consumers_by_producer};
 
 use crate::counts::{close, close_each, counted, expire, open};
+use crate::expiries::{expired, is_any_left};
 use crate::from_list::{from_rows, replaced};
 use crate::queries::{
     count_consuming, first_due, first_expired, first_member, first_owner, first_timed_out,
     is_any_established, is_listening, nth,
 };
-use crate::{ConsumerTable, due_datagrams};
+use crate::{ConsumerTable, changed_datagrams, due_datagrams, remaining_datagrams};
 use adapter_table::{Profile, Row, State};
 use app_rules::{ConnectionsView, Rules};
 use assembly_set::AssemblySet;
@@ -306,7 +307,26 @@ impl ConnectionTable for IndexedConnections {
         assemblies: &AssemblySet,
         clock: Ms,
     ) -> Result<TickPlan, OutOfMemory> {
-        tick_plan(alloc, self.connections.to_vec(alloc)?, assemblies, clock)
+        if self.listening || !self.consumers_valid {
+            return tick_plan(alloc, self.connections.to_vec(alloc)?, assemblies, clock);
+        }
+        let expired = expired(alloc, self.connections.rows(), clock)?;
+        if is_any_left(self.connections.rows(), &expired, clock) {
+            return tick_plan(alloc, self.connections.to_vec(alloc)?, assemblies, clock);
+        }
+        let datagrams = remaining_datagrams(
+            alloc,
+            &self.consumer_table,
+            &self.connections,
+            assemblies,
+            clock,
+            &expired,
+        )?;
+        Ok(TickPlan {
+            expired,
+            dropped: Vec::new(alloc),
+            datagrams,
+        })
     }
 
     fn advance(&mut self, clock: Ms, timed_out: &[Row], dropped: &[Triad]) {
@@ -330,6 +350,16 @@ impl ConnectionTable for IndexedConnections {
         point: u32,
         input: &[u8],
     ) -> Result<Vec<OutgoingDatagram>, OutOfMemory> {
+        if self.consumers_valid {
+            return changed_datagrams(
+                alloc,
+                &self.consumer_table,
+                &self.connections,
+                clock,
+                point,
+                input,
+            );
+        }
         let rows = self.connections.to_vec(alloc)?;
         let written = written_rows(alloc, &rows, point)?;
         sent_on_change(alloc, &written, clock, point, input)
