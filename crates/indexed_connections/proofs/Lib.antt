@@ -12,7 +12,10 @@ mod Entries
 mod Numbers
 mod Settling
 mod Keyed
-mod Sending
+mod SentTurns
 mod Written
 mod Singles
 mod Remaining
+mod Runs
+mod Peers
+mod Cyclic

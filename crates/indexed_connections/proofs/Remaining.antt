@@ -1,12 +1,11 @@
 -- The producers that are due once connections have timed out that alone had theirs.
-use Rattle.std.proofs.Common.{◌≡◌, ℕ, Bool, true, false, not, cond, ◌&&◌, ◌||◌, ◌==◌, List, [], ◌∷◌, map, filter, refl, sym, ◌∙◌, ap, subst, true≢false}
+use Rattle.std.proofs.Common.{◌≡◌, ℕ, Bool, true, false, not, cond, ◌&&◌, ◌||◌, List, [], ◌∷◌, map, filter, refl, sym, ◌∙◌, ap, subst, true≢false}
 use Rattle.std.specs.List.{list_any, filter_map, AllByRecursion}
 use Rattle.std.proofs.lemmas.Bool.{eqb-true}
+use Rattle.base_lemmas.specs.Booleans.{and_none}
 use Rattle.cip_types.specs.declared.names.Ms.{Ms}
 use Rattle.cip_types.specs.declared.names.Node.{Node}
 use Rattle.cip_types.specs.Order.{in_order, inserted, first_of_each, differs}
-use Rattle.cip_events.specs.declared.event.OutgoingDatagram.{OutgoingDatagram}
-use Rattle.cip_productions.specs.declared.production.Production.{Production}
 use Rattle.cip_productions.specs.declared.production.Producer.{Producer}
 use Rattle.cip_productions.specs.Productions.{same_producer, by_due, sent, Produced, produced_by}
 use Rattle.cip_productions.specs.Kinds.{is_listener}
@@ -15,9 +14,9 @@ use Rattle.adapter_table.specs.declared.row.State.{State}
 use Rattle.adapter_table.specs.declared.row.State.TheVariants.{Established, TimedOut}
 use Rattle.adapter_table.specs.declared.table.PointValue.{PointValue}
 use Rattle.adapter_table.specs.Rows.{Each, is_established, is_unsupported}
-use Rattle.adapter_table.specs.Closing.{unsupported, stays, staying}
+use Rattle.adapter_table.specs.Closing.{unsupported, staying}
 use Rattle.adapter_table.specs.Productions.{producer_in, producers, has_number, is_produced_by, is_due, group, consumers, peer_of, same_node, input_of, due_production, due_productions}
-use Rattle.adapter_table.specs.Ticks.{has_expired, by_deadline, expired, expired_row, expired_rows}
+use Rattle.adapter_table.specs.Ticks.{has_expired, by_deadline, expired, expired_rows}
 use Rattle.conn_slab.specs.Connections.{is_listening}
 use Rattle.connection_list.specs.Lone.{neither}
 use Rattle.connection_list.specs.Removals.{all_stay}
@@ -96,10 +95,6 @@ all_split clock ends rows are none =
 
 -- ---- who remains
 
-and_false : (b : Bool) → (b && false) ≡ false
-and_false true = refl
-and_false false = refl
-
 and_true : (b : Bool) → (b && true) ≡ b
 and_true true = refl
 and_true false = refl
@@ -109,7 +104,7 @@ remaining_by : (b : Bool) (clock : Ms) (ends : List Row) (row : Row) (rest left 
 remaining_by true clock ends row rest left among same =
     same
     ∙ sym (ap (λ (c : Bool). cond (is_due clock row && not c) (row ∷ filter (is_due_but clock ends) left) (filter (is_due_but clock ends) left)) among
-    ∙ ap (λ (c : Bool). cond c (row ∷ filter (is_due_but clock ends) left) (filter (is_due_but clock ends) left)) (and_false (is_due clock row)))
+    ∙ ap (λ (c : Bool). cond c (row ∷ filter (is_due_but clock ends) left) (filter (is_due_but clock ends) left)) (and_none (is_due clock row)))
 remaining_by false clock ends row rest left among same =
     ap (λ (l : List Row). cond (is_due clock row) (row ∷ l) l) same
     ∙ sym (ap (λ (c : Bool). cond (is_due clock row && not c) (row ∷ filter (is_due_but clock ends) left) (filter (is_due_but clock ends) left)) among

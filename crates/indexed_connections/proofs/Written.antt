@@ -2,12 +2,11 @@
 use Rattle.std.proofs.Common.{◌≡◌, ℕ, Bool, true, false, cond, ◌==◌, ◌||◌, List, [], ◌∷◌, map, find, Option, Some, None, refl, sym, ◌∙◌, ap, true≢false}
 use Rattle.std.specs.List.{list_any, filter_map}
 use Rattle.std.specs.Option.{option_map}
-use Rattle.cip_productions.specs.declared.production.Production.{Production}
 use Rattle.cip_productions.specs.declared.production.Producer.{Producer}
 use Rattle.adapter_table.specs.Connections.{Row}
 use Rattle.adapter_table.specs.declared.row.State.{State}
 use Rattle.adapter_table.specs.declared.row.State.TheVariants.{Established, TimedOut}
-use Rattle.adapter_table.specs.Rows.{Each, lives, is_established, written_state, written_row}
+use Rattle.adapter_table.specs.Rows.{Each, is_established, written_state, written_row}
 use Rattle.adapter_table.specs.Productions.{producer_in, producer_of, is_produced_by}
 use Rattle.adapter_table.specs.Sound.{ShareInGroup, GroupsAloneShare}
 use Rattle.conn_slab.specs.Producing.{is_producer, producer_by}

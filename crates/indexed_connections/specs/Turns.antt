@@ -1,5 +1,5 @@
 -- Producers, the nodes that consume their datagrams, and why they send. No public clause cites this module.
-use Rattle.std.specs.Prelude.{ℕ, ◌==◌, ◌&&◌, ◌||◌, ◌≤◌, ◌^◌, nat_lt, not, Bool, true, false, if◌then◌else◌, List, length, map, filter}
+use Rattle.std.specs.Prelude.{ℕ, ◌==◌, ◌&&◌, ◌≤◌, ◌^◌, not, Bool, true, false, if◌then◌else◌, List, length, map, filter}
 use Rattle.std.specs.List.{list_any}
 use Rattle.cip_types.specs.declared.names.Ms.{Ms}
 use Rattle.cip_types.specs.declared.names.Node.{Node}
