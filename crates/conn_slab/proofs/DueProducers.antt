@@ -14,6 +14,8 @@ use Rattle.mcast_pool.specs.declared.group.Group.{Group}
 use Rattle.mcast_pool.specs.Groups.{has_number, number_of, numbered, is_due, is_at_once, AreGroups}
 use Rattle.conn_slab.specs.Records.{Record, row_of, state_of, production_in}
 use Rattle.conn_slab.specs.Layout.{IsServed, Shares, SharesBy, SharesFound, count_in, IsBalanced}
+use Rattle.conn_slab.specs.Connections.{is_changing}
+use Rattle.conn_slab.specs.Producing.{group_changes}
 use Rattle.conn_slab.proofs.Numbers.{found_passes, found_by_number, some_served}
 use Rattle.conn_slab.proofs.Balance.{witness}
 
@@ -113,3 +115,7 @@ any_at_once clock point pool rs each balanced =
       same = λ r g shares. ap (λ (p : ℕ). p == point && is_produced_on_change clock g.producer.production) (sym shares.point);
       none = λ r. neither (r.produced == point);
     }) pool rs each balanced
+
+pub any_changing : (pool : List Group) (rs : List Record) → AreGroups pool → IsBalanced pool rs → list_any group_changes pool ≡ list_any is_changing (map (row_of pool) rs)
+any_changing pool rs each balanced =
+    any_alike group_changes is_changing (record { same = λ r g shares. refl; none = λ r. refl }) pool rs each balanced

@@ -44,5 +44,5 @@ number_kept pool r (Some m) shares = ap (λ k. Some k) (sym (numbered_found m po
 pub peers_are : (pool : List Group) (rs : List Record) → AllByRecursion (IsServed pool) rs → map peer_by rs ≡ map peer_in (map (row_of pool) rs)
 peers_are pool [] served = refl
 peers_are pool (r ∷ rs) served =
-    ap (λ (n : Option ℕ). let it : Peer = record { node = r.peer; producer = n } in it ∷ map peer_by rs) (number_kept pool r r.state served.0)
+    ap (λ (n : Option ℕ). let it : Peer = record { node = r.peer; producer = n; deadline = r.deadline } in it ∷ map peer_by rs) (number_kept pool r r.state served.0)
     ∙ ap (λ (l : List Peer). peer_in (row_of pool r) ∷ l) (peers_are pool rs served.1)

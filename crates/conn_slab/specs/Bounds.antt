@@ -1,9 +1,10 @@
 -- Bounds: times before which no watchdog runs out, and no producer is due.
-use Rattle.std.specs.Prelude.{ℕ, ◌≤◌, ◌-◌, ◌^◌, min, List, [], ◌∷◌}
+use Rattle.std.specs.Prelude.{ℕ, ◌≤◌, ◌-◌, ◌^◌, min, List, [], ◌∷◌, Option, Some, None}
 use Rattle.adapter_table.specs.Connections.{Row}
 use Rattle.adapter_table.specs.declared.row.State.{State}
 use Rattle.adapter_table.specs.declared.row.State.TheVariants.{Established, TimedOut}
 use Rattle.adapter_table.specs.Rows.{Each}
+use Rattle.conn_slab.specs.declared.peers.Peer.{Peer}
 
 -- the end of time, which no clock reaches
 abbrev pub never : ℕ
@@ -18,6 +19,18 @@ end_of deadline TimedOut = never
 abbrev pub next_watchdog : List Row → ℕ
 next_watchdog [] = never
 next_watchdog (row ∷ rows) = min (end_of row.deadline.0 row.state) (next_watchdog rows)
+
+-- the same of the peers of connections. No public clause cites these definitions.
+abbrev pub end_by : ℕ → Option ℕ → ℕ
+end_by deadline (Some number) = deadline
+end_by deadline None = never
+
+abbrev pub end_of_peer : Peer → ℕ
+end_of_peer peer = end_by peer.deadline.0 peer.producer
+
+abbrev pub next_end : List Peer → ℕ
+next_end [] = never
+next_end (peer ∷ peers) = min (end_of_peer peer) (next_end peers)
 
 abbrev pub StateNotDueBefore : ℕ → State → Type 0
 StateNotDueBefore bound (Established production) = bound ≤ production.due.0

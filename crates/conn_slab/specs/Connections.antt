@@ -1,11 +1,13 @@
 -- Changes of the connections of an adapter, as a list in opening order.
-use Rattle.std.specs.Prelude.{ℕ, ◌≤◌, ◌==◌, ◌&&◌, if◌then◌else◌, Bool, List, length, Option, Some, None}
+use Rattle.std.specs.Prelude.{ℕ, ◌≤◌, ◌==◌, ◌&&◌, if◌then◌else◌, Bool, false, List, length, Option, Some, None}
 use Rattle.cip_types.specs.declared.names.Triad.{Triad}
 use Rattle.cip_types.specs.declared.names.Ms.{Ms}
 use Rattle.cip_types.specs.declared.names.Node.{Node}
 use Rattle.cip_productions.specs.Kinds.{is_listener}
+use Rattle.cip_productions.specs.Productions.{is_on_change}
 use Rattle.adapter_table.specs.Connections.{Row}
-use Rattle.adapter_table.specs.declared.row.State.TheVariants.{TimedOut}
+use Rattle.adapter_table.specs.declared.row.State.{State}
+use Rattle.adapter_table.specs.declared.row.State.TheVariants.{Established, TimedOut}
 use Rattle.adapter_table.specs.Rows.{most_rows, is_established, holds_triad}
 use Rattle.adapter_table.specs.Closing.{without_triad}
 use Rattle.adapter_table.specs.Datagrams.{is_for}
@@ -45,6 +47,14 @@ accepting_if peer id number count deadline row = if is_for peer id row then acce
 
 abbrev pub is_opened_at : ℕ → Row → Bool
 is_opened_at opening row = row.opening == opening
+
+-- an established connection whose producer produces at changes of state
+abbrev pub state_changes : State → Bool
+state_changes (Established production) = is_on_change production.trigger
+state_changes TimedOut = false
+
+abbrev pub is_changing : Row → Bool
+is_changing row = state_changes row.state
 
 -- an established listen-only connection
 abbrev pub is_listening : Row → Bool

@@ -2,8 +2,10 @@
 use Rattle.std.specs.Prelude.{ℕ, ◌==◌, Bool, List, find, Option}
 use Rattle.std.specs.List.{filter_map}
 use Rattle.cip_productions.specs.declared.production.Producer.{Producer}
+use Rattle.cip_productions.specs.Productions.{is_on_change}
 use Rattle.adapter_table.specs.Connections.{Row}
 use Rattle.adapter_table.specs.Productions.{producer_in, producer_number}
+use Rattle.mcast_pool.specs.declared.group.Group.{Group}
 use Rattle.conn_slab.specs.declared.peers.Peer.{Peer}
 use Rattle.conn_slab.specs.Records.{Record}
 
@@ -15,10 +17,14 @@ is_producer number producer = producer.production.producer == number
 abbrev pub producer_by : ℕ → List Row → Option Producer
 producer_by number rows = find (is_producer number) (filter_map producer_in rows)
 
--- the peer of a connection, and the number of its producer, which an established one has
+-- the producer of the group produces at changes of state
+abbrev pub group_changes : Group → Bool
+group_changes group = is_on_change group.producer.production.trigger
+
+-- the peer of a connection, the number of its producer, which an established one has, and its deadline
 abbrev pub peer_in : Row → Peer
-peer_in row = record { node = row.peer; producer = producer_number row.state }
+peer_in row = record { node = row.peer; producer = producer_number row.state; deadline = row.deadline }
 
 -- the same of its record
 abbrev pub peer_by : Record → Peer
-peer_by r = record { node = r.peer; producer = r.state }
+peer_by r = record { node = r.peer; producer = r.state; deadline = r.deadline }

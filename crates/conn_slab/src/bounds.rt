@@ -1,29 +1,28 @@
 //! The times at which watchdogs run out.
 
 ghost use Rattle.std.specs.Prelude.{◌≡◌};
-ghost use Rattle.conn_slab.specs.Bounds.{end_of, next_watchdog};
+ghost use Rattle.conn_slab.specs.Bounds.{end_of_peer, next_end};
 
-use crate::rows::Rows;
-use adapter_table::{Row, State};
+use crate::peers::{Peer, Peers};
 
-/// When the watchdog of a connection runs out; `u64::MAX` for a timed-out one.
-fn end_of(row: &Row) -> u64
-    ensures { result ≡ end_of row.now.deadline.0 row.now.state }
+/// When the watchdog of a peer's connection runs out; `u64::MAX` for a timed-out one.
+fn end_of_peer(peer: &Peer) -> u64
+    ensures { result ≡ end_of_peer peer.now }
 {
-    match row.state {
-        State::Established(_) => row.deadline.0,
-        State::TimedOut => u64::MAX,
+    match peer.producer {
+        Some(_) => peer.deadline.0,
+        None => u64::MAX,
     }
 }
 
 /// When the first of the watchdogs runs out; `u64::MAX` if there is none.
 #[tactic(auto, using(crate::proofs::Ends::min_never, crate::proofs::Ends::min_end))]
-pub(crate) fn next_watchdog(rows: Rows<'_>) -> u64
-    ensures { result ≡ next_watchdog rows.entry }
+pub(crate) fn next_watchdog(peers: Peers<'_>) -> u64
+    ensures { result ≡ next_end peers.entry }
 {
     let mut first = u64::MAX;
-    for row in rows {
-        first = first.min(end_of(&row));
+    for peer in peers {
+        first = first.min(end_of_peer(&peer));
     }
     first
 }

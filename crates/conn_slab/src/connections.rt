@@ -16,7 +16,7 @@ ghost use Rattle.conn_slab.specs.Layout.{IsConsistent};
 ghost use Rattle.conn_slab.specs.Reception.{IsReceived, reception};
 ghost use Rattle.conn_slab.specs.Bounds.{next_watchdog, AllNotDueBefore};
 ghost use Rattle.conn_slab.specs.Producing.{producer_by, peer_in};
-ghost use Rattle.conn_slab.specs.Connections.{without, AreConnections, timed_out_if, accepting_if, is_opened_at, is_listening};
+ghost use Rattle.conn_slab.specs.Connections.{without, AreConnections, timed_out_if, accepting_if, is_opened_at, is_listening, is_changing};
 
 use crate::bounds::next_watchdog;
 use crate::index::{
@@ -24,7 +24,7 @@ use crate::index::{
     running, take_record,
 };
 use crate::peers::Peers;
-use crate::producers::{enter, has_at_once, has_due, leave, row_of};
+use crate::producers::{enter, has_at_once, has_changing, has_due, leave, row_of};
 use crate::reception::{Received, receive_record};
 use crate::record::{Record, Source, key_for, record_of};
 use crate::rows::Rows;
@@ -359,7 +359,7 @@ impl Connections {
     pub fn next_watchdog(&self) -> u64
         ensures { result ≡ next_watchdog self.now }
     {
-        next_watchdog(self.rows())
+        next_watchdog(self.peers())
     }
 
     /// A time before which no producer is due. Takes no memory.
@@ -388,6 +388,15 @@ impl Connections {
         ensures { result ≡ list_any (produces_on_change clock point) self.now }
     {
         has_at_once(self.pool.as_slice(), clock, point)
+    }
+
+    /// Whether some connection's producer produces at changes of state. Takes no memory.
+    ///
+    /// Volume 1, chapter 3, production triggers.
+    pub fn has_changing(&self) -> bool
+        ensures { result ≡ list_any is_changing self.now }
+    {
+        has_changing(self.pool.as_slice())
     }
 
     /// The producer of a number, which some connection has. The search tries one index first. Takes no memory.

@@ -5,16 +5,17 @@ ghost use Rattle.std.specs.Iterator.{YieldsFirst, item_count};
 ghost use Rattle.conn_slab.specs.Producing.{peer_by};
 
 use crate::record::{Record, TriadKey};
-use cip_types::Node;
+use cip_types::{Ms, Node};
 use indexmap::map::Values;
 use slab::Slab;
 use std::marker::Model;
 
-/// The peer of a connection, and the number of its producer, which an established one has.
+/// The peer of a connection, the number of its producer, which an established one has, and when its watchdog runs out.
 #[derive(Clone, Copy)]
 pub struct Peer {
     pub node: Node,
     pub producer: Option<u32>,
+    pub deadline: Ms,
 }
 
 /// The peers of the connections in opening order, which contracts see as the list of those still to come.
@@ -46,6 +47,7 @@ fn peer_of(record: &Record) -> Peer
     Peer {
         node: record.peer,
         producer: record.state,
+        deadline: record.deadline,
     }
 }
 

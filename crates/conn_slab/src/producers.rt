@@ -2,12 +2,15 @@
 
 ghost use Rattle.std.specs.Prelude.{◌≡◌, ◌<◌, ◌≤◌, ◌+◌, ◌^◌};
 ghost use Rattle.std.specs.List.{list_any};
+ghost use Rattle.cip_productions.specs.Productions.{is_on_change};
 ghost use Rattle.mcast_pool.specs.Groups.{subscribers, is_due, is_at_once};
 ghost use Rattle.conn_slab.specs.Records.{state_of, row_of, entered, left_by};
 ghost use Rattle.conn_slab.specs.Layout.{IsLive, MayEnter};
+ghost use Rattle.conn_slab.specs.Producing.{group_changes};
 
 use crate::record::Record;
 use adapter_table::{Row, State, producer_in};
+use cip_netparams::Trigger;
 use cip_productions::{is_produced_on_change, is_production_due};
 use cip_types::Ms;
 use mcast_pool::{Group, Pool};
@@ -80,4 +83,22 @@ pub(crate) fn has_at_once(groups: &[Group], clock: Ms, point: u32) -> bool
     groups.iter().any(|group| {
         group.producer.point == point && is_produced_on_change(&group.producer.production, clock)
     })
+}
+
+fn is_on_change(trigger: Trigger) -> bool
+    ensures { result ≡ is_on_change trigger }
+{
+    match trigger {
+        Trigger::Cyclic => false,
+        Trigger::ChangeOfState => true,
+    }
+}
+
+/// Whether one of the producers produces at changes of state.
+pub(crate) fn has_changing(groups: &[Group]) -> bool
+    ensures { result ≡ list_any group_changes groups.now }
+{
+    groups
+        .iter()
+        .any(|group| is_on_change(group.producer.production.trigger))
 }

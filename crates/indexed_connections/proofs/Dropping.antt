@@ -16,7 +16,7 @@ no_listener true true s none = absurd (true≢false none)
 no_listener true false s none = refl
 no_listener false k s none = refl
 
-none_dropped : (all rows : List Row) → list_any is_listening rows ≡ false → filter (is_unsupported all) rows ≡ []
+pub none_dropped : (all rows : List Row) → list_any is_listening rows ≡ false → filter (is_unsupported all) rows ≡ []
 none_dropped all [] none = refl
 none_dropped all (row ∷ rows) none =
     let parts = neither (is_listening row) (list_any is_listening rows) none in
@@ -46,14 +46,12 @@ any_last test (x ∷ rows) row none fails =
     let parts = neither (test x) (list_any test rows) none in
     rw (parts.0, any_last test rows row parts.1 fails) refl
 
--- none listens where none may, and one more does not
-pub quiet_opened : (listening more : Bool) (removed : Option Triad) (rows : List Row) (row : Row) → more ≡ (listening || is_listening row) → (listening ≡ false → list_any is_listening rows ≡ false) → more ≡ false → list_any is_listening (without removed rows ++ row ∷ []) ≡ false
-quiet_opened listening more removed rows row is quiet none =
-    let parts = neither listening (is_listening row) (sym is ∙ none) in
-    any_last is_listening (without removed rows) row (any_without is_listening removed rows (quiet parts.0)) parts.1
+-- none passes where none may, and one more does not
+pub none_opened : (test : Row → Bool) (may more : Bool) (removed : Option Triad) (rows : List Row) (row : Row) → more ≡ (may || test row) → (may ≡ false → list_any test rows ≡ false) → more ≡ false → list_any test (without removed rows ++ row ∷ []) ≡ false
+none_opened test may more removed rows row is none off =
+    let parts = neither may (test row) (sym is ∙ off) in
+    any_last test (without removed rows) row (any_without test removed rows (none parts.0)) parts.1
 
-pub quiet_left : (triad : Triad) (rows : List Row) → list_any is_listening rows ≡ false → list_any is_listening (without_triad triad rows) ≡ false
-quiet_left triad rows none = any_left is_listening (λ row. not (has_triad triad row)) rows none
-
-pub quiet_staying : (triad : Triad) (rows : List Row) → list_any is_listening rows ≡ false → list_any is_listening (staying (without_triad triad rows)) ≡ false
-quiet_staying triad rows none = any_left is_listening (stays (without_triad triad rows)) (without_triad triad rows) (quiet_left triad rows none)
+pub none_staying : (test : Row → Bool) (triad : Triad) (rows : List Row) → list_any test rows ≡ false → list_any test (staying (without_triad triad rows)) ≡ false
+none_staying test triad rows none =
+    any_left test (stays (without_triad triad rows)) (without_triad triad rows) (any_left test (λ row. not (has_triad triad row)) rows none)

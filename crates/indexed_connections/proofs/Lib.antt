@@ -12,5 +12,10 @@ mod Entries
 mod Numbers
 mod Settling
 mod Keyed
-mod Due
+mod SentTurns
+mod Written
 mod Singles
+mod Remaining
+mod Runs
+mod Peers
+mod Cyclic

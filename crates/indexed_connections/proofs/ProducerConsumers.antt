@@ -14,10 +14,10 @@ use Rattle.adapter_table.specs.declared.row.State.{State}
 use Rattle.adapter_table.specs.declared.row.State.TheVariants.{Established, TimedOut}
 use Rattle.adapter_table.specs.Rows.{written_state, written_row}
 use Rattle.adapter_table.specs.Datagrams.{is_for, row_delivery, accepted_row, accepted_if_for}
-use Rattle.adapter_table.specs.Productions.{producer_number, produced_state, produced_row, changed_state, changed_row}
+use Rattle.adapter_table.specs.Productions.{producer_number, is_produced_by, produced_state, produced_row, changed_state, changed_row}
 use Rattle.conn_slab.specs.Reception.{reception}
 use Rattle.indexed_connections.specs.ConsumerTables.{consumers_by_producer}
-use Rattle.indexed_connections.specs.ConsumerLaws.{KeepsProducer, consumers_kept}
+use Rattle.indexed_connections.specs.ConsumerLaws.{KeepsProducer, made_kept, consumers_kept}
 
 produced_number : (clock : Ms) (api : ℕ) (state : State) → producer_number (produced_state clock api state) ≡ producer_number state
 produced_number clock api TimedOut = refl
@@ -54,10 +54,17 @@ changed_keeps : (b : Bool) (clock : Ms) (row : Row) → KeepsProducer row (cond 
 changed_keeps true clock row = record { peer = refl; number = changed_number clock row.t_o_api_ms row.state }
 changed_keeps false clock row = record { peer = refl; number = refl }
 
+pub written_served : (point : ℕ) (rows : List Row) → consumers_by_producer (map (written_row point) rows) ≡ consumers_by_producer rows
+written_served point rows = consumers_kept (written_row point) (λ row. written_keeps (row.produced == point) row) rows
+
+-- a write keeps the number of a connection's producer
+pub written_made : (number point : ℕ) (row : Row) → is_produced_by number (written_row point row) ≡ is_produced_by number row
+written_made number point row = made_kept number row (written_row point row) (written_keeps (row.produced == point) row)
+
 pub changed_served : (clock : Ms) (point : ℕ) (rows : List Row) → consumers_by_producer (map (changed_row clock point) (map (written_row point) rows)) ≡ consumers_by_producer rows
 changed_served clock point rows =
     consumers_kept (changed_row clock point) (λ row. changed_keeps (row.produced == point) clock row) (map (written_row point) rows)
-    ∙ consumers_kept (written_row point) (λ row. written_keeps (row.produced == point) row) rows
+    ∙ written_served point rows
 
 accepted_keeps : (b : Bool) (clock : Ms) (d : DatagramFields) (row : Row) → KeepsProducer row (cond b (accepted_row clock d row) row)
 accepted_keeps true clock d row = record { peer = refl; number = refl }

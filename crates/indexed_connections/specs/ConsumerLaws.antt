@@ -18,7 +18,7 @@ pub by_number : (number : ℕ) (state : State) → has_number number state ≡ i
 by_number number (Established production) = refl
 by_number number TimedOut = refl
 
-made_kept : (number : ℕ) (row changed : Row) → KeepsProducer row changed → is_produced_by number changed ≡ is_produced_by number row
+pub made_kept : (number : ℕ) (row changed : Row) → KeepsProducer row changed → is_produced_by number changed ≡ is_produced_by number row
 made_kept number row changed keeps = by_number number changed.state ∙ ap (is_number number) keeps.number ∙ sym (by_number number row.state)
 
 numbers_step : (row changed : Row) (rows rest : List Row) (o : Option ℕ) → number_in row ≡ o → number_in changed ≡ o → filter_map number_in rest ≡ filter_map number_in rows → filter_map number_in (changed ∷ rest) ≡ filter_map number_in (row ∷ rows)

@@ -4,3 +4,4 @@ pub mod Turns
 pub mod Keys
 pub mod ConsumerTables
 pub mod ConsumerLaws
+pub mod Peers

@@ -1,7 +1,7 @@
 //! A table of connections in a slab, with running counts of owners and supporters and bounds on the times at which a
 //! connection expires or produces: a datagram finds its connection by one look-up, an idle tick compares two times,
 //! ownership of an output is one counter read, and each group has one producer. The consumers of each producer are in a
-//! table: a tick reads each producer and no connection, and sorts the keys of those that are due.
+//! table: a tick and a change of state read each producer and no connection, and sort the keys of those that send.
 //!
 //! Volume 1, chapter 3, class 1 transport, inactivity watchdog, production triggers; Volume 2, chapter 2,
 //! sequenced address item, and chapter 3, multicast connections.
@@ -10,11 +10,13 @@
 mod consumer_table;
 mod counts;
 mod datagrams;
+mod expiries;
 mod from_list;
 mod keys;
+mod occasion;
 mod queries;
 mod table;
 
 pub use consumer_table::ConsumerTable;
-pub use datagrams::due_datagrams;
+pub use datagrams::{changed_datagrams, due_datagrams, remaining_datagrams};
 pub use table::IndexedConnections;

@@ -4,13 +4,13 @@ ghost use Rattle.std.specs.Prelude.{◌≡◌, ◌≤◌, find, length, slice_ge
 ghost use Rattle.std.specs.List.{list_any};
 ghost use Rattle.adapter_table.specs.Rows.{is_established, is_timed_out, drives, is_member};
 ghost use Rattle.adapter_table.specs.States.{count_consuming};
-ghost use Rattle.adapter_table.specs.Ticks.{has_expired};
 ghost use Rattle.cip_tables.specs.Wakes.{connections_due};
-ghost use Rattle.conn_slab.specs.Connections.{is_listening};
+ghost use Rattle.cip_productions.specs.Productions.{is_on_change};
+ghost use Rattle.conn_slab.specs.Connections.{is_listening, is_changing};
 
-use adapter_table::{Row, consumes, drives, has_expired, is_established, is_member, is_timed_out};
+use adapter_table::{Row, State, consumes, drives, is_established, is_member, is_timed_out};
+use cip_netparams::Trigger;
 use cip_productions::Kind;
-use cip_types::Ms;
 use conn_slab::Rows;
 use connection_list::connection_due;
 
@@ -90,18 +90,6 @@ pub fn first_timed_out(rows: Rows<'_>) -> Option<Row>
     None
 }
 
-/// The first established connection whose deadline has been reached.
-pub fn first_expired(rows: Rows<'_>, clock: Ms) -> Option<Row>
-    ensures { result ≡ find (has_expired clock) rows.entry }
-{
-    for row in rows {
-        if has_expired(&row, clock) {
-            return Some(row);
-        }
-    }
-    None
-}
-
 /// When the first deadline of an established connection is reached or the first producer is due; `u64::MAX` if there
 /// is neither.
 #[tactic(auto, using(crate::proofs::Times::min_never, crate::proofs::Times::min_due))]
@@ -120,4 +108,24 @@ pub fn is_listening(row: &Row) -> bool
     ensures { result ≡ is_listening row.now }
 {
     is_established(row) && row.kind == Kind::ListenOnly
+}
+
+/// Whether the producer of a trigger produces at changes of state.
+fn is_on_change(trigger: Trigger) -> bool
+    ensures { result ≡ is_on_change trigger }
+{
+    match trigger {
+        Trigger::Cyclic => false,
+        Trigger::ChangeOfState => true,
+    }
+}
+
+/// Whether a connection is established, and its producer produces at changes of state.
+pub fn is_changing(row: &Row) -> bool
+    ensures { result ≡ is_changing row.now }
+{
+    match row.state {
+        State::Established(production) => is_on_change(production.trigger),
+        State::TimedOut => false,
+    }
 }

@@ -1,19 +1,20 @@
 //! The table of connections with indexes, counts and bounds.
 
-ghost use Rattle.std.specs.Prelude.{◌≡◌, ◌||◌, true};
+ghost use Rattle.std.specs.Prelude.{◌≡◌, ◌||◌, true, false};
 ghost use Rattle.std.specs.List.{list_any};
 ghost use Rattle.adapter_table.specs.Ticks.{has_expired};
 ghost use Rattle.conn_slab.specs.Bounds.{NotDueBefore, AllNotDueBefore};
-ghost use Rattle.conn_slab.specs.Connections.{is_listening};
+ghost use Rattle.conn_slab.specs.Connections.{is_listening, is_changing};
 ghost use Rattle.indexed_connections.specs.ConsumerTables.{consumers_by_producer};
 
 use crate::counts::{close, close_each, counted, expire, open};
+use crate::expiries::{expired, has_any_run_out, has_any_timed_out, is_any_left};
 use crate::from_list::{from_rows, replaced};
 use crate::queries::{
-    count_consuming, first_due, first_expired, first_member, first_owner, first_timed_out,
-    is_any_established, is_listening, nth,
+    count_consuming, first_due, first_member, first_owner, is_any_established, is_changing,
+    is_listening, nth,
 };
-use crate::{ConsumerTable, due_datagrams};
+use crate::{ConsumerTable, changed_datagrams, due_datagrams, remaining_datagrams};
 use adapter_table::{Profile, Row, State};
 use app_rules::{ConnectionsView, Rules};
 use assembly_set::AssemblySet;
@@ -39,6 +40,8 @@ pub struct IndexedConnections {
     rules: Rules,
     /// If this is false, there is no established listen-only connection.
     listening: bool,
+    /// If this is false, no producer produces at changes of state.
+    changing: bool,
     /// No watchdog runs out before this.
     next_watchdog: u64,
     /// No producer is due before this.
@@ -57,7 +60,7 @@ impl Model for IndexedConnections {
 
     ghost view = { λ t. t.connections };
 
-    ghost invariant = { λ t. AreConsistent t.connections t.rules t.listening t.next_watchdog t.next_production t.consumers_valid t.consumer_table };
+    ghost invariant = { λ t. AreConsistent t.connections t.rules t.listening t.changing t.next_watchdog t.next_production t.consumers_valid t.consumer_table };
 }
 
 /// When the producer of a connection is due; `u64::MAX` for a timed-out one.
@@ -77,12 +80,34 @@ fn listens_with(listening: bool, row: &Row) -> bool
     listening || is_listening(row)
 }
 
+/// Whether there may be a producer of changes of state once this connection is added.
+fn changes_with(changing: bool, row: &Row) -> bool
+    ensures { result ≡ (changing || is_changing row.now) }
+{
+    changing || is_changing(row)
+}
+
+/// A time before which no producer is due, after a write: the present bound, if none produces at changes of state.
+fn next_due_after_write(
+    connections: &conn_slab::Connections,
+    changing: bool,
+    next_production: u64,
+) -> u64
+    requires { changing ≡ false → AllNotDueBefore next_production connections.now }
+    ensures { AllNotDueBefore result connections.now }
+{
+    if changing {
+        return connections.first_due();
+    }
+    next_production
+}
+
 /// A time before which no producer is due: the present bound, until the clock reaches it.
 fn next_due_from(connections: &conn_slab::Connections, clock: Ms, next_production: u64) -> u64
     requires { AllNotDueBefore next_production connections.now }
     ensures { AllNotDueBefore result connections.now }
 {
-    if clock.0 < next_production {
+    if clock.0 < next_production || connections.is_any_due(clock) {
         return next_production;
     }
     connections.first_due()
@@ -124,7 +149,7 @@ impl IndexedConnections {
             return false;
         }
         self.next_watchdog = self.connections.next_watchdog();
-        first_expired(self.connections.rows(), clock).is_some()
+        has_any_run_out(self.connections.peers(), clock)
     }
 }
 
@@ -156,7 +181,7 @@ impl ConnectionsView for IndexedConnections {
     }
 
     fn has_timed_out(&self) -> bool {
-        first_timed_out(self.connections.rows()).is_some()
+        has_any_timed_out(self.connections.peers())
     }
 }
 
@@ -166,6 +191,7 @@ impl ConnectionTable for IndexedConnections {
             connections: conn_slab::Connections::new(alloc)?,
             rules: Rules::new(alloc)?,
             listening: false,
+            changing: false,
             next_watchdog: u64::MAX,
             next_production: u64::MAX,
             consumers_valid: false,
@@ -177,12 +203,14 @@ impl ConnectionTable for IndexedConnections {
         let connections = from_rows(alloc, rows)?;
         let rules = counted(alloc, rows)?;
         let listening = connections.has_listeners();
+        let changing = connections.has_changing();
         let next_watchdog = connections.next_watchdog();
         let next_production = connections.first_due();
         Ok(IndexedConnections {
             connections,
             rules,
             listening,
+            changing,
             next_watchdog,
             next_production,
             consumers_valid: false,
@@ -223,6 +251,7 @@ impl ConnectionTable for IndexedConnections {
         self.next_watchdog = self.next_watchdog.min(row.deadline.0);
         self.next_production = self.next_production.min(due_of(&row));
         self.listening = listens_with(self.listening, &row);
+        self.changing = changes_with(self.changing, &row);
         self.consumers_valid = false;
         Ok(())
     }
@@ -306,7 +335,26 @@ impl ConnectionTable for IndexedConnections {
         assemblies: &AssemblySet,
         clock: Ms,
     ) -> Result<TickPlan, OutOfMemory> {
-        tick_plan(alloc, self.connections.to_vec(alloc)?, assemblies, clock)
+        if self.listening || !self.consumers_valid {
+            return tick_plan(alloc, self.connections.to_vec(alloc)?, assemblies, clock);
+        }
+        let expired = expired(alloc, self.connections.rows(), clock)?;
+        if is_any_left(self.connections.peers(), &expired, clock) {
+            return tick_plan(alloc, self.connections.to_vec(alloc)?, assemblies, clock);
+        }
+        let datagrams = remaining_datagrams(
+            alloc,
+            &self.consumer_table,
+            &self.connections,
+            assemblies,
+            clock,
+            &expired,
+        )?;
+        Ok(TickPlan {
+            expired,
+            dropped: Vec::new(alloc),
+            datagrams,
+        })
     }
 
     fn advance(&mut self, clock: Ms, timed_out: &[Row], dropped: &[Triad]) {
@@ -314,12 +362,16 @@ impl ConnectionTable for IndexedConnections {
         expire(&mut self.connections, &mut self.rules, timed_out);
         close_each(&mut self.connections, &mut self.rules, dropped);
         self.listening = self.connections.has_listeners();
+        self.changing = self.connections.has_changing();
         self.connections.produce(clock);
         self.next_watchdog = self.connections.next_watchdog();
         self.next_production = self.connections.first_due();
     }
 
     fn produces_at_once(&self, clock: Ms, point: u32) -> bool {
+        if !self.changing {
+            return false;
+        }
         self.connections.is_any_at_once(clock, point)
     }
 
@@ -330,6 +382,16 @@ impl ConnectionTable for IndexedConnections {
         point: u32,
         input: &[u8],
     ) -> Result<Vec<OutgoingDatagram>, OutOfMemory> {
+        if self.consumers_valid {
+            return changed_datagrams(
+                alloc,
+                &self.consumer_table,
+                &self.connections,
+                clock,
+                point,
+                input,
+            );
+        }
         let rows = self.connections.to_vec(alloc)?;
         let written = written_rows(alloc, &rows, point)?;
         sent_on_change(alloc, &written, clock, point, input)
@@ -337,6 +399,10 @@ impl ConnectionTable for IndexedConnections {
 
     fn write(&mut self, clock: Ms, point: u32) {
         self.connections.write(point, clock);
-        self.next_production = self.connections.first_due();
+        self.next_production = next_due_after_write(
+            &self.connections,
+            self.changing,
+            self.next_production,
+        );
     }
 }

@@ -1,8 +1,8 @@
-use Rattle.std.proofs.Common.{◌<◌, Option, find, is_some, sym, ap, ◌∙◌, rules}
+use Rattle.std.proofs.Common.{◌<◌, sym, ap, ◌∙◌, rules}
 use Rattle.std.specs.List.{list_any}
-use Rattle.adapter_table.specs.Connections.{Row}
 use Rattle.adapter_table.specs.Ticks.{has_expired}
-use Rattle.connection_list.specs.Replacing.{any_found}
+use Rattle.indexed_connections.specs.Peers.{has_run_out}
+use Rattle.indexed_connections.proofs.Peers.{any_run_out}
 use Rattle.indexed_connections.proofs.Times.{none_ends}
 use Rattle.indexed_connections.proofs.table.IndexedConnections.look.Goals as goal
 
@@ -13,5 +13,5 @@ returns-then-clock-self-clause-expired c =
 
 pub returns-clause-expired : goal.returns-clause-expired
 returns-clause-expired c =
-    c.is_some.ensures ∙ ap (λ (o : Option Row). is_some o) (c.first_expired.ensures ∙ ap (find (has_expired c.args.clock)) c.rows.ensures.rows)
-    ∙ sym (any_found (has_expired c.args.clock) c.self.inside.connections) ∙ ap (list_any (has_expired c.args.clock)) c.self.view_is
+    c.has_any_run_out.ensures ∙ ap (list_any (has_run_out c.args.clock)) c.peers.ensures
+    ∙ any_run_out c.args.clock c.self.inside.connections ∙ ap (list_any (has_expired c.args.clock)) c.self.view_is

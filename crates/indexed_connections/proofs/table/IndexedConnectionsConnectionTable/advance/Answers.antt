@@ -5,13 +5,14 @@ use Rattle.adapter_table.specs.Connections.{Row}
 use Rattle.adapter_table.specs.Productions.{produced_row}
 use Rattle.adapter_table.specs.Sound.{TriadsDiffer}
 use Rattle.adapter_table.specs.Ticks.{expired, expired_rows}
-use Rattle.conn_slab.specs.Connections.{is_listening}
+use Rattle.conn_slab.specs.Connections.{is_listening, is_changing}
 use Rattle.app_rules.specs.Counts.{AreCounted}
 use Rattle.connection_list.specs.Removals.{without_each, without_unsupported, expired_differ}
 use Rattle.connection_list.specs.Tables.{AreWhole}
 use Rattle.connection_list.specs.Whole.{whole_triads}
 use Rattle.indexed_connections.specs.CountChanges.{timed_out_each}
 use Rattle.indexed_connections.proofs.Counted.{produced_counted, produced_listen}
+use Rattle.indexed_connections.proofs.Cyclic.{produced_changing}
 use Rattle.indexed_connections.proofs.Expiring.{expired_each}
 use Rattle.indexed_connections.proofs.Times.{same_end}
 use Rattle.indexed_connections.proofs.table.IndexedConnectionsConnectionTable.advance.Goals as goal
@@ -48,4 +49,5 @@ invariant_of-self c = record {
   counted = subst (AreCounted c.close_each.new.rules) (sym c.produce.ensures) (produced_counted c.args.clock c.close_each.new.rules c.close_each.new.connections c.close_each.ensures.counted);
   serving = λ holds. absurd cc;
   quiet = λ off. ap (list_any is_listening) c.produce.ensures ∙ produced_listen c.args.clock c.close_each.new.connections ∙ sym c.has_listeners-self-inside.ensures ∙ off;
+  cyclic = λ off. ap (list_any is_changing) c.produce.ensures ∙ produced_changing c.args.clock c.close_each.new.connections ∙ sym c.has_changing-self-inside.ensures ∙ off;
 }

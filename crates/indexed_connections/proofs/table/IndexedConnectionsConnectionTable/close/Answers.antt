@@ -4,8 +4,8 @@ use Rattle.adapter_table.specs.Sound.{TriadsDiffer}
 use Rattle.adapter_table.specs.Connections.{Row}
 use Rattle.adapter_table.specs.Closing.{stays, staying, without_triad}
 use Rattle.std.specs.List.{list_any}
-use Rattle.conn_slab.specs.Connections.{is_listening}
-use Rattle.indexed_connections.proofs.Dropping.{quiet_staying}
+use Rattle.conn_slab.specs.Connections.{is_listening, is_changing}
+use Rattle.indexed_connections.proofs.Dropping.{none_staying}
 use Rattle.conn_slab.specs.Bounds.{next_watchdog, AllNotDueBefore}
 use Rattle.cip_types.specs.declared.names.Triad.{Triad}
 use Rattle.connection_list.specs.Lone.{differ_filtered}
@@ -52,5 +52,6 @@ invariant_of-self c =
       };
       counted = c.close_each.ensures.counted;
       serving = λ holds. absurd cc;
-      quiet = λ off. ap (list_any is_listening) is ∙ quiet_staying c.args.triad own.connections (c.self.invariant.quiet off);
+      quiet = λ off. ap (list_any is_listening) is ∙ none_staying is_listening c.args.triad own.connections (c.self.invariant.quiet off);
+      cyclic = λ off. ap (list_any is_changing) is ∙ none_staying is_changing c.args.triad own.connections (c.self.invariant.cyclic off);
     }

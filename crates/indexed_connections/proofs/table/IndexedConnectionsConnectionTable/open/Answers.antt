@@ -3,8 +3,8 @@ use Rattle.adapter_table.specs.Connections.{Row}
 use Rattle.adapter_table.specs.Rows.{others}
 use Rattle.adapter_table.specs.Opening.{is_replaced, replaced_triad}
 use Rattle.std.specs.List.{list_any}
-use Rattle.conn_slab.specs.Connections.{AreConnections, without, is_listening}
-use Rattle.indexed_connections.proofs.Dropping.{quiet_opened}
+use Rattle.conn_slab.specs.Connections.{AreConnections, without, is_listening, is_changing}
+use Rattle.indexed_connections.proofs.Dropping.{none_opened}
 use Rattle.conn_slab.specs.Bounds.{next_watchdog, AllNotDueBefore}
 use Rattle.connection_list.specs.Replacing.{goes_by_triad}
 use Rattle.indexed_connections.proofs.Times.{ends_opened, rests_opened}
@@ -45,5 +45,6 @@ invariant_of-self-2 c =
       };
       counted = c.open.ensures.counted;
       serving = λ holds. absurd cc;
-      quiet = λ off. ap (list_any is_listening) c.in_ok-open.ensures.rows ∙ quiet_opened own.listening c.listens_with-self-inside.result c.args.replaced own.connections c.args.row c.listens_with-self-inside.ensures c.self.invariant.quiet off;
+      quiet = λ off. ap (list_any is_listening) c.in_ok-open.ensures.rows ∙ none_opened is_listening own.listening c.listens_with-self-inside.result c.args.replaced own.connections c.args.row c.listens_with-self-inside.ensures c.self.invariant.quiet off;
+      cyclic = λ off. ap (list_any is_changing) c.in_ok-open.ensures.rows ∙ none_opened is_changing own.changing c.changes_with-self-inside.result c.args.replaced own.connections c.args.row c.changes_with-self-inside.ensures c.self.invariant.cyclic off;
     }

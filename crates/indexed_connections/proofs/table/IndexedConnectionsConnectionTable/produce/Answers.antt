@@ -1,9 +1,10 @@
 use Rattle.std.proofs.Common.{◌≤◌, ℕ, List, sym, subst, ap, ◌∙◌}
 use Rattle.std.specs.List.{list_any}
-use Rattle.conn_slab.specs.Connections.{is_listening}
+use Rattle.conn_slab.specs.Connections.{is_listening, is_changing}
 use Rattle.adapter_table.specs.Connections.{Row}
 use Rattle.conn_slab.specs.Bounds.{next_watchdog}
 use Rattle.app_rules.specs.Counts.{AreCounted}
+use Rattle.indexed_connections.proofs.Cyclic.{produced_changing}
 use Rattle.indexed_connections.proofs.Counted.{produced_counted, produced_listen}
 use Rattle.indexed_connections.proofs.Times.{produced_ends}
 use Rattle.indexed_connections.specs.ConsumerTables.{consumers_by_producer}
@@ -21,4 +22,5 @@ invariant_of-self c =
       counted = subst (AreCounted own.rules) (sym c.produce.ensures) (produced_counted c.args.clock own.rules own.connections c.self.invariant.counted);
       serving = λ holds. c.self.invariant.serving holds ∙ sym (ap consumers_by_producer c.produce.ensures ∙ produced_served c.args.clock own.connections);
       quiet = λ off. ap (list_any is_listening) c.produce.ensures ∙ produced_listen c.args.clock own.connections ∙ c.self.invariant.quiet off;
+      cyclic = λ off. ap (list_any is_changing) c.produce.ensures ∙ produced_changing c.args.clock own.connections ∙ c.self.invariant.cyclic off;
     }

@@ -1,5 +1,5 @@
 use Rattle.std.specs.List.{list_any}
-use Rattle.conn_slab.specs.Connections.{is_listening}
+use Rattle.conn_slab.specs.Connections.{is_listening, is_changing}
 use Rattle.std.proofs.Common.{◌≤◌, List, find, sym, subst, ◌∙◌, arith, ap}
 use Rattle.cip_datagram.specs.Datagram.{view_datagram}
 use Rattle.adapter_table.specs.Connections.{Row}
@@ -10,6 +10,7 @@ use Rattle.conn_slab.specs.Bounds.{next_watchdog, AllNotDueBefore}
 use Rattle.app_rules.specs.Counts.{AreCounted}
 use Rattle.indexed_connections.proofs.Counted.{received_counted, received_listen}
 use Rattle.indexed_connections.proofs.Times.{ends_received, rests_received}
+use Rattle.indexed_connections.proofs.Cyclic.{received_changing}
 use Rattle.indexed_connections.proofs.Whole.{whole_ids}
 use Rattle.indexed_connections.specs.ConsumerTables.{consumers_by_producer}
 use Rattle.indexed_connections.proofs.ProducerConsumers.{received_served}
@@ -30,4 +31,5 @@ invariant_of-self-2 c =
       counted = subst (AreCounted own.rules) (sym c.receive.ensures.rows) (received_counted c.args.profile.now c.args.clock c.args.peer d own.rules own.connections c.self.invariant.counted);
       serving = λ holds. c.self.invariant.serving holds ∙ sym (ap consumers_by_producer c.receive.ensures.rows ∙ received_served c.args.profile.now c.args.clock c.args.peer d own.connections);
       quiet = λ off. ap (list_any is_listening) c.receive.ensures.rows ∙ received_listen c.args.profile.now c.args.clock c.args.peer d own.connections ∙ c.self.invariant.quiet off;
+      cyclic = λ off. ap (list_any is_changing) c.receive.ensures.rows ∙ received_changing c.args.profile.now c.args.clock c.args.peer d own.connections ∙ c.self.invariant.cyclic off;
     }

@@ -1,0 +1,7 @@
+use Rattle.std.proofs.Common.{◌≡◌}
+use Rattle.std.specs.List.{list_any}
+use Rattle.indexed_connections.specs.Peers.{has_run_out}
+use Rattle.indexed_connections.proofs.expiries.has_any_run_out.Given as goal
+
+abbrev pub invariant-loop-peer : goal.invariant-loop-peer
+invariant-loop-peer l = list_any (has_run_out l.clock) l.peer-iterator ≡ list_any (has_run_out l.clock) l.fn.peers
