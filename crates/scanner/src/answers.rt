@@ -3,12 +3,13 @@
 ghost use Rattle.std.specs.Prelude.{◌≡◌, []};
 ghost use Rattle.cip_events.specs.Answers.{plain_answer};
 ghost use Rattle.scanner_transactions.specs.Transactions.{view_transaction, progress_answer};
-ghost use Rattle.scanner_transactions.specs.Undoing.{state_of, state_before};
+ghost use Rattle.scanner_transactions.specs.Undoing.{state_of, state_before, table_with};
 ghost use Rattle.scanner_slots.specs.Views.{table_of};
+ghost use Rattle.scanner_slots.specs.Bounding.{IsHinted};
 
 use cip_events::{Answer, OutgoingDatagram, StepFault, Verdict};
 use cip_types::Items;
-use scanner_slots::ScannerState;
+use scanner_slots::{Hints, ScannerState, bounds_are_kept_by_earlier_ones};
 use scanner_transactions::Transaction;
 use std::alloc::Global;
 
@@ -61,4 +62,23 @@ pub fn commit(
     let (answer, next) = transaction.finish(datagrams);
     *scanner = next;
     answer
+}
+
+/// Ends a transaction as `commit` does. The bounds become those of its table.
+pub fn commit_bounded<H: Hints>(
+    transaction: Transaction<'_>,
+    scanner: &mut ScannerState,
+    hints: &mut H,
+    datagrams: Vec<OutgoingDatagram>,
+) -> Answer
+    ensures answer { result ≡ progress_answer (view_transaction transaction.entry) datagrams.items }
+    ensures table { table_of transaction.entry.profile.now scanner.new ≡ (view_transaction transaction.entry).table }
+    ensures hints { IsHinted (H.bounds hints.old)
+        (table_with transaction.entry.profile.now (state_before transaction.entry))
+        → IsHinted (H.bounds hints.new) (view_transaction transaction.entry).table }
+{
+    // Earlier bounds hold where these do.
+    bounds_are_kept_by_earlier_ones();
+    hints.set_bounds(transaction.narrowed(hints.bounds()));
+    commit(transaction, scanner, datagrams)
 }

@@ -84,16 +84,8 @@ impl ScannerSlots {
                 self.renew(hints);
                 outcome
             }
-            Event::Frame { stream, bytes } => {
-                let outcome = self.frame(*stream, bytes.as_slice());
-                self.renew(hints);
-                outcome
-            }
-            Event::StreamCut { stream } => {
-                let outcome = self.cut(*stream);
-                self.renew(hints);
-                outcome
-            }
+            Event::Frame { stream, bytes } => self.frame(hints, *stream, bytes.as_slice()),
+            Event::StreamCut { stream } => self.cut(hints, *stream),
             Event::Datagram { peer, bytes } => {
                 let delivery = receive(
                     &self.profile,
@@ -108,16 +100,8 @@ impl ScannerSlots {
             Event::Read { point } => self.read(*point),
             Event::Tick { ms } => self.tick(hints, *ms),
             Event::Mode { run } => self.set_mode(*run),
-            Event::Start { slot } => {
-                let outcome = self.start(*slot);
-                self.renew(hints);
-                outcome
-            }
-            Event::Stop { slot } => {
-                let outcome = self.stop(*slot);
-                self.renew(hints);
-                outcome
-            }
+            Event::Start { slot } => self.start(hints, *slot),
+            Event::Stop { slot } => self.stop(hints, *slot),
         }
     }
 }

@@ -4,12 +4,13 @@ ghost use Rattle.std.specs.Prelude.{◌≡◌};
 ghost use Rattle.cip_events.specs.Outcomes.{Follows};
 ghost use Rattle.scanner_table.specs.Points.{start, stop};
 ghost use Rattle.scanner_table.specs.WellFormed.{IsWellFormed};
+ghost use Rattle.scanner_slots.specs.Bounding.{IsHinted};
 ghost use Rattle.scanner.specs.Allowed.{can_start};
 ghost use Rattle.scanner.specs.Tables.{table_in};
 
-use crate::answers::{commit, roll_back};
+use crate::answers::{commit_bounded, roll_back};
 use cip_events::{Outcome, StepFault};
-use scanner_slots::{ScannerState, slot_at};
+use scanner_slots::{Hints, ScannerState, slot_at};
 use scanner_table::{ScannerProfile, Slot, SlotState};
 use scanner_transactions::Transaction;
 use std::alloc::Global;
@@ -38,10 +39,11 @@ fn can_start(slot: &Slot) -> bool
 impl ScannerSlots {
     /// Starts a slot, which opens at once if it can.
     #[tactic(auto, unfolding(scanner_table::specs::Points::start))]
-    pub fn start(&mut self, number: u32) -> Outcome
+    pub fn start<H: Hints>(&mut self, hints: &mut H, number: u32) -> Outcome
         requires { IsWellFormed (table_in self.old) }
         ensures step { Follows (start (table_in self.old) number) (table_in self.old) result (table_in self.new) }
-        ensures profile { self.new.profile ≡ self.old.profile }
+        ensures hints { IsHinted (H.bounds hints.old) (table_in self.old)
+            → IsHinted (H.bounds hints.new) (table_in self.new) }
     {
         let Some(indexed) = slot_at(self.profile.slots.as_slice(), &self.state.slots, number) else {
             return Err(StepFault::NoSuchSlot);
@@ -51,21 +53,28 @@ impl ScannerSlots {
         }
         let mut transaction = Transaction::begin(self.alloc, &self.profile, &mut self.state);
         match transaction.start(number) {
-            Ok(()) => Ok(commit(transaction, &mut self.state, Vec::new(self.alloc))),
+            Ok(()) => {
+                let none = Vec::new(self.alloc);
+                Ok(commit_bounded(transaction, &mut self.state, hints, none))
+            }
             Err(_) => Err(roll_back(transaction, &mut self.state, StepFault::OutOfMemory)),
         }
     }
 
     /// Stops a slot.
     #[tactic(auto, unfolding(scanner_table::specs::Points::stop))]
-    pub fn stop(&mut self, number: u32) -> Outcome
+    pub fn stop<H: Hints>(&mut self, hints: &mut H, number: u32) -> Outcome
         requires { IsWellFormed (table_in self.old) }
         ensures step { Follows (stop (table_in self.old) number) (table_in self.old) result (table_in self.new) }
-        ensures profile { self.new.profile ≡ self.old.profile }
+        ensures hints { IsHinted (H.bounds hints.old) (table_in self.old)
+            → IsHinted (H.bounds hints.new) (table_in self.new) }
     {
         let mut transaction = Transaction::begin(self.alloc, &self.profile, &mut self.state);
         match transaction.stop(number) {
-            Ok(()) => Ok(commit(transaction, &mut self.state, Vec::new(self.alloc))),
+            Ok(()) => {
+                let none = Vec::new(self.alloc);
+                Ok(commit_bounded(transaction, &mut self.state, hints, none))
+            }
             Err(why) => Err(roll_back(transaction, &mut self.state, why)),
         }
     }

@@ -6,20 +6,21 @@ ghost use Rattle.cip_events.specs.Outcomes.{Follows};
 ghost use Rattle.scanner_table.specs.Encapsulation.{stream_opened, stream_cut, frame};
 ghost use Rattle.scanner_table.specs.Sessions.{is_to, is_taken};
 ghost use Rattle.scanner_table.specs.WellFormed.{IsWellFormed};
+ghost use Rattle.scanner_slots.specs.Bounding.{IsHinted};
 ghost use Rattle.scanner_slots.specs.Views.{table_of};
 ghost use Rattle.scanner_transactions.specs.FrameOutcomes.{frame_next};
 ghost use Rattle.scanner_transactions.specs.Transactions.{view_transaction};
 ghost use Rattle.scanner_transactions.specs.Undoing.{state_before, table_with};
 ghost use Rattle.scanner.specs.Tables.{table_in};
 
-use crate::answers::{commit, end_unchanged, roll_back};
+use crate::answers::{commit_bounded, end_unchanged, roll_back};
 use crate::slots::ScannerSlots;
 use cip_events::{Answer, Outcome, StepFault, Verdict};
 use cip_types::limits::MOST_STREAMS;
 use cip_types::{Items, Node, OutOfMemory};
 use open_streams::{add_stream, find_stream, has_stream};
 use scanner_requests::registration_frame;
-use scanner_slots::ScannerState;
+use scanner_slots::{Hints, ScannerState};
 use scanner_table::{Stage, TargetStream};
 use scanner_transactions::{FrameOutcome, Transaction, cut_stream, receive_frame};
 use std::alloc::Global;
@@ -38,18 +39,22 @@ fn is_taken(streams: &[TargetStream], number: u16, target: Node) -> bool
 }
 
 /// Ends the transaction of a frame with this outcome. Returns the answer. Takes no memory.
-fn answer_of(
+fn answer_of<H: Hints>(
     alloc: Global,
     transaction: Transaction<'_>,
     scanner: &mut ScannerState,
+    hints: &mut H,
     outcome: FrameOutcome,
 ) -> Answer
-    ensures { let profile = transaction.entry.profile.now in (result, table_of profile scanner.new)
+    ensures hints { let profile = transaction.entry.profile.now in
+        IsHinted (H.bounds hints.old) (table_with profile (state_before transaction.entry))
+        → IsHinted (H.bounds hints.new) (table_of profile scanner.new) }
+    ensures next { let profile = transaction.entry.profile.now in (result, table_of profile scanner.new)
         ≡ frame_next (table_with profile (state_before transaction.entry)) outcome
         (view_transaction transaction.entry) }
 {
     match outcome {
-        FrameOutcome::Answered => commit(transaction, scanner, Vec::new(alloc)),
+        FrameOutcome::Answered => { commit_bounded(transaction, scanner, hints, Vec::new(alloc)) }
         FrameOutcome::Ignored => end_unchanged(alloc, transaction, scanner, Verdict::Ignored),
         FrameOutcome::BadFrame => end_unchanged(alloc, transaction, scanner, Verdict::BadFrame),
     }
@@ -82,35 +87,40 @@ impl ScannerSlots {
 
     /// Takes the cut of a stream, or its close by the target.
     #[tactic(auto, unfolding(scanner_table::specs::Encapsulation::stream_cut))]
-    pub fn cut(&mut self, number: u16) -> Outcome
+    pub fn cut<H: Hints>(&mut self, hints: &mut H, number: u16) -> Outcome
         requires { IsWellFormed (table_in self.old) }
         ensures step { Follows (stream_cut (table_in self.old) number) (table_in self.old) result (table_in self.new) }
-        ensures profile { self.new.profile ≡ self.old.profile }
+        ensures hints { IsHinted (H.bounds hints.old) (table_in self.old)
+            → IsHinted (H.bounds hints.new) (table_in self.new) }
     {
         let Some(stream) = find_stream(&self.state.streams, number) else {
             return Err(StepFault::NotAllowedNow);
         };
         let mut transaction = Transaction::begin(self.alloc, &self.profile, &mut self.state);
         match cut_stream(&mut transaction, stream) {
-            Ok(()) => Ok(commit(transaction, &mut self.state, Vec::new(self.alloc))),
+            Ok(()) => {
+                let none = Vec::new(self.alloc);
+                Ok(commit_bounded(transaction, &mut self.state, hints, none))
+            }
             Err(_) => Err(roll_back(transaction, &mut self.state, StepFault::OutOfMemory)),
         }
     }
 
     /// Takes a frame of a stream.
     #[tactic(auto, unfolding(scanner_table::specs::Encapsulation::frame))]
-    pub fn frame(&mut self, number: u16, bytes: &[u8]) -> Outcome
+    pub fn frame<H: Hints>(&mut self, hints: &mut H, number: u16, bytes: &[u8]) -> Outcome
         requires { IsWellFormed (table_in self.old) }
         ensures step { Follows (frame (table_in self.old) number bytes.now) (table_in self.old) result
             (table_in self.new) }
-        ensures profile { self.new.profile ≡ self.old.profile }
+        ensures hints { IsHinted (H.bounds hints.old) (table_in self.old)
+            → IsHinted (H.bounds hints.new) (table_in self.new) }
     {
         let Some(stream) = find_stream(&self.state.streams, number) else {
             return Err(StepFault::NotAllowedNow);
         };
         let mut transaction = Transaction::begin(self.alloc, &self.profile, &mut self.state);
         match receive_frame(&mut transaction, stream, bytes) {
-            Ok(outcome) => Ok(answer_of(self.alloc, transaction, &mut self.state, outcome)),
+            Ok(outcome) => Ok(answer_of(self.alloc, transaction, &mut self.state, hints, outcome)),
             Err(_) => Err(roll_back(transaction, &mut self.state, StepFault::OutOfMemory)),
         }
     }

@@ -28,7 +28,9 @@ use Rattle.cip_events.specs.declared.event.StepFault.{StepFault}
 use Rattle.scanner_table.specs.Datagrams.{accepted_table}
 use Rattle.scanner_slots.specs.declared.bounds.Bounds.{Bounds}
 use Rattle.scanner_slots.specs.Bounding.{IsHinted, IsNoLater, with_deadline}
-use Rattle.scanner_data.specs.Results.{judged}
+use Rattle.scanner_table.specs.Opening.{later}
+use Rattle.cip_types.specs.declared.names.Ms.{Ms}
+use Rattle.scanner_data.specs.Results.{judged, recorded, recorded_state}
 
 -- ---- one slot
 
@@ -42,6 +44,12 @@ gathered_slot duplicate t indexed d c = record indexed.slot {
 accepted_by : (b : Bool) (t : ScannerTable) (indexed : IndexedSlot) (d : DatagramFields) (c : SlotConnection) → is_duplicate c.last d.count ≡ b → accepted t indexed d c ≡ (plain_answer (Delivered (cond b Duplicate Applied)), with_slot t indexed.number (gathered_slot b t indexed d c))
 accepted_by true t indexed d c is = rw is refl
 accepted_by false t indexed d c is = rw is refl
+
+-- the slot of a connection that has recorded a datagram with its new deadline
+pub recorded_is : (old here new : Slot) (clock deadline : Ms) (d : DatagramFields) (c : SlotConnection) (image : List ℕ) → old ≡ here → here.state ≡ Established c → deadline ≡ later clock c.watchdog.0 → new ≡ record old { state = recorded_state deadline d old.state; image = image } → new ≡ record old { state = Established (accepted_connection clock d c); image = image }
+recorded_is old here new clock deadline d c image same is at changed =
+    let state : recorded_state deadline d old.state ≡ Established (accepted_connection clock d c) = ap (λ (s : Slot). recorded_state deadline d s.state) same ∙ ap (recorded_state deadline d) is ∙ ap (λ (x : Ms). Established (recorded x d c)) at in
+    changed ∙ ap (λ (s : SlotState). record old { state = s; image = image }) state
 
 -- a datagram at the slot that the lookup found for it
 pub received_is : (t : ScannerTable) (indexed : IndexedSlot) (d : DatagramFields) (c : SlotConnection) (found : Option IndexedSlot) (old new : Slot) (delivery : Delivery) → Some indexed ≡ found → state_received t indexed d indexed.slot.state ≡ judged t indexed d (Ok c) → old ≡ indexed.slot → delivery ≡ cond (is_duplicate c.last d.count) Duplicate Applied → new ≡ record old { state = Established (accepted_connection t.clock d c); image = cond (is_duplicate c.last d.count) old.image d.payload } → ◌≡◌ {A = Next} (plain_answer (Delivered delivery), with_slot t indexed.number new) (received_at t d found)

@@ -10,10 +10,11 @@ ghost use Rattle.cip_productions.specs.Acceptance.{is_duplicate};
 ghost use Rattle.scanner_table.specs.declared.table.ScannerTable.{ScannerTable};
 ghost use Rattle.scanner_table.specs.declared.slot.SlotState.TheVariants as state;
 ghost use Rattle.scanner_table.specs.Slots.{indexed_slots};
-ghost use Rattle.scanner_table.specs.Datagrams.{is_for, accepted_connection, state_received, received_at, received};
+ghost use Rattle.scanner_table.specs.Datagrams.{is_for, state_received, received_at, received};
 ghost use Rattle.scanner_table.specs.WellFormed.{IsWellFormed};
 ghost use Rattle.scanner_slots.specs.Views.{view_slot, table_of};
-ghost use Rattle.scanner_data.specs.Results.{judged};
+ghost use Rattle.scanner_table.specs.Opening.{later};
+ghost use Rattle.scanner_data.specs.Results.{judged, recorded_state, view_judgement};
 ghost use Rattle.scanner_slots.specs.Bounding.{IsHinted};
 
 use cip_datagram::{Datagram, read_datagram};
@@ -22,41 +23,35 @@ use cip_productions::{Accepted, accepts_sequence, is_duplicate};
 use cip_types::{ConnId, Ms, Node};
 use scanner_slots::{
     Hints, ScannerState, SlotTest, SlotView, accepted_datagrams_keep_bounds,
-    bounds_are_kept_by_earlier_ones, find_slot, found_consumers_are_first, slot_at,
+    bounds_are_kept_by_earlier_ones, find_slot, found_consumers_are_first, is_for, slot_at,
 };
 use scanner_table::{ScannerProfile, Slot, SlotConnection, SlotState};
 
-/// Returns the connection after it has accepted a datagram: it records the sequence number and the count, and starts its
-/// watchdog anew.
-fn accepted_connection(
-    connection: SlotConnection,
-    clock: Ms,
-    datagram: &Datagram<'_>,
-) -> SlotConnection
-    requires waits { connection.watchdog.0 ≤ 5120000 }
+/// Returns the deadline of a connection that accepts a datagram at a time.
+///
+/// Volume 1, chapter 3, inactivity watchdog.
+fn deadline_after(clock: Ms, watchdog: Ms) -> Ms
+    requires waits { watchdog.0 ≤ 5120000 }
     requires time { clock.0 ≤ 2 ^ 48 }
-    ensures { result ≡ accepted_connection clock (view_datagram datagram.now) connection }
+    ensures { result ≡ later clock watchdog.0 }
 {
-    SlotConnection {
-        last: Some(Accepted {
-            number: datagram.sequence,
-            count: datagram.count,
-        }),
-        deadline: Ms(clock.0 + connection.watchdog.0),
-        ..connection
-    }
+    Ms(clock.0 + watchdog.0)
 }
 
 /// Returns the connection of a slot if it accepts a datagram: the datagram has the size of the input, and its sequence
 /// number is newer than the last accepted one. The error is the delivery of a datagram that is not accepted.
-fn accepting(indexed: SlotView<'_>, datagram: &Datagram<'_>) -> Result<SlotConnection, Delivery>
+fn accepting<'a>(
+    indexed: SlotView<'a>,
+    datagram: &Datagram<'_>,
+) -> Result<&'a SlotConnection, Delivery>
     ensures judged { (t : ScannerTable)
         → state_received t (view_slot indexed.entry) (view_datagram datagram.now) indexed.entry.slot.now.state
-        ≡ judged t (view_slot indexed.entry) (view_datagram datagram.now) result }
-    ensures established { IfOk result (λ connection. indexed.entry.slot.now.state ≡ state.Established connection) }
+        ≡ judged t (view_slot indexed.entry) (view_datagram datagram.now) (view_judgement result) }
+    ensures established { IfOk result
+        (λ connection. indexed.entry.slot.now.state ≡ state.Established connection.now) }
     ensures size { IfOk result (λ _. length datagram.now.«data».now ≡ indexed.entry.config.now.in_len) }
 {
-    let SlotState::Established(connection) = indexed.slot.state else {
+    let SlotState::Established(connection) = &indexed.slot.state else {
         return Err(Delivery::UnknownId);
     };
     if datagram.data.len() as u64 != indexed.config.in_len {
@@ -68,20 +63,34 @@ fn accepting(indexed: SlotView<'_>, datagram: &Datagram<'_>) -> Result<SlotConne
     Ok(connection)
 }
 
-/// Gives a slot the connection that has accepted a datagram, and copies the datagram's data to the image if they are new.
+/// Records the sequence number and the count of a datagram that an established connection accepts, and its new deadline.
+fn record_accepted(state: &mut SlotState, deadline: Ms, datagram: &Datagram<'_>)
+    ensures { state.new ≡ recorded_state deadline (view_datagram datagram.now) state.old }
+{
+    if let SlotState::Established(connection) = state {
+        connection.last = Some(Accepted {
+            number: datagram.sequence,
+            count: datagram.count,
+        });
+        connection.deadline = deadline;
+    }
+}
+
+/// Records a datagram that a slot's connection accepts, with its new deadline, and copies its data to the image if they are
+/// new.
 fn gather(
     slot: &mut Slot,
     last: Option<Accepted>,
-    connection: SlotConnection,
+    deadline: Ms,
     datagram: &Datagram<'_>,
 ) -> Delivery
     requires size { length slot.old.image ≡ length (view_datagram datagram.now).payload }
     ensures delivery { result
         ≡ (if is_duplicate last datagram.now.count then delivery.Duplicate else delivery.Applied) }
     ensures slot { slot.new
-        ≡ record slot.old { state = state.Established connection; image = if is_duplicate last datagram.now.count then slot.old.image else (view_datagram datagram.now).payload } }
+        ≡ record slot.old { state = recorded_state deadline (view_datagram datagram.now) slot.old.state; image = if is_duplicate last datagram.now.count then slot.old.image else (view_datagram datagram.now).payload } }
 {
-    slot.state = SlotState::Established(connection);
+    record_accepted(&mut slot.state, deadline, datagram);
     if is_duplicate(last, datagram.count) {
         return Delivery::Duplicate;
     }
@@ -108,7 +117,7 @@ fn remembered<'a>(
     let Some(indexed) = slot_at(profile.slots.as_slice(), &scanner.slots, number) else {
         return None;
     };
-    if SlotTest::For(peer, id).passes(indexed) {
+    if is_for(indexed, peer, id) {
         return Some(indexed);
     }
     None
@@ -182,14 +191,10 @@ fn receive_read<H: Hints>(
     match accepting(indexed, datagram) {
         Err(delivery) => delivery,
         Ok(connection) => {
-            let accepted = accepted_connection(connection, scanner.clock, datagram);
-            hints.await_deadline(accepted.deadline);
-            gather(
-                &mut scanner.slots[number],
-                connection.last,
-                accepted,
-                datagram,
-            )
+            let last = connection.last;
+            let deadline = deadline_after(scanner.clock, connection.watchdog);
+            hints.await_deadline(deadline);
+            gather(&mut scanner.slots[number], last, deadline, datagram)
         }
     }
 }

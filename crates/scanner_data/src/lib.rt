@@ -9,6 +9,7 @@ mod deliveries;
 mod outputs;
 mod productions;
 mod states;
+mod written;
 
 pub use deliveries::receive;
 pub use outputs::{set_mode, write};

@@ -12,23 +12,16 @@ ghost use Rattle.scanner_slots.specs.Views.{table_of};
 ghost use Rattle.scanner_data.specs.Results.{done_or};
 
 use cip_events::StepFault;
-use cip_productions::{Kind, Production};
+use cip_productions::Kind;
 use scanner_slots::{ScannerState, slot_at};
-use scanner_table::{ScannerProfile, Slot, SlotConfig, SlotConnection, SlotState};
+use scanner_table::{ScannerProfile, Slot, SlotConfig, SlotState};
 
-/// Returns a state whose established connection has new data.
-fn written_state(state: SlotState) -> SlotState
-    ensures { result ≡ written_state state }
+/// Gives the producer of an established connection new data.
+fn renew_producer(state: &mut SlotState)
+    ensures { state.new ≡ written_state state.old }
 {
-    match state {
-        SlotState::Established(connection) => SlotState::Established(SlotConnection {
-            production: Production {
-                written: true,
-                ..connection.production
-            },
-            ..connection
-        }),
-        other => other,
+    if let SlotState::Established(connection) = state {
+        connection.production.written = true;
     }
 }
 
@@ -47,7 +40,7 @@ fn set_output(slot: &mut Slot, bytes: &[u8])
     ensures { slot.new ≡ output_slot bytes.now slot.old }
 {
     slot.output.overwrite(bytes);
-    slot.state = written_state(slot.state);
+    renew_producer(&mut slot.state);
 }
 
 /// Writes the output of an exclusive owner. The bytes are new data. Takes no memory.
@@ -81,14 +74,12 @@ pub fn write(
     Ok(())
 }
 
-/// The state after a change of mode, which is new data for an owner's producer.
-fn moded_state(kind: Kind, state: SlotState) -> SlotState
-    ensures { result ≡ (if is_owner kind then written_state state else state) }
+/// Gives the producer of an exclusive owner new data.
+fn renew_owner(kind: Kind, state: &mut SlotState)
+    ensures { state.new ≡ (if is_owner kind then written_state state.old else state.old) }
 {
     if is_owner(kind) {
-        written_state(state)
-    } else {
-        state
+        renew_producer(state);
     }
 }
 
@@ -97,7 +88,7 @@ fn renew(configs: &[SlotConfig], slots: &mut [Slot])
     ensures { slots.new ≡ map moded_slot (indexed_from 0 configs.now slots.old) }
 {
     for index in 0..slots.len() {
-        slots[index].state = moded_state(configs[index].kind, slots[index].state);
+        renew_owner(configs[index].kind, &mut slots[index].state);
     }
 }
 

@@ -1,24 +1,22 @@
 //! The datagrams that slots send.
 
 ghost use Rattle.std.specs.Prelude.{◌≡◌, ◌≤◌, All, ◌^◌, ◌+◌, ◌++◌, ◌∷◌, [], OnOk, map, filter, length, IfOk};
-ghost use Rattle.std.specs.Int.{w32, to_le_bytes};
 ghost use Rattle.std.specs.List.{filter_map};
-ghost use Rattle.cip_datagram.specs.Header.{mode_header};
 ghost use Rattle.cip_types.specs.Order.{in_order};
 ghost use Rattle.cip_productions.specs.Productions.{sent};
 ghost use Rattle.scanner_table.specs.declared.profile.ScannerProfile.{ScannerProfile};
 ghost use Rattle.scanner_table.specs.declared.slot.Slot.{Slot};
 ghost use Rattle.scanner_table.specs.Slots.{indexed_from};
-ghost use Rattle.scanner_table.specs.Productions.{slot_data, connection_production, slot_production, is_due, due_of, by_due, due_productions, produced_connection, produced_slot, produced_table};
+ghost use Rattle.scanner_table.specs.Productions.{connection_production, slot_production, is_due, due_of, by_due, due_productions, produced_connection, produced_slot, produced_table};
 ghost use Rattle.scanner_table.specs.WellFormed.{IsWellFormed};
 ghost use Rattle.scanner_slots.specs.declared.indexed_slots.SlotView.{SlotView};
 ghost use Rattle.scanner_slots.specs.Views.{view_slot, table_of};
 ghost use Rattle.scanner_slots.specs.Bounding.{at_time};
 ghost use Rattle.scanner_data.specs.Turns.{due_in_turn, datagrams_in_turn};
 
-use cip_datagram::header;
-use cip_events::{Consumers, OutgoingDatagram, SmallBytes};
-use cip_productions::{Kind, Producer, is_production_due, produced, sent_by};
+use crate::written::written;
+use cip_events::{Consumers, OutgoingDatagram};
+use cip_productions::{is_production_due, produced};
 use cip_types::{Ms, Order, OutOfMemory, sorted};
 use scanner_slots::{ScannerState, SlotTest, SlotView, is_due, slots_go_on, slots_that};
 use scanner_table::{ScannerProfile, Slot, SlotConfig, SlotConnection, SlotState};
@@ -46,27 +44,6 @@ impl<'a> Order<SlotView<'a>> for ByDue {
     }
 }
 
-/// Writes the data of an exclusive owner: the run/idle header and the output. Up to 56 bytes take no memory.
-fn owned_data(alloc: Global, run: bool, slot: &Slot) -> Result<SmallBytes, OutOfMemory>
-    ensures { IfOk result (λ bytes. bytes ≡ to_le_bytes w32 (mode_header run) ++ slot.now.output) }
-{
-    let header = header(run).to_le_bytes();
-    SmallBytes::joined(alloc, &header, slot.output.as_slice())
-}
-
-/// Writes the data of a slot: an exclusive owner sends the run/idle header and its output, another kind no data. Up to 56
-/// bytes take no memory.
-fn slot_data(alloc: Global, run: bool, indexed: SlotView<'_>) -> Result<SmallBytes, OutOfMemory>
-    requires { length indexed.slot.now.output ≤ 65529 }
-    ensures data { IfOk result (λ bytes. bytes ≡ slot_data run (view_slot indexed.entry)) }
-    ensures short { IfOk result (λ bytes. length bytes ≤ 65533) }
-{
-    match indexed.config.kind {
-        Kind::ExclusiveOwner => owned_data(alloc, run, indexed.slot),
-        Kind::InputOnly | Kind::ListenOnly => SmallBytes::joined(alloc, &[], &[]),
-    }
-}
-
 /// Makes the next datagram of a slot's connection, for its target alone.
 fn outgoing(
     alloc: Global,
@@ -78,18 +55,12 @@ fn outgoing(
     ensures { IfOk result
         (λ outgoing. outgoing ≡ sent (connection_production run (view_slot indexed.entry) connection.now)) }
 {
-    let bytes = slot_data(alloc, run, indexed)?;
-    let producer = Producer {
-        point: indexed.number,
-        id: connection.link.o_t_id,
-        production: connection.production,
-    };
-    sent_by(
-        alloc,
-        Consumers::one(indexed.config.target),
-        bytes.as_slice(),
-        &producer,
-    )
+    let bytes = written(alloc, run, indexed, connection)?;
+    Ok(OutgoingDatagram {
+        address: connection.production.address,
+        nodes: Consumers::one(indexed.config.target),
+        bytes,
+    })
 }
 
 /// Returns the due slots, in the order of their due times and then of their numbers.

@@ -4,4 +4,5 @@ pub mod Resting
 pub mod Changes
 pub mod Few
 pub mod FirstDue
+mod Singly
 mod OrderedViews

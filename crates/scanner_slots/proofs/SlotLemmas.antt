@@ -1,9 +1,8 @@
 -- The slot of a number.
-use Rattle.std.proofs.Common.{◌≡◌, Bool, true, false, ◌<◌, ℕ, zero, suc, ◌+◌, ◌==◌, List, [], ◌∷◌, find, slice_get, get_or, length, drop, drop-cons, min, cond, ◌||◌, ◌++◌, filter, ◌≤◌, Option, subst, Some, None, refl, sym, ◌∙◌, ap, arith}
+use Rattle.std.proofs.Common.{◌≡◌, Bool, true, false, ◌<◌, ℕ, zero, suc, ◌+◌, ◌==◌, List, [], ◌∷◌, find, slice_get, get_or, length, drop, drop-cons, min, cond, ◌++◌, filter, ◌≤◌, Option, subst, Some, None, refl, sym, ◌∙◌, ap, arith}
 use Rattle.std.proofs.lemmas.Bool.Decides.{nat_tests}
 use Rattle.std.proofs.lemmas.List.{append-nil}
 use Rattle.std.proofs.lemmas.Option.{slice_get-get_or, slice_get_past}
-use Rattle.std.specs.Option.{is_some, option_map}
 use Rattle.std.specs.List.{list_any}
 use Rattle.scanner_table.specs.declared.profile.SlotConfig.{SlotConfig}
 use Rattle.scanner_table.specs.declared.slot.Slot.{Slot}
@@ -80,18 +79,8 @@ rest_ends index configs slots le = ends_from index index configs slots le
 pub none_found : (test : IndexedSlot → Bool) (all : List IndexedSlot) (index : ℕ) (configs : List SlotConfig) (slots : List Slot) → min (length configs) (length slots) ≤ index → find test all ≡ find test (indexed_from index (drop index configs) (drop index slots)) → None ≡ find test all
 none_found test all index configs slots le so_far = sym (so_far ∙ ap (find test) (rest_ends index configs slots le))
 
-any_is : (test : IndexedSlot → Bool) (b : Bool) (indexed : IndexedSlot) (rest : List IndexedSlot) → is_some (find test rest) ≡ list_any test rest → is_some (cond b (Some indexed) (find test rest)) ≡ (b || list_any test rest)
-any_is test true indexed rest is = refl
-any_is test false indexed rest is = is
-
-pub some_viewed : {A B : Type 0} (view : A → B) (o : Option A) → is_some o ≡ is_some (option_map view o)
-some_viewed view None = refl
-some_viewed view (Some a) = refl
-
--- something is found where something passes
-pub found_any : (test : IndexedSlot → Bool) (all : List IndexedSlot) → is_some (find test all) ≡ list_any test all
-found_any test [] = refl
-found_any test (indexed ∷ rest) = any_is test (test indexed) indexed rest (found_any test rest)
+pub none_passes : (test : IndexedSlot → Bool) (all : List IndexedSlot) (index : ℕ) (configs : List SlotConfig) (slots : List Slot) → min (length configs) (length slots) ≤ index → list_any test all ≡ list_any test (indexed_from index (drop index configs) (drop index slots)) → false ≡ list_any test all
+none_passes test all index configs slots le so_far = sym (so_far ∙ ap (list_any test) (rest_ends index configs slots le))
 
 -- ---- gathering
 

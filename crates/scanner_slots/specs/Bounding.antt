@@ -1,11 +1,11 @@
 -- Bounds on the times of a scanner's slots: no deadline, no retry that can open, and no due time comes before its bound.
-use Rattle.std.specs.Prelude.{◌≡◌, ◌≤◌, ◌&&◌, ℕ, Bool, true, min, List, [], ◌∷◌}
+use Rattle.std.specs.Prelude.{◌≡◌, ◌≤◌, ◌&&◌, ℕ, Bool, true, min, List, [], ◌∷◌, Some}
 use Rattle.cip_types.specs.declared.names.Ms.{Ms}
 use Rattle.scanner_table.specs.declared.slot.SlotState.{SlotState}
 use Rattle.scanner_table.specs.declared.slot.SlotState.TheVariants.{Idle, Opening, Established, TimedOut, Closing}
 use Rattle.scanner_table.specs.declared.table.ScannerTable.{ScannerTable}
 use Rattle.scanner_table.specs.declared.table.TargetStream.{TargetStream}
-use Rattle.scanner_table.specs.Slots.{IndexedSlot, indexed_slots, is_closed}
+use Rattle.scanner_table.specs.Slots.{IndexedSlot, indexed_slots, is_closed, slot_at}
 use Rattle.cip_tables.specs.Wakes.{has_session}
 use Rattle.scanner_slots.specs.declared.bounds.Bounds.{Bounds}
 
@@ -46,6 +46,10 @@ AreBounded bounds streams (indexed ∷ rest) = IsBounded bounds streams indexed 
 -- one time for each bound
 abbrev pub all_bounds : Ms → Bounds
 all_bounds time = record { deadlines = time; retries = time; dues = time }
+
+-- no time of the slot of a number, if there is one, comes before its bound
+abbrev pub IsBoundedAt : Bounds → ScannerTable → ℕ → Type 0
+IsBoundedAt bounds t number = (indexed : IndexedSlot) → slot_at t number ≡ Some indexed → IsBounded bounds t.streams indexed
 
 -- no time of a slot of the table comes before its bound
 pub record IsHinted (bounds : Bounds) (t : ScannerTable) : Type 0 where

@@ -4,14 +4,12 @@ use Rattle.scanner_table.specs.declared.profile.ScannerProfile.{ScannerProfile}
 use Rattle.scanner_table.specs.declared.table.ScannerTable.{ScannerTable}
 use Rattle.scanner_table.specs.Slots.{IndexedSlot, is_with}
 use Rattle.scanner_table.specs.Opening.{is_ready_slot}
-use Rattle.scanner_table.specs.Replies.{uses_id}
-use Rattle.scanner_table.specs.Encapsulation.{is_awaiting}
 use Rattle.scanner_table.specs.Datagrams.{is_for}
 use Rattle.scanner_table.specs.Ticks.{has_expired, is_overdue}
 use Rattle.scanner_table.specs.Productions.{is_due}
 use Rattle.scanner_slots.specs.declared.indexed_slots.SlotView.{SlotView}
 use Rattle.scanner_slots.specs.declared.search.SlotTest.{SlotTest}
-use Rattle.scanner_slots.specs.declared.search.SlotTest.TheVariants.{For, Awaiting, UsesId, Ready, ReadyWith, With, Expired, Overdue, Due}
+use Rattle.scanner_slots.specs.declared.search.SlotTest.TheVariants.{For, Ready, ReadyWith, With, Expired, Overdue, Due}
 use Rattle.scanner_slots.specs.declared.scanner.ScannerState.{ScannerState}
 
 -- an indexed slot, wherever its parts are in memory
@@ -37,8 +35,6 @@ table_of profile scanner = record {
 -- the slot passes the test
 abbrev pub passes : SlotTest → IndexedSlot → Bool
 passes (For peer id) = is_for peer id.0
-passes (Awaiting target number) = is_awaiting target number
-passes (UsesId number target id) = uses_id number target id
 passes (Ready clock) = is_ready_slot clock
 passes (ReadyWith target clock) = λ indexed. is_ready_slot clock indexed && is_with target indexed
 passes (With target) = is_with target

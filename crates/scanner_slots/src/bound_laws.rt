@@ -16,7 +16,7 @@ ghost use Rattle.scanner_table.specs.Slots.{IndexedSlot, indexed_slots, is_numbe
 ghost use Rattle.scanner_table.specs.Ticks.{advanced};
 ghost use Rattle.scanner_table.specs.WellFormed.{IsWellFormed};
 ghost use Rattle.scanner_slots.specs.declared.bounds.Bounds.{Bounds};
-ghost use Rattle.scanner_slots.specs.Bounding.{IsHinted, IsNoLater, with_deadline, at_time};
+ghost use Rattle.scanner_slots.specs.Bounding.{IsBoundedAt, IsHinted, IsNoLater, with_deadline, at_time};
 
 use crate::found_slots_match;
 
@@ -24,6 +24,15 @@ use crate::found_slots_match;
 pub fn bounds_are_kept_by_earlier_ones()
     ensures { (bounds later : Bounds) (t : ScannerTable) → IsNoLater bounds later → IsHinted later t
         → IsHinted bounds t }
+{}
+
+/// Bounds hold of a table where they hold of the slot of each number.
+pub fn bounds_hold_slot_by_slot()
+    ensures each { (bounds : Bounds) (t : ScannerTable) (number : ℕ) → IsHinted bounds t → IsBoundedAt bounds t number }
+    ensures all { (bounds : Bounds) (t : ScannerTable) → ((number : ℕ) → IsBoundedAt bounds t number)
+        → IsHinted bounds t }
+    ensures earlier { (bounds later : Bounds) (t : ScannerTable) (number : ℕ) → IsNoLater bounds later
+        → IsBoundedAt later t number → IsBoundedAt bounds t number }
 {}
 
 /// Before the first deadline and the first retry that opens, no connection changes.

@@ -4,10 +4,10 @@ ghost use Rattle.std.specs.Prelude.{◌≡◌, ◌<◌, ◌≤◌, ◌^◌, ◌&
 ghost use Rattle.scanner_table.specs.Profiles.{profile_fault};
 ghost use Rattle.scanner_table.specs.Slots.{indexed_from, is_closed};
 ghost use Rattle.scanner_slots.specs.Views.{view_slot, table_of};
-ghost use Rattle.scanner_slots.specs.Bounding.{can_retry, IsBounded, AreBounded, IsHinted, IsNoLater};
+ghost use Rattle.scanner_slots.specs.Bounding.{can_retry, IsBounded, IsBoundedAt, AreBounded, IsHinted, IsNoLater};
 
 use crate::due::has_session;
-use crate::{ScannerState, SlotView};
+use crate::{ScannerState, SlotView, slot_at};
 use cip_types::Ms;
 use scanner_table::{ScannerProfile, Slot, SlotConfig, SlotState, TargetStream};
 
@@ -106,6 +106,24 @@ impl Bounds {
             × (clock.0 < self.dues.0) }
     {
         clock.0 < self.deadlines.0 && clock.0 < self.retries.0 && clock.0 < self.dues.0
+    }
+}
+
+/// The bounds after the slot of a number has changed: none is later than the slot's own times. Takes no memory.
+///
+/// Volume 1, chapter 3, connection timeouts and class 1 transport.
+pub fn narrowed_at(
+    bounds: Bounds,
+    profile: &ScannerProfile,
+    scanner: &ScannerState,
+    number: u32,
+) -> Bounds
+    ensures earlier { IsNoLater result bounds }
+    ensures slot { IsBoundedAt result (table_of profile.now scanner.now) number }
+{
+    match slot_at(profile.slots.as_slice(), &scanner.slots, number) {
+        Some(indexed) => bounds.with(times_of(&scanner.streams, indexed)),
+        None => bounds,
     }
 }
 

@@ -17,16 +17,16 @@ mod search;
 mod states;
 
 pub use bound_laws::{
-    accepted_datagrams_keep_bounds, bounds_are_kept_by_earlier_ones,
+    accepted_datagrams_keep_bounds, bounds_are_kept_by_earlier_ones, bounds_hold_slot_by_slot,
     connections_rest_before_bounds, found_consumers_are_first, modes_keep_bounds,
     producers_rest_before_bounds, writes_keep_bounds,
 };
-pub use bounds::{Bounds, bounds_of};
+pub use bounds::{Bounds, bounds_of, narrowed_at};
 pub use due::first_due;
 pub use expired::expired_numbers;
 pub use hints::{Hints, NoHints, SlotHints};
 pub use indexed_slots::{SlotView, slot_at};
 pub use laws::{found_slots_match, slots_go_on};
 pub use scanner::{ScannerState, session_with, stage_streams};
-pub use search::{SlotTest, any_passes, find_slot, slots_that};
+pub use search::{SlotTest, find_awaiting, find_slot, is_for, is_id_used, slots_that};
 pub use states::{is_due, number_of};

@@ -4,6 +4,8 @@ ghost use Rattle.std.specs.Prelude.{◌≡◌, ◌<◌, ◌≤◌, ◌^◌, find
 ghost use Rattle.std.specs.Option.{option_map};
 ghost use Rattle.std.specs.List.{list_any};
 ghost use Rattle.scanner_table.specs.Slots.{is_with, indexed_from};
+ghost use Rattle.scanner_table.specs.Datagrams.{is_for};
+ghost use Rattle.scanner_table.specs.Encapsulation.{is_awaiting};
 ghost use Rattle.scanner_table.specs.Replies.{uses_id};
 ghost use Rattle.scanner_slots.specs.Views.{view_slot, passes};
 
@@ -18,10 +20,6 @@ use std::alloc::Global;
 pub enum SlotTest {
     /// The slot is established with this peer, and has this T->O id.
     For(Node, ConnId),
-    /// The slot waits for the reply of this target to the request of this number.
-    Awaiting(Node, u64),
-    /// The slot has another number than this, and is established with this target and this T->O id.
-    UsesId(u32, Node, ConnId),
     /// The slot's connection is desired, is not open, and its retry time has come.
     Ready(Ms),
     /// The slot is of this target, and is ready to open at this time.
@@ -42,6 +40,21 @@ fn is_with(indexed: SlotView<'_>, target: Node) -> bool
     indexed.config.target.0 == target.0
 }
 
+/// Returns whether the slot is established with this peer, and has this T->O id. Takes no memory.
+///
+/// Volume 2, chapter 2, sequenced address item.
+pub fn is_for(indexed: SlotView<'_>, peer: Node, id: ConnId) -> bool
+    ensures { result ≡ is_for peer id.0 (view_slot indexed.entry) }
+{
+    is_with(indexed, peer) && consumes(&indexed.slot.state, id)
+}
+
+fn is_awaiting(indexed: SlotView<'_>, target: Node, number: u64) -> bool
+    ensures { result ≡ is_awaiting target number (view_slot indexed.entry) }
+{
+    is_with(indexed, target) && waits_for(&indexed.slot.state, number)
+}
+
 fn uses_id(indexed: SlotView<'_>, number: u32, target: Node, id: ConnId) -> bool
     ensures { result ≡ uses_id number target id (view_slot indexed.entry) }
 {
@@ -55,11 +68,7 @@ impl SlotTest {
     {
         let state = &indexed.slot.state;
         match self {
-            SlotTest::For(peer, id) => is_with(indexed, peer) && consumes(state, id),
-            SlotTest::Awaiting(target, number) => {
-                is_with(indexed, target) && waits_for(state, number)
-            }
-            SlotTest::UsesId(number, target, id) => uses_id(indexed, number, target, id),
+            SlotTest::For(peer, id) => is_for(indexed, peer, id),
             SlotTest::Ready(clock) => is_ready(indexed.slot, clock),
             SlotTest::ReadyWith(target, clock) => {
                 is_ready(indexed.slot, clock) && is_with(indexed, target)
@@ -121,10 +130,54 @@ pub fn slots_that<'a>(
     Ok(found)
 }
 
-/// Returns whether any slot passes the test. Takes no memory.
-pub fn any_passes(configs: &[SlotConfig], slots: &[Slot], test: SlotTest) -> bool
+/// Returns the first slot that waits for the reply of this target to the request of this number, if any. Takes no memory.
+///
+/// Volume 2, chapter 2, sender context.
+pub fn find_awaiting<'a>(
+    configs: &'a [SlotConfig],
+    slots: &'a [Slot],
+    target: Node,
+    request: u64,
+) -> Option<SlotView<'a>>
     requires { length configs.now ≤ 2 ^ 32 }
-    ensures { result ≡ list_any (passes test) (indexed_from 0 configs.now slots.now) }
+    ensures found { option_map view_slot result
+        ≡ find (is_awaiting target request) (indexed_from 0 configs.now slots.now) }
+    ensures within { IfSome result
+        (λ indexed. (indexed.number < length configs.now) × (indexed.number < length slots.now)) }
 {
-    find_slot(configs, slots, test).is_some()
+    for index in 0..configs.len().min(slots.len()) {
+        let indexed = SlotView {
+            number: index as u32,
+            config: &configs[index],
+            slot: &slots[index],
+        };
+        if is_awaiting(indexed, target, request) {
+            return Some(indexed);
+        }
+    }
+    None
+}
+
+/// Returns whether a slot of another number is established with this target and this T->O id. Takes no memory.
+pub fn is_id_used(
+    configs: &[SlotConfig],
+    slots: &[Slot],
+    number: u32,
+    target: Node,
+    id: ConnId,
+) -> bool
+    requires { length configs.now ≤ 2 ^ 32 }
+    ensures { result ≡ list_any (uses_id number target id) (indexed_from 0 configs.now slots.now) }
+{
+    for index in 0..configs.len().min(slots.len()) {
+        let indexed = SlotView {
+            number: index as u32,
+            config: &configs[index],
+            slot: &slots[index],
+        };
+        if uses_id(indexed, number, target, id) {
+            return true;
+        }
+    }
+    false
 }

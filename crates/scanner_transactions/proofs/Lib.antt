@@ -4,6 +4,7 @@ pub mod RequestSteps
 pub mod Faultless
 mod Undone
 mod Tame
+mod Narrowed
 pub mod Selected
 pub mod Remaining
 pub mod SlotNumbers

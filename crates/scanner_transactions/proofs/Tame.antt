@@ -29,7 +29,7 @@ IsTame effect = (t : ScannerTable) (indexed : IndexedSlot) → Changes indexed.n
 nothing_changes : (number : ℕ) (t : ScannerTable) → Changes number t t
 nothing_changes number t = record { profile = refl; others = λ n other. refl; later = λ n less. refl }
 
-get_other : (slots : List Slot) (number n : ℕ) (slot : Slot) → (n == number) ≡ false → slice_get (slice_set slots number slot) n ≡ slice_get slots n
+pub get_other : (slots : List Slot) (number n : ℕ) (slot : Slot) → (n == number) ≡ false → slice_get (slice_set slots number slot) n ≡ slice_get slots n
 get_other [] number n slot other = refl
 get_other (first ∷ slots) zero zero slot other = absurd (let e : true ≡ false = other in cc)
 get_other (first ∷ slots) zero (suc n) slot other = refl

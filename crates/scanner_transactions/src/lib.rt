@@ -17,6 +17,7 @@ mod expiries;
 mod expiring;
 mod finishing;
 mod messages;
+mod narrowing;
 mod new_request;
 mod opening;
 mod replies;

@@ -14,7 +14,7 @@ use crate::sessions::register;
 use cip_encap::{MessageView, read_message};
 use cip_types::{Node, OutOfMemory};
 use scanner_requests::{open_answer, service_for};
-use scanner_slots::{SlotTest, find_slot};
+use scanner_slots::find_awaiting;
 use scanner_table::{SlotState, Stage, TargetStream};
 
 /// The outcome of a frame.
@@ -40,9 +40,9 @@ fn replied_to(
         (λ t. replied_to t m (find (is_awaiting target m.context) (indexed_slots t)))
         transaction.old result transaction.new }
 {
-    let test = SlotTest::Awaiting(target, message.context);
     let configs = transaction.profile.slots.as_slice();
-    let Some(indexed) = find_slot(configs, &transaction.scanner.slots, test) else {
+    let slots = &transaction.scanner.slots;
+    let Some(indexed) = find_awaiting(configs, slots, target, message.context) else {
         return Ok(FrameOutcome::Ignored);
     };
     let number = indexed.number;

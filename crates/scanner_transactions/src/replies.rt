@@ -15,7 +15,7 @@ use cip_fwdopen::{OpenAnswer, Opened};
 use cip_types::{Items, OutOfMemory};
 use conn_state::Link;
 use scanner_requests::{later, linked, new_connection};
-use scanner_slots::{SlotTest, any_passes};
+use scanner_slots::is_id_used;
 use scanner_table::{PendingOpen, Slot, SlotState};
 use std::mem;
 
@@ -117,9 +117,15 @@ impl Transaction<'_> {
         let Some(indexed) = self.find(number) else {
             return Ok(());
         };
-        let used = SlotTest::UsesId(indexed.number, indexed.config.target, opened.t_o_id);
-        let id_free = !any_passes(self.profile.slots.as_slice(), &self.scanner.slots, used);
-        match linked(opening.requested, opened, id_free) {
+        let (slot, target) = (indexed.number, indexed.config.target);
+        let used = is_id_used(
+            self.profile.slots.as_slice(),
+            &self.scanner.slots,
+            slot,
+            target,
+            opened.t_o_id,
+        );
+        match linked(opening.requested, opened, !used) {
             Ok(link) => self.establish(number, opening, opened, link),
             Err(why) => self.refuse(number, Reason::Mismatch(why)),
         }

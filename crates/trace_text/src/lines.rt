@@ -64,32 +64,36 @@ fn read_words(alloc: Global, words: &mut Words<'_>) -> Result<TraceLine, TextFau
         "datagram" => {
             let peer = words.node()?;
             let bytes = words.bytes(alloc)?;
-            words.last(TraceLine::Event(Event::Datagram { peer, bytes }))
+            words
+                .last(Event::Datagram { peer, bytes })
+                .map(TraceLine::Event)
         }
         "tick" => {
             let ms = words.u32()?;
-            words.last(TraceLine::Event(Event::Tick { ms }))
+            words.last(Event::Tick { ms }).map(TraceLine::Event)
         }
         "write" => {
             let point = words.u32()?;
             let bytes = words.bytes(alloc)?;
-            words.last(TraceLine::Event(Event::Write { point, bytes }))
+            words
+                .last(Event::Write { point, bytes })
+                .map(TraceLine::Event)
         }
         "read" => {
             let point = words.u32()?;
-            words.last(TraceLine::Event(Event::Read { point }))
+            words.last(Event::Read { point }).map(TraceLine::Event)
         }
         "mode" => {
             let run = read_mode(words)?;
-            words.last(TraceLine::Event(Event::Mode { run }))
+            words.last(Event::Mode { run }).map(TraceLine::Event)
         }
         "start" => {
             let slot = words.u32()?;
-            words.last(TraceLine::Event(Event::Start { slot }))
+            words.last(Event::Start { slot }).map(TraceLine::Event)
         }
         "stop" => {
             let slot = words.u32()?;
-            words.last(TraceLine::Event(Event::Stop { slot }))
+            words.last(Event::Stop { slot }).map(TraceLine::Event)
         }
         _ => read_other(alloc, words, word),
     }
@@ -104,21 +108,29 @@ fn read_other(alloc: Global, words: &mut Words<'_>, word: &str) -> Result<TraceL
         "request" => {
             let peer = words.node()?;
             let bytes = words.bytes(alloc)?;
-            words.last(TraceLine::Event(Event::Request { peer, bytes }))
+            words
+                .last(Event::Request { peer, bytes })
+                .map(TraceLine::Event)
         }
         "frame" => {
             let stream = words.u16()?;
             let bytes = words.bytes(alloc)?;
-            words.last(TraceLine::Event(Event::Frame { stream, bytes }))
+            words
+                .last(Event::Frame { stream, bytes })
+                .map(TraceLine::Event)
         }
         "stream" => {
             let stream = words.u16()?;
             let peer = words.node()?;
-            words.last(TraceLine::Event(Event::StreamOpened { stream, peer }))
+            words
+                .last(Event::StreamOpened { stream, peer })
+                .map(TraceLine::Event)
         }
         "cut" => {
             let stream = words.u16()?;
-            words.last(TraceLine::Event(Event::StreamCut { stream }))
+            words
+                .last(Event::StreamCut { stream })
+                .map(TraceLine::Event)
         }
         "adapter" => read_adapter(words).map(TraceLine::Adapter),
         "output" => read_output(words).map(TraceLine::Output),

@@ -5,3 +5,15 @@ returns-in-Write-clause-hints g c = c.write.ensures.hints _ c.requires.hints
 
 pub returns-in-Mode-clause-hints : goal.returns-in-Mode-clause-hints
 returns-in-Mode-clause-hints g c = c.set_mode.ensures.hints _ c.requires.hints
+
+pub returns-in-Frame-clause-hints : goal.returns-in-Frame-clause-hints
+returns-in-Frame-clause-hints g c = c.frame.ensures.hints c.requires.hints
+
+pub returns-in-StreamCut-clause-hints : goal.returns-in-StreamCut-clause-hints
+returns-in-StreamCut-clause-hints g c = c.cut.ensures.hints c.requires.hints
+
+pub returns-in-Start-clause-hints : goal.returns-in-Start-clause-hints
+returns-in-Start-clause-hints g c = c.start.ensures.hints c.requires.hints
+
+pub returns-in-Stop-clause-hints : goal.returns-in-Stop-clause-hints
+returns-in-Stop-clause-hints g c = c.stop.ensures.hints c.requires.hints
