@@ -7,7 +7,6 @@ mod paging;
 mod profiles;
 mod program;
 mod stationing;
-mod usage;
 
 use failure::{Failure, NO_MEMORY, status_of};
 use port_alarm::Alarm;
