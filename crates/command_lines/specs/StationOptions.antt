@@ -43,6 +43,18 @@ number_up_to most word = option_and_then (λ number. if nat_lt most number then 
 abbrev pub inactivity_of : List ℕ → Option ℕ
 inactivity_of word = number_up_to 3600 word
 
+-- a percentage
+abbrev pub percent_of : List ℕ → Option ℕ
+percent_of word = number_up_to 100 word
+
+-- how long a datagram waits at most, in milliseconds
+abbrev pub delay_of : List ℕ → Option ℕ
+delay_of word = number_up_to 60000 word
+
+-- a seed
+abbrev pub seed_of : List ℕ → Option ℕ
+seed_of word = number_of 64 word
+
 -- OPTIONS
 
 -- the options by their names
@@ -64,6 +76,11 @@ option_meanings =
     ∷ (codes "--quiet", Some (name.Alone flag.Quiet))
     ∷ (codes "--page", Some (name.Valued setting.Page))
     ∷ (codes "--page-address", Some (name.Valued setting.PageAddress))
+    ∷ (codes "--lose", Some (name.Valued setting.Lose))
+    ∷ (codes "--repeat", Some (name.Valued setting.Repeat))
+    ∷ (codes "--reorder", Some (name.Valued setting.Reorder))
+    ∷ (codes "--delay", Some (name.Valued setting.Delay))
+    ∷ (codes "--seed", Some (name.Valued setting.Seed))
     ∷ (codes "--page-writes", Some (name.Alone flag.PageWrites))
     ∷ []
 
@@ -72,7 +89,7 @@ option_of word = meaning option_meanings None word
 
 -- the usual values
 abbrev pub usual : Options
-usual = record { address = None; tcp = 44818; udp = 2222; peer_udp = 2222; seconds = None; record_from_end = None; state_from_end = None; incarnation = None; inactivity_s = 120; serial = None; name_from_end = None; multicast = false; no_input = false; quiet = false; page = None; page_address = None; page_writes = false }
+usual = record { address = None; tcp = 44818; udp = 2222; peer_udp = 2222; seconds = None; record_from_end = None; state_from_end = None; incarnation = None; inactivity_s = 120; serial = None; name_from_end = None; multicast = false; no_input = false; quiet = false; page = None; page_address = None; page_writes = false; lose = 0; repeat = 0; reorder = 0; delay_ms = 0; seed = 0 }
 
 -- one that has no value
 abbrev pub with_flag : Options → Flag → Options
@@ -97,6 +114,8 @@ with_number options setting.Seconds word = option_map (λ seconds. record option
 with_number options setting.Incarnation word = option_map (λ incarnation. record options { incarnation = Some incarnation }) (incarnation_of word)
 with_number options setting.Inactivity word = option_map (λ seconds. record options { inactivity_s = seconds }) (inactivity_of word)
 with_number options setting.Serial word = option_map (λ serial. record options { serial = Some serial }) (serial_of word)
+with_number options setting.Delay word = option_map (λ ms. record options { delay_ms = ms }) (delay_of word)
+with_number options setting.Seed word = option_map (λ seed. record options { seed = seed }) (seed_of word)
 with_number options other word = None
 
 abbrev pub with_number_word : ℕ → Option Options → Result Options StationMisuse
@@ -112,6 +131,17 @@ with_file options other left = options
 -- a name of 1 to 32 bytes
 abbrev pub with_name : Options → List ℕ → ℕ → Result Options StationMisuse
 with_name options word left = if (length word == 0) || nat_lt 32 (length word) then Err (misuse.BadValue left) else Ok (record options { name_from_end = Some left })
+
+-- a percentage for one of the options that are percentages
+abbrev pub with_percent : Options → Setting → ℕ → Options
+with_percent options setting.Lose percent = record options { lose = percent }
+with_percent options setting.Repeat percent = record options { repeat = percent }
+with_percent options setting.Reorder percent = record options { reorder = percent }
+with_percent options other percent = options
+
+abbrev pub with_percent_word : Options → Setting → ℕ → Option ℕ → Result Options StationMisuse
+with_percent_word options given left None = Err (misuse.BadValue left)
+with_percent_word options given left (Some percent) = Ok (with_percent options given percent)
 
 -- a port for one of the options that are ports
 abbrev pub with_port : Options → Setting → ℕ → Options
@@ -136,6 +166,11 @@ with_value options setting.Seconds word left = with_number_word left (with_numbe
 with_value options setting.Incarnation word left = with_number_word left (with_number options setting.Incarnation word)
 with_value options setting.Inactivity word left = with_number_word left (with_number options setting.Inactivity word)
 with_value options setting.Serial word left = with_number_word left (with_number options setting.Serial word)
+with_value options setting.Delay word left = with_number_word left (with_number options setting.Delay word)
+with_value options setting.Seed word left = with_number_word left (with_number options setting.Seed word)
+with_value options setting.Lose word left = with_percent_word options setting.Lose left (percent_of word)
+with_value options setting.Repeat word left = with_percent_word options setting.Repeat left (percent_of word)
+with_value options setting.Reorder word left = with_percent_word options setting.Reorder left (percent_of word)
 with_value options setting.Tcp word left = with_port_word options setting.Tcp left (port_of word)
 with_value options setting.Udp word left = with_port_word options setting.Udp left (port_of word)
 with_value options setting.PeerUdp word left = with_port_word options setting.PeerUdp left (port_of word)

@@ -21,6 +21,7 @@ command_meanings =
     ∷ (codes "replay", Some command.Replay)
     ∷ (codes "pcap", Some command.Pcap)
     ∷ (codes "explain", Some command.Explain)
+    ∷ (codes "settle", Some command.Settle)
     ∷ (codes "eds", Some command.Eds)
     ∷ (codes "identity", Some command.Identity)
     ∷ (codes "--help", Some command.Help)
@@ -70,6 +71,7 @@ task_with command.Scanner words = station_of true words
 task_with command.Replay words = of_files task.Replay words
 task_with command.Pcap words = of_files task.Pcap words
 task_with command.Explain words = of_files task.Explain words
+task_with command.Settle words = of_files task.Settle words
 task_with command.Eds words = sheet_with words
 task_with command.Identity words = search_with words
 

@@ -1,7 +1,7 @@
 //! Values of options: addresses, ports and times.
 
 ghost use Rattle.std.specs.Prelude.{◌≡◌};
-ghost use Rattle.command_lines.specs.StationOptions.{inactivity_of, incarnation_of, port_of, seconds_of, serial_of};
+ghost use Rattle.command_lines.specs.StationOptions.{delay_of, inactivity_of, incarnation_of, percent_of, port_of, seconds_of, seed_of, serial_of};
 ghost use Rattle.trace_words.specs.Words.{node_of};
 
 use cip_types::Node;
@@ -13,6 +13,9 @@ const LONGEST_S: u64 = 1_000_000_000;
 
 /// The longest time for which an adapter's stream may be silent, in seconds.
 const LONGEST_INACTIVITY_S: u64 = 3_600;
+
+/// The longest wait of a datagram, in milliseconds.
+const LONGEST_DELAY_MS: u64 = 60_000;
 
 /// The address of a word: four numbers below 256 with dots between them.
 pub fn address_of(word: &str) -> Option<Node>
@@ -77,4 +80,33 @@ pub fn inactivity_of(word: &str) -> Option<u16>
         return None;
     }
     Some(number as u16)
+}
+
+/// The percentage of a word: 0 to 100.
+pub fn percent_of(word: &str) -> Option<u8>
+    ensures { result ≡ percent_of word.now }
+{
+    let number = read_u64(word)?;
+    if number > 100 {
+        return None;
+    }
+    Some(number as u8)
+}
+
+/// The milliseconds of a word: 0 to 60,000.
+pub fn delay_of(word: &str) -> Option<u16>
+    ensures { result ≡ delay_of word.now }
+{
+    let number = read_u64(word)?;
+    if number > LONGEST_DELAY_MS {
+        return None;
+    }
+    Some(number as u16)
+}
+
+/// The seed of a word: a number of 64 bits.
+pub fn seed_of(word: &str) -> Option<u64>
+    ensures { result ≡ seed_of word.now }
+{
+    read_u64(word)
 }

@@ -1,10 +1,11 @@
 //! The options of a station.
 
 ghost use Rattle.std.specs.Prelude.{◌≡◌, ◌≤◌, ◌+◌, ◌∷◌, Err, true, length, map, IfOk, IfErr};
-ghost use Rattle.command_lines.specs.StationOptions.{option_of, options_after, usual, with_address, with_file, with_flag, with_name, with_number, with_port, with_value};
+ghost use Rattle.command_lines.specs.StationOptions.{option_of, options_after, usual, with_address, with_file, with_flag, with_name, with_number, with_percent, with_port, with_value};
 
 use crate::station_numbers::{
-    address_of, inactivity_of, incarnation_of, port_of, seconds_of, serial_of,
+    address_of, delay_of, inactivity_of, incarnation_of, percent_of, port_of, seconds_of, seed_of,
+    serial_of,
 };
 use cip_types::Node;
 use cip_types::limits::{TCP_PORT, UDP_PORT};
@@ -56,6 +57,16 @@ pub struct Options {
     pub page_address: Option<Node>,
     /// Whether the page takes calls.
     pub page_writes: bool,
+    /// The percentage of the arriving datagrams that are lost.
+    pub lose: u8,
+    /// The percentage that arrive twice.
+    pub repeat: u8,
+    /// The percentage that the next one overtakes.
+    pub reorder: u8,
+    /// The most milliseconds that an arriving datagram waits.
+    pub delay_ms: u16,
+    /// The seed by which these are drawn.
+    pub seed: u64,
 }
 
 /// The name of an option that has a value.
@@ -74,6 +85,11 @@ pub enum Setting {
     Name,
     Page,
     PageAddress,
+    Lose,
+    Repeat,
+    Reorder,
+    Delay,
+    Seed,
 }
 
 /// The name of an option that has no value.
@@ -151,6 +167,11 @@ fn usual() -> Options
         page: None,
         page_address: None,
         page_writes: false,
+        lose: 0,
+        repeat: 0,
+        reorder: 0,
+        delay_ms: 0,
+        seed: 0,
     }
 }
 
@@ -176,6 +197,11 @@ fn option_of(word: &str) -> Option<OptionName>
         "--quiet" => Some(OptionName::Alone(Flag::Quiet)),
         "--page" => Some(OptionName::Valued(Setting::Page)),
         "--page-address" => Some(OptionName::Valued(Setting::PageAddress)),
+        "--lose" => Some(OptionName::Valued(Setting::Lose)),
+        "--repeat" => Some(OptionName::Valued(Setting::Repeat)),
+        "--reorder" => Some(OptionName::Valued(Setting::Reorder)),
+        "--delay" => Some(OptionName::Valued(Setting::Delay)),
+        "--seed" => Some(OptionName::Valued(Setting::Seed)),
         "--page-writes" => Some(OptionName::Alone(Flag::PageWrites)),
         _ => None,
     }
@@ -270,12 +296,19 @@ fn with_value(
             Some(port) => Ok(with_port(options, setting, port)),
             None => Err(StationMisuse::BadValue(left)),
         },
-        Setting::Seconds | Setting::Incarnation | Setting::Inactivity | Setting::Serial => {
-            match with_number(options, setting, word) {
-                Some(options) => Ok(options),
-                None => Err(StationMisuse::BadValue(left)),
-            }
-        }
+        Setting::Seconds
+        | Setting::Incarnation
+        | Setting::Inactivity
+        | Setting::Serial
+        | Setting::Delay
+        | Setting::Seed => match with_number(options, setting, word) {
+            Some(options) => Ok(options),
+            None => Err(StationMisuse::BadValue(left)),
+        },
+        Setting::Lose | Setting::Repeat | Setting::Reorder => match percent_of(word) {
+            Some(percent) => Ok(with_percent(options, setting, percent)),
+            None => Err(StationMisuse::BadValue(left)),
+        },
     }
 }
 
@@ -347,7 +380,36 @@ fn with_number(options: Options, setting: Setting, word: &str) -> Option<Options
             serial: Some(serial_of(word)?),
             ..options
         }),
+        Setting::Delay => Some(Options {
+            delay_ms: delay_of(word)?,
+            ..options
+        }),
+        Setting::Seed => Some(Options {
+            seed: seed_of(word)?,
+            ..options
+        }),
         _ => None,
+    }
+}
+
+/// The options with a percentage for one of them.
+fn with_percent(options: Options, setting: Setting, percent: u8) -> Options
+    ensures { result ≡ with_percent options setting percent }
+{
+    match setting {
+        Setting::Lose => Options {
+            lose: percent,
+            ..options
+        },
+        Setting::Repeat => Options {
+            repeat: percent,
+            ..options
+        },
+        Setting::Reorder => Options {
+            reorder: percent,
+            ..options
+        },
+        _ => options,
     }
 }
 

@@ -20,6 +20,8 @@ pub enum StationCommand {
     Pcap,
     /// Explains a trace in words.
     Explain,
+    /// Settles the records of several devices.
+    Settle,
     /// Writes the data sheet of a profile.
     Eds,
     /// Searches for devices.
@@ -52,6 +54,8 @@ pub enum ProgramTask {
     Pcap,
     /// Tells the trace of the files from the third word on in words.
     Explain,
+    /// Settles the records of the files from the third word on.
+    Settle,
     /// Writes the data sheet of the profile that is the third word.
     Sheet(SheetTask),
     /// Searches for devices.
@@ -69,6 +73,7 @@ fn command_of(word: &str) -> Option<StationCommand>
         "replay" => Some(StationCommand::Replay),
         "pcap" => Some(StationCommand::Pcap),
         "explain" => Some(StationCommand::Explain),
+        "settle" => Some(StationCommand::Settle),
         "eds" => Some(StationCommand::Eds),
         "identity" => Some(StationCommand::Identity),
         "--help" => Some(StationCommand::Help),
@@ -108,6 +113,7 @@ fn task_with<S: AsStr>(command: StationCommand, words: &[S]) -> Result<ProgramTa
         StationCommand::Replay => of_files(ProgramTask::Replay, words),
         StationCommand::Pcap => of_files(ProgramTask::Pcap, words),
         StationCommand::Explain => of_files(ProgramTask::Explain, words),
+        StationCommand::Settle => of_files(ProgramTask::Settle, words),
         StationCommand::Eds => sheet_with(words),
         StationCommand::Identity => search_with(words),
         StationCommand::Help => Ok(ProgramTask::Help),

@@ -6,6 +6,7 @@ use Rattle.station_port.specs.declared.fault.SocketCause.TheVariants as cause
 use Rattle.command_lines.specs.declared.station_options.StationMisuse.TheVariants as misuse
 use Rattle.identity_search.specs.declared.fault.SearchFault.{SearchFault}
 use Rattle.identity_search.specs.declared.fault.SearchFault.TheVariants as search
+use Rattle.settle_command.specs.Faults.{status_of as settle_status}
 use Rattle.trace_commands.specs.declared.fault.TracesFault.{TracesFault}
 use Rattle.trace_commands.specs.declared.fault.TracesFault.TheVariants as traces
 use Rattle.eip_station.specs.declared.failure.Failure.{Failure}
@@ -41,6 +42,7 @@ abbrev pub status_of : Failure → ℕ
 status_of (failure.Early end) = 1
 status_of failure.Output = 1
 status_of (failure.Traces fault) = traces_status fault
+status_of (failure.Settling fault) = settle_status fault
 status_of (failure.Search fault) = search_status fault
 status_of (failure.Words (misuse.BadAddress left)) = 4
 status_of (failure.Words other) = 2

@@ -2,6 +2,7 @@
 use Rattle.std.specs.Prelude.{ℕ, ◌*◌, nat_eq, if◌then◌else◌, Bool, List, [], ◌∷◌, ◌++◌, Option, Some, None}
 use Rattle.std.specs.List.{list_any}
 use Rattle.cip_types.specs.declared.names.Node.{Node}
+use Rattle.port_faults.specs.declared.rates.FaultRates.{FaultRates}
 use Rattle.port_streams.specs.declared.routes.Destination.{Destination}
 use Rattle.scanner_table.specs.declared.profile.SlotConfig.{SlotConfig}
 use Rattle.station.specs.declared.run.Ending.{Ending}
@@ -24,6 +25,10 @@ place_of options node mask = record {
   multicast = options.multicast;
   inactivity_s = options.inactivity_s;
 }
+
+-- what becomes of the datagrams that arrive
+abbrev pub rates_of : Options → FaultRates
+rates_of options = record { lose = options.lose; repeat = options.repeat; reorder = options.reorder; delay_ms = options.delay_ms; seed = options.seed }
 
 -- the milliseconds of so many seconds, if there is an end
 abbrev pub ms_of : Option ℕ → Option ℕ

@@ -7,6 +7,7 @@ use cip_tables::NewFault;
 use cip_types::OutOfMemory;
 use command_lines::StationMisuse;
 use identity_search::SearchFault;
+use settle_command::SettleFault;
 use station::EarlyEnd;
 use station_files::StateFault;
 use station_port::{SocketCause, StationFault, StationSocket};
@@ -44,6 +45,9 @@ pub enum Failure {
     /// Files are not played, written as a capture file or explained to their end.
     #[error(transparent)]
     Traces(TracesFault),
+    /// Files are not settled.
+    #[error(transparent)]
+    Settling(SettleFault),
     /// No device is found.
     #[error(transparent)]
     Search(SearchFault),
@@ -81,6 +85,7 @@ pub fn status_of(failure: Failure) -> u8
         Failure::Early(_) => 1,
         Failure::Output => 1,
         Failure::Traces(fault) => traces_status(fault),
+        Failure::Settling(fault) => fault.status(),
         Failure::Search(fault) => search_status(fault),
         Failure::Words(StationMisuse::BadAddress(_)) => 4,
         Failure::Words(_) => 2,
@@ -180,6 +185,12 @@ impl From<TracesFault> for Failure {
     }
 }
 
+impl From<SettleFault> for Failure {
+    fn from(fault: SettleFault) -> Failure {
+        Failure::Settling(fault)
+    }
+}
+
 impl From<SearchFault> for Failure {
     fn from(fault: SearchFault) -> Failure {
         Failure::Search(fault)
@@ -237,22 +248,23 @@ pub fn is_reported(failure: Failure) -> bool
 pub fn subject_of(words: &[String], failure: Failure) -> &str {
     match failure {
         Failure::Words(misuse) => wrong_word(words, misuse),
-        Failure::Unread | Failure::Events | Failure::WrongKind => {
-            match words.get(2) {
-                Some(word) => word.as_str(),
-                None => "",
-            }
-        }
-        Failure::Traces(TracesFault::Events | TracesFault::Scanner) => match words.get(2) {
-            Some(word) => word.as_str(),
-            None => "",
-        },
-        Failure::Traces(TracesFault::Unread(place)) => match words.get(place.saturating_add(2)) {
-            Some(word) => word.as_str(),
+        Failure::Unread | Failure::Events | Failure::WrongKind => file_at(words, 0),
+        Failure::Traces(TracesFault::Events | TracesFault::Scanner) => file_at(words, 0),
+        Failure::Traces(TracesFault::Unread(place)) => file_at(words, place),
+        Failure::Settling(fault) => match fault.file() {
+            Some(place) => file_at(words, place),
             None => "",
         },
         Failure::Record => "the record",
         _ => "",
+    }
+}
+
+/// The file of this index: the files are behind the command.
+fn file_at(words: &[String], place: usize) -> &str {
+    match words.get(place.saturating_add(2)) {
+        Some(word) => word.as_str(),
+        None => "",
     }
 }
 

@@ -7,7 +7,6 @@ mod paging;
 mod profiles;
 mod program;
 mod stationing;
-mod usage;
 
 use failure::{Failure, NO_MEMORY, status_of};
 use page_server::{PAGE_THREADS, SharedPage, begin_page};

@@ -1,12 +1,13 @@
 //! Where a station is, and the port of a scanner.
 
 ghost use Rattle.std.specs.Prelude.{◌≡◌, IfOk, OnOk};
-ghost use Rattle.eip_station.specs.Settings.{given_or, is_among, place_of, targets_of, with_target};
+ghost use Rattle.eip_station.specs.Settings.{given_or, is_among, place_of, rates_of, targets_of, with_target};
 
 use crate::failure::Failure;
 use cip_tables::ScannerProfile;
 use cip_types::{Node, OutOfMemory};
 use command_lines::Options;
+use port_faults::FaultRates;
 use port_streams::Destination;
 use station_port::{StationPlace, StationPort};
 use std::alloc::Global;
@@ -25,6 +26,19 @@ pub fn place_of(options: &Options, node: Node, mask: u32) -> StationPlace
         peer_udp: options.peer_udp,
         multicast: options.multicast,
         inactivity_s: options.inactivity_s,
+    }
+}
+
+/// What becomes of the datagrams that arrive.
+pub fn rates_of(options: &Options) -> FaultRates
+    ensures { result ≡ rates_of options.now }
+{
+    FaultRates {
+        lose: options.lose,
+        repeat: options.repeat,
+        reorder: options.reorder,
+        delay_ms: options.delay_ms,
+        seed: options.seed,
     }
 }
 

@@ -3,12 +3,12 @@
 use crate::failure::{Failure, NO_MEMORY, is_reported, status_of, subject_of};
 use crate::paging::HostNet;
 use crate::stationing::run_task;
-use crate::usage::USAGE;
-use command_lines::{ProgramTask, SheetTask, VERSION, read_station_task};
+use command_lines::{ProgramTask, SheetTask, USAGE, VERSION, read_station_task};
 use eds_text::SheetNames;
 use identity_search::search;
 use page_server::SharedPage;
 use port_alarm::Alarm;
+use settle_command::settle_files;
 use station_rim::Rim;
 use std::alloc::Global;
 use std::env::{self, Env};
@@ -119,6 +119,7 @@ where
         ProgramTask::Replay => Ok(replay(rt, files_of(words), out)?),
         ProgramTask::Pcap => Ok(pcap(rt, files_of(words), out)?),
         ProgramTask::Explain => Ok(explain(rt, files_of(words), out)?),
+        ProgramTask::Settle => Ok(settle_files(rt, files_of(words), out)?),
         ProgramTask::Sheet(sheet) => {
             Ok(data_sheet(rt, profile_of(words), &names_of(words, sheet), out)?)
         }

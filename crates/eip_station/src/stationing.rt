@@ -4,7 +4,7 @@ ghost use Rattle.std.specs.Prelude.{◌≡◌};
 ghost use Rattle.eip_station.specs.Settings.{ending_of, ms_of};
 
 use crate::failure::{Failure, NO_MEMORY};
-use crate::opening::{place_of, scanner_port};
+use crate::opening::{place_of, rates_of, scanner_port};
 use crate::paging::{HostNet, begin_page};
 use crate::profiles::{FastDevice, incarnation_of, profile_of, with_incarnation};
 use crate::program::{Surroundings, line_of};
@@ -13,6 +13,7 @@ use command_lines::{Options, StationTask, VERSION};
 use list_identity::StationIdentity;
 use page_server::SharedPage;
 use port_alarm::Alarm;
+use port_faults::FaultyPort;
 use socket_port::SystemClock;
 use station::{Ending, Station, StationObserver, Voice};
 use station_files::{begin_in_file, name_of, place_of_record, push_moment, stem_of};
@@ -225,6 +226,7 @@ where
         quiet: setting.options.quiet,
         silent_s: setting.options.inactivity_s,
     };
+    let port = FaultyPort::new(alloc, port, SystemClock::new(rt), rates_of(setting.options));
     let mut station = Station::new(alloc, config, port, clock, device, observer, voice)?;
     let ending = ending_of(setting.options, slots);
     let ended = if setting.options.no_input && !setting.options.page_writes {

@@ -1,4 +1,4 @@
-//! How the program is used.
+//! How the station program is used.
 
 /// What the program does, its commands with their options, and its statuses.
 pub const USAGE: &str = "\
@@ -12,6 +12,9 @@ usage: eip_station adapter PROFILE [options]
            writes the frames and datagrams of a trace as a capture file for tshark to standard output
        eip_station explain TRACE ..
            explains a trace in words, or why the files are none
+       eip_station settle RECORD ..
+           finds the schedule that accounts for the records of several devices, or says what is missing; a file without a
+           profile continues the one before it
        eip_station eds PROFILE [VENDOR PRODUCT CATALOG]
            writes the electronic data sheet of an adapter's profile, with these names or with the numbers in their place
        eip_station identity HOST [--seconds N]
@@ -34,6 +37,11 @@ options:
   --serial N     the serial number (the one that was drawn once and stands in the state file if it is left out)
   --name TEXT    the product name, at most 32 bytes (the profile's file name if it is left out)
   --multicast    a datagram of a multicast connection is sent once, to the address of its group
+  --lose PERCENT   so many of the datagrams that arrive are lost, to test a peer (0 if it is left out)
+  --repeat PERCENT  so many arrive twice
+  --reorder PERCENT  so many are overtaken by the next one
+  --delay MS     each waits for 0 to MS milliseconds
+  --seed N       the seed by which these are drawn (0 if it is left out)
   --no-input     does not read the standard input, and runs on without it
   --quiet        says only faults on standard error, not what streams do
   --page PORT    serves a live page of the station there, on this host alone; a line on standard error has its address
@@ -44,6 +52,6 @@ The station runs until its standard input ends, and at most N seconds. Each line
 It prints the outcome of each call and of each event with a notice, in the lines of a trace, and for each output or
 image that has changed N at MS output POINT HEX or N at MS image SLOT HEX: the number of the last event, and the time.
 It waits for no reader: lines that nobody reads are lost, and a line says how many.
-status: 0 done; 1 the station ended before its time, or no device answered; 2 a wrong word; 3 a bad profile, trace or state; 4 an address that is none;
+status: 0 done; 1 the station ended before its time, no device answered or records do not settle; 2 a wrong word; 3 a bad profile, trace or state; 4 an address that is none;
         5 a socket cannot be made, as for a port in use; 6 the record or the state cannot be written; 7 no memory
 ";
