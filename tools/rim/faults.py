@@ -19,7 +19,7 @@ def counts_of(scanner):
     scanner.call("status")
     line = ""
     for _ in range(300):
-        told = [line for line in scanner.lines()[before:] if " slot 0 established" in line]
+        told = [line for line in scanner.lines()[before:] if " slot 0 " in line and " established " in line]
         if told:
             line = told[-1]
             break
