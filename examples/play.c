@@ -75,6 +75,7 @@ static void print_notice(const eip_item *item)
     case EIP_ITEM_STREAM_CLOSED: printf("stream-closed %u\n", item->a); break;
     case EIP_ITEM_SLOT: printf("slot %u %u\n", item->a, item->b); break;
     case EIP_ITEM_NO_IDS: printf("no-ids %u\n", item->a); break;
+    case EIP_ITEM_RESET: printf("reset %u\n", item->a); break;
     case EIP_ITEM_REFUSED_ENCAP: printf("refused %u encap %u\n", item->a, item->b); break;
     case EIP_ITEM_UNREADABLE: printf("refused %u unreadable\n", item->a); break;
     case EIP_ITEM_OTHER_TRIAD: printf("refused %u mismatch Triad\n", item->a); break;
@@ -214,6 +215,8 @@ static void bytes_event(const char *word, const char *one, char *two)
         deliver(node_of(one), bytes, len);
     else if (!strcmp(word, "request"))
         print_answer(eip_request(&device, node_of(one), bytes, len, answer, room, &size));
+    else if (!strcmp(word, "inquiry"))
+        print_answer(eip_inquire(&device, node_of(one), bytes, len, answer, room, &size));
     else if (!strcmp(word, "frame"))
         print_answer(eip_frame(&device, (uint16_t)n, bytes, len, answer, room, &size));
     else
@@ -254,7 +257,7 @@ static void plain_event(const char *word, const char *one, const char *two)
 /* Performs the event of a line. A line of a recorded outcome, a comment or an empty line is none. */
 static void event(char *line)
 {
-    static const char *const with_bytes[] = {"datagram", "request", "frame", "write"};
+    static const char *const with_bytes[] = {"datagram", "request", "inquiry", "frame", "write"};
     char *word = strtok(line, " \n"), *one = strtok(NULL, " \n"), *two = strtok(NULL, " \n");
     size_t i;
     if (!word || !one || *word == '#' || (*word >= '0' && *word <= '9'))
@@ -265,7 +268,7 @@ static void event(char *line)
         print_value((uint32_t)strtoul(one, NULL, 10));
         return;
     }
-    for (i = 0; two && i < 4; i++)
+    for (i = 0; two && i < 5; i++)
         if (!strcmp(word, with_bytes[i])) {
             bytes_event(word, one, two);
             return;
@@ -275,9 +278,9 @@ static void event(char *line)
 
 static bool is_profile(const char *line)
 {
-    static const char *const words[] = {"adapter ", "output ", "input ", "config ", "heartbeat ", "scanner ", "slot "};
+    static const char *const words[] = {"adapter ", "output ", "input ", "config ", "describe ", "heartbeat ", "scanner ", "slot "};
     size_t i;
-    for (i = 0; i < 7; i++)
+    for (i = 0; i < 8; i++)
         if (!strncmp(line, words[i], strlen(words[i])))
             return true;
     return *line == '#' || *line == '\n';

@@ -34,9 +34,7 @@ static size_t size;
 static uint16_t udp_port = 2222;
 static uint64_t now; /* the moment that the device has reached, in ms */
 static uint64_t last; /* the last reading of the clock, in ms */
-/* The vendor number is nobody's: a maker gets its own from ODVA (odva.org), and gives each device its own serial number. */
-static eip_identity identity = {.serial = 1, .port = 44818, .vendor = 0, .device_type = 12, .product = 7, .major = 2,
-                                .minor = 3, .state = 3, .name = "Remote I/O example"};
+static struct sockaddr_in asker; /* where the last inquiry came from */
 
 /* Writes a line on standard error, unless that would wait for its reader. */
 static void say(const char *text, ...)
@@ -133,6 +131,11 @@ static void carry_out(void)
         }
         if (item.kind == EIP_ITEM_STREAM_CLOSED)
             hang_up(item.a);
+        if (item.kind == EIP_ITEM_REPLY)
+            sendto(sockets[INQUIRIES].fd, item.bytes, item.size, MSG_DONTWAIT, (struct sockaddr *)&asker, sizeof asker);
+        /* (a device of a maker's begins anew here, with the next incarnation) */
+        if (item.kind == EIP_ITEM_RESET)
+            say("reset %u\n", item.a);
         if (item.kind == EIP_ITEM_OPENED || item.kind == EIP_ITEM_EXPIRED)
             say("%s %u\n", item.kind == EIP_ITEM_OPENED ? "opened" : "expired", item.a);
     }
@@ -234,16 +237,14 @@ static void read_datagram(void)
         eip_datagram(&device, ntohl(peer.sin_addr.s_addr), bytes, (size_t)got, &delivery);
 }
 
-/* Tells who looks for devices what this one is. */
-static void answer_inquiry(int fd)
+/* A peer inquires which device this is. */
+static void read_inquiry(int fd)
 {
-    uint8_t bytes[1500], reply[EIP_INQUIRY_ROOM];
-    struct sockaddr_in peer;
-    socklen_t len = sizeof peer;
-    size_t told = 0;
-    ssize_t got = recvfrom(fd, bytes, sizeof bytes, MSG_DONTWAIT, (struct sockaddr *)&peer, &len);
-    if (got >= 0 && eip_inquiry(&identity, bytes, (size_t)got, reply, sizeof reply, &told) == EIP_DONE)
-        sendto(sockets[INQUIRIES].fd, reply, told, MSG_DONTWAIT, (struct sockaddr *)&peer, len);
+    uint8_t bytes[1500];
+    socklen_t len = sizeof asker;
+    ssize_t got = recvfrom(fd, bytes, sizeof bytes, MSG_DONTWAIT, (struct sockaddr *)&asker, &len);
+    if (got >= 0)
+        done(eip_inquire(&device, ntohl(asker.sin_addr.s_addr), bytes, (size_t)got, answer, sizeof answer, &size));
 }
 
 /* The outputs stand at the inputs. */
@@ -302,7 +303,7 @@ static void turn(void)
             read_stream(i);
     for (i = INQUIRIES; i <= BROADCASTS; i++)
         if (sockets[i].revents)
-            answer_inquiry(sockets[i].fd);
+            read_inquiry(sockets[i].fd);
     end_streams();
     if (sockets[LISTENER].revents)
         accept_stream();
@@ -311,30 +312,33 @@ static void turn(void)
 
 int main(int count, char **words)
 {
-    static const char points[] = "output 150 4 zero zero\ninput 100 4\nconfig 151 0\nheartbeat 152 153\n";
-    char profile[256];
+    /* The vendor number is nobody's: a maker gets its own from ODVA (odva.org), and gives each device its own serial number.
+     * The name is "Remote I/O example"; the inactivity time-out, 120 s, is SILENCE_MS. */
+    static const char points[] = "output 150 4 zero zero\ninput 100 4\nconfig 151 0\n";
+    static const char name[] = "52656d6f746520492f4f206578616d706c65";
+    char profile[320];
     uint64_t wrong = 0;
     uint32_t node = count > 1 ? ntohl(inet_addr(words[1])) : INADDR_LOOPBACK, status;
     unsigned incarnation = counted(count > 4 ? words[4] : "remote_io.state");
-    uint16_t i;
-    int len = snprintf(profile, sizeof profile, "adapter %u %u.%u.%u.%u 255.255.255.0 0 12 7 2 3\n%s", incarnation,
-                       node >> 24, node >> 16 & 255, node >> 8 & 255, node & 255, points);
+    uint16_t i, tcp_port = count > 3 ? (uint16_t)atoi(words[2]) : 44818;
+    int len = snprintf(profile, sizeof profile,
+                       "adapter %u %u.%u.%u.%u 255.255.255.0 0 12 7 2 3\n%s"
+                       "describe 1 %s %u 100 15 000000000000 120\nheartbeat 152 153\n",
+                       incarnation, node >> 24, node >> 16 & 255, node >> 8 & 255, node & 255, points, name, tcp_port);
     status = eip_new(&device, profile, (size_t)len, &wrong);
     if (status != EIP_DONE)
         return fprintf(stderr, "no device: status %u, number %lu\n", status, (unsigned long)wrong), 1;
     now = last = now_ms();
-    identity.address = node;
-    identity.port = count > 3 ? (uint16_t)atoi(words[2]) : identity.port;
     udp_port = count > 3 ? (uint16_t)atoi(words[3]) : udp_port;
     for (i = 0; i < SOCKETS; i++)
         sockets[i].fd = -1, sockets[i].events = POLLIN;
-    sockets[LISTENER].fd = bound(SOCK_STREAM, node, identity.port);
+    sockets[LISTENER].fd = bound(SOCK_STREAM, node, tcp_port);
     sockets[UDP].fd = bound(SOCK_DGRAM, node, udp_port);
-    sockets[INQUIRIES].fd = bound(SOCK_DGRAM, node, identity.port);
+    sockets[INQUIRIES].fd = bound(SOCK_DGRAM, node, tcp_port);
     if (sockets[LISTENER].fd < 0 || sockets[UDP].fd < 0 || sockets[INQUIRIES].fd < 0)
         fail("a socket");
     /* (another program may have this one) */
-    sockets[BROADCASTS].fd = bound(SOCK_DGRAM, INADDR_BROADCAST, identity.port);
+    sockets[BROADCASTS].fd = bound(SOCK_DGRAM, INADDR_BROADCAST, tcp_port);
     while (poll(sockets, SOCKETS, idle_ms()) >= 0 || errno == EINTR)
         turn();
     fail("poll");

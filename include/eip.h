@@ -54,7 +54,8 @@ enum eip_status {
     /* eip_new: there is no device. */
     EIP_BAD_LINE = 11,         /* *number is that of the first bad line, from 1 */
     EIP_BAD_PROFILE = 12,      /* no line is bad, and *number is that of the first fault of the profile: 1 incarnation,
-                                  2 address, 3 points, 4 the same instance twice, 5 length, 6 timing, 7 identity */
+                                  2 address, 3 points, 4 the same instance twice, 5 length, 6 timing, 7 identity,
+                                  8 description */
     /* eip_inquiry */
     EIP_NO_INQUIRY = 13,       /* the message is no inquiry: nothing is to be sent, and *size is 0 */
     EIP_LONG_NAME = 14,        /* the name has more than 32 bytes: nothing is written */
@@ -149,6 +150,8 @@ uint32_t eip_c_frame(eip_device *device, uint16_t stream, const uint8_t *bytes, 
                      size_t *size);
 uint32_t eip_c_cut(eip_device *device, uint16_t stream, uint8_t *out, size_t room, size_t *size);
 uint32_t eip_c_datagram(eip_device *device, uint32_t peer, const uint8_t *bytes, size_t len);
+uint32_t eip_c_inquire(eip_device *device, uint32_t peer, const uint8_t *bytes, size_t len, uint8_t *out, size_t room,
+                       size_t *size);
 uint32_t eip_c_inquiry(const eip_identity *identity, const uint8_t *name, size_t name_len, const uint8_t *message,
                        size_t len, uint8_t *out, size_t room, size_t *size);
 uint32_t eip_c_write(eip_device *device, uint32_t point, const uint8_t *bytes, size_t len, uint8_t *out, size_t room,
@@ -251,6 +254,16 @@ static inline uint32_t eip_cut(eip_device *device, uint16_t stream, uint8_t *out
     EIP_CALL(out, room, eip_c_cut(device, stream, out, room, size));
 }
 
+/* A peer sends an encapsulation message over no stream: a datagram at the encapsulation port, 44818, by which tools find
+ * devices, many of them broadcast. If the profile has a line describe and the message is ListServices, ListIdentity or
+ * ListInterfaces, the answer has one item EIP_ITEM_REPLY of at most EIP_INQUIRY_ROOM bytes, to be sent to the datagram's
+ * sender; else it has none. */
+static inline uint32_t eip_inquire(eip_device *device, uint32_t peer, const uint8_t *bytes, size_t len, uint8_t *out,
+                                   size_t room, size_t *size)
+{
+    EIP_CALL(bytes, len, eip_c_inquire(device, peer, eip_bytes(bytes), len, out, room, size));
+}
+
 /* A peer sends a class 1 datagram (UDP). Answers its delivery at *delivery. Takes no memory. The answer that is kept
  * stays. EIP_DONE or EIP_NULL. */
 static inline uint32_t eip_datagram(eip_device *device, uint32_t peer, const uint8_t *bytes, size_t len,
@@ -345,7 +358,8 @@ static inline uint32_t eip_stop(eip_device *device, uint32_t slot, uint8_t *out,
 
 /* INQUIRIES
  *
- * The field's tools find devices by messages over UDP at the encapsulation port, 44818, many of them broadcast. */
+ * A device whose profile has a line describe answers them itself: eip_inquire. For any other one this call answers them, of
+ * what its caller states. */
 
 /* No reply to an inquiry is longer. */
 #define EIP_INQUIRY_ROOM 96
@@ -381,7 +395,7 @@ enum eip_kind {
     EIP_ITEM_DELIVERED = 5,         /* a: enum eip_delivery */
     /* to send */
     EIP_ITEM_FRAME = 16,            /* data: bytes for stream a */
-    EIP_ITEM_REPLY = 17,            /* data: the reply to the request of node a */
+    EIP_ITEM_REPLY = 17,            /* data: the reply to the request or inquiry of node a */
     EIP_ITEM_DATAGRAM = 32,         /* data: a datagram to address a, which may be a multicast address */
     EIP_ITEM_CONSUMER = 33,         /* node a consumes the last datagram */
     /* notices of a connection: a serial number, b vendor number, c originator serial number */
@@ -393,6 +407,7 @@ enum eip_kind {
     EIP_ITEM_STREAM_CLOSED = 53,    /* close stream a after the frames */
     EIP_ITEM_SLOT = 54,             /* slot a is in state b */
     EIP_ITEM_NO_IDS = 55,           /* slot a needs an id, and none is left */
+    EIP_ITEM_RESET = 56,            /* a peer requests a reset of type a: 0 as a power cycle, 1 to the factory's settings too */
     /* a reply did not open the connection of slot a */
     EIP_ITEM_REFUSED_ENCAP = 64,    /* encapsulation status b */
     EIP_ITEM_UNREADABLE = 65,       /* no readable reply */

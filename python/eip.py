@@ -124,6 +124,8 @@ class NoticeKind(enum.IntEnum):
     """A slot has another state."""
     NO_IDS = 55
     """A slot needs an id, and none is left."""
+    RESET = 56
+    """A peer requests a reset."""
     REFUSED_ENCAP = 64
     """The reply has an encapsulation status."""
     UNREADABLE = 65
@@ -180,6 +182,7 @@ class ProfileFault(enum.IntEnum):
     LENGTH = 5
     TIMING = 6
     IDENTITY = 7
+    DESCRIPTION = 8
 
 
 # ERRORS
@@ -255,7 +258,7 @@ class Frame:
 
 @dataclass(frozen=True)
 class Reply:
-    """The reply to the request of a node."""
+    """The reply to the request or inquiry of a node."""
 
     node: str
     data: bytes
@@ -304,6 +307,15 @@ class SlotNotice:
 
 
 @dataclass(frozen=True)
+class ResetNotice:
+    """RESET: a peer requests a reset. The device does nothing: make a new one, with the next incarnation."""
+
+    kind: NoticeKind
+    type: int
+    """0: as a power cycle; 1: to the settings of the factory too."""
+
+
+@dataclass(frozen=True)
 class RefusalNotice:
     """A reply did not open the connection of a slot: REFUSED_ENCAP to MISMATCH."""
 
@@ -315,7 +327,7 @@ class RefusalNotice:
     """The extended status of REFUSED and MISMATCH, if the reply has one."""
 
 
-Notice = Union[ConnectionNotice, StreamNotice, SlotNotice, RefusalNotice]
+Notice = Union[ConnectionNotice, StreamNotice, SlotNotice, ResetNotice, RefusalNotice]
 
 
 @dataclass(frozen=True)
@@ -404,6 +416,8 @@ def _notice(kind: NoticeKind, a: int, b: int, c: int, d: int) -> Notice:
         return SlotNotice(kind, a, SlotState(b))
     if kind == NoticeKind.NO_IDS:
         return SlotNotice(kind, a)
+    if kind == NoticeKind.RESET:
+        return ResetNotice(kind, a)
     if kind == NoticeKind.REFUSED_ENCAP:
         return RefusalNotice(kind, a, b)
     if kind in (NoticeKind.REFUSED, NoticeKind.MISMATCH):
@@ -517,6 +531,7 @@ _FUNCTIONS: dict[str, list[Any]] = {
     "frame": [_AT, _U16, *_BYTES, *_OUT],
     "cut": [_AT, _U16, *_OUT],
     "datagram": [_AT, _U32, *_BYTES],
+    "inquire": [_AT, _U32, *_BYTES, *_OUT],
     "write": [_AT, _U32, *_BYTES, *_OUT],
     "read": [_AT, _U32, *_OUT],
     "tick": [_AT, _U32, *_OUT],
@@ -665,6 +680,13 @@ class Device:
             if not self._is_open:
                 raise DeviceClosed
             return _DELIVERIES[self._calls.eip_c_datagram(self._at, node, data, len(data))]
+
+    def inquire(self, peer: Address, data: bytes) -> Answer:
+        """A peer sends an encapsulation message over no stream: a datagram at the encapsulation port, 44818.
+
+        If the profile has a line describe, the reply to ListServices, ListIdentity or ListInterfaces is in `replies`.
+        """
+        return self._event(self._calls.eip_c_inquire, node_number(peer), data, len(data))
 
     # Points
 
@@ -851,7 +873,8 @@ _MOST = {
 def inquiry(identity: Identity, message: bytes) -> Optional[bytes]:
     """The reply to a datagram that came at the encapsulation port: ListServices, ListIdentity or ListInterfaces.
 
-    None if the datagram is none of these. It needs no device.
+    None if the datagram is none of these. It needs no device: a device whose profile has a line describe answers them itself,
+    by `Device.inquire`.
     """
     name = identity.name.encode()
     numbers = _Identity(address=node_number(identity.address), name=name)

@@ -18,7 +18,7 @@ import plant
 import trace_lines
 from eip import (
     Answer, AnswerKept, BadLine, BadProfile, Connection, ConnectionKind, ConnectionNotice, Datagram, Delivery, Device,
-    DeviceClosed, Frame, Identity, Mode, NoAnswer, NoticeKind, ProfileFault, RefusalNotice, Refused, Reply, Slot,
+    DeviceClosed, Frame, Identity, Mode, NoAnswer, NoticeKind, ProfileFault, RefusalNotice, Refused, Reply, ResetNotice, Slot,
     SlotNotice, SlotState, Status,
     StreamNotice, Verdict, inquiry, node_number, node_text, read_answer,
 )
@@ -226,6 +226,7 @@ class Devices(unittest.TestCase):
             (52, (1, 2, 3, 0), ConnectionNotice(NoticeKind.REPLACED, 1, 2, 3), "replaced 1 2 3"),
             (54, (4, 6, 0, 0), SlotNotice(NoticeKind.SLOT, 4, SlotState.CLOSING), "slot 4 6"),
             (55, (4, 0, 0, 0), SlotNotice(NoticeKind.NO_IDS, 4), "no-ids 4"),
+            (56, (1, 0, 0, 0), ResetNotice(NoticeKind.RESET, 1), "reset 1"),
             (64, (4, 100, 0, 0), RefusalNotice(NoticeKind.REFUSED_ENCAP, 4, 100), "refused 4 encap 100"),
             (65, (4, 0, 0, 0), RefusalNotice(NoticeKind.UNREADABLE, 4), "refused 4 unreadable"),
             (66, (4, 1, 1, 0x0106), RefusalNotice(NoticeKind.REFUSED, 4, 1, 0x0106), "refused 4 cip 01 0106"),
@@ -283,7 +284,7 @@ class Devices(unittest.TestCase):
 
 class Inquiries(unittest.TestCase):
     def test_a_device_is_found(self):
-        """ListIdentity, by the fields of rule 25.2."""
+        """ListIdentity, by the fields of rule 25.3."""
         identity = Identity("192.168.1.10", 0x01020304, "island", vendor=7, device_type=12, product=9, major=2, minor=3)
         asked = "6300" "0000" "00000000" "00000000" "6162636465666768" "00000000"
         item = "0100" "0c00" "2800" "0100" "0002af12c0a8010a" + "00" * 8 + "07000c000900" "0203" "0000" "04030201"
@@ -296,6 +297,19 @@ class Inquiries(unittest.TestCase):
         self.assertEqual(caught.exception.status, Status.LONG_NAME)
         with self.assertRaises(ValueError):
             inquiry(Identity("192.168.1.10", 1, "n", vendor=65_536), bytes.fromhex(asked))
+
+    def test_a_described_device_is_found_and_reset(self):
+        """A device whose profile has a line describe answers an inquiry itself, and reports a requested reset."""
+        describe = "describe 16909060 " + b"island".hex() + " 44818 100 15 000000000000 120\n"
+        asked = bytes.fromhex("6300" "0000" "00000000" "00000000" "6162636465666768" "00000000")
+        with Device(ADAPTER) as device:
+            self.assertEqual(device.inquire(OWNER, asked), Answer(Verdict.BAD_FRAME))
+        with Device(ADAPTER.replace("heartbeat", describe + "heartbeat")) as device:
+            (reply,) = device.inquire(OWNER, asked).replies
+            self.assertEqual((reply.node, reply.data[:2], reply.data[-8:]), (OWNER, asked[:2], b"\x06island\x03"))
+            answer = device.request(OWNER, bytes.fromhex("05022001240100"))
+            self.assertEqual(answer.notices, (ResetNotice(NoticeKind.RESET, 0),))
+            self.assertEqual(answer.replies, (Reply(OWNER, bytes.fromhex("85000000")),))
 
 
 class Plants(unittest.TestCase):

@@ -13,7 +13,7 @@ from typing import Callable, Optional, TypeVar, Union
 
 from eip import (
     Address, Answer, AnswerKept, ConnectionNotice, Delivery, Device, Notice, NoticeKind, RefusalNotice, Refused,
-    SlotNotice, Status, StreamNotice, Verdict, node_number, node_text,
+    ResetNotice, SlotNotice, Status, StreamNotice, Verdict, node_number, node_text,
 )  # fmt: skip
 
 Outcome = Union[Answer, Delivery, bytes, Refused]
@@ -36,7 +36,7 @@ CONNECTIONS = {
     NoticeKind.DROPPED: "dropped", NoticeKind.REPLACED: "replaced",
 }  # fmt: skip
 MISMATCHES = {NoticeKind.OTHER_TRIAD: "Triad", NoticeKind.OTHER_ID: "Id", NoticeKind.OTHER_API: "Api"}
-PROFILE_WORDS = {"adapter", "output", "input", "config", "heartbeat", "scanner", "slot"}
+PROFILE_WORDS = {"adapter", "output", "input", "config", "describe", "heartbeat", "scanner", "slot"}
 
 
 def hex_of(data: bytes) -> str:
@@ -72,6 +72,8 @@ def notice_words(notice: Notice) -> str:
         return f"stream-closed {notice.stream}"
     if isinstance(notice, SlotNotice):
         return f"no-ids {notice.slot}" if notice.state is None else f"slot {notice.slot} {notice.state.value}"
+    if isinstance(notice, ResetNotice):
+        return f"reset {notice.type}"
     return f"refused {notice.slot} {_refusal(notice)}"
 
 
@@ -100,6 +102,7 @@ CALLS: dict[str, Callable[[Device, list[str]], Union[Answer, Delivery, bytes]]] 
     "frame": lambda device, words: device.frame(int(words[0]), bytes_of(words[1])),
     "cut": lambda device, words: device.cut(int(words[0])),
     "datagram": lambda device, words: device.datagram(words[0], bytes_of(words[1])),
+    "inquiry": lambda device, words: device.inquire(words[0], bytes_of(words[1])),
     "write": lambda device, words: device.write(int(words[0]), bytes_of(words[1])),
     "read": lambda device, words: device.read(int(words[0])),
     "tick": lambda device, words: device.tick(int(words[0])),
@@ -176,6 +179,10 @@ class RecordedDevice(Device):
     def datagram(self, peer: Address, data: bytes) -> Delivery:
         event = f"datagram {_node(peer)} {hex_of(data)}"
         return self._recorded(event, lambda: super(RecordedDevice, self).datagram(peer, data))
+
+    def inquire(self, peer: Address, data: bytes) -> Answer:
+        event = f"inquiry {_node(peer)} {hex_of(data)}"
+        return self._recorded(event, lambda: super(RecordedDevice, self).inquire(peer, data))
 
     def write(self, point: int, data: bytes) -> Answer:
         return self._recorded(f"write {point} {hex_of(data)}", lambda: super(RecordedDevice, self).write(point, data))

@@ -9,10 +9,10 @@
 #include <stdlib.h>
 #include <string.h>
 
-enum { EVENTS = 8, ROOM = 1024, PEER = (int)0xC0A80114 };
+enum { EVENTS = 9, ROOM = 1024, PEER = (int)0xC0A80114 };
 
 static const char profile[] = "adapter 16 192.168.1.10 255.255.255.0 1 12 7 2 3\noutput 150 4 zero zero\ninput 100 4\n"
-                              "config 151 0\nheartbeat 152 153\n";
+                              "config 151 0\ndescribe 1 50756d70 44818 100 15 000000000000 120\nheartbeat 152 153\n";
 
 static const uint8_t open_request[] = {0x54, 0x02, 0x20, 0x06, 0x24, 0x01, 0x0a, 0x0e, 0x00, 0x00, 0x00, 0x00, 0x01,
                                        0x00, 0x00, 0x20, 0x01, 0x00, 0x34, 0x12, 0x78, 0x56, 0x34, 0x12, 0x02, 0x00,
@@ -20,6 +20,8 @@ static const uint8_t open_request[] = {0x54, 0x02, 0x20, 0x06, 0x24, 0x01, 0x0a,
                                        0x48, 0x01, 0x04, 0x20, 0x04, 0x24, 0x97, 0x2c, 0x96, 0x2c, 0x64};
 
 static const uint8_t register_session[28] = {0x65, 0, 4, [24] = 1};
+
+static const uint8_t list_identity[24] = {0x63};
 
 static const uint8_t four[4] = {1, 2, 3, 4};
 
@@ -60,6 +62,7 @@ static uint32_t perform(eip_device *device, int event, uint8_t *out, size_t *siz
     case 4: return eip_frame(device, 3, register_session, sizeof register_session, out, ROOM, size);
     case 5: return eip_cut(device, 3, out, ROOM, size);
     case 6: return eip_tick(device, 60000, out, ROOM, size);
+    case 7: return eip_inquire(device, (uint32_t)PEER, list_identity, sizeof list_identity, out, ROOM, size);
     default: return eip_request(device, (uint32_t)PEER, four, sizeof four, out, ROOM, size);
     }
 }

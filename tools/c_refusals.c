@@ -46,7 +46,8 @@ static void check_numbers(void)
     static const int sent[] = {EIP_ITEM_FRAME, EIP_ITEM_REPLY};
     static const int datagrams[] = {EIP_ITEM_DATAGRAM, EIP_ITEM_CONSUMER};
     static const int notices[] = {EIP_ITEM_OPENED,   EIP_ITEM_CLOSED,        EIP_ITEM_EXPIRED, EIP_ITEM_DROPPED,
-                                  EIP_ITEM_REPLACED, EIP_ITEM_STREAM_CLOSED, EIP_ITEM_SLOT,    EIP_ITEM_NO_IDS};
+                                  EIP_ITEM_REPLACED, EIP_ITEM_STREAM_CLOSED, EIP_ITEM_SLOT,    EIP_ITEM_NO_IDS,
+                                  EIP_ITEM_RESET};
     static const int reasons[] = {EIP_ITEM_REFUSED_ENCAP, EIP_ITEM_UNREADABLE, EIP_ITEM_REFUSED, EIP_ITEM_OTHER_TRIAD,
                                   EIP_ITEM_OTHER_ID,      EIP_ITEM_OTHER_API,  EIP_ITEM_MISMATCH};
     check(counts_from(0, events, sizeof events / sizeof *events), "the numbers of the statuses of events");
@@ -115,6 +116,7 @@ static void check_null(eip_device *device)
         check(eip_new(&other, NULL, len, &number) == EIP_NULL && number == 7 && !other.at, "a profile NULL");
         check(eip_request(device, 1, NULL, len, out, sizeof out, &size) == EIP_NULL, "a request NULL");
         check(eip_frame(device, 0, NULL, len, out, sizeof out, &size) == EIP_NULL, "a frame NULL");
+        check(eip_inquire(device, 1, NULL, len, out, sizeof out, &size) == EIP_NULL, "an inquiry NULL of a device");
         check(eip_datagram(device, 1, NULL, len, &delivery) == EIP_NULL && delivery == EIP_IDLE, "a datagram NULL");
         check(eip_write(device, 100, NULL, len, out, sizeof out, &size) == EIP_NULL, "a value NULL");
         check(eip_tick(device, 1, NULL, len, &size) == EIP_NULL, "room NULL of any length");

@@ -27,6 +27,8 @@ def expect(what, got, wanted):
 class Session:
     """A TCP connection with a registered session (Volume 2, chapter 2)."""
 
+    addresses = []  # socket address items behind each request
+
     def __init__(self, args):
         self.tcp = socket.create_connection((args.target, args.tcp), args.patience, (args.own, 0))
         self.handle, self.context = 0, 0
@@ -66,7 +68,7 @@ class Session:
 
     def request(self, request):
         """A request to the message router, and its reply with the other items of the packet."""
-        packet = struct.pack("<IHHHHHH", 0, 5, 2, 0, 0, 0xB2, len(request)) + request
+        packet = struct.pack("<IHHHHHH", 0, 5, 2 + len(self.addresses), 0, 0, 0xB2, len(request)) + request + b"".join(self.addresses)
         items = items_of(self.call(0x6F, packet)[6:])
         expect("the types of the first two items", [kind for kind, _ in items[:2]], [0, 0xB2])
         reply = items[1][1]

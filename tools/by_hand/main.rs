@@ -1,9 +1,11 @@
 //! An adapter and a scanner written by hand from docs/PROFILE.md, and the work of `bench steady` at them:
 //! `by_hand steady|sum WORK SIZE COUNT`. `sum` prints a sum over all answers, which an engine of the same work has too.
+//! `by_hand lines FILE` reads the lines of events of a trace, and prints how many there are.
 
 mod adapter;
 mod adapter_work;
 mod answer;
+mod lines;
 mod requests;
 mod scanner;
 mod scanner_work;
@@ -46,8 +48,20 @@ impl Taker {
     }
 }
 
+fn read_lines(file: &str) {
+    let text = std::fs::read(file).expect("a file");
+    let events = lines::events(&text).expect("lines of events");
+    println!("{} {}", events.len(), lines::sum(&events[events.len() - 1..]));
+    // The events are not given back, so that reading alone is counted.
+    std::process::exit(0);
+}
+
 fn main() {
     let words: Vec<String> = std::env::args().skip(1).collect();
+    if let [mode, file] = &words[..] {
+        assert!(mode == "lines", "by_hand lines FILE");
+        return read_lines(file);
+    }
     let [mode, work, size, count] = &words[..] else {
         panic!("by_hand steady|sum WORK SIZE COUNT");
     };

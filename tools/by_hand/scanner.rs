@@ -4,7 +4,7 @@ use crate::answer::{
     is_newer, read_datagram, u16_at, u32_at, Answer, Delivery, Due, Dues, Nodes, Notice, Places, Producer, Sent,
 };
 
-/// What a slot is to open: rules 14.7 and 14.8, point to point.
+/// What a slot is to open: rules 14.8 and 14.9, point to point.
 #[derive(Clone)]
 pub struct SlotProfile {
     pub target: u32,

@@ -210,7 +210,7 @@ def run_identity(bench):
 
 def run_command(bench, address, serial):
     """`eip_station identity` prints who answers, and says so if nobody does."""
-    line = f"{address} vendor 1 type 12 product 7 revision 2.3 status 0000 serial {serial} state 3 name adapter\n"
+    line = f"{address} vendor 1 type 12 product 7 revision 2.3 status 0030 serial {serial} state 3 name adapter\n"
     # (on loopback the system lends no broadcast without a socket of that device)
     for host in [address, bench.network.broadcast] if bench.network.own else [address]:
         found = run(*bench.network.at("peer"), bench.program, "identity", host)
@@ -221,20 +221,19 @@ def run_command(bench, address, serial):
 
 
 def run_everywhere(bench, serial):
-    """An adapter at 0.0.0.0 says an address of its host, and not 0.0.0.0."""
+    """An adapter at 0.0.0.0 says the address of its profile, and not 0.0.0.0, wherever it is reached."""
     address = bench.address["adapter"]
     adapter = bench.adapter("--address", "0.0.0.0", log="everywhere")
-    # (over UDP it says the address by which the host reaches the asker: on loopback that is 127.0.0.1)
     there, here = identity_over_tcp(bench, address), identity(bench)
     need(there[:2] == (address, serial), f"at 0.0.0.0 ListIdentity over TCP: {there}")
-    need(here is not None and here[:2] == (address if bench.network.own else "127.0.0.1", serial), f"at 0.0.0.0 ListIdentity over UDP: {here}")
+    need(here is not None and here[:2] == (address, serial), f"at 0.0.0.0 ListIdentity over UDP: {here}")
     if bench.network.own:
         for to in bench.network.broadcast, "255.255.255.255":
             here = identity(bench, to, broadcast=True)
             need(here is not None and here[0] == address, f"at 0.0.0.0 a broadcast to {to} is answered: {here}")
     else:
-        need(identity_over_tcp(bench, bench.network.extra[5])[0] == bench.network.extra[5], "another address of the host is said too")
-    sure(adapter.end() == 0, "at 0.0.0.0 ListIdentity says an address of the host, and the serial number")
+        need(identity_over_tcp(bench, bench.network.extra[5])[0] == address, "the same at another address of the host")
+    sure(adapter.end() == 0, "at 0.0.0.0 ListIdentity says the profile's address, and the serial number")
     bench.clear()
 
 

@@ -1,5 +1,6 @@
 //! An adapter over any table of connections.
 
+mod objects;
 mod streams;
 
 ghost use Rattle.std.specs.Prelude.{◌≡◌, ◌≢◌, ◌+◌, ◌^◌, [], Ok, Err, Some, None, Result, IfOk, IfErr, ◌<◌, ◌≤◌, IsTrue, false, true, filter, find, length, List, ℕ};
@@ -11,7 +12,7 @@ ghost use Rattle.cip_router.specs.Replies.{view_reply};
 ghost use Rattle.adapter_table.specs.Checks.{Gives, config_bytes, admission, view_admission, drawn_ids};
 ghost use Rattle.adapter_table.specs.Opening.{opened_row, opened_production, opened_state, opened_t_o_id, configured};
 ghost use Rattle.cip_router.specs.Requests.{router_request_reading};
-ghost use Rattle.adapter_table.specs.Requests.{requested, served, admitted_open, served_open, router_refusal, known_close, served_close, served_assembly, is_value_attribute};
+ghost use Rattle.adapter_table.specs.Requests.{requested, served, admitted_open, served_open, router_refusal, known_close, served_close};
 ghost use Rattle.adapter_replies.specs.Routes.{peer_of, routed, routed_answer, IsWritable};
 ghost use Rattle.adapter_table.specs.Closing.{closed_values};
 ghost use Rattle.cip_datagram.specs.Datagram.{DatagramFields, view_datagram};
@@ -28,6 +29,7 @@ ghost use Rattle.cip_tables.specs.Step.{is_datagram};
 ghost use Rattle.assembly_set.specs.Assemblies.{config_len, is_output, write_fault};
 ghost use Rattle.std.specs.List.{list_any};
 
+use adapter_objects::ObjectRequest;
 use adapter_replies::{
     Route, address_of, closed_notices, expiry_notices, notices_answer, opened_address,
     opened_reply, opening_notices, reply_answer, unserved_answer,
@@ -37,7 +39,7 @@ use adapter_table::{Judgement, drives, report_of};
 use app_rules::{View, admit};
 use assembly_set::AssemblySet;
 use cip_datagram::{Datagram, read_datagram};
-use cip_fwdopen::service::{FORWARD_CLOSE, GET_ATTRIBUTE_SINGLE};
+use cip_fwdopen::service::FORWARD_CLOSE;
 use cip_fwdopen::{CloseRequest, OpenRequest, OpenService};
 use cip_productions::{first_deadline, first_production};
 use cip_tables::{
@@ -52,9 +54,6 @@ use connection_list::{ConnectionTable, TickPlan};
 use open_streams::copied_streams;
 use std::alloc::Global;
 use std::marker::Model;
-
-/// The attribute of an assembly that is its value.
-const VALUE: u32 = 3;
 
 /// An adapter over a table of connections, which contracts see as its table.
 ///
@@ -276,34 +275,6 @@ impl<T: ConnectionTable> Adapter<T> {
         }
     }
 
-    /// A service of an assembly instance.
-    #[tactic(auto, unfolding(adapter_table::specs::Requests::served_assembly))]
-    fn assembly(
-        &mut self,
-        route: Route,
-        service: u8,
-        instance: u32,
-        attribute: Option<u32>,
-        body: &[u8],
-    ) -> Outcome
-        ensures { Follows (Ok (routed self.old route
-            (Some (served_assembly self.old service instance attribute body.now)))) self.old result self.new }
-    {
-        let Ok(value) = self.assemblies.read(instance) else {
-            return self.refuse(route, service, Status::PathDestination);
-        };
-        if service != GET_ATTRIBUTE_SINGLE {
-            return self.refuse(route, service, Status::Service);
-        }
-        if !is_value_attribute(attribute) {
-            return self.refuse(route, service, Status::Attribute);
-        }
-        if !body.is_empty() {
-            return self.refuse(route, service, Status::TooMuchData);
-        }
-        Ok(self.reply(route, Reply::Got(value))?)
-    }
-
     /// The bytes of a request on a route.
     fn serve(&mut self, route: Route, bytes: &[u8]) -> Outcome
         ensures { Follows (Ok (routed self.old route
@@ -313,8 +284,13 @@ impl<T: ConnectionTable> Adapter<T> {
             RouterRequest::Nothing => Ok(unserved_answer(self.alloc, route)?),
             RouterRequest::Refused(service, why) => self.refuse(route, service, why),
             RouterRequest::Closing(request) => self.forward_close(route, &request),
-            RouterRequest::Assembly(service, instance, attribute, body) => {
-                self.assembly(route, service, instance, attribute, body)
+            RouterRequest::Object(service, class, instance, attribute, body) => {
+                let request = ObjectRequest {
+                    service,
+                    attribute,
+                    body,
+                };
+                self.object(route, class, instance, request)
             }
             RouterRequest::Opening(service, request) => {
                 self.forward_open(route, service, &request)
@@ -576,15 +552,6 @@ fn sessions(streams: &[Stream]) -> usize
         .count()
 }
 
-fn is_value_attribute(attribute: Option<u32>) -> bool
-    ensures { result ≡ is_value_attribute attribute }
-{
-    match attribute {
-        Some(attribute) => attribute == VALUE,
-        None => false,
-    }
-}
-
 /// Stores a data segment at the configuration, if there is one to store. Takes no memory.
 #[tactic(auto, using(crate::proofs::Admitted::configured_none))]
 fn configure(assemblies: &mut AssemblySet, segment: Option<&[u8]>)
@@ -629,6 +596,7 @@ impl<T: ConnectionTable> Adapter<T> {
                 let delivery = self.receive(*peer, bytes.as_slice());
                 Ok(Answer::plain(self.alloc, Verdict::Delivered(delivery)))
             }
+            Event::Inquiry { peer, bytes } => self.inquire(*peer, bytes.as_slice()),
             Event::Write { point, bytes } => self.write(*point, bytes.as_slice()),
             Event::Read { point } => self.read(*point),
             Event::Tick { ms } => self.tick(*ms),

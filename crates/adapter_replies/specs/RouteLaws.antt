@@ -2,11 +2,13 @@
 use Rattle.std.proofs.Common.{◌≡◌, ℕ, Option, Some, None, refl}
 use Rattle.cip_types.specs.declared.names.Node.{Node}
 use Rattle.adapter_table.specs.declared.table.AdapterTable.{AdapterTable}
-use Rattle.adapter_table.specs.Requests.{Served, answered}
+use Rattle.adapter_table.specs.Objects.{ObjectAnswer, said, denied, resetting}
+use Rattle.adapter_table.specs.Requests.{Served, answered, object_served}
 use Rattle.adapter_table.specs.Encapsulation.{framed, request_replied}
 use Rattle.adapter_replies.specs.declared.routes.RequestHeader.{RequestHeader}
+use Rattle.adapter_replies.specs.declared.routes.Route.{Route}
 use Rattle.adapter_replies.specs.declared.routes.Route.TheVariants as route
-use Rattle.adapter_replies.specs.Routes.{view_request_header, routed}
+use Rattle.adapter_replies.specs.Routes.{view_request_header, routed, object_routed}
 
 -- to a peer
 pub routed_to_peer : (t : AdapterTable) (peer : Node) (s : Option Served) → routed t (route.Peer peer) s ≡ answered t peer s
@@ -17,3 +19,9 @@ routed_to_peer t peer (Some s) = refl
 pub routed_over_stream : (t : AdapterTable) (number : ℕ) (peer : Node) (request_header : RequestHeader) (s : Option Served) → routed t (route.Stream number peer request_header) s ≡ framed number (view_request_header request_header) (request_replied t s)
 routed_over_stream t number peer request_header None = refl
 routed_over_stream t number peer request_header (Some s) = refl
+
+-- a service of an object changes nothing
+pub routed_object : (t : AdapterTable) (way : Route) (service : ℕ) (answer : ObjectAnswer) → routed t way (Some (object_served t service answer)) ≡ (object_routed way service answer, t)
+routed_object t way service (said by value) = refl
+routed_object t way service (denied why) = refl
+routed_object t way service (resetting kind) = refl

@@ -6,10 +6,15 @@ use Rattle.cip_router.specs.declared.command.EncapStatus.TheVariants as status
 use Rattle.cip_events.specs.declared.event.Answer.{Answer}
 use Rattle.cip_events.specs.declared.event.Frame.{Frame}
 use Rattle.cip_events.specs.declared.event.Notice.{Notice}
+use Rattle.cip_events.specs.declared.event.Notice.TheVariants as notice
 use Rattle.cip_events.specs.declared.event.Recipient.TheVariants as recipient
 use Rattle.cip_events.specs.declared.event.Verdict.TheVariants.{Done, BadFrame}
 use Rattle.adapter_table.specs.declared.table.AdapterTable.{AdapterTable}
-use Rattle.cip_router.specs.Replies.{ReplyFields, GetsFew, HasStatus, view_reply}
+use Rattle.cip_router.specs.declared.object_service.ObjectService.TheVariants.{Reset}
+use Rattle.cip_router.specs.Refusals.{status_fault}
+use Rattle.cip_router.specs.Replies as replies
+use Rattle.cip_router.specs.Replies.{ReplyFields, object_reply, GetsFew, HasStatus, view_reply}
+use Rattle.adapter_table.specs.Objects.{ObjectAnswer, said, denied, resetting}
 use Rattle.adapter_table.specs.Requests.{Next, Served, reply_frame}
 use Rattle.cip_events.specs.Answers.{plain_answer}
 use Rattle.cip_router.specs.Frames as frames
@@ -101,3 +106,13 @@ routed_answer way answer address notices = record {
 abbrev pub routed : AdapterTable → Route → Option Served → Next
 routed t way None = (unserved_answer way, t)
 routed t way (Some s) = (routed_answer way s.reply s.address s.notices, s.table)
+
+-- the answer to a reset: success, and its notice
+abbrev pub reset_routed : Route → (kind : ℕ) → Answer
+reset_routed way kind = routed_answer way (object_reply Reset []) None (notice.Reset kind ∷ [])
+
+-- the answer with the reply to a service of an object: a reset is reported
+abbrev pub object_routed : Route → (service : ℕ) → ObjectAnswer → Answer
+object_routed way service (said by value) = routed_answer way (object_reply by value) None []
+object_routed way service (denied why) = routed_answer way (replies.refused service (status_fault why) None) None []
+object_routed way service (resetting kind) = reset_routed way kind

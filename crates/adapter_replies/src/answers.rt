@@ -34,7 +34,7 @@ pub fn notices_answer(
 }
 
 /// An answer with one frame.
-fn answer_of(
+pub(crate) fn answer_of(
     alloc: Global,
     to: Recipient,
     bytes: Vec<u8>,

@@ -6,6 +6,7 @@
 mod addresses;
 mod answers;
 mod frames;
+mod objects;
 mod replies;
 mod routes;
 
@@ -15,5 +16,6 @@ pub use answers::{
     opened_reply, opening_notices, reply_answer, unserved_answer,
 };
 pub use frames::{FrameView, is_protocol, read_frame};
+pub use objects::{inquiry_answer, object_answer};
 pub use replies::{FrameReply, write_frame_reply};
 pub use routes::{RequestHeader, Route};

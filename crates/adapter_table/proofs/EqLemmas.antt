@@ -15,6 +15,7 @@ use Rattle.adapter_table.specs.declared.row.Mode.{Mode}
 use Rattle.adapter_table.specs.declared.profile.Action.{Action}
 use Rattle.adapter_table.specs.declared.profile.OutputPoint.{OutputPoint}
 use Rattle.adapter_table.specs.declared.profile.InputPoint.{InputPoint}
+use Rattle.adapter_table.specs.declared.profile.Description.{Description}
 use Rattle.adapter_table.specs.declared.profile.Profile.{Profile}
 use Rattle.adapter_table.specs.declared.table.PointValue.{PointValue}
 use Rattle.adapter_table.specs.declared.table.Stream.{Stream}
@@ -23,6 +24,7 @@ use Rattle.cip_types.specs.contracts.names.IdentityPartialEq.TheImpl as identity
 use Rattle.adapter_table.specs.contracts.profile.ActionPartialEq.TheImpl as action
 use Rattle.adapter_table.specs.contracts.profile.OutputPointPartialEq.TheImpl as output
 use Rattle.adapter_table.specs.contracts.profile.InputPointPartialEq.TheImpl as input
+use Rattle.adapter_table.specs.contracts.profile.DescriptionPartialEq.TheImpl as description
 use Rattle.adapter_table.specs.contracts.profile.ProfilePartialEq.TheImpl as profile
 use Rattle.adapter_table.specs.contracts.row.State.{the_row as state_row}
 use Rattle.adapter_table.specs.contracts.row.StatePartialEq.TheImpl as state
@@ -87,6 +89,20 @@ connection_decides P states d decides a b =
 value_decides : (a b : PointValue) → Decides ((value.ghosts).eq a b) (a ≡ b)
 value_decides a b = search rules
 
+description_decides : (a b : Description) → Decides ((description.ghosts).eq a b) (a ≡ b)
+description_decides a b =
+    Decides-like ((description.ghosts).eq a b) (λ p. search rules) (λ e. search rules)
+    (Decides-and _ _ (Decides-eqb a.serial b.serial)
+    (Decides-and _ _ (pointwise_decides Decides-eqb a.name b.name)
+    (Decides-and _ _ (Decides-eqb a.port b.port)
+    (Decides-and _ _ (Decides-eqb a.speed b.speed)
+    (Decides-and _ _ (Decides-eqb a.flags b.flags)
+    (Decides-and _ _ (pointwise_decides Decides-eqb a.mac b.mac)
+    (Decides-eqb a.inactivity b.inactivity)))))))
+
+described_decides : (a b : Option Description) → Decides (option_eq (description.ghosts).eq a b) (a ≡ b)
+described_decides a b = search (rules, description_decides)
+
 profile_decides : (a b : Profile) → Decides ((profile.ghosts).eq a b) (a ≡ b)
 profile_decides a b =
     Decides-like ((profile.ghosts).eq a b) (λ p. search rules) (λ e. search rules)
@@ -98,7 +114,8 @@ profile_decides a b =
     (Decides-and _ _ (pointwise_decides input_decides a.inputs b.inputs)
     (Decides-and _ _ (config_decides a.config b.config)
     (Decides-and _ _ (Decides-eqb a.input_only b.input_only)
-    (Decides-eqb a.listen_only b.listen_only)))))))))
+    (Decides-and _ _ (Decides-eqb a.listen_only b.listen_only)
+    (described_decides a.description b.description))))))))))
 
 stream_decides : (a b : Stream) → Decides ((stream.ghosts).eq a b) (a ≡ b)
 stream_decides a b = search rules

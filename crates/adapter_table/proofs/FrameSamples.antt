@@ -4,7 +4,7 @@ use Rattle.cip_types.specs.declared.names.Node.{Node}
 use Rattle.cip_encap.specs.Reading as messages
 use Rattle.cip_encap.specs.PacketReading as packets
 use Rattle.cip_epath.specs.Reading as paths
-use Rattle.cip_fwdopen.specs.Get as values
+use Rattle.cip_router.specs.Replies as values
 use Rattle.cip_fwdopen.specs.Open as opens
 use Rattle.cip_fwdopen.specs.Reply as replies
 use Rattle.cip_fwdopen.specs.Request as requests
@@ -24,7 +24,9 @@ use Rattle.adapter_table.specs.declared.table.AdapterTable.{AdapterTable}
 use Rattle.cip_router.specs.Requests.{router_request_reading}
 use Rattle.adapter_table.specs.Checks.{verdict}
 use Rattle.adapter_table.specs.Opening.{opened_row, opened_table}
-use Rattle.adapter_table.specs.Requests.{Next, served_open, admitted_open, served_assembly}
+use Rattle.adapter_table.specs.Inquiries.{inquiry_reply}
+use Rattle.adapter_table.specs.Objects.{instance_at, object_answer}
+use Rattle.adapter_table.specs.Requests.{Next, served_open, admitted_open, served_object}
 use Rattle.cip_events.specs.Answers.{plain_answer}
 use Rattle.adapter_table.specs.Streams.{with_stream, without_stream, registered_table, stream_opened, stream_cut}
 use Rattle.cip_router.specs.Frames.{frame_reading}
@@ -43,6 +45,7 @@ profile = record {
   config = Some (record { instance = 151; len = 0 });
   input_only = 152;
   listen_only = 153;
+  description = None;
 }
 
 -- its peer, at 192.168.1.20
@@ -107,14 +110,14 @@ abbrev registers : List ℕ
 registers = 0x65 ∷ 0x00 ∷ 0x04 ∷ 0x00 ∷ 0x01 ∷ 0x00 ∷ 0x00 ∷ 0x00 ∷ 0x00 ∷ 0x00 ∷ 0x00 ∷ 0x00 ∷ 0x01 ∷ 0x02 ∷ 0x03 ∷ 0x04 ∷ 0x05 ∷ 0x06 ∷ 0x07 ∷ 0x08 ∷ 0x00 ∷ 0x00 ∷ 0x00 ∷ 0x00 ∷ 0x01 ∷ 0x00 ∷ 0x00 ∷ 0x00 ∷ []
 
 a_session_is_registered : after opened register ≡ Ok (says registers [], registered)
-unfolding frame frame_reading handled messages.message_reading registered_table
+unfolding frame inquiry_reply frame_reading handled messages.message_reading registered_table
 a_session_is_registered = refl
 
 abbrev register_again : List ℕ
 register_again = 0x65 ∷ 0x00 ∷ 0x00 ∷ 0x00 ∷ 0x00 ∷ 0x00 ∷ 0x00 ∷ 0x00 ∷ 0x01 ∷ 0x00 ∷ 0x00 ∷ 0x00 ∷ 0x01 ∷ 0x02 ∷ 0x03 ∷ 0x04 ∷ 0x05 ∷ 0x06 ∷ 0x07 ∷ 0x08 ∷ 0x00 ∷ 0x00 ∷ 0x00 ∷ 0x00 ∷ []
 
 a_second_one_is_not : after registered register ≡ replies_only registered register_again
-unfolding frame frame_reading handled messages.message_reading
+unfolding frame inquiry_reply frame_reading handled messages.message_reading
 a_second_one_is_not = refl
 
 abbrev register_version : List ℕ
@@ -124,11 +127,11 @@ abbrev other_version : List ℕ
 other_version = 0x65 ∷ 0x00 ∷ 0x04 ∷ 0x00 ∷ 0x00 ∷ 0x00 ∷ 0x00 ∷ 0x00 ∷ 0x69 ∷ 0x00 ∷ 0x00 ∷ 0x00 ∷ 0x01 ∷ 0x02 ∷ 0x03 ∷ 0x04 ∷ 0x05 ∷ 0x06 ∷ 0x07 ∷ 0x08 ∷ 0x00 ∷ 0x00 ∷ 0x00 ∷ 0x00 ∷ 0x01 ∷ 0x00 ∷ 0x00 ∷ 0x00 ∷ []
 
 another_version_is_reported : after opened register_version ≡ replies_only opened other_version
-unfolding frame frame_reading handled messages.message_reading
+unfolding frame inquiry_reply frame_reading handled messages.message_reading
 another_version_is_reported = refl
 
 and_on_a_registered_stream : after registered register_version ≡ replies_only registered other_version
-unfolding frame frame_reading handled messages.message_reading
+unfolding frame inquiry_reply frame_reading handled messages.message_reading
 and_on_a_registered_stream = refl
 
 abbrev register_short : List ℕ
@@ -138,7 +141,7 @@ abbrev bad_length : List ℕ
 bad_length = 0x65 ∷ 0x00 ∷ 0x00 ∷ 0x00 ∷ 0x00 ∷ 0x00 ∷ 0x00 ∷ 0x00 ∷ 0x65 ∷ 0x00 ∷ 0x00 ∷ 0x00 ∷ 0x01 ∷ 0x02 ∷ 0x03 ∷ 0x04 ∷ 0x05 ∷ 0x06 ∷ 0x07 ∷ 0x08 ∷ 0x00 ∷ 0x00 ∷ 0x00 ∷ 0x00 ∷ []
 
 three_bytes_are_of_no_version : after opened register_short ≡ replies_only opened bad_length
-unfolding frame frame_reading handled messages.message_reading
+unfolding frame inquiry_reply frame_reading handled messages.message_reading
 three_bytes_are_of_no_version = refl
 
 abbrev unregister : List ℕ
@@ -148,15 +151,15 @@ abbrev unregister_other : List ℕ
 unregister_other = 0x66 ∷ 0x00 ∷ 0x00 ∷ 0x00 ∷ 0x02 ∷ 0x00 ∷ 0x00 ∷ 0x00 ∷ 0x00 ∷ 0x00 ∷ 0x00 ∷ 0x00 ∷ 0x01 ∷ 0x02 ∷ 0x03 ∷ 0x04 ∷ 0x05 ∷ 0x06 ∷ 0x07 ∷ 0x08 ∷ 0x00 ∷ 0x00 ∷ 0x00 ∷ 0x00 ∷ []
 
 a_session_and_its_stream_end : after registered unregister ≡ Ok (record (plain_answer Done) { notices = StreamClosed 0 ∷ [] }, adapter_table profile)
-unfolding frame frame_reading handled messages.message_reading without_stream
+unfolding frame inquiry_reply frame_reading handled messages.message_reading without_stream
 a_session_and_its_stream_end = refl
 
 not_by_another_session : after registered unregister_other ≡ Ok (plain_answer Done, registered)
-unfolding frame frame_reading handled messages.message_reading
+unfolding frame inquiry_reply frame_reading handled messages.message_reading
 not_by_another_session = refl
 
 nor_where_none_is : after opened unregister ≡ Ok (plain_answer Done, opened)
-unfolding frame frame_reading handled messages.message_reading
+unfolding frame inquiry_reply frame_reading handled messages.message_reading
 nor_where_none_is = refl
 
 -- ---- services, nothing, and what is not served
@@ -168,14 +171,14 @@ abbrev services : List ℕ
 services = 0x04 ∷ 0x00 ∷ 0x1A ∷ 0x00 ∷ 0x00 ∷ 0x00 ∷ 0x00 ∷ 0x00 ∷ 0x00 ∷ 0x00 ∷ 0x00 ∷ 0x00 ∷ 0x00 ∷ 0x00 ∷ 0x00 ∷ 0x00 ∷ 0x00 ∷ 0x00 ∷ 0x00 ∷ 0x00 ∷ 0x00 ∷ 0x00 ∷ 0x00 ∷ 0x00 ∷ 0x01 ∷ 0x00 ∷ 0x00 ∷ 0x01 ∷ 0x14 ∷ 0x00 ∷ 0x01 ∷ 0x00 ∷ 0x20 ∷ 0x01 ∷ 0x43 ∷ 0x6F ∷ 0x6D ∷ 0x6D ∷ 0x75 ∷ 0x6E ∷ 0x69 ∷ 0x63 ∷ 0x61 ∷ 0x74 ∷ 0x69 ∷ 0x6F ∷ 0x6E ∷ 0x73 ∷ 0x00 ∷ 0x00 ∷ []
 
 services_are_listed : after opened list_services ≡ replies_only opened services
-unfolding frame frame_reading handled messages.message_reading
+unfolding frame inquiry_reply frame_reading handled messages.message_reading
 services_are_listed = refl
 
 abbrev nop : List ℕ
 nop = 0x00 ∷ 0x00 ∷ 0x02 ∷ 0x00 ∷ 0x00 ∷ 0x00 ∷ 0x00 ∷ 0x00 ∷ 0x00 ∷ 0x00 ∷ 0x00 ∷ 0x00 ∷ 0x01 ∷ 0x02 ∷ 0x03 ∷ 0x04 ∷ 0x05 ∷ 0x06 ∷ 0x07 ∷ 0x08 ∷ 0x00 ∷ 0x00 ∷ 0x00 ∷ 0x00 ∷ 0x01 ∷ 0x02 ∷ []
 
 nothing_is_done : after opened nop ≡ Ok (plain_answer Done, opened)
-unfolding frame frame_reading handled messages.message_reading
+unfolding frame inquiry_reply frame_reading handled messages.message_reading
 nothing_is_done = refl
 
 abbrev list_identity : List ℕ
@@ -185,44 +188,44 @@ abbrev not_served : List ℕ
 not_served = 0x63 ∷ 0x00 ∷ 0x00 ∷ 0x00 ∷ 0x07 ∷ 0x00 ∷ 0x00 ∷ 0x00 ∷ 0x01 ∷ 0x00 ∷ 0x00 ∷ 0x00 ∷ 0x01 ∷ 0x02 ∷ 0x03 ∷ 0x04 ∷ 0x05 ∷ 0x06 ∷ 0x07 ∷ 0x08 ∷ 0x00 ∷ 0x00 ∷ 0x00 ∷ 0x00 ∷ []
 
 another_command_is_refused : after opened list_identity ≡ replies_only opened not_served
-unfolding frame frame_reading handled messages.message_reading
+unfolding frame inquiry_reply frame_reading handled messages.message_reading
 another_command_is_refused = refl
 
 -- ---- length fields
 
 bytes_0_are_a_bad_frame : after opened (take 0 register) ≡ Ok (plain_answer BadFrame, opened)
-unfolding frame frame_reading handled messages.message_reading
+unfolding frame inquiry_reply frame_reading handled messages.message_reading
 bytes_0_are_a_bad_frame = refl
 
 bytes_1_are_a_bad_frame : after opened (take 1 register) ≡ Ok (plain_answer BadFrame, opened)
-unfolding frame frame_reading handled messages.message_reading
+unfolding frame inquiry_reply frame_reading handled messages.message_reading
 bytes_1_are_a_bad_frame = refl
 
 bytes_23_are_a_bad_frame : after opened (take 23 register) ≡ Ok (plain_answer BadFrame, opened)
-unfolding frame frame_reading handled messages.message_reading
+unfolding frame inquiry_reply frame_reading handled messages.message_reading
 bytes_23_are_a_bad_frame = refl
 
 bytes_24_are_of_a_bad_length : after opened (take 24 register) ≡ replies_only opened bad_length
-unfolding frame frame_reading handled messages.message_reading
+unfolding frame inquiry_reply frame_reading handled messages.message_reading
 bytes_24_are_of_a_bad_length = refl
 
 bytes_25_are_of_a_bad_length : after opened (take 25 register) ≡ replies_only opened bad_length
-unfolding frame frame_reading handled messages.message_reading
+unfolding frame inquiry_reply frame_reading handled messages.message_reading
 bytes_25_are_of_a_bad_length = refl
 
 bytes_26_are_of_a_bad_length : after opened (take 26 register) ≡ replies_only opened bad_length
-unfolding frame frame_reading handled messages.message_reading
+unfolding frame inquiry_reply frame_reading handled messages.message_reading
 bytes_26_are_of_a_bad_length = refl
 
 bytes_27_are_of_a_bad_length : after opened (take 27 register) ≡ replies_only opened bad_length
-unfolding frame frame_reading handled messages.message_reading
+unfolding frame inquiry_reply frame_reading handled messages.message_reading
 bytes_27_are_of_a_bad_length = refl
 
 abbrev register_long : List ℕ
 register_long = 0x65 ∷ 0x00 ∷ 0x04 ∷ 0x00 ∷ 0x00 ∷ 0x00 ∷ 0x00 ∷ 0x00 ∷ 0x00 ∷ 0x00 ∷ 0x00 ∷ 0x00 ∷ 0x01 ∷ 0x02 ∷ 0x03 ∷ 0x04 ∷ 0x05 ∷ 0x06 ∷ 0x07 ∷ 0x08 ∷ 0x00 ∷ 0x00 ∷ 0x00 ∷ 0x00 ∷ 0x01 ∷ 0x00 ∷ 0x00 ∷ 0x00 ∷ 0x00 ∷ []
 
 a_byte_more_is_of_a_bad_length : after opened register_long ≡ replies_only opened bad_length
-unfolding frame frame_reading handled messages.message_reading
+unfolding frame inquiry_reply frame_reading handled messages.message_reading
 a_byte_more_is_of_a_bad_length = refl
 
 abbrev nop_long : List ℕ
@@ -238,15 +241,15 @@ abbrev identity_bad_length : List ℕ
 identity_bad_length = 0x63 ∷ 0x00 ∷ 0x00 ∷ 0x00 ∷ 0x07 ∷ 0x00 ∷ 0x00 ∷ 0x00 ∷ 0x65 ∷ 0x00 ∷ 0x00 ∷ 0x00 ∷ 0x01 ∷ 0x02 ∷ 0x03 ∷ 0x04 ∷ 0x05 ∷ 0x06 ∷ 0x07 ∷ 0x08 ∷ 0x00 ∷ 0x00 ∷ 0x00 ∷ 0x00 ∷ []
 
 nothing_of_a_bad_length_is_a_bad_frame : after opened nop_long ≡ Ok (plain_answer BadFrame, opened)
-unfolding frame frame_reading handled messages.message_reading
+unfolding frame inquiry_reply frame_reading handled messages.message_reading
 nothing_of_a_bad_length_is_a_bad_frame = refl
 
 an_end_of_a_bad_length_is_a_bad_frame : after registered unregister_short ≡ Ok (plain_answer BadFrame, registered)
-unfolding frame frame_reading handled messages.message_reading
+unfolding frame inquiry_reply frame_reading handled messages.message_reading
 an_end_of_a_bad_length_is_a_bad_frame = refl
 
 a_bad_length_goes_before_the_command : after opened identity_short ≡ replies_only opened identity_bad_length
-unfolding frame frame_reading handled messages.message_reading
+unfolding frame inquiry_reply frame_reading handled messages.message_reading
 a_bad_length_goes_before_the_command = refl
 
 -- ---- requests
@@ -258,7 +261,7 @@ abbrev multicast_opened : List ℕ
 multicast_opened = 0x6F ∷ 0x00 ∷ 0x42 ∷ 0x00 ∷ 0x01 ∷ 0x00 ∷ 0x00 ∷ 0x00 ∷ 0x00 ∷ 0x00 ∷ 0x00 ∷ 0x00 ∷ 0x01 ∷ 0x02 ∷ 0x03 ∷ 0x04 ∷ 0x05 ∷ 0x06 ∷ 0x07 ∷ 0x08 ∷ 0x00 ∷ 0x00 ∷ 0x00 ∷ 0x00 ∷ 0x00 ∷ 0x00 ∷ 0x00 ∷ 0x00 ∷ 0x00 ∷ 0x00 ∷ 0x03 ∷ 0x00 ∷ 0x00 ∷ 0x00 ∷ 0x00 ∷ 0x00 ∷ 0xB2 ∷ 0x00 ∷ 0x1E ∷ 0x00 ∷ 0xD4 ∷ 0x00 ∷ 0x00 ∷ 0x00 ∷ 0x01 ∷ 0x00 ∷ 0x00 ∷ 0x10 ∷ 0x02 ∷ 0x00 ∷ 0x00 ∷ 0x10 ∷ 0x05 ∷ 0x00 ∷ 0x34 ∷ 0x12 ∷ 0x78 ∷ 0x56 ∷ 0x34 ∷ 0x12 ∷ 0x10 ∷ 0x27 ∷ 0x00 ∷ 0x00 ∷ 0x10 ∷ 0x27 ∷ 0x00 ∷ 0x00 ∷ 0x00 ∷ 0x00 ∷ 0x01 ∷ 0x80 ∷ 0x10 ∷ 0x00 ∷ 0x00 ∷ 0x02 ∷ 0x08 ∷ 0xAE ∷ 0xEF ∷ 0xC0 ∷ 0x02 ∷ 0x20 ∷ 0x00 ∷ 0x00 ∷ 0x00 ∷ 0x00 ∷ 0x00 ∷ 0x00 ∷ 0x00 ∷ 0x00 ∷ []
 
 a_multicast_open_reports_the_address : answer_of (after registered multicast_open) ≡ Some (says multicast_opened (Opened (record { serial = 5; vendor = 0x1234; originator = 0x12345678 }) (record { 0 = 0x10000001 }) ∷ []))
-unfolding frame frame_reading handled messages.message_reading packets.packet_reading packets.are_sockets router_request_reading requests.request_reading opens.open_reading paths.path_reading paths.target_reading paths.segments_at paths.segment_at paths.logical_at paths.value_at words.params16 verdict served_open admitted_open opened_row opened_table replies.opened_text
+unfolding frame inquiry_reply frame_reading handled messages.message_reading packets.packet_reading packets.are_sockets router_request_reading requests.request_reading opens.open_reading paths.path_reading paths.target_reading paths.segments_at paths.segment_at paths.logical_at paths.value_at words.params16 verdict served_open admitted_open opened_row opened_table replies.opened_text
 a_multicast_open_reports_the_address = refl
 
 abbrev open_request : List ℕ
@@ -268,7 +271,7 @@ abbrev open_reply : List ℕ
 open_reply = 0x6F ∷ 0x00 ∷ 0x2E ∷ 0x00 ∷ 0x01 ∷ 0x00 ∷ 0x00 ∷ 0x00 ∷ 0x00 ∷ 0x00 ∷ 0x00 ∷ 0x00 ∷ 0x01 ∷ 0x02 ∷ 0x03 ∷ 0x04 ∷ 0x05 ∷ 0x06 ∷ 0x07 ∷ 0x08 ∷ 0x00 ∷ 0x00 ∷ 0x00 ∷ 0x00 ∷ 0x00 ∷ 0x00 ∷ 0x00 ∷ 0x00 ∷ 0x00 ∷ 0x00 ∷ 0x02 ∷ 0x00 ∷ 0x00 ∷ 0x00 ∷ 0x00 ∷ 0x00 ∷ 0xB2 ∷ 0x00 ∷ 0x1E ∷ 0x00 ∷ 0xD4 ∷ 0x00 ∷ 0x00 ∷ 0x00 ∷ 0x01 ∷ 0x00 ∷ 0x00 ∷ 0x10 ∷ 0x01 ∷ 0x00 ∷ 0x00 ∷ 0x20 ∷ 0x01 ∷ 0x00 ∷ 0x34 ∷ 0x12 ∷ 0x78 ∷ 0x56 ∷ 0x34 ∷ 0x12 ∷ 0x10 ∷ 0x27 ∷ 0x00 ∷ 0x00 ∷ 0x10 ∷ 0x27 ∷ 0x00 ∷ 0x00 ∷ 0x00 ∷ 0x00 ∷ []
 
 a_point_to_point_open_reports_none : answer_of (after registered open_request) ≡ Some (says open_reply (Opened (record { serial = 1; vendor = 0x1234; originator = 0x12345678 }) (record { 0 = 0x10000001 }) ∷ []))
-unfolding frame frame_reading handled messages.message_reading packets.packet_reading packets.are_sockets router_request_reading requests.request_reading opens.open_reading paths.path_reading paths.target_reading paths.segments_at paths.segment_at paths.logical_at paths.value_at words.params16 verdict served_open admitted_open opened_row opened_table replies.opened_text
+unfolding frame inquiry_reply frame_reading handled messages.message_reading packets.packet_reading packets.are_sockets router_request_reading requests.request_reading opens.open_reading paths.path_reading paths.target_reading paths.segments_at paths.segment_at paths.logical_at paths.value_at words.params16 verdict served_open admitted_open opened_row opened_table replies.opened_text
 a_point_to_point_open_reports_none = refl
 
 abbrev joiner_open : List ℕ
@@ -282,7 +285,7 @@ table_of t (Ok next) = next.1
 table_of t (Err fault) = t
 
 a_joiner_receives_it_too : answer_of (after (table_of registered (after registered multicast_open)) joiner_open) ≡ Some (says joiner_opened (Opened (record { serial = 7; vendor = 0x1234; originator = 0x12345678 }) (record { 0 = 0x10000003 }) ∷ []))
-unfolding frame frame_reading handled messages.message_reading packets.packet_reading packets.are_sockets router_request_reading requests.request_reading opens.open_reading paths.path_reading paths.target_reading paths.segments_at paths.segment_at paths.logical_at paths.value_at words.params16 verdict served_open admitted_open opened_row opened_table replies.opened_text
+unfolding frame inquiry_reply frame_reading handled messages.message_reading packets.packet_reading packets.are_sockets router_request_reading requests.request_reading opens.open_reading paths.path_reading paths.target_reading paths.segments_at paths.segment_at paths.logical_at paths.value_at words.params16 verdict served_open admitted_open opened_row opened_table replies.opened_text
 a_joiner_receives_it_too = refl
 
 abbrev get_value : List ℕ
@@ -292,7 +295,7 @@ abbrev got_value : List ℕ
 got_value = 0x6F ∷ 0x00 ∷ 0x18 ∷ 0x00 ∷ 0x01 ∷ 0x00 ∷ 0x00 ∷ 0x00 ∷ 0x00 ∷ 0x00 ∷ 0x00 ∷ 0x00 ∷ 0x01 ∷ 0x02 ∷ 0x03 ∷ 0x04 ∷ 0x05 ∷ 0x06 ∷ 0x07 ∷ 0x08 ∷ 0x00 ∷ 0x00 ∷ 0x00 ∷ 0x00 ∷ 0x00 ∷ 0x00 ∷ 0x00 ∷ 0x00 ∷ 0x00 ∷ 0x00 ∷ 0x02 ∷ 0x00 ∷ 0x00 ∷ 0x00 ∷ 0x00 ∷ 0x00 ∷ 0xB2 ∷ 0x00 ∷ 0x08 ∷ 0x00 ∷ 0x8E ∷ 0x00 ∷ 0x00 ∷ 0x00 ∷ 0x00 ∷ 0x00 ∷ 0x00 ∷ 0x00 ∷ []
 
 a_value_is_replied : after registered get_value ≡ replies_only registered got_value
-unfolding frame frame_reading handled messages.message_reading packets.packet_reading packets.are_sockets router_request_reading requests.request_reading paths.target_reading paths.segments_at paths.segment_at paths.logical_at paths.value_at served_assembly values.got_text
+unfolding frame inquiry_reply frame_reading handled messages.message_reading packets.packet_reading packets.are_sockets router_request_reading requests.request_reading paths.target_reading paths.segments_at paths.segment_at paths.logical_at paths.value_at served_object object_answer instance_at values.object_reply_text
 a_value_is_replied = refl
 
 abbrev other_session : List ℕ
@@ -302,14 +305,14 @@ abbrev no_such_session : List ℕ
 no_such_session = 0x6F ∷ 0x00 ∷ 0x00 ∷ 0x00 ∷ 0x05 ∷ 0x00 ∷ 0x00 ∷ 0x00 ∷ 0x64 ∷ 0x00 ∷ 0x00 ∷ 0x00 ∷ 0x01 ∷ 0x02 ∷ 0x03 ∷ 0x04 ∷ 0x05 ∷ 0x06 ∷ 0x07 ∷ 0x08 ∷ 0x00 ∷ 0x00 ∷ 0x00 ∷ 0x00 ∷ []
 
 another_session_is_refused : after registered other_session ≡ replies_only registered no_such_session
-unfolding frame frame_reading handled messages.message_reading
+unfolding frame inquiry_reply frame_reading handled messages.message_reading
 another_session_is_refused = refl
 
 abbrev no_session : List ℕ
 no_session = 0x6F ∷ 0x00 ∷ 0x00 ∷ 0x00 ∷ 0x01 ∷ 0x00 ∷ 0x00 ∷ 0x00 ∷ 0x64 ∷ 0x00 ∷ 0x00 ∷ 0x00 ∷ 0x01 ∷ 0x02 ∷ 0x03 ∷ 0x04 ∷ 0x05 ∷ 0x06 ∷ 0x07 ∷ 0x08 ∷ 0x00 ∷ 0x00 ∷ 0x00 ∷ 0x00 ∷ []
 
 none_is_refused : after opened multicast_open ≡ replies_only opened no_session
-unfolding frame frame_reading handled messages.message_reading
+unfolding frame inquiry_reply frame_reading handled messages.message_reading
 none_is_refused = refl
 
 abbrev no_items : List ℕ
@@ -319,5 +322,5 @@ abbrev bad_items : List ℕ
 bad_items = 0x6F ∷ 0x00 ∷ 0x00 ∷ 0x00 ∷ 0x01 ∷ 0x00 ∷ 0x00 ∷ 0x00 ∷ 0x03 ∷ 0x00 ∷ 0x00 ∷ 0x00 ∷ 0x01 ∷ 0x02 ∷ 0x03 ∷ 0x04 ∷ 0x05 ∷ 0x06 ∷ 0x07 ∷ 0x08 ∷ 0x00 ∷ 0x00 ∷ 0x00 ∷ 0x00 ∷ []
 
 bad_items_are_refused : after registered no_items ≡ replies_only registered bad_items
-unfolding frame frame_reading handled messages.message_reading packets.packet_reading
+unfolding frame inquiry_reply frame_reading handled messages.message_reading packets.packet_reading
 bad_items_are_refused = refl

@@ -21,6 +21,7 @@ profile = record {
   config = None;
   input_only = 152;
   listen_only = 153;
+  description = None;
 }
 
 -- a connection of the fifth opening that accepted number 7 with count 3; its state is not looked at here

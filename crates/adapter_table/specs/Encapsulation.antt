@@ -22,6 +22,7 @@ use Rattle.cip_events.specs.declared.event.Verdict.TheVariants.{Done, BadFrame}
 use Rattle.adapter_table.specs.declared.table.Stream.{Stream}
 use Rattle.adapter_table.specs.declared.table.AdapterTable.{AdapterTable}
 use Rattle.cip_router.specs.Requests.{router_request_reading}
+use Rattle.adapter_table.specs.Inquiries.{frame_alone, inquiry_reply}
 use Rattle.adapter_table.specs.Requests.{Next, Served, served}
 use Rattle.cip_events.specs.Answers.{plain_answer}
 use Rattle.cip_router.specs.Commands.{command_of, is_silent}
@@ -123,10 +124,15 @@ frame_answer t stream without_header = (plain_answer BadFrame, t)
 frame_answer t stream (wrong_length request_header) = wrong_length_answer t stream.number request_header
 frame_answer t stream (whole request_header body) = framed stream.number request_header (handled t stream request_header body (command_of request_header.command))
 
+-- an inquiry is answered first, then all other messages
+abbrev pub stream_answer : AdapterTable → Stream → List ℕ → Option (List ℕ) → Next
+stream_answer t stream bytes None = frame_answer t stream (frame_reading bytes)
+stream_answer t stream bytes (Some text) = (frame_alone (recipient.Stream stream.number) text, t)
+
 -- the same of the stream that is found, if one is
 abbrev pub frame_of : AdapterTable → List ℕ → Option Stream → Result Next StepFault
 frame_of t bytes None = Err NotAllowedNow
-frame_of t bytes (Some stream) = Ok (frame_answer t stream (frame_reading bytes))
+frame_of t bytes (Some stream) = Ok (stream_answer t stream bytes (inquiry_reply t bytes))
 
 -- a frame on a stream
 unfoldable pub frame : AdapterTable → ℕ → List ℕ → Result Next StepFault

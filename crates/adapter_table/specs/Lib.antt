@@ -5,6 +5,8 @@ pub mod Datagrams
 pub mod Encapsulation
 pub mod Judging
 pub mod Opening
+pub mod Objects
+pub mod Inquiries
 pub mod Points
 pub mod Productions
 pub mod Profiles

@@ -7,9 +7,10 @@ use Rattle.cip_types.specs.Cases.{Case, first_case}
 use Rattle.cip_types.specs.declared.names.Identity.{Identity}
 use Rattle.adapter_table.specs.declared.profile.OutputPoint.{OutputPoint}
 use Rattle.adapter_table.specs.declared.profile.InputPoint.{InputPoint}
+use Rattle.adapter_table.specs.declared.profile.Description.{Description}
 use Rattle.adapter_table.specs.declared.profile.Profile.{Profile}
 use Rattle.cip_events.specs.declared.profile_fault.ProfileFault.{ProfileFault}
-use Rattle.cip_events.specs.declared.profile_fault.ProfileFault.TheVariants.{Incarnation, Address, Points, SameInstance, Length, Identity as IdentityFault}
+use Rattle.cip_events.specs.declared.profile_fault.ProfileFault.TheVariants.{Incarnation, Address, Points, SameInstance, Length, Identity as IdentityFault, Description as DescriptionFault}
 
 -- ADDRESSES
 
@@ -83,6 +84,13 @@ are_long_enough profile = list_all has_output_len profile.outputs && (list_all h
 abbrev pub is_revision : Identity → Bool
 is_revision identity = nat_le 1 identity.major && (nat_le identity.major 127 && nat_le 1 identity.minor)
 
+-- DESCRIPTION
+
+-- a name of at most 32 bytes, a physical address of six, and an inactivity time-out of at most an hour
+abbrev pub is_described : Option Description → Bool
+is_described None = true
+is_described (Some d) = nat_le (length d.name) 32 && (length d.mac == 6 && nat_le d.inactivity 3600)
+
 -- THE FIRST FAULT
 
 -- the faults of a profile, in the order in which they are looked for
@@ -94,6 +102,7 @@ profile_tests profile =
     ∷ (not (are_distinct (all_points profile)), SameInstance)
     ∷ (not (are_long_enough profile), Length)
     ∷ (not (is_revision profile.identity), IdentityFault)
+    ∷ (not (is_described profile.description), DescriptionFault)
     ∷ []
 
 -- the first fault

@@ -1,24 +1,24 @@
 -- Requests to the message router: the replies, and the table after each
 -- (Volume 1, chapter 2, message router request and reply formats, and chapter 3, Connection Manager).
-use Rattle.std.specs.Prelude.{ℕ, ◌==◌, not, length, find, Bool, true, false, List, [], ◌∷◌, Option, Some, None, Result, Ok, Err}
-use Rattle.cip_types.specs.Cases.{first_case_or}
+use Rattle.std.specs.Prelude.{ℕ, find, Bool, true, false, List, [], ◌∷◌, Option, Some, None, Result, Ok, Err}
 use Rattle.cip_types.specs.declared.names.Node.{Node}
 use Rattle.cip_fwdopen.specs.Open.{OpenFields}
 use Rattle.cip_events.specs.declared.event.Notice.{Notice}
+use Rattle.cip_events.specs.declared.event.Notice.TheVariants as notice
 use Rattle.cip_events.specs.declared.event.Frame.{Frame}
 use Rattle.cip_events.specs.declared.event.Recipient.TheVariants.{Peer}
 use Rattle.cip_events.specs.declared.event.Verdict.TheVariants.{Done, BadFrame}
 use Rattle.cip_events.specs.declared.event.Answer.{Answer}
 use Rattle.adapter_table.specs.declared.table.AdapterTable.{AdapterTable}
-use Rattle.cip_router.specs.Requests.{RouterRequestFields, nothing, refused, closing, assembly, opening, router_request_reading}
+use Rattle.cip_router.specs.Requests.{RouterRequestFields, nothing, refused, closing, object, opening, router_request_reading}
 use Rattle.cip_fwdopen.specs.Close.{CloseFields}
 use Rattle.adapter_table.specs.Connections.{Row}
 use Rattle.adapter_table.specs.Rows.{has_triad}
-use Rattle.adapter_table.specs.Points.{bytes_at}
+use Rattle.cip_router.specs.declared.object_service.ObjectService.TheVariants.{Reset as ResetService}
+use Rattle.adapter_table.specs.Objects.{ObjectAnswer, said, denied, resetting, object_answer}
 use Rattle.adapter_table.specs.Closing.{closed_table, closed_notices}
 use Rattle.cip_router.specs.declared.refusal.Refusal.TheVariants as refusal
-use Rattle.cip_router.specs.declared.refusal.Status.TheVariants as status
-use Rattle.cip_router.specs.Replies.{ReplyFields, opened, closed, got, reply_text}
+use Rattle.cip_router.specs.Replies.{ReplyFields, opened, closed, object_reply, reply_text}
 use Rattle.cip_router.specs.Replies as replies
 use Rattle.cip_router.specs.declared.refusal.Refusal.{Refusal}
 use Rattle.cip_router.specs.declared.refusal.Status.{Status}
@@ -97,34 +97,22 @@ served_close t request = close_of t request (find (has_triad request.triad) t.ro
 abbrev pub router_refusal : AdapterTable → ℕ → Status → Served
 router_refusal t service why = record { reply = replies.refused service (status_fault why) None; address = None; notices = []; table = t }
 
--- the attribute that is the value of an assembly
-abbrev pub is_value_attribute : Option ℕ → Bool
-is_value_attribute None = false
-is_value_attribute (Some attribute) = attribute == 3
+-- a service of an object: a reply, or a reset that is reported
+abbrev pub object_served : AdapterTable → ℕ → ObjectAnswer → Served
+object_served t service (said by value) = record { reply = object_reply by value; address = None; notices = []; table = t }
+object_served t service (denied why) = router_refusal t service why
+object_served t service (resetting kind) = record { reply = object_reply ResetService []; address = None; notices = notice.Reset kind ∷ []; table = t }
 
--- the value of a point that there is, by a request of this service
-abbrev pub get_of : AdapterTable → ℕ → Option ℕ → List ℕ → List ℕ → Served
-get_of t service attribute body value =
-    first_case_or (record { reply = got value; address = None; notices = []; table = t }) (
-    (not (service == 0x0E), router_refusal t service status.Service)
-    ∷ (not (is_value_attribute attribute), router_refusal t service status.Attribute)
-    ∷ (not (length body == 0), router_refusal t service status.TooMuchData)
-    ∷ [])
-
-abbrev pub assembly_of : AdapterTable → ℕ → Option ℕ → List ℕ → Option (List ℕ) → Served
-assembly_of t service attribute body None = router_refusal t service status.PathDestination
-assembly_of t service attribute body (Some value) = get_of t service attribute body value
-
--- a service of an assembly instance
-unfoldable pub served_assembly : AdapterTable → ℕ → ℕ → Option ℕ → List ℕ → Served
-served_assembly t service instance attribute body = assembly_of t service attribute body (bytes_at t.values instance)
+-- a service of another object than the Connection Manager's
+unfoldable pub served_object : AdapterTable → ℕ → ℕ → ℕ → Option ℕ → List ℕ → Served
+served_object t service class instance attribute body = object_served t service (object_answer t service class instance attribute body)
 
 -- the reply to a request, if there is one
 abbrev pub served : AdapterTable → Node → RouterRequestFields → Option Served
 served t peer nothing = None
 served t peer (refused service why) = Some (router_refusal t service why)
 served t peer (closing request) = Some (served_close t request)
-served t peer (assembly service instance attribute body) = Some (served_assembly t service instance attribute body)
+served t peer (object service class instance attribute body) = Some (served_object t service class instance attribute body)
 served t peer (opening large request) = Some (served_open t peer large request)
 
 -- THE ANSWER

@@ -1,7 +1,7 @@
 -- One event at a device's table.
 use Rattle.std.specs.Prelude.{ℕ, ◌==◌, length, map, find, if◌then◌else◌, List, [], Option, Some, None, Result, Ok, Err}
 use Rattle.cip_events.specs.declared.event.Event.{Event}
-use Rattle.cip_events.specs.declared.event.Event.TheVariants.{Request, StreamOpened, Frame, StreamCut, Datagram, Write, Read, Tick, Mode, Start, Stop}
+use Rattle.cip_events.specs.declared.event.Event.TheVariants.{Request, StreamOpened, Frame, StreamCut, Datagram, Inquiry, Write, Read, Tick, Mode, Start, Stop}
 use Rattle.cip_events.specs.declared.event.Answer.{Answer}
 use Rattle.cip_events.specs.declared.event.StepFault.{StepFault}
 use Rattle.cip_events.specs.declared.event.StepFault.TheVariants as fault
@@ -12,6 +12,7 @@ use Rattle.adapter_table.specs.declared.table.AdapterTable.{AdapterTable}
 use Rattle.adapter_table.specs.Profiles.{is_at}
 use Rattle.adapter_table.specs.Points.{opening_values, put_value, bytes_at}
 use Rattle.adapter_table.specs.Rows.{written_row}
+use Rattle.adapter_table.specs.Inquiries.{inquired}
 use Rattle.adapter_table.specs.Requests.{Next, requested}
 use Rattle.cip_events.specs.Answers.{plain_answer, value_answer}
 use Rattle.adapter_table.specs.Streams.{stream_opened, stream_cut}
@@ -63,6 +64,7 @@ adapter_step t (StreamOpened stream peer) = stream_opened t stream peer
 adapter_step t (Frame stream bytes) = frame t stream bytes
 adapter_step t (StreamCut stream) = stream_cut t stream
 adapter_step t (Datagram peer bytes) = Ok (received t peer bytes)
+adapter_step t (Inquiry peer bytes) = Ok (inquired t peer bytes)
 adapter_step t (Write point bytes) = write t point bytes
 adapter_step t (Read point) = read t point
 adapter_step t (Tick ms) = tick t ms

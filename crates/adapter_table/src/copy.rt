@@ -3,10 +3,42 @@
 ghost use Rattle.std.specs.Prelude.{◌≡◌, ◌≤◌, ◌↔◌, IfOk, IsTrue};
 ghost use Rattle.adapter_table.specs.Whole.{IsWhole};
 
-use crate::profile::Profile;
+use crate::profile::{Description, Profile};
 use crate::table::AdapterTable;
 use cip_types::{Items, OutOfMemory};
 use std::alloc::Global;
+
+impl Description {
+    /// A copy of the description.
+    pub fn copy(&self, alloc: Global) -> Result<Description, OutOfMemory>
+        ensures { IfOk result (λ copy. copy ≡ self.now) }
+    {
+        let name = Items::copy_of(alloc, self.name.as_slice())?;
+        let mac = Items::copy_of(alloc, self.mac.as_slice())?;
+        Ok(Description {
+            serial: self.serial,
+            name,
+            port: self.port,
+            speed: self.speed,
+            flags: self.flags,
+            mac,
+            inactivity: self.inactivity,
+        })
+    }
+}
+
+/// A copy of a description, if there is one.
+fn copy_description(
+    alloc: Global,
+    description: &Option<Description>,
+) -> Result<Option<Description>, OutOfMemory>
+    ensures { IfOk result (λ copy. copy ≡ description.now) }
+{
+    match description {
+        Some(description) => Ok(Some(description.copy(alloc)?)),
+        None => Ok(None),
+    }
+}
 
 impl Profile {
     /// A copy of the profile.
@@ -15,6 +47,7 @@ impl Profile {
     {
         let outputs = Items::copy_of(alloc, self.outputs.as_slice())?;
         let inputs = Items::copy_of(alloc, self.inputs.as_slice())?;
+        let description = copy_description(alloc, &self.description)?;
         Ok(Profile {
             incarnation: self.incarnation,
             node: self.node,
@@ -25,6 +58,7 @@ impl Profile {
             config: self.config,
             input_only: self.input_only,
             listen_only: self.listen_only,
+            description,
         })
     }
 }

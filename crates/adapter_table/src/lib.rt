@@ -7,6 +7,7 @@ mod admission;
 mod copy;
 mod expiry;
 pub mod laws;
+mod objects;
 mod producing;
 mod profile;
 mod profile_check;
@@ -18,11 +19,13 @@ mod table;
 pub use acceptance::{Judgement, accept_if_for, is_for, judge};
 pub use admission::{Admission, ConsumedPoint};
 pub use expiry::{by_deadline, expired_row, has_expired};
+pub use objects::IoState;
 pub use producing::{
     changed_row, has_node, is_due, is_produced_by, produced_row, producer_in, producer_number,
     produces_on_change, written_row,
 };
-pub use profile::{Action, InputPoint, OutputPoint, Profile};
+pub use profile::{Action, Description, InputPoint, OutputPoint, Profile};
+pub use profile_check::{LONGEST_INACTIVITY, PHYSICAL_ADDRESS};
 pub use report::{ConnectionReport, ConsumerCounts, consumes, report_of};
 pub use row::{Connection, Mode, Row, State};
 pub use rows::{

@@ -33,8 +33,26 @@ pub struct InputPoint {
     pub len: u64,
 }
 
+/// What a device says of itself to tools, beside its identity: its serial number, its name of at most 32 bytes, the TCP
+/// port of its encapsulation, its link (speed in Mbit/s, flags, physical address of six bytes), and after how many seconds
+/// it ends a silent stream (0: never).
+///
+/// Volume 1, chapter 5, Identity object; Volume 2, chapter 5, TCP/IP Interface and Ethernet Link objects.
+#[derive(PartialEq, Drop)]
+pub struct Description {
+    pub serial: u32,
+    pub name: Items<u8>,
+    pub port: u16,
+    pub speed: u32,
+    pub flags: u32,
+    pub mac: Items<u8>,
+    pub inactivity: u16,
+}
+
 /// An adapter: the byte that begins its connection ids (its incarnation), its address and network mask, its
-/// identity, its points, and the two points without data that input-only and listen-only connections consume.
+/// identity, its points, the two points without data that input-only and listen-only connections consume, and its
+/// description. A device without one is found by no inquiry, and has no objects but its Connection Manager and its
+/// assemblies.
 #[derive(PartialEq, Drop)]
 pub struct Profile {
     pub incarnation: u8,
@@ -46,6 +64,7 @@ pub struct Profile {
     pub config: Option<InputPoint>,
     pub input_only: u32,
     pub listen_only: u32,
+    pub description: Option<Description>,
 }
 
 impl Profile {

@@ -2,12 +2,21 @@
 
 ghost use Rattle.std.specs.Prelude.{◌≡◌, ◌↔◌, ◌++◌, Some, None, IsOk, IfErr, map};
 ghost use Rattle.std.specs.List.{list_any, list_all};
-ghost use Rattle.adapter_table.specs.Profiles.{is_address, is_at, is_output_at, as_point, points_beside, are_distinct, are_few, has_output_len, has_input_len, has_config_len, are_long_enough, is_revision, is_point_len, profile_fault};
+ghost use Rattle.adapter_table.specs.Profiles.{is_address, is_at, is_output_at, as_point, points_beside, are_distinct, are_few, has_output_len, has_input_len, has_config_len, are_long_enough, is_revision, is_described, is_point_len, profile_fault};
 
-use crate::profile::{InputPoint, OutputPoint, Profile};
+use crate::profile::{Description, InputPoint, OutputPoint, Profile};
 use cip_events::ProfileFault;
 use cip_types::limits::{LONGEST_CONFIG, LONGEST_POINT, MOST_POINTS};
 use cip_types::{Identity, Node};
+use list_identity::LONGEST_NAME;
+
+/// The bytes of a physical address.
+pub const PHYSICAL_ADDRESS: usize = 6;
+
+/// The longest inactivity time-out, in seconds.
+///
+/// Volume 2, chapter 5, TCP/IP Interface object, attribute 13.
+pub const LONGEST_INACTIVITY: u16 = 3600;
 
 fn is_address(node: Node, mask: u32) -> bool
     ensures { result ≡ is_address node.0 mask }
@@ -137,6 +146,19 @@ fn is_revision(identity: &Identity) -> bool
     1 <= identity.major && identity.major <= 127 && 1 <= identity.minor
 }
 
+fn is_described(description: &Option<Description>) -> bool
+    ensures { result ≡ is_described description.now }
+{
+    match description {
+        Some(d) => {
+            d.name.as_slice().len() <= LONGEST_NAME
+                && d.mac.as_slice().len() == PHYSICAL_ADDRESS
+                && d.inactivity <= LONGEST_INACTIVITY
+        }
+        None => true,
+    }
+}
+
 /// The first fault of a profile.
 #[tactic(auto, unfolding(crate::specs::Profiles::profile_fault))]
 fn fault_of(profile: &Profile) -> Option<ProfileFault>
@@ -160,12 +182,15 @@ fn fault_of(profile: &Profile) -> Option<ProfileFault>
     if !is_revision(&profile.identity) {
         return Some(ProfileFault::Identity);
     }
+    if !is_described(&profile.description) {
+        return Some(ProfileFault::Description);
+    }
     None
 }
 
 impl Profile {
     /// Checks the profile: its incarnation, its address, how many points it has, that their instances
-    /// differ, their lengths, and its revision, in this order. Takes no memory.
+    /// differ, their lengths, its revision, and its description, in this order. Takes no memory.
     ///
     /// Answers the first fault.
     pub fn check(&self) -> Result<(), ProfileFault>

@@ -16,26 +16,27 @@ use Rattle.cip_router.specs.declared.command.Command.{Command}
 use Rattle.cip_router.specs.declared.command.Command.TheVariants as command
 use Rattle.cip_router.specs.declared.command.EncapStatus.TheVariants as encap
 use Rattle.cip_router.specs.declared.refusal.Refusal.{Refusal}
-use Rattle.cip_router.specs.declared.refusal.Status.TheVariants as status
-use Rattle.cip_router.specs.Requests.{RouterRequestFields, nothing, refused, closing, assembly, opening, router_request_reading}
+use Rattle.cip_router.specs.Requests.{RouterRequestFields, nothing, refused, closing, object, opening, router_request_reading}
 use Rattle.cip_router.specs.Commands.{command_of, is_silent}
 use Rattle.cip_router.specs.Frames.{RequestHeader, FrameFields, without_header, wrong_length, whole, FrameReply, router_reply, socket_of, protocol_text, reply_message, frame_reading}
-use Rattle.cip_router.specs.Replies.{got, reply_text, GetsFew}
+use Rattle.cip_router.specs.Replies.{reply_text, GetsFew}
 use Rattle.cip_router.specs.ReplyLaws.{items_length, reply_is_short}
 use Rattle.adapter_table.specs.Connections.{Row}
 use Rattle.adapter_table.specs.declared.table.Stream.{Stream}
 use Rattle.adapter_table.specs.declared.table.AdapterTable.{AdapterTable}
 use Rattle.adapter_table.specs.Checks.{Admitted, admission}
-use Rattle.adapter_table.specs.Encapsulation.{Handled, refusal, session_begun, register_session, request_replied, packet_replied, handled, framed, frame_answer, frame_of, frame}
-use Rattle.adapter_table.specs.Limits.{bytes_short}
-use Rattle.adapter_table.specs.Points.{bytes_at}
-use Rattle.adapter_table.specs.Requests.{Next, Served, judged_open, admitted_open, served_open, close_of, served_close, is_value_attribute, router_refusal, assembly_of, served_assembly, served, answered, requested}
+use Rattle.adapter_table.specs.Encapsulation.{Handled, refusal, session_begun, register_session, request_replied, packet_replied, handled, framed, frame_answer, stream_answer, frame_of, frame}
+use Rattle.adapter_table.specs.Inquiries.{inquiry_reply, inquired_by, inquired}
+use Rattle.adapter_table.specs.Objects.{ObjectAnswer, said, denied, resetting, object_answer}
+use Rattle.adapter_table.specs.Requests.{Next, Served, judged_open, admitted_open, served_open, close_of, served_close, object_served, served_object, served, answered, requested}
 use Rattle.adapter_table.specs.Rows.{has_triad}
 use Rattle.adapter_table.specs.Shapes.{IsShaped}
 use Rattle.adapter_table.specs.Streams.{is_stream, has_session}
 use Rattle.answer_sizes.specs.Sizes.{IsShortFrame, IsShortDatagram, IsSmall}
 use Rattle.answer_sizes.proofs.Few.{few_none, few_one, either}
+use Rattle.answer_sizes.specs.Lemmas.InquiryLengths.{RepliesBriefly, inquiry_reply_few}
 use Rattle.answer_sizes.proofs.Answers.{message_short, both_small, plain_small, AnswersSmall}
+use Rattle.answer_sizes.proofs.ObjectAnswers.{SaysShort, object_short}
 
 -- ---- an answer of one frame
 
@@ -53,13 +54,10 @@ closed_few : (t : AdapterTable) (request : CloseFields) (found : Option Row) →
 closed_few t request None = tt
 closed_few t request (Some row) = tt
 
-value_few : (t : AdapterTable) (service point : ℕ) (attribute : Option ℕ) (body : List ℕ) (found : Option (List ℕ)) → bytes_at t.values point ≡ found → IsShaped t.profile t.values → GetsFew (assembly_of t service attribute body found).reply
-value_few t service point attribute body None is shaped = tt
-value_few t service point attribute body (Some value) is shaped =
-    let all : Served = record { reply = got value; address = None; notices = []; table = t } in
-    either (λ (s : Served). GetsFew s.reply) (not (service == 0x0E)) _ _ tt
-    (either (λ (s : Served). GetsFew s.reply) (not (is_value_attribute attribute)) _ _ tt
-    (either (λ (s : Served). GetsFew s.reply) (not (length body == 0)) (router_refusal t service status.TooMuchData) all tt (bytes_short t.profile t.values point value shaped is)))
+object_few : (t : AdapterTable) (service : ℕ) (answer : ObjectAnswer) → SaysShort answer → GetsFew (object_served t service answer).reply
+object_few t service (said by value) short = short
+object_few t service (denied why) short = tt
+object_few t service (resetting kind) short = omega arith
 
 -- of what is served, if there is a request
 abbrev ServesFew : Option Served → Type 0
@@ -67,11 +65,11 @@ ServesFew None = Unit {0}
 ServesFew (Some s) = GetsFew s.reply
 
 serves_few : (t : AdapterTable) (peer : Node) (request : RouterRequestFields) → IsShaped t.profile t.values → ServesFew (served t peer request)
-unfolding served_open served_close served_assembly
+unfolding served_open served_close served_object
 serves_few t peer nothing shaped = tt
 serves_few t peer (refused service why) shaped = tt
 serves_few t peer (closing request) shaped = closed_few t request (find (has_triad request.triad) t.rows)
-serves_few t peer (assembly service instance attribute body) shaped = value_few t service instance attribute body (bytes_at t.values instance) refl shaped
+serves_few t peer (object service class instance attribute body) shaped = object_few t service (object_answer t service class instance attribute body) (object_short t service class instance attribute body shaped)
 serves_few t peer (opening large request) shaped = opened_few t peer large request (admission t request)
 
 -- ---- requests
@@ -141,11 +139,26 @@ fields_small t stream (wrong_length request_header) shaped =
 fields_small t stream (whole request_header body) shaped =
     framed_small stream.number request_header (handled t stream request_header body (command_of request_header.command)) (handles_few t stream request_header body (command_of request_header.command) shaped)
 
+either_small : (t : AdapterTable) (stream : Stream) (bytes : List ℕ) (reply : Option (List ℕ)) → RepliesBriefly reply → IsShaped t.profile t.values → IsSmall (stream_answer t stream bytes reply).0
+either_small t stream bytes None brief shaped = fields_small t stream (frame_reading bytes) shaped
+either_small t stream bytes (Some text) brief shaped = one_small _ Done [] (omega (arith, brief))
+
 found_small : (t : AdapterTable) (bytes : List ℕ) (found : Option Stream) → IsShaped t.profile t.values → AnswersSmall (frame_of t bytes found)
 found_small t bytes None shaped = tt
-found_small t bytes (Some stream) shaped = fields_small t stream (frame_reading bytes) shaped
+found_small t bytes (Some stream) shaped = either_small t stream bytes (inquiry_reply t bytes) (inquiry_reply_few t bytes shaped.faultless) shaped
 
 -- the answer to a message of a stream
 pub frame_small : (t : AdapterTable) (number : ℕ) (bytes : List ℕ) → IsShaped t.profile t.values → AnswersSmall (frame t number bytes)
 unfolding frame
 frame_small t number bytes shaped = found_small t bytes (find (is_stream number) t.streams) shaped
+
+-- ---- inquiries
+
+inquired_few : (t : AdapterTable) (peer : Node) (reply : Option (List ℕ)) → RepliesBriefly reply → IsSmall (inquired_by t peer reply).0
+inquired_few t peer None brief = plain_small BadFrame
+inquired_few t peer (Some text) brief = one_small _ Done [] (omega (arith, brief))
+
+-- the answer to an inquiry over no stream
+pub inquired_small : (t : AdapterTable) (peer : Node) (bytes : List ℕ) → IsShaped t.profile t.values → IsSmall (inquired t peer bytes).0
+unfolding inquired
+inquired_small t peer bytes shaped = inquired_few t peer (inquiry_reply t bytes) (inquiry_reply_few t bytes shaped.faultless)

@@ -1,5 +1,6 @@
 mod Few
 mod Answers
+mod ObjectAnswers
 mod AdapterFrames
 mod AdapterDatagrams
 mod AdapterAnswers

@@ -81,6 +81,13 @@ impl AssemblySet {
         &self.profile
     }
 
+    /// The points, each with the bytes that it holds. Takes no memory.
+    pub fn values(&self) -> &[PointValue]
+        ensures { result.now ≡ self.now.values }
+    {
+        &self.values
+    }
+
     /// The output of an instance.
     ///
     /// Volume 1, chapter 3, connection points.

@@ -17,6 +17,8 @@ pub enum Arrival {
     Cut { stream: u16 },
     /// A peer sent a class 1 datagram.
     Datagram { peer: Node, bytes: Items<u8> },
+    /// A peer sent an encapsulation message over no stream.
+    Inquiry { peer: Node, bytes: Items<u8> },
 }
 
 impl Arrival {
@@ -29,6 +31,7 @@ impl Arrival {
             Arrival::Frame { stream, bytes } => Event::Frame { stream, bytes },
             Arrival::Cut { stream } => Event::StreamCut { stream },
             Arrival::Datagram { peer, bytes } => Event::Datagram { peer, bytes },
+            Arrival::Inquiry { peer, bytes } => Event::Inquiry { peer, bytes },
         }
     }
 }

@@ -29,6 +29,10 @@ impl Event {
                 peer: *peer,
                 bytes: Items::copy_of(alloc, bytes.as_slice())?,
             },
+            Event::Inquiry { peer, bytes } => Event::Inquiry {
+                peer: *peer,
+                bytes: Items::copy_of(alloc, bytes.as_slice())?,
+            },
             Event::Write { point, bytes } => Event::Write {
                 point: *point,
                 bytes: Items::copy_of(alloc, bytes.as_slice())?,

@@ -21,6 +21,8 @@ pub enum Event {
     StreamCut { stream: u16 },
     /// A peer sends a class 1 datagram.
     Datagram { peer: Node, bytes: Items<u8> },
+    /// A peer sends an encapsulation message over no stream, to inquire which device this is.
+    Inquiry { peer: Node, bytes: Items<u8> },
     /// The application sets the value of an input.
     Write { point: u32, bytes: Items<u8> },
     /// The application reads the value of a point.
@@ -40,7 +42,7 @@ pub enum Event {
 pub enum Recipient {
     /// The other end of a stream.
     Stream(u16),
-    /// The peer of the answered request.
+    /// The peer of the answered request or inquiry.
     Peer(Node),
 }
 
@@ -136,6 +138,8 @@ pub enum Notice {
     Refused(u32, Reason),
     /// This slot needs a connection id or a request number, and none is left.
     NoIds(u32),
+    /// A peer requests a reset of this type: 0 is as a power cycle, 1 also restores the settings of the factory.
+    Reset(u8),
 }
 
 /// The answer of a device to an event: frames, datagrams and notices, each in order, and the verdict.

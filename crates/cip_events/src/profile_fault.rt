@@ -29,6 +29,9 @@ pub enum ProfileFault {
     /// The major revision is not in 1 to 127, or the minor one is 0.
     #[error("the revision is out of range")]
     Identity,
+    /// The name has more than 32 bytes, the physical address not six, or the inactivity time-out is above 3,600 s.
+    #[error("the description is out of range")]
+    Description,
 }
 
 impl ProfileFault {
@@ -44,6 +47,7 @@ impl ProfileFault {
             ProfileFault::Length => 5,
             ProfileFault::Timing => 6,
             ProfileFault::Identity => 7,
+            ProfileFault::Description => 8,
         }
     }
 }

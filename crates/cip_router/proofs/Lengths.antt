@@ -5,7 +5,8 @@ use Rattle.cip_types.specs.declared.names.Fault.{Fault}
 use Rattle.cip_fwdopen.specs.declared.reply.Opened.{Opened}
 use Rattle.cip_fwdopen.specs.Reply.{opened_text, refused_text, extended_text, failure_text}
 use Rattle.cip_fwdopen.specs.Close.{closed_text}
-use Rattle.cip_fwdopen.specs.Get.{got_text}
+use Rattle.cip_router.specs.declared.object_service.ObjectService.{ObjectService}
+use Rattle.cip_router.specs.Replies.{object_reply_text}
 
 pub opened_len : (large : Bool) (opened : Opened) → length (opened_text large opened) ≡ 30
 unfolding opened_text
@@ -15,9 +16,9 @@ pub closed_len : (triad : Triad) → length (closed_text triad) ≡ 14
 unfolding closed_text
 closed_len triad = refl
 
-pub got_len : (value : List ℕ) → length (got_text value) ≡ 4 + length value
-unfolding got_text
-got_len value = omega arith
+pub object_reply_len : (service : ObjectService) (value : List ℕ) → length (object_reply_text service value) ≡ 4 + length value
+unfolding object_reply_text
+object_reply_len service value = omega arith
 
 pub refused_len : (service : ℕ) (fault : Fault) (triad : Option Triad) → length (refused_text service fault triad) ≡ 3 + (length (extended_text fault.extended) + length (failure_text triad))
 unfolding refused_text

@@ -14,6 +14,9 @@ status_code status.Service = 0x08
 status_code status.NotEnoughData = 0x13
 status_code status.Attribute = 0x14
 status_code status.TooMuchData = 0x15
+status_code status.NotSettable = 0x0E
+status_code status.StateConflict = 0x10
+status_code status.InvalidParameter = 0x20
 
 -- the message router's refusal
 abbrev pub status_fault : Status → Fault

@@ -1,45 +1,56 @@
 -- Replies to requests, and their bytes (Volume 1, chapter 2, message router reply format, and
--- chapter 3, Connection Manager; appendix A, Get_Attribute_Single).
-use Rattle.std.specs.Prelude.{ℕ, ◌≢◌, ◌≤◌, Bool, Option, List, length}
+-- chapter 3, Connection Manager; appendix A, common services).
+use Rattle.std.specs.Prelude.{ℕ, ◌≢◌, ◌≤◌, Bool, Option, List, ◌∷◌, length}
 use Rattle.cip_types.specs.declared.names.Triad.{Triad}
 use Rattle.cip_types.specs.declared.names.Fault.{Fault}
 use Rattle.cip_fwdopen.specs.declared.reply.Opened.{Opened}
 use Rattle.cip_fwdopen.specs.Services.{is_large_open}
-use Rattle.cip_fwdopen.specs.Reply.{opened_text, refused_text}
+use Rattle.cip_fwdopen.specs.Reply.{reply_service, opened_text, refused_text}
 use Rattle.cip_fwdopen.specs.Close.{closed_text}
-use Rattle.cip_fwdopen.specs.Get.{got_text}
+use Rattle.cip_router.specs.declared.object_service.ObjectService.{ObjectService}
+use Rattle.cip_router.specs.declared.object_service.ObjectService.TheVariants as service
 use Rattle.cip_router.specs.declared.reply.Reply.{Reply}
 use Rattle.cip_router.specs.declared.reply.Reply.TheVariants as reply
+
+-- the code of a service of an object
+abbrev pub object_service_code : ObjectService → ℕ
+object_service_code service.GetAll = 0x01
+object_service_code service.Reset = 0x05
+object_service_code service.GetSingle = 0x0E
+
+-- the reply with the data that answer a service of an object: general status 0
+unfoldable pub object_reply_text : ObjectService → List ℕ → List ℕ
+object_reply_text service value = reply_service (object_service_code service) ∷ 0 ∷ 0 ∷ 0 ∷ value
 
 -- the contents of a reply
 pub data ReplyFields : Type 0 where
   opened : Bool → Opened → ReplyFields
   closed : Triad → ReplyFields
-  got : List ℕ → ReplyFields
+  object_reply : ObjectService → List ℕ → ReplyFields
   refused : ℕ → Fault → Option Triad → ReplyFields
 
 abbrev pub view_reply : Reply → ReplyFields
 view_reply (reply.Opened service o) = opened (is_large_open service) o
 view_reply (reply.Closed triad) = closed triad
-view_reply (reply.Got lent) = got lent.now
+view_reply (reply.Object service lent) = object_reply service lent.now
 view_reply (reply.Refused service fault triad) = refused service fault triad
 
 abbrev pub reply_text : ReplyFields → List ℕ
 reply_text (opened large o) = opened_text large o
 reply_text (closed triad) = closed_text triad
-reply_text (got value) = got_text value
+reply_text (object_reply service value) = object_reply_text service value
 reply_text (refused service fault triad) = refused_text service fault triad
 
 -- a refusal has a general status that is not 0
 abbrev pub HasStatus : ReplyFields → Type 0
 HasStatus (opened large o) = Unit {0}
 HasStatus (closed triad) = Unit {0}
-HasStatus (got value) = Unit {0}
+HasStatus (object_reply service value) = Unit {0}
 HasStatus (refused service fault triad) = fault.general ≢ 0
 
 -- a replied value has at most 1,400 bytes, the limit of a point
 abbrev pub GetsFew : ReplyFields → Type 0
 GetsFew (opened large o) = Unit {0}
 GetsFew (closed triad) = Unit {0}
-GetsFew (got value) = length value ≤ 1400
+GetsFew (object_reply service value) = length value ≤ 1400
 GetsFew (refused service fault triad) = Unit {0}

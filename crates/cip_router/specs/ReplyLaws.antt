@@ -4,12 +4,12 @@ use Rattle.cip_types.specs.declared.names.Fault.{Fault}
 use Rattle.cip_types.specs.declared.names.Triad.{Triad}
 use Rattle.cip_types.specs.Fields.{fields_text}
 use Rattle.cip_fwdopen.specs.Close.{closed_text}
-use Rattle.cip_fwdopen.specs.Get.{got_text}
 use Rattle.cip_fwdopen.specs.declared.reply.Opened.{Opened}
 use Rattle.cip_fwdopen.specs.Reply.{reply_service, extended_text, failure_text, opened_text, refused_text}
 use Rattle.cip_encap.specs.declared.packet.SocketAddress.{SocketAddress}
 use Rattle.cip_encap.specs.Packet.{packet_widths, packet_numbers, socket_count, socket_items, packet_text}
-use Rattle.cip_router.specs.Replies.{ReplyFields, opened, closed, got, refused, reply_text, GetsFew}
+use Rattle.cip_router.specs.declared.object_service.ObjectService.{ObjectService}
+use Rattle.cip_router.specs.Replies.{ReplyFields, opened, closed, object_reply, refused, reply_text, object_reply_text, GetsFew}
 
 -- ---- a reply and its items
 
@@ -26,9 +26,9 @@ short_closed : (triad : Triad) → IsShort (closed_text triad)
 unfolding closed_text
 short_closed triad = record { some = omega arith; few = omega arith }
 
-short_got : (value : List ℕ) → length value ≤ 1400 → IsShort (got_text value)
-unfolding got_text
-short_got value few = record { some = omega arith; few = omega (arith, few) }
+short_object_reply : (service : ObjectService) (value : List ℕ) → length value ≤ 1400 → IsShort (object_reply_text service value)
+unfolding object_reply_text
+short_object_reply service value few = record { some = omega arith; few = omega (arith, few) }
 
 refusal_short : (service general : ℕ) (extended : Option ℕ) (triad : Option Triad) → IsShort (reply_service service ∷ 0 ∷ general ∷ extended_text extended ++ failure_text triad)
 refusal_short service general None None = record { some = omega arith; few = omega arith }
@@ -43,7 +43,7 @@ short_refused service fault triad = refusal_short service fault.general fault.ex
 pub reply_is_short : (reply : ReplyFields) → GetsFew reply → IsShort (reply_text reply)
 reply_is_short (opened large o) few = short_opened large o
 reply_is_short (closed triad) few = short_closed triad
-reply_is_short (got value) few = short_got value few
+reply_is_short (object_reply service value) few = short_object_reply service value few
 reply_is_short (refused service fault triad) few = short_refused service fault triad
 
 -- a reply has bytes for an item

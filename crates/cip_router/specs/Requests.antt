@@ -15,12 +15,12 @@ use Rattle.cip_router.specs.declared.router_request.RouterRequest.{RouterRequest
 use Rattle.cip_router.specs.declared.router_request.RouterRequest.TheVariants as router_request
 
 -- a request: nothing where there is no service, a service that the router refuses, the close of a connection, a
--- service of an assembly instance with an attribute and data, or the opening of a connection
+-- service of another object (its class, instance and attribute, and data), or the opening of a connection
 pub data RouterRequestFields : Type 0 where
   nothing : RouterRequestFields
   refused : ℕ → Status → RouterRequestFields
   closing : CloseFields → RouterRequestFields
-  assembly : ℕ → ℕ → Option ℕ → List ℕ → RouterRequestFields
+  object : ℕ → ℕ → ℕ → Option ℕ → List ℕ → RouterRequestFields
   opening : Bool → OpenFields → RouterRequestFields
 
 -- the contents of a request of the program
@@ -28,7 +28,7 @@ abbrev pub view_router_request : RouterRequest → RouterRequestFields
 view_router_request router_request.Nothing = nothing
 view_router_request (router_request.Refused service why) = refused service why
 view_router_request (router_request.Closing request) = closing (view_close request)
-view_router_request (router_request.Assembly service instance attribute lent) = assembly service instance attribute lent.now
+view_router_request (router_request.Object service class instance attribute lent) = object service class instance attribute lent.now
 view_router_request (router_request.Opening service request) = opening (is_large_open service) (view_open request)
 
 -- the status for unreadable data of a service
@@ -57,11 +57,10 @@ request_to_manager service body = first_case_or (refused service status.Service)
 abbrev pub is_manager : Target → Bool
 is_manager target = target.class == 6 && target.instance == 1
 
--- the assemblies are class 4; nothing else is served
+-- a service of an object: the Connection Manager's own, or those of other objects
 abbrev pub request_to_object : RequestFields → RouterRequestFields
-request_to_object request = first_case_or (refused request.service status.PathDestination) (
+request_to_object request = first_case_or (object request.service request.target.class request.target.instance request.target.attribute request.body) (
     (is_manager request.target, request_to_manager request.service request.body)
-    ∷ (request.target.class == 4, assembly request.service request.target.instance request.target.attribute request.body)
     ∷ [])
 
 abbrev pub router_request_of : ℕ → Result RequestFields ReadFault → RouterRequestFields

@@ -116,6 +116,12 @@ pub enum Status {
     Attribute,
     /// The data of the request are too long.
     TooMuchData,
+    /// The attribute can only be read.
+    NotSettable,
+    /// The device is in a state that forbids the service.
+    StateConflict,
+    /// A parameter of the service has no such value.
+    InvalidParameter,
 }
 
 impl Status {
@@ -130,6 +136,9 @@ impl Status {
             Status::NotEnoughData => 0x13,
             Status::Attribute => 0x14,
             Status::TooMuchData => 0x15,
+            Status::NotSettable => 0x0E,
+            Status::StateConflict => 0x10,
+            Status::InvalidParameter => 0x20,
         }
     }
 

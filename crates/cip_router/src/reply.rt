@@ -2,16 +2,18 @@
 
 ghost use Rattle.std.specs.Prelude.{◌≡◌, ◌++◌, IfOk, OnOk, length};
 ghost use Rattle.cip_fwdopen.specs.Reply.{extended_text, failure_text};
-ghost use Rattle.cip_router.specs.Replies.{view_reply, reply_text, HasStatus};
+ghost use Rattle.cip_router.specs.Replies.{view_reply, reply_text, object_reply_text, HasStatus};
 
+use crate::object_service::ObjectService;
 use cip_fwdopen::{
-    OpenService, Opened, put_closed, put_got, put_opened, put_refused, write_closed, write_got,
-    write_opened, write_refused,
+    OpenService, Opened, put_closed, put_opened, put_refused, write_closed, write_opened,
+    write_refused,
 };
+use cip_types::fields::put_bytes;
 use cip_types::{Fault, OutOfMemory, Triad};
 use std::alloc::Global;
 
-/// A reply of the message router, of its Connection Manager, or of a point.
+/// A reply of the message router, of its Connection Manager, or of another object.
 ///
 /// Volume 1, chapter 2, message router reply, and chapter 3, Connection Manager.
 #[derive(Clone, Copy)]
@@ -20,8 +22,8 @@ pub enum Reply<'a> {
     Opened(OpenService, Opened),
     /// A connection was closed.
     Closed(Triad),
-    /// The value of a point, for a Get_Attribute_Single.
-    Got(&'a [u8]),
+    /// The data that answer a service of an object.
+    Object(ObjectService, &'a [u8]),
     /// A request of this service was refused. A refused connection has its triad.
     Refused(u8, Fault, Option<Triad>),
 }
@@ -46,6 +48,33 @@ fn failure_len(triad: Option<Triad>) -> usize
     }
 }
 
+/// Appends the data that answer a service, behind the reply's service, a reserved byte, general status 0 and no
+/// extended status.
+#[tactic(auto, unfolding(crate::specs::Replies::object_reply_text))]
+fn put_object_reply(
+    out: &mut Vec<u8>,
+    service: ObjectService,
+    value: &[u8],
+) -> Result<(), OutOfMemory>
+    ensures { OnOk result (out.new.items ≡ out.old.items ++ object_reply_text service value.now) }
+{
+    put_bytes(out, &[service.reply_code(), 0, 0, 0])?;
+    put_bytes(out, value)
+}
+
+/// Writes the same.
+fn write_object_reply(
+    alloc: Global,
+    service: ObjectService,
+    value: &[u8],
+) -> Result<Vec<u8>, OutOfMemory>
+    ensures { IfOk result (λ bytes. bytes.items ≡ object_reply_text service value.now) }
+{
+    let mut out = Vec::with_capacity(alloc, 4usize.saturating_add(value.len()))?;
+    put_object_reply(&mut out, service, value)?;
+    Ok(out)
+}
+
 impl Reply<'_> {
     /// The number of bytes of the reply. Takes no memory.
     pub fn len(&self) -> usize
@@ -54,7 +83,7 @@ impl Reply<'_> {
         match self {
             Reply::Opened(_, _) => 30,
             Reply::Closed(_) => 14,
-            Reply::Got(value) => 4 + value.len(),
+            Reply::Object(_, value) => 4 + value.len(),
             Reply::Refused(_, fault, triad) => {
                 3 + extended_len(fault.extended) + failure_len(*triad)
             }
@@ -68,7 +97,7 @@ impl Reply<'_> {
         match self {
             Reply::Opened(service, opened) => put_opened(out, *service, opened),
             Reply::Closed(triad) => put_closed(out, *triad),
-            Reply::Got(value) => put_got(out, value),
+            Reply::Object(service, value) => put_object_reply(out, *service, value),
             Reply::Refused(service, fault, triad) => put_refused(out, *service, *fault, *triad),
         }
     }
@@ -81,7 +110,7 @@ impl Reply<'_> {
         match self {
             Reply::Opened(service, opened) => write_opened(alloc, *service, opened),
             Reply::Closed(triad) => write_closed(alloc, *triad),
-            Reply::Got(value) => write_got(alloc, value),
+            Reply::Object(service, value) => write_object_reply(alloc, *service, value),
             Reply::Refused(service, fault, triad) => write_refused(alloc, *service, *fault, *triad),
         }
     }

@@ -8,7 +8,7 @@ ghost use Rattle.cip_fwdopen.specs.Services.{is_large_open, open_service};
 ghost use Rattle.cip_router.specs.Requests.{router_request_reading, request_to_manager, request_to_open, request_to_close, request_to_object, data_status, view_router_request};
 
 use crate::refusal::Status;
-use cip_epath::class::{ASSEMBLY, CONNECTION_MANAGER};
+use cip_epath::class::CONNECTION_MANAGER;
 use cip_fwdopen::service::FORWARD_CLOSE;
 use cip_fwdopen::{
     CloseRequest, OpenRequest, OpenService, ReadFault, Request, read_close, read_open, read_request,
@@ -25,8 +25,8 @@ pub enum RouterRequest<'a> {
     Refused(u8, Status),
     /// The close of a connection.
     Closing(CloseRequest<&'a [u8]>),
-    /// A service of an assembly instance: the service, the instance, the attribute and the data.
-    Assembly(u8, u32, Option<u32>, &'a [u8]),
+    /// A service of another object: the service, the class, the instance, the attribute and the data.
+    Object(u8, u32, u32, Option<u32>, &'a [u8]),
     /// The opening of a connection, by this service.
     Opening(OpenService, OpenRequest<&'a [u8]>),
 }
@@ -81,23 +81,20 @@ fn request_to_object<'a>(request: Request<'a>) -> RouterRequest<'a>
     if target.class == CONNECTION_MANAGER && target.instance == 1 {
         return request_to_manager(request.service, request.body);
     }
-    if target.class == ASSEMBLY {
-        return RouterRequest::Assembly(
-            request.service,
-            target.instance,
-            target.attribute,
-            request.body,
-        );
-    }
-    RouterRequest::Refused(request.service, Status::PathDestination)
+    RouterRequest::Object(
+        request.service,
+        target.class,
+        target.instance,
+        target.attribute,
+        request.body,
+    )
 }
 
 /// Reads a request. Takes no memory.
 ///
 /// The router refuses, in this order: bytes that end within the request path (status 0x13), a path that
-/// is no class and instance (0x04), another object than the Connection Manager and the assemblies (0x05),
-/// another service of the Connection Manager than its opens and its close (0x08), their data too short
-/// (0x13) or too long (0x15).
+/// is no class and instance (0x04), another service of the Connection Manager than its opens and its close (0x08),
+/// their data too short (0x13) or too long (0x15). The device judges a request to another object.
 #[tactic(auto, unfolding(crate::specs::Requests::router_request_reading))]
 pub fn read_router_request(bytes: &[u8]) -> RouterRequest<'_>
     ensures { view_router_request result ≡ router_request_reading bytes.now }

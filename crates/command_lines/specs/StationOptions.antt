@@ -72,6 +72,7 @@ option_meanings =
     ∷ (codes "--serial", Some (name.Valued setting.Serial))
     ∷ (codes "--name", Some (name.Valued setting.Name))
     ∷ (codes "--multicast", Some (name.Alone flag.Multicast))
+    ∷ (codes "--item-ports", Some (name.Alone flag.ItemPorts))
     ∷ (codes "--no-input", Some (name.Alone flag.NoInput))
     ∷ (codes "--quiet", Some (name.Alone flag.Quiet))
     ∷ (codes "--page", Some (name.Valued setting.Page))
@@ -89,11 +90,12 @@ option_of word = meaning option_meanings None word
 
 -- the usual values
 abbrev pub usual : Options
-usual = record { address = None; tcp = 44818; udp = 2222; peer_udp = 2222; seconds = None; record_from_end = None; state_from_end = None; incarnation = None; inactivity_s = 120; serial = None; name_from_end = None; multicast = false; no_input = false; quiet = false; page = None; page_address = None; page_writes = false; lose = 0; repeat = 0; reorder = 0; delay_ms = 0; seed = 0 }
+usual = record { address = None; tcp = None; udp = 2222; peer_udp = 2222; seconds = None; record_from_end = None; state_from_end = None; incarnation = None; inactivity_s = None; serial = None; name_from_end = None; multicast = false; item_ports = false; no_input = false; quiet = false; page = None; page_address = None; page_writes = false; lose = 0; repeat = 0; reorder = 0; delay_ms = 0; seed = 0 }
 
 -- one that has no value
 abbrev pub with_flag : Options → Flag → Options
 with_flag options flag.Multicast = record options { multicast = true }
+with_flag options flag.ItemPorts = record options { item_ports = true }
 with_flag options flag.NoInput = record options { no_input = true }
 with_flag options flag.Quiet = record options { quiet = true }
 with_flag options flag.PageWrites = record options { page_writes = true }
@@ -112,7 +114,7 @@ with_address_word options given left (Some address) = Ok (with_address options g
 abbrev pub with_number : Options → Setting → List ℕ → Option Options
 with_number options setting.Seconds word = option_map (λ seconds. record options { seconds = Some seconds }) (seconds_of word)
 with_number options setting.Incarnation word = option_map (λ incarnation. record options { incarnation = Some incarnation }) (incarnation_of word)
-with_number options setting.Inactivity word = option_map (λ seconds. record options { inactivity_s = seconds }) (inactivity_of word)
+with_number options setting.Inactivity word = option_map (λ seconds. record options { inactivity_s = Some seconds }) (inactivity_of word)
 with_number options setting.Serial word = option_map (λ serial. record options { serial = Some serial }) (serial_of word)
 with_number options setting.Delay word = option_map (λ ms. record options { delay_ms = ms }) (delay_of word)
 with_number options setting.Seed word = option_map (λ seed. record options { seed = seed }) (seed_of word)
@@ -145,7 +147,7 @@ with_percent_word options given left (Some percent) = Ok (with_percent options g
 
 -- a port for one of the options that are ports
 abbrev pub with_port : Options → Setting → ℕ → Options
-with_port options setting.Tcp port = record options { tcp = port }
+with_port options setting.Tcp port = record options { tcp = Some port }
 with_port options setting.Udp port = record options { udp = port }
 with_port options setting.PeerUdp port = record options { peer_udp = port }
 with_port options setting.Page port = record options { page = Some port }

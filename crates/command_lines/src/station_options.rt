@@ -8,14 +8,9 @@ use crate::station_numbers::{
     serial_of,
 };
 use cip_types::Node;
-use cip_types::limits::{TCP_PORT, UDP_PORT};
+use cip_types::limits::UDP_PORT;
 use std::convert::AsStr;
 use thiserror::Error;
-
-/// The seconds for which an adapter's stream may be silent, if no option says it.
-///
-/// Volume 2, chapter 5, encapsulation inactivity timeout of the TCP/IP Interface object.
-const USUAL_INACTIVITY_S: u16 = 120;
 
 /// The longest name of a station, in bytes.
 const LONGEST_NAME: usize = 32;
@@ -25,8 +20,9 @@ const LONGEST_NAME: usize = 32;
 pub struct Options {
     /// The address of the sockets; the profile's if it is left out.
     pub address: Option<Node>,
-    /// An adapter's TCP port, or that of a scanner's targets.
-    pub tcp: u16,
+    /// An adapter's TCP port, or that of a scanner's targets. If it is left out: the one of the profile's description, or the
+    /// standard's.
+    pub tcp: Option<u16>,
     /// The station's UDP port.
     pub udp: u16,
     /// The UDP port of the station's peers.
@@ -39,14 +35,17 @@ pub struct Options {
     pub state_from_end: Option<usize>,
     /// The incarnation of this start.
     pub incarnation: Option<u8>,
-    /// The seconds for which an adapter's stream may be silent; 0: without end.
-    pub inactivity_s: u16,
+    /// The seconds for which an adapter's stream may be silent; 0: without end. If it is left out: those of the profile's
+    /// description, or the standard's.
+    pub inactivity_s: Option<u16>,
     /// The station's serial number.
     pub serial: Option<u32>,
     /// The number of words from the station's name on.
     pub name_from_end: Option<usize>,
     /// Whether T->O datagrams go once to the address of their group.
     pub multicast: bool,
+    /// Whether the port that a socket address item names is named and honoured.
+    pub item_ports: bool,
     /// Whether the standard input is not read.
     pub no_input: bool,
     /// Whether only faults are reported.
@@ -96,6 +95,7 @@ pub enum Setting {
 #[derive(Clone, Copy, PartialEq, Eq)]
 pub enum Flag {
     Multicast,
+    ItemPorts,
     NoInput,
     Quiet,
     PageWrites,
@@ -151,17 +151,18 @@ fn usual() -> Options
 {
     Options {
         address: None,
-        tcp: TCP_PORT,
+        tcp: None,
         udp: UDP_PORT,
         peer_udp: UDP_PORT,
         seconds: None,
         record_from_end: None,
         state_from_end: None,
         incarnation: None,
-        inactivity_s: USUAL_INACTIVITY_S,
+        inactivity_s: None,
         serial: None,
         name_from_end: None,
         multicast: false,
+        item_ports: false,
         no_input: false,
         quiet: false,
         page: None,
@@ -193,6 +194,7 @@ fn option_of(word: &str) -> Option<OptionName>
         "--serial" => Some(OptionName::Valued(Setting::Serial)),
         "--name" => Some(OptionName::Valued(Setting::Name)),
         "--multicast" => Some(OptionName::Alone(Flag::Multicast)),
+        "--item-ports" => Some(OptionName::Alone(Flag::ItemPorts)),
         "--no-input" => Some(OptionName::Alone(Flag::NoInput)),
         "--quiet" => Some(OptionName::Alone(Flag::Quiet)),
         "--page" => Some(OptionName::Valued(Setting::Page)),
@@ -259,6 +261,10 @@ fn with_flag(options: Options, flag: Flag) -> Options
     match flag {
         Flag::Multicast => Options {
             multicast: true,
+            ..options
+        },
+        Flag::ItemPorts => Options {
+            item_ports: true,
             ..options
         },
         Flag::NoInput => Options {
@@ -373,7 +379,7 @@ fn with_number(options: Options, setting: Setting, word: &str) -> Option<Options
             ..options
         }),
         Setting::Inactivity => Some(Options {
-            inactivity_s: inactivity_of(word)?,
+            inactivity_s: Some(inactivity_of(word)?),
             ..options
         }),
         Setting::Serial => Some(Options {
@@ -419,7 +425,7 @@ fn with_port(options: Options, setting: Setting, port: u16) -> Options
 {
     match setting {
         Setting::Tcp => Options {
-            tcp: port,
+            tcp: Some(port),
             ..options
         },
         Setting::Udp => Options {

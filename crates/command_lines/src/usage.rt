@@ -25,7 +25,7 @@ usage: eip_station adapter PROFILE [options]
 PROFILE is a file with the profile's lines of a trace (docs/PROFILE.md, section 14).
 options:
   --address A    the IPv4 address of the sockets (the profile's if it is left out)
-  --tcp PORT     the adapter's TCP port, or that of the scanner's targets (44818 if it is left out)
+  --tcp PORT     the adapter's TCP port, or that of the scanner's targets (the profile's or 44818 if it is left out)
   --udp PORT     the station's UDP port (2222 if it is left out)
   --peer-udp PORT  the UDP port of its peers (2222 if it is left out)
   --seconds N    the station ends after N seconds
@@ -33,10 +33,12 @@ options:
                  eip_station replay FILE FILE.2 .. replays it
   --state FILE   counts the starts there, so that no id of an earlier start is used again (PROFILE.state if it is left out)
   --incarnation N  the incarnation of this start, 1 to 255, in place of counting
-  --inactivity S an adapter's stream over which no message comes for S seconds ends (120 if it is left out, 0: none)
-  --serial N     the serial number (the one that was drawn once and stands in the state file if it is left out)
-  --name TEXT    the product name, at most 32 bytes (the profile's file name if it is left out)
+  --inactivity S an adapter's stream over which no message comes for S seconds ends (the profile's or 120 if it is left out, 0: none)
+  --serial N     the serial number (the profile's, or the one that was drawn once and stands in the state file)
+  --name TEXT    the product name, at most 32 bytes (the profile's, or the name of its file, if it is left out)
   --multicast    a datagram of a multicast connection is sent once, to the address of its group
+  --item-ports   several scanners run on one address: a scanner names its UDP port as it opens a connection, and an adapter sends
+                 the inputs there (2222 if it is left out); give it to all of them, and each scanner an incarnation of its own
   --lose PERCENT   so many of the datagrams that arrive are lost, to test a peer (0 if it is left out)
   --repeat PERCENT  so many arrive twice
   --reorder PERCENT  so many are overtaken by the next one

@@ -4,11 +4,12 @@ use crate::changes::{produces_at_once, sent_on_change, write_and_change_rows, wr
 use crate::deliveries::{accept_rows, find_target};
 use crate::expiries::{expire_rows, tick_plan};
 use crate::first_due::first_due;
+use crate::io::io_state;
 use crate::productions::{produce_rows, sent_when_due};
 use crate::rows::{append_row, copied, find_row, remove_triad, replaced};
 use crate::support::{dropped_with, remove_each};
 use crate::table::{ConnectionTable, ReceivedDatagram, TickPlan};
-use adapter_table::{Profile, Row, consumes, drives, has_expired, is_due, judge};
+use adapter_table::{IoState, Profile, Row, consumes, drives, has_expired, is_due, judge};
 use app_rules::{ConnectionsView, ListView};
 use assembly_set::AssemblySet;
 use cip_datagram::Datagram;
@@ -83,6 +84,10 @@ impl ConnectionTable for ConnectionList {
             .iter()
             .filter(|row| consumes(row, kind, point))
             .count()
+    }
+
+    fn io_state(&self) -> IoState {
+        io_state(&self.0)
     }
 
     fn find(&self, triad: Triad) -> Option<Row> {

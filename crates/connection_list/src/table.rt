@@ -6,6 +6,7 @@ ghost use Rattle.cip_datagram.specs.Datagram.{view_datagram};
 ghost use Rattle.cip_productions.specs.Productions.{sent};
 ghost use Rattle.adapter_table.specs.Rows.{has_triad, drives, written_row, others};
 ghost use Rattle.adapter_table.specs.States.{count_consuming};
+ghost use Rattle.adapter_table.specs.Objects.{io_state_of};
 ghost use Rattle.adapter_table.specs.Opening.{is_replaced, replaced_triad, triad_of};
 ghost use Rattle.adapter_table.specs.Closing.{without_triad, staying, unsupported};
 ghost use Rattle.adapter_table.specs.Datagrams.{is_for};
@@ -15,7 +16,7 @@ ghost use Rattle.cip_tables.specs.Wakes.{connections_due};
 ghost use Rattle.connection_list.specs.Tables.{AreWhole, IsTickPlan, advanced_rows};
 ghost use Rattle.connection_list.specs.Receiving.{IsReceived, receiving};
 
-use adapter_table::{Judgement, Profile, Row};
+use adapter_table::{IoState, Judgement, Profile, Row};
 use app_rules::ConnectionsView;
 use assembly_set::AssemblySet;
 use cip_datagram::Datagram;
@@ -78,6 +79,12 @@ pub trait ConnectionTable: ConnectionsView + Drop {
     /// How many established connections of a kind consume an input. Takes no memory.
     fn count_consuming(&self, kind: Kind, point: u32) -> usize
         ensures { result ≡ count_consuming (Self.rows self.now) kind point };
+
+    /// What the connections tell of the device. Takes no memory.
+    ///
+    /// Volume 1, chapter 5, Identity object, attribute 5.
+    fn io_state(&self) -> IoState
+        ensures { result ≡ io_state_of (Self.rows self.now) };
 
     // OPENING AND CLOSING
 

@@ -22,7 +22,8 @@ use Rattle.adapter_table.specs.declared.table.AdapterTable.{AdapterTable}
 use Rattle.adapter_table.specs.declared.table.Stream.{Stream}
 use Rattle.adapter_table.specs.Requests.{Next}
 use Rattle.adapter_table.specs.Streams.{is_stream}
-use Rattle.adapter_table.specs.Encapsulation.{refusal, handled, reply_frames, framed, frame_answer, frame_of, frame}
+use Rattle.adapter_table.specs.Encapsulation.{refusal, handled, reply_frames, framed, frame_answer, stream_answer, frame_of, frame}
+use Rattle.adapter_table.specs.Inquiries.{inquiry_reply, inquired_by, inquired}
 use Rattle.adapter_table.specs.Sound.{IdsAreDrawn}
 use Rattle.adapter_table.specs.Step.{adapter_step}
 use Rattle.answer_sizes.specs.Sizes.{IsShortFrame, IsSmall}
@@ -45,7 +46,8 @@ use Rattle.cip_tables.specs.Step.{as_adapter, step}
 use Rattle.device_laws.specs.Frames.{SuccessesAre, IsNoOpening}
 use Rattle.device_laws.specs.Replies.{IsSuccessOf, IsReplyTo, IsAnswerTo, RepliesCarryOpenedIds}
 use Rattle.device_laws.specs.Lemmas.ReplyTexts.{MessageBack, message_back, context_fits}
-use Rattle.device_laws.proofs.Framing.{ReplyHas, handled_has, reply_frame_says, frame_says, PacketSays, none_packet}
+use Rattle.device_laws.proofs.Framing.{ReplyHas, handled_has, reply_frame_says, frame_says, PacketSays, none_packet, plain_says, plain_context}
+use Rattle.device_laws.specs.Lemmas.InquiryTexts.{IsPlainText, inquiry_plain}
 use Rattle.adapter_table.specs.Lemmas.PlainLemmas.{plain_holds}
 
 abbrev NextReplies : AdapterTable → ℕ → List ℕ → Next → Type 0
@@ -83,11 +85,17 @@ found_number number (x ∷ streams) s is = step (is_stream number x) refl is (fo
   step true passes found more = ap (λ (y : Stream). y.number) (sym (same_stream x s found)) ∙ eqb-true x.number number passes
   step false passes found more = more found
 
-frame_of_replies : ItemsReadBack → (t : AdapterTable) (number : ℕ) (bytes : List ℕ) (found : Option Stream) → find (is_stream number) t.streams ≡ found → IdsAreDrawn t.profile t.next_id t.rows → IfOk (frame_of t bytes found) (NextReplies t number bytes)
+stream_replies : ItemsReadBack → (t : AdapterTable) (stream : Stream) (bytes : List ℕ) (reply : Option (List ℕ)) → IfSome reply IsPlainText → IdsAreDrawn t.profile t.next_id t.rows → NextReplies t stream.number bytes (stream_answer t stream bytes reply)
 unfolding frame_reading
+stream_replies back t stream bytes None plain drawn = message_answer back t stream bytes _ (message_reading bytes) refl drawn
+stream_replies back t stream bytes (Some text) plain drawn = λ small.
+    let says = plain_says (IsSuccessOf t t bytes) text plain in
+    (record { to = refl; successes = says.0; opens_nothing = says.1; context = plain_context text plain }, tt)
+
+frame_of_replies : ItemsReadBack → (t : AdapterTable) (number : ℕ) (bytes : List ℕ) (found : Option Stream) → find (is_stream number) t.streams ≡ found → IdsAreDrawn t.profile t.next_id t.rows → IfOk (frame_of t bytes found) (NextReplies t number bytes)
 frame_of_replies back t number bytes None is drawn = tt
 frame_of_replies back t number bytes (Some stream) is drawn =
-    subst (λ (n : ℕ). NextReplies t n bytes (frame_answer t stream (frame_reading bytes))) (found_number number t.streams stream is) (message_answer back t stream bytes _ (message_reading bytes) refl drawn)
+    subst (λ (n : ℕ). NextReplies t n bytes (stream_answer t stream bytes (inquiry_reply t bytes))) (found_number number t.streams stream is) (stream_replies back t stream bytes (inquiry_reply t bytes) (inquiry_plain t bytes) drawn)
 
 frame_replies : ItemsReadBack → (t : AdapterTable) (number : ℕ) (bytes : List ℕ) → IdsAreDrawn t.profile t.next_id t.rows → IfOk (adapter_step t (event.Frame number bytes)) (NextReplies t number bytes)
 unfolding frame
@@ -102,6 +110,12 @@ requested_answers : (t : AdapterTable) (peer : Node) (bytes : List ℕ) (s : Opt
 requested_answers t peer bytes None = λ small. tt
 requested_answers t peer bytes (Some s) = λ small. (refl, tt)
 
+inquired_answers : (t : AdapterTable) (peer : Node) (bytes : List ℕ) (reply : Option (List ℕ)) → IfSome reply IsPlainText → OkAnswers t (event.Inquiry peer bytes) (Ok (inquired_by t peer reply))
+inquired_answers t peer bytes None plain = λ small. tt
+inquired_answers t peer bytes (Some text) plain = λ small.
+    let says = plain_says (λ context opened. ⊥) text plain in
+    (record { to = refl; successes = says.0; opens_nothing = says.1; context = plain_context text plain }, tt)
+
 write_answers : (t : AdapterTable) (point : ℕ) (bytes : List ℕ) (found : Option InputPoint) → OkAnswers t (event.Write point bytes) (write_of t point bytes found)
 write_answers t point bytes None = tt
 write_answers t point bytes (Some input) =
@@ -114,9 +128,10 @@ tick_answers t ms =
     (either (OkAnswers t (event.Tick ms)) (nat_lt clock_end (t.clock.0 + ms)) (Err ClockEnd) (Ok (advanced (clocked_table t ms))) tt (λ small. tt))
 
 step_answers : ItemsReadBack → (t : AdapterTable) (happens : Event) → IdsAreDrawn t.profile t.next_id t.rows → OkAnswers t happens (adapter_step t happens)
-unfolding requested write
+unfolding requested inquired write
 step_answers back t (event.Request peer bytes) drawn = requested_answers t peer bytes (served t peer (router_request_reading bytes))
 step_answers back t (event.Frame number bytes) drawn = frame_replies back t number bytes drawn
+step_answers back t (event.Inquiry peer bytes) drawn = inquired_answers t peer bytes (inquiry_reply t bytes) (inquiry_plain t bytes)
 step_answers back t (event.Write point bytes) drawn = write_answers t point bytes (find (is_at point) t.profile.inputs)
 step_answers back t (event.Tick ms) drawn = tick_answers t ms
 step_answers back t other drawn = plain_holds (OkAnswers t other) t (λ why. tt) (λ verdict u small. tt) other refl

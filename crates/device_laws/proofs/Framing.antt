@@ -19,7 +19,7 @@ use Rattle.cip_router.specs.declared.command.Command.TheVariants as command
 use Rattle.cip_router.specs.declared.command.EncapStatus.TheVariants as encap
 use Rattle.cip_router.specs.Frames.{RequestHeader, request_header_of, FrameReply, services, registered, other_version, router_reply, services_text, protocol_text, socket_of, reply_message}
 use Rattle.cip_router.specs.Frames as frames
-use Rattle.cip_router.specs.Replies.{ReplyFields, opened, closed, got, reply_text}
+use Rattle.cip_router.specs.Replies.{ReplyFields, opened, closed, object_reply, reply_text}
 use Rattle.cip_router.specs.Replies as replies
 use Rattle.adapter_table.specs.declared.table.AdapterTable.{AdapterTable}
 use Rattle.adapter_table.specs.declared.table.Stream.{Stream}
@@ -28,12 +28,13 @@ use Rattle.adapter_table.specs.Streams.{has_session}
 use Rattle.adapter_table.specs.Encapsulation.{Handled, refusal, unanswered, session_begun, session_ended, register_session, request_replied, packet_replied, handled}
 use Rattle.adapter_table.specs.Sound.{IdsAreDrawn}
 use Rattle.scanner_table.specs.Replies.{packet_answer, open_answer}
-use Rattle.device_laws.specs.Lemmas.AdapterIds.{few_bytes, plain_protocol, plain_services, plain_none, some_bytes}
+use Rattle.device_laws.specs.Lemmas.AdapterIds.{few_bytes, plain_protocol, plain_none, some_bytes}
+use Rattle.device_laws.specs.Lemmas.InquiryTexts.{IsPlainText, plain_services}
 use Rattle.device_laws.specs.Lemmas.Texts.{either}
 use Rattle.std.specs.Int.{w64}
-use Rattle.device_laws.specs.Frames.{again, SuccessIs, SuccessesAre, OpensNothing, IsNoOpening}
+use Rattle.device_laws.specs.Frames.{again, SuccessIs, SuccessesAre, OpensNothing, IsNoOpening, ContextFits}
 use Rattle.device_laws.specs.Replies.{IsSuccessOf}
-use Rattle.device_laws.specs.Lemmas.ReplyTexts.{PayloadSays, ReplyHolds, reply_says, MessageBack, message_back}
+use Rattle.device_laws.specs.Lemmas.ReplyTexts.{PayloadSays, ReplyHolds, reply_says, MessageBack, message_back, context_fits}
 use Rattle.device_laws.specs.Lemmas.Serving.{IsOfRow, ServedHas, served_has}
 
 -- ---- what becomes of a message
@@ -76,7 +77,7 @@ handled_has t stream echo body command.Other drawn = tt
 reply_weaker : (P Q : Opened → Type 0) → ((o : Opened) → P o → Q o) → (reply : ReplyFields) → ReplyHolds P reply → ReplyHolds Q reply
 reply_weaker P Q more (opened large o) holds = λ read ids. more read (holds read ids)
 reply_weaker P Q more (closed triad) holds = tt
-reply_weaker P Q more (got value) holds = tt
+reply_weaker P Q more (object_reply by value) holds = tt
 reply_weaker P Q more (replies.refused service fault triad) holds = holds
 
 -- what items are that read so
@@ -130,3 +131,12 @@ frame_says Q bytes says = (λ m is large. message_success (Q m.context) m large 
 pub reply_frame_says : ItemsReadBack → (t next : AdapterTable) (bytes : List ℕ) (request : MessageFields) (reply : FrameReply) → message_reading bytes ≡ Ok request → ReplyHas t next reply → length (message_text (reply_message (request_header_of request) reply)) ≤ 2048 → SuccessesAre (IsSuccessOf t next bytes) (message_text (reply_message (request_header_of request) reply)) × IsNoOpening (message_text (reply_message (request_header_of request) reply))
 reply_frame_says back t next bytes request reply reads says short =
     frame_says (IsSuccessOf t next bytes) (message_text (reply_message (request_header_of request) reply)) (reply_says_so back t next bytes request reply reads says short)
+
+-- the reply to an inquiry has no success and no request
+pub plain_says : (Q : ℕ → Opened → Type 0) (text : List ℕ) → IsPlainText text → SuccessesAre Q text × IsNoOpening text
+plain_says Q text plain = frame_says Q text (λ m is.
+    let same : MessageBack plain.message m = message_back plain.message m (ap message_reading (sym plain.is) ∙ is) in
+    subst (λ (payload : List ℕ). PacketSays (Q m.context) (packet_reading payload)) (sym same.payload) (none_packet (Q m.context) plain.message.payload plain.bad))
+
+pub plain_context : (text : List ℕ) → IsPlainText text → ContextFits text
+plain_context text plain = subst ContextFits (sym plain.is) (context_fits plain.message)

@@ -12,8 +12,8 @@ use Rattle.cip_encap.specs.Packet.{PacketFields}
 use Rattle.cip_encap.specs.PacketReading.{packet_reading}
 use Rattle.cip_epath.specs.Reading.{path_reading}
 use Rattle.cip_events.specs.declared.event.Event.{Event}
-use Rattle.cip_events.specs.declared.event.Event.TheVariants.{Request, StreamOpened, Frame, StreamCut, Datagram, Write, Tick}
-use Rattle.cip_events.specs.declared.event.Notice.TheVariants.{StreamClosed}
+use Rattle.cip_events.specs.declared.event.Event.TheVariants.{Request, StreamOpened, Frame, StreamCut, Datagram, Inquiry, Write, Tick}
+use Rattle.cip_events.specs.declared.event.Notice.TheVariants.{StreamClosed, Reset}
 use Rattle.cip_events.specs.declared.event.StepFault.{StepFault}
 use Rattle.cip_events.specs.declared.event.StepFault.TheVariants.{NotAllowedNow, TickTooLong, ClockEnd, WrongLength}
 use Rattle.cip_events.specs.declared.event.Verdict.TheVariants.{Done}
@@ -26,7 +26,7 @@ use Rattle.cip_router.specs.declared.command.Command.TheVariants as command
 use Rattle.cip_router.specs.declared.command.EncapStatus.TheVariants as encap
 use Rattle.cip_router.specs.declared.refusal.Refusal.{Refusal}
 use Rattle.cip_router.specs.declared.refusal.Refusal.TheVariants.{InUse}
-use Rattle.cip_router.specs.Requests.{RouterRequestFields, nothing, refused, closing, assembly, opening, router_request_reading}
+use Rattle.cip_router.specs.Requests.{RouterRequestFields, nothing, refused, closing, object, opening, router_request_reading}
 use Rattle.cip_router.specs.Commands.{command_of, is_silent}
 use Rattle.cip_router.specs.Frames.{RequestHeader, FrameFields, without_header, wrong_length, whole, frame_reading, protocol_text}
 use Rattle.adapter_table.specs.declared.profile.InputPoint.{InputPoint}
@@ -34,13 +34,14 @@ use Rattle.adapter_table.specs.Connections.{Row}
 use Rattle.adapter_table.specs.declared.table.AdapterTable.{AdapterTable}
 use Rattle.adapter_table.specs.declared.table.Stream.{Stream}
 use Rattle.adapter_table.specs.Profiles.{is_at}
-use Rattle.adapter_table.specs.Points.{bytes_at}
+use Rattle.adapter_table.specs.Objects.{ObjectAnswer, said, denied, resetting, object_answer}
+use Rattle.adapter_table.specs.Inquiries.{inquiry_reply, inquired_by, inquired}
 use Rattle.adapter_table.specs.Rows.{has_triad, holds_triad}
 use Rattle.adapter_table.specs.Checks.{Check, check, first_of, segment_check, points_of, Points, judged, view_of, verdict, Admitted, admission}
 use Rattle.adapter_table.specs.Opening.{opened_row, opened_table, opened_notices}
-use Rattle.adapter_table.specs.Requests.{Next, Served, judged_open, admitted_open, served_open, close_of, served_close, is_value_attribute, assembly_of, served_assembly, served, answered, requested}
+use Rattle.adapter_table.specs.Requests.{Next, Served, judged_open, admitted_open, served_open, close_of, served_close, object_served, served_object, served, answered, requested}
 use Rattle.adapter_table.specs.Streams.{is_stream, is_taken, with_stream, without_stream, has_session, registered_table, stream_opened, cut_of, stream_cut}
-use Rattle.adapter_table.specs.Encapsulation.{Handled, refusal, unanswered, session_begun, session_ended, register_session, request_replied, packet_replied, handled, frame_answer, frame_of, frame}
+use Rattle.adapter_table.specs.Encapsulation.{Handled, refusal, unanswered, session_begun, session_ended, register_session, request_replied, packet_replied, handled, frame_answer, stream_answer, frame_of, frame}
 use Rattle.adapter_table.specs.Datagrams.{is_for, row_delivery, accepted_table, delivered, found_datagram, datagram_of, received}
 use Rattle.adapter_table.specs.Ticks.{clocked_table, advanced, tick}
 use Rattle.adapter_table.specs.Step.{adapter_step, write, write_of, written, written_table}
@@ -93,13 +94,10 @@ keeps_close : (point : ℕ) (t : AdapterTable) (request : CloseFields) (found : 
 keeps_close point t request None = unchanged point t []
 keeps_close point t request (Some row) = keeps_closed point t row
 
-keeps_assembly : (point : ℕ) (t : AdapterTable) (service : ℕ) (attribute : Option ℕ) (body : List ℕ) (found : Option (List ℕ)) → ServedKeeps point t (assembly_of t service attribute body found)
-keeps_assembly point t service attribute body None = unchanged point t []
-keeps_assembly point t service attribute body (Some value) =
-    let same = unchanged point t [] in
-    either (ServedKeeps point t) (not (service == 0x0E)) _ _ same
-    (either (ServedKeeps point t) (not (is_value_attribute attribute)) _ _ same
-    (either (ServedKeeps point t) (not (length body == 0)) _ _ same same))
+keeps_object : (point : ℕ) (t : AdapterTable) (service : ℕ) (answer : ObjectAnswer) → ServedKeeps point t (object_served t service answer)
+keeps_object point t service (said by value) = unchanged point t []
+keeps_object point t service (denied why) = unchanged point t []
+keeps_object point t service (resetting kind) = unchanged point t (Reset kind ∷ [])
 
 -- the same of what is served, if something is
 abbrev AnyKeeps : ℕ → AdapterTable → Option Served → Type 0
@@ -107,11 +105,11 @@ AnyKeeps point t None = Unit {0}
 AnyKeeps point t (Some s) = ServedKeeps point t s
 
 keeps_served : (point : ℕ) (t : AdapterTable) → OpeningsKeep point t → (peer : Node) (request : RouterRequestFields) → AnyKeeps point t (served t peer request)
-unfolding served_open served_close served_assembly
+unfolding served_open served_close served_object
 keeps_served point t opens peer nothing = tt
 keeps_served point t opens peer (refused service why) = unchanged point t []
 keeps_served point t opens peer (closing request) = keeps_close point t request (find (has_triad request.triad) t.rows)
-keeps_served point t opens peer (assembly service instance attribute body) = keeps_assembly point t service attribute body (bytes_at t.values instance)
+keeps_served point t opens peer (object service class instance attribute body) = keeps_object point t service (object_answer t service class instance attribute body)
 keeps_served point t opens peer (opening large request) = keeps_judged point t opens peer large request (admission t request) refl
 
 -- an answer and the next table keep the owner
@@ -177,9 +175,17 @@ abbrev OkKeeps : ℕ → AdapterTable → Result Next StepFault → Type 0
 OkKeeps point t (Ok next) = NextKeeps point t next
 OkKeeps point t (Err fault) = Unit {0}
 
+keeps_stream : (point : ℕ) (t : AdapterTable) → OpeningsKeep point t → (stream : Stream) (bytes : List ℕ) (reply : Option (List ℕ)) → NextKeeps point t (stream_answer t stream bytes reply)
+keeps_stream point t opens stream bytes None = keeps_frame point t opens stream (frame_reading bytes)
+keeps_stream point t opens stream bytes (Some text) = unchanged point t []
+
+keeps_inquired : (point : ℕ) (t : AdapterTable) (peer : Node) (reply : Option (List ℕ)) → NextKeeps point t (inquired_by t peer reply)
+keeps_inquired point t peer None = unchanged point t []
+keeps_inquired point t peer (Some text) = unchanged point t []
+
 ok_framed : (point : ℕ) (t : AdapterTable) → OpeningsKeep point t → (bytes : List ℕ) (found : Option Stream) → OkKeeps point t (frame_of t bytes found)
 ok_framed point t opens bytes None = tt
-ok_framed point t opens bytes (Some stream) = keeps_frame point t opens stream (frame_reading bytes)
+ok_framed point t opens bytes (Some stream) = keeps_stream point t opens stream bytes (inquiry_reply t bytes)
 
 ok_cut : (point : ℕ) (t : AdapterTable) (found : Option Stream) → OkKeeps point t (cut_of t found)
 unfolding without_stream
@@ -198,13 +204,14 @@ ok_ticked point t ms =
     (either (OkKeeps point t) (nat_lt clock_end (t.clock.0 + ms)) (Err ClockEnd) (Ok (advanced (clocked_table t ms))) tt (keeps_advanced point t ms))
 
 ok_step : (point : ℕ) (t : AdapterTable) → OpeningsKeep point t → (event : Event) → OkKeeps point t (adapter_step t event)
-unfolding requested received write frame stream_cut stream_opened with_stream
+unfolding requested received inquired write frame stream_cut stream_opened with_stream
 ok_step point t opens (Request peer bytes) = keeps_answered point t peer (served t peer (router_request_reading bytes)) (keeps_served point t opens peer (router_request_reading bytes))
 ok_step point t opens (StreamOpened number peer) =
     either (OkKeeps point t) (is_taken t.streams number) (Err NotAllowedNow) (Ok (plain_answer Done, with_stream t number peer)) tt (unchanged point t [])
 ok_step point t opens (Frame number bytes) = ok_framed point t opens bytes (find (is_stream number) t.streams)
 ok_step point t opens (StreamCut number) = ok_cut point t (find (is_stream number) t.streams)
 ok_step point t opens (Datagram peer bytes) = keeps_datagram point t peer (datagram_reading bytes)
+ok_step point t opens (Inquiry peer bytes) = keeps_inquired point t peer (inquiry_reply t bytes)
 ok_step point t opens (Write input bytes) = ok_written point t input bytes (find (is_at input) t.profile.inputs)
 ok_step point t opens (Tick ms) = ok_ticked point t ms
 ok_step point t opens other = passive_holds (OkKeeps point t) t (λ why. tt) (λ verdict. unchanged point t []) other refl

@@ -154,6 +154,7 @@ answer_goes t next (event.Frame number bytes) answer said frame is = λ n to.
     let same : n ≡ number = same_number n number (sym to ∙ is.to) in
     let there : list_any (adapter_streams.is_stream n) t.streams ≡ true = ap (λ (m : ℕ). list_any (adapter_streams.is_stream m) t.streams) same ∙ came_over t number bytes (answer, next) said in
     rw there refl
+answer_goes t next (event.Inquiry peer bytes) answer said frame is = λ number to. never_peer peer number (sym is.to ∙ to)
 answer_goes t next other answer said frame is = absurd is
 
 -- ---- a device

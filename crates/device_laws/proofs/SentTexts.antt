@@ -2,7 +2,7 @@
 use Rattle.std.proofs.Common.{◌≡◌, ℕ, Bool, true, false, cond, List, [], ◌∷◌, map, find, nat_lt, ◌+◌, Option, Some, None, Result, Ok, Err, IfOk, refl, ap, subst}
 use Rattle.cip_events.specs.declared.event.Answer.{Answer}
 use Rattle.cip_events.specs.declared.event.Event.{Event}
-use Rattle.cip_events.specs.declared.event.Event.TheVariants.{Request, Frame, Write, Tick}
+use Rattle.cip_events.specs.declared.event.Event.TheVariants.{Request, Frame, Inquiry, Write, Tick}
 use Rattle.cip_events.specs.declared.event.StepFault.{StepFault}
 use Rattle.cip_productions.specs.declared.production.Producer.{Producer}
 use Rattle.cip_productions.specs.Productions.{sent}
@@ -17,7 +17,8 @@ use Rattle.cip_router.specs.Frames.{RequestHeader, FrameFields, without_header, 
 use Rattle.cip_router.specs.declared.command.EncapStatus.TheVariants as status
 use Rattle.adapter_table.specs.Connections.{Row}
 use Rattle.adapter_table.specs.declared.table.Stream.{Stream}
-use Rattle.adapter_table.specs.Encapsulation.{Handled, refusal, framed, frame_answer, frame_of, frame}
+use Rattle.adapter_table.specs.Encapsulation.{Handled, refusal, framed, frame_answer, stream_answer, frame_of, frame}
+use Rattle.adapter_table.specs.Inquiries.{inquiry_reply, inquired_by, inquired}
 use Rattle.adapter_table.specs.Profiles.{is_at}
 use Rattle.adapter_table.specs.Requests.{Next, Served, served, answered, requested}
 use Rattle.adapter_table.specs.Step.{written_table, written, write_of, write, adapter_step}
@@ -77,9 +78,21 @@ frame_answer_quiet t stream without_header = refl
 frame_answer_quiet t stream (wrong_length echo) = wrong_length_quiet (is_silent (command_of echo.command)) t stream.number echo (refusal t status.InvalidLength)
 frame_answer_quiet t stream (whole echo body) = refl
 
+stream_answer_quiet : (t : AdapterTable) (stream : Stream) (bytes : List ℕ) (reply : Option (List ℕ)) → QuietNext (stream_answer t stream bytes reply)
+stream_answer_quiet t stream bytes None = frame_answer_quiet t stream (frame_reading bytes)
+stream_answer_quiet t stream bytes (Some text) = refl
+
+inquired_by_quiet : (t : AdapterTable) (peer : Node) (reply : Option (List ℕ)) → QuietNext (inquired_by t peer reply)
+inquired_by_quiet t peer None = refl
+inquired_by_quiet t peer (Some text) = refl
+
+inquired_quiet : (t : AdapterTable) (peer : Node) (bytes : List ℕ) → QuietNext (inquired t peer bytes)
+unfolding inquired
+inquired_quiet t peer bytes = inquired_by_quiet t peer (inquiry_reply t bytes)
+
 frame_of_quiet : (t : AdapterTable) (bytes : List ℕ) (found : Option Stream) → AllQuiet (frame_of t bytes found)
 frame_of_quiet t bytes None = tt
-frame_of_quiet t bytes (Some stream) = frame_answer_quiet t stream (frame_reading bytes)
+frame_of_quiet t bytes (Some stream) = stream_answer_quiet t stream bytes (inquiry_reply t bytes)
 
 frame_quiet : (t : AdapterTable) (number : ℕ) (bytes : List ℕ) → AllQuiet (frame t number bytes)
 unfolding frame
@@ -120,6 +133,7 @@ tick_sends t ms = tick_step (nat_lt longest_tick ms) (nat_lt clock_end (t.clock.
 adapter_sends : (t : AdapterTable) (event : Event) → IfOk (adapter_step t event) (NextSends (adapter_makes t event))
 adapter_sends t (Request peer bytes) = quietly (Ok (requested t peer bytes)) (requested_quiet t peer bytes)
 adapter_sends t (Frame stream bytes) = quietly (frame t stream bytes) (frame_quiet t stream bytes)
+adapter_sends t (Inquiry peer bytes) = quietly (Ok (inquired t peer bytes)) (inquired_quiet t peer bytes)
 adapter_sends t (Write point bytes) = write_sends t point bytes
 adapter_sends t (Tick ms) = tick_sends t ms
 adapter_sends t other = plain_holds (λ said. IfOk said (NextSends [])) t (λ why. tt) (λ verdict u. quiet_texts (plain_answer verdict) refl) other refl

@@ -21,7 +21,7 @@ use Rattle.cip_events.specs.declared.event.OutgoingDatagram.{OutgoingDatagram}
 use Rattle.cip_fwdopen.specs.declared.reply.OpenAnswer.{OpenAnswer}
 use Rattle.cip_fwdopen.specs.declared.reply.OpenAnswer.TheVariants as answer
 use Rattle.cip_fwdopen.specs.Reply.{open_reply_reading}
-use Rattle.cip_router.specs.Requests.{RouterRequestFields, nothing, refused, closing, assembly, opening, router_request_reading}
+use Rattle.cip_router.specs.Requests.{RouterRequestFields, nothing, refused, closing, object, opening, router_request_reading}
 use Rattle.adapter_table.specs.Connections.{Row}
 use Rattle.cip_types.specs.declared.names.ConnId.{ConnId}
 use Rattle.cip_types.specs.declared.names.Node.{Node}
@@ -41,7 +41,7 @@ abbrev pub RequestIds : (ℕ → Type 0) → RouterRequestFields → Type 0
 RequestIds P nothing = Unit {0}
 RequestIds P (refused service why) = Unit {0}
 RequestIds P (closing request) = Unit {0}
-RequestIds P (assembly service instance attribute body) = Unit {0}
+RequestIds P (object service class instance attribute body) = Unit {0}
 RequestIds P (opening large request) = P request.t_o_id.0
 
 -- the property holds of both ids of a successful reply to a request to open

@@ -3,6 +3,7 @@
 -- step and the runs of a device that is a scanner.
 pub mod Texts
 pub mod Payloads
+pub mod InquiryTexts
 pub mod Lists
 pub mod AdapterIds
 pub mod Slots

@@ -10,6 +10,7 @@ use Rattle.cip_events.specs.declared.event.Event.{Event}
 use Rattle.cip_events.specs.declared.event.Event.TheVariants.{Request}
 use Rattle.cip_events.specs.declared.event.Event.TheVariants as event
 use Rattle.cip_events.specs.declared.event.Frame.{Frame}
+use Rattle.cip_types.specs.declared.names.Node.{Node}
 use Rattle.cip_events.specs.declared.event.Recipient.TheVariants as recipient
 use Rattle.cip_fwdopen.specs.declared.reply.Opened.{Opened}
 use Rattle.adapter_table.specs.Connections.{Row}
@@ -45,10 +46,18 @@ pub record IsReplyTo (t next : AdapterTable) (number : ℕ) (bytes : List ℕ) (
   pub opens_nothing : IsNoOpening frame.bytes
   pub context : ContextFits frame.bytes
 
--- an adapter sends frames only where one came, or a request without a stream
+-- the frame goes to this peer; it has no success and opens nothing
+pub record IsReplyToInquiry (peer : Node) (frame : Frame) : Type 0 where
+  pub to : frame.to ≡ recipient.Peer peer
+  pub successes : SuccessesAre (λ context opened. ⊥) frame.bytes
+  pub opens_nothing : IsNoOpening frame.bytes
+  pub context : ContextFits frame.bytes
+
+-- an adapter sends frames only where one came, or a request or an inquiry without a stream
 abbrev pub IsAnswerTo : AdapterTable → AdapterTable → Event → Frame → Type 0
 IsAnswerTo t next (Request peer bytes) frame = frame.to ≡ recipient.Peer peer
 IsAnswerTo t next (event.Frame number bytes) frame = IsReplyTo t next number bytes frame
+IsAnswerTo t next (event.Inquiry peer bytes) frame = IsReplyToInquiry peer frame
 IsAnswerTo t next other frame = ⊥
 
 -- so is each frame that an adapter sends at an event

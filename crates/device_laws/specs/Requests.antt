@@ -14,7 +14,7 @@ use Rattle.cip_events.specs.declared.event.Answer.{Answer}
 use Rattle.cip_events.specs.declared.event.Event.{Event}
 use Rattle.cip_events.specs.declared.event.Event.TheVariants as event
 use Rattle.cip_events.specs.declared.event.Frame.{Frame}
-use Rattle.cip_router.specs.Requests.{RouterRequestFields, nothing, refused, closing, assembly, opening, router_request_reading}
+use Rattle.cip_router.specs.Requests.{RouterRequestFields, nothing, refused, closing, object, opening, router_request_reading}
 use Rattle.adapter_table.specs.declared.profile.Profile.{Profile}
 use Rattle.adapter_table.specs.Connections.{Row}
 use Rattle.adapter_table.specs.declared.table.AdapterTable.{AdapterTable}
@@ -34,7 +34,7 @@ abbrev pub request_asks : ℕ → RouterRequestFields → Bool
 request_asks id nothing = false
 request_asks id (refused service why) = false
 request_asks id (closing request) = false
-request_asks id (assembly service instance attribute body) = false
+request_asks id (object service class instance attribute body) = false
 request_asks id (opening large request) = request.t_o_id.0 == id
 
 abbrev pub packet_asks : ℕ → Result PacketFields ItemFault → Bool

@@ -10,7 +10,7 @@ use cip_types::{Items, OutOfMemory};
 use device_lock::{Book, Receipt, Segment};
 use example_profiles::{ADAPTER, CONTROLLER, FORWARD_OPEN, MASK, RUN_DATA};
 use std::alloc::Global;
-use trace_lines::write_outcome;
+use trace_outcomes::write_outcome;
 
 /// The configuration of the adapter.
 pub fn config(alloc: Global) -> Result<Config, DeviceRunFault>

@@ -25,6 +25,7 @@ pub fn print_arrival(
         Some(Arrival::Opened { peer, .. }) => println!(rt; "{name}: stream {}", peer.0)?,
         Some(Arrival::Frame { .. }) => println!(rt; "{name}: frame")?,
         Some(Arrival::Cut { .. }) => println!(rt; "{name}: cut")?,
+        Some(Arrival::Inquiry { peer, .. }) => println!(rt; "{name}: inquiry {}", peer.0)?,
         None => println!(rt; "{name}: nothing")?,
     }
     Ok(())

@@ -11,7 +11,7 @@ use segment_lives::Plant;
 use segment_world::Act;
 use std::alloc::Global;
 use std::mem;
-use trace_lines::write_outcome;
+use trace_outcomes::write_outcome;
 
 /// How many events each of three devices has had.
 #[derive(Clone, Copy)]

@@ -1,5 +1,6 @@
 -- Parts of data sheets, worked by hand, of a device with outputs 300 of 2 bytes and 151 of 1 byte, and input 70000 of 2 bytes.
-use Rattle.std.specs.Prelude.{◌≡◌, [], ◌∷◌, codes, Some, None, true, false, refl}
+use Rattle.std.specs.Prelude.{ℕ, ◌≡◌, List, [], ◌∷◌, codes, Option, Some, None, true, false, refl}
+use Rattle.adapter_table.specs.declared.profile.Description.{Description}
 use Rattle.adapter_table.specs.declared.profile.Profile.{Profile}
 use Rattle.adapter_table.specs.declared.profile.Action.TheVariants.{Zero}
 use Rattle.cip_productions.specs.declared.kind.Kind.TheVariants.{ExclusiveOwner, InputOnly, ListenOnly}
@@ -8,7 +9,7 @@ use Rattle.eds_text.specs.declared.connections.SheetConnection.{SheetConnection}
 use Rattle.eds_text.specs.Connections.{connections_of}
 use Rattle.eds_text.specs.Device.{name_line}
 use Rattle.eds_text.specs.Manager.{o_t_line, sheet_path}
-use Rattle.eds_text.specs.Names.{is_name, is_name_byte}
+use Rattle.eds_text.specs.Names.{is_name, is_name_byte, product_name}
 
 island : Profile
 island = record {
@@ -21,6 +22,7 @@ island = record {
   config = None;
   input_only = 152;
   listen_only = 153;
+  description = None;
 }
 
 owner : SheetConnection
@@ -67,3 +69,22 @@ a_line_end_is_in_no_name = refl
 words_are_a_name : is_name (codes "Valve island, 3 points") ≡ true
 unfolding is_name is_name_byte
 words_are_a_name = refl
+
+-- the name of a description is that of the product, unless another one is given, or it has a quote or no byte
+abbrev described : List ℕ → Option Description
+described name = Some (record { serial = 1; name = name; port = 44818; speed = 100; flags = 15; mac = 2 ∷ 0 ∷ 94 ∷ 16 ∷ 0 ∷ 7 ∷ []; inactivity = 120 })
+
+the_described_name : product_name None (described (codes "Rack 7")) ≡ Some (codes "Rack 7")
+unfolding is_name is_name_byte
+the_described_name = refl
+
+the_given_name : product_name (Some (codes "Island")) (described (codes "Rack 7")) ≡ Some (codes "Island")
+the_given_name = refl
+
+no_described_name : product_name None (described (codes "Rack \"7\"")) ≡ None
+unfolding is_name is_name_byte
+no_described_name = refl
+
+an_empty_name : product_name None (described []) ≡ None
+unfolding is_name is_name_byte
+an_empty_name = refl

@@ -4,7 +4,7 @@ use Rattle.adapter_table.specs.declared.profile.Profile.{Profile}
 use Rattle.eds_text.specs.Connections.{connections_of}
 use Rattle.eds_text.specs.Device.{device_text}
 use Rattle.eds_text.specs.Manager.{manager_text}
-use Rattle.eds_text.specs.Names.{ShownNames}
+use Rattle.eds_text.specs.Names.{ShownNames, sheet_names}
 use Rattle.eds_text.specs.Points.{points_text}
 use Rattle.eds_text.specs.Texts.{file_text, params_text, port_text}
 
@@ -19,7 +19,7 @@ capacity_text inputs =
 unfoldable pub sheet_text : ShownNames → Profile → List ℕ
 sheet_text names profile =
     file_text
-    ++ (device_text names profile.identity
+    ++ (device_text (sheet_names names profile.description) profile.identity
     ++ (params_text
     ++ (points_text profile
     ++ (manager_text profile.config (connections_of profile)

@@ -2,7 +2,10 @@
 
 ghost use Rattle.std.specs.Prelude.{◌≡◌};
 ghost use Rattle.std.specs.List.{list_all};
-ghost use Rattle.eds_text.specs.Names.{is_name, is_name_byte, is_name_len};
+ghost use Rattle.eds_text.specs.Names.{described_name, given_name, is_name, is_name_byte, is_name_len, sheet_names, shown_names};
+
+use adapter_table::Description;
+use std::str;
 
 /// A name has at most so many bytes.
 const MOST_NAME_BYTES: usize = 32;
@@ -25,7 +28,47 @@ pub struct SheetNames<'a> {
 pub fn is_name(text: &str) -> bool
     ensures { result ≡ is_name text.now }
 {
-    is_name_len(text.len()) && are_name_bytes(text.as_bytes())
+    are_name(text.as_bytes())
+}
+
+/// Whether bytes can be a name.
+#[tactic(auto, unfolding(crate::specs::Names::is_name))]
+fn are_name(bytes: &[u8]) -> bool
+    ensures { result ≡ is_name bytes.now }
+{
+    is_name_len(bytes.len()) && are_name_bytes(bytes)
+}
+
+/// The name of a device's description, if it can be one in a data sheet.
+fn described_name(description: &Option<Description>) -> Option<&str>
+    ensures { given_name result ≡ described_name description.now }
+{
+    let Some(description) = description else {
+        return None;
+    };
+    let name = description.name.as_slice();
+    if !are_name(name) {
+        return None;
+    }
+    Some(unsafe { str::from_utf8_unchecked(name) })
+}
+
+/// The names in the data sheet of a device with this description: it names the product if no other name is given.
+pub(crate) fn sheet_names<'a>(
+    names: &SheetNames<'a>,
+    description: &'a Option<Description>,
+) -> SheetNames<'a>
+    ensures { shown_names result ≡ sheet_names (shown_names names.now) description.now }
+{
+    let product = match names.product {
+        Some(given) => Some(given),
+        None => described_name(description),
+    };
+    SheetNames {
+        vendor: names.vendor,
+        product,
+        catalog: names.catalog,
+    }
 }
 
 /// Whether all bytes can be in a name.

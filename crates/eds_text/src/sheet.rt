@@ -8,14 +8,15 @@ ghost use Rattle.eds_text.specs.Texts.{params_text, port_text};
 use crate::connections::connections_of;
 use crate::device::{push_device, push_file};
 use crate::manager::push_manager;
-use crate::names::SheetNames;
+use crate::names::{SheetNames, sheet_names};
 use crate::points::push_points;
 use adapter_table::Profile;
 use cip_types::OutOfMemory;
 use std::alloc::Global;
 use trace_words::push_text;
 
-/// The data sheet of a profile. `OutOfMemory` is the only fault.
+/// The data sheet of a profile. If no name of the product is given, that of the description is taken. `OutOfMemory` is the
+/// only fault.
 ///
 /// Volume 1, chapter 7, electronic data sheets.
 #[tactic(auto, unfolding(crate::specs::Sheet::sheet_text))]
@@ -29,7 +30,8 @@ pub fn write_sheet(
     let connections = connections_of(alloc, profile)?;
     let mut out = String::new(alloc);
     push_file(&mut out)?;
-    push_device(&mut out, names, profile.identity)?;
+    let names = sheet_names(names, &profile.description);
+    push_device(&mut out, &names, profile.identity)?;
     push_params(&mut out)?;
     push_points(&mut out, profile)?;
     push_manager(alloc, &mut out, profile.config, connections.as_slice())?;

@@ -5,7 +5,7 @@
 #![tactic(auto)]
 
 ghost use Rattle.std.specs.Prelude.{◌≡◌, ◌<◌, ◌≤◌, Ok};
-ghost use Rattle.cip_events.specs.declared.event.Event.TheVariants.{Request, StreamOpened, Frame, StreamCut, Datagram, Write, Tick, Mode, Start, Stop};
+ghost use Rattle.cip_events.specs.declared.event.Event.TheVariants.{Request, StreamOpened, Frame, StreamCut, Datagram, Inquiry, Write, Tick, Mode, Start, Stop};
 ghost use Rattle.cip_events.specs.declared.event.Verdict.TheVariants.{Delivered};
 ghost use Rattle.cip_events.specs.Answers.{plain_answer};
 ghost use Rattle.cip_events.specs.Clock.{longest_tick};
@@ -178,6 +178,29 @@ pub extern "C" fn eip_c_datagram(device: &mut Handle, peer: u32, bytes: &[u8]) -
 }
 
 // INQUIRIES
+
+/// A peer sends an encapsulation message over no stream, to inquire which device this is.
+#[unsafe(no_mangle)]
+pub extern "C" fn eip_c_inquire(
+    alloc: Global,
+    device: &mut Handle,
+    peer: u32,
+    bytes: &[u8],
+    out: &mut [u8],
+    size: &mut usize,
+) -> u32
+    ensures { Answers (Inquiry (node peer) bytes.now)
+        device.old.value result device.new.value (out.old, size.old) (out.new, size.new) }
+{
+    let Ok(bytes) = Items::copy_of(alloc, bytes) else {
+        return OUT_OF_MEMORY;
+    };
+    let event = Event::Inquiry {
+        peer: Node(peer),
+        bytes,
+    };
+    device.answered(&event, out, size)
+}
 
 /// Writes the reply to an inquiry by which tools find devices: ListServices, ListIdentity or ListInterfaces. It needs no
 /// device.

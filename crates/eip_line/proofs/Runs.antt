@@ -5,7 +5,7 @@ use Rattle.std.specs.Io.KnownBytes.{Appends, Keeps}
 use Rattle.std.proofs.lemmas.List.{append-nil}
 use Rattle.cip_events.specs.Outcomes.{Outcome}
 use Rattle.trace_text.specs.declared.trace.Trace.{Trace}
-use Rattle.trace_lines.specs.WrittenOutcomes.{outcome_text, outcomes_text}
+use Rattle.trace_outcomes.specs.WrittenOutcomes.{outcome_text, outcomes_text}
 use Rattle.trace_stepper.specs.declared.stepper.StepperFault.{StepperFault}
 use Rattle.trace_stepper.specs.declared.stepper.StepperFault.TheVariants as stepper
 use Rattle.trace_stepper.specs.Playing.{IsPlayed, WritesFirst}

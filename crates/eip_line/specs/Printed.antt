@@ -4,7 +4,7 @@ use Rattle.std.specs.Io.KnownBytes.{Appends}
 use Rattle.trace_text.specs.declared.trace.Trace.{Trace}
 use Rattle.trace_text.specs.declared.trace.TraceFault.TheVariants as trace
 use Rattle.trace_text.specs.Reading.{trace_reading}
-use Rattle.trace_lines.specs.WrittenOutcomes.{outcomes_text}
+use Rattle.trace_outcomes.specs.WrittenOutcomes.{outcomes_text}
 use Rattle.trace_stepper.specs.Compared.{IsJudged}
 use Rattle.trace_stepper.specs.Playing.{WritesFirst}
 use Rattle.trace_stepper.specs.Stepping.{outcomes_of_trace}

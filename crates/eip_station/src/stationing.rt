@@ -1,34 +1,28 @@
 //! A station from its words to its end.
 
-ghost use Rattle.std.specs.Prelude.{◌≡◌};
-ghost use Rattle.eip_station.specs.Settings.{ending_of, ms_of};
-
 use crate::failure::{Failure, NO_MEMORY};
-use crate::opening::{place_of, rates_of, scanner_port};
+use crate::opening::scanner_port;
 use crate::paging::{HostNet, begin_page};
 use crate::profiles::{FastDevice, incarnation_of, profile_of, with_incarnation};
 use crate::program::{Surroundings, line_of};
 use cip_tables::{Config, Device};
 use command_lines::{Options, StationTask, VERSION};
-use list_identity::StationIdentity;
 use page_server::SharedPage;
 use port_alarm::Alarm;
 use port_faults::FaultyPort;
 use socket_port::SystemClock;
-use station::{Ending, Station, StationObserver, Voice};
+use station::{Station, StationObserver, Voice};
 use station_files::{begin_in_file, name_of, place_of_record, push_moment, stem_of};
 use station_lines::NoLines;
 use station_port::{StationPlace, StationPort};
 use station_record::Recorder;
 use station_rim::{Entries, Rim, drain_lines, drain_record, report_line};
+use station_setup::{adapter_place, ending_of, rates_of, scanner_place, with_description};
 use station_state::StationState;
 use std::fs::File;
 use std::random::RandomSource;
 use std::rt::{Clock, Files};
 use std::sync::Wait;
-
-/// The mask of a network of one address.
-const NO_NETWORK: u32 = 0xFFFF_FFFF;
 
 /// The words of a station, its options, and what it shares with its threads.
 #[derive(Clone, Copy)]
@@ -139,25 +133,69 @@ where
     R: AllocGlobal + Files<File = File> + Clock + HostNet + RandomSource + Wait + Copy + Drop,
 {
     let options = setting.options;
-    let alloc = setting.rt.alloc();
+    let config = described(setting, config, &state)?;
     match &config {
         Config::Adapter(profile) => {
-            let place = place_of(options, profile.node, profile.mask);
-            let serial = options.serial.unwrap_or(state.serial);
-            let name = station_name(setting).as_bytes();
-            let identity = StationIdentity::of(alloc, profile.identity, serial, name)?;
-            // (its peers find it by ListIdentity)
-            let port = StationPort::adapter(alloc, setting.rt, &place, identity)?;
+            let place = adapter_place(options, profile);
+            let port = StationPort::adapter(setting.rt.alloc(), setting.rt, &place)?;
             let start = start_line(setting, "adapter", &place, state.incarnation)?;
-            serve(setting, &config, port, start.as_str(), 0)
+            serve(
+                setting,
+                &config,
+                port,
+                &Start::of(start.as_str(), &place, 0),
+            )
         }
         Config::Scanner(profile) => {
-            // (a scanner is not found by inquiries)
-            let place = place_of(options, profile.node, NO_NETWORK);
+            let place = scanner_place(options, profile);
             let port = scanner_port(setting.rt, &place, profile)?;
             let slots = u32::try_from(profile.slots.as_slice().len()).unwrap_or(0);
             let start = start_line(setting, "scanner", &place, state.incarnation)?;
-            serve(setting, &config, port, start.as_str(), slots)
+            serve(
+                setting,
+                &config,
+                port,
+                &Start::of(start.as_str(), &place, slots),
+            )
+        }
+    }
+}
+
+/// The configuration of a station: an adapter's has a description, so that inquiries find it.
+fn described<R>(
+    setting: &Stationed<'_, R>,
+    config: Config,
+    state: &StationState,
+) -> Result<Config, Failure>
+where
+    R: AllocGlobal,
+{
+    match config {
+        Config::Adapter(profile) => {
+            let name = station_name(setting).as_bytes();
+            let alloc = setting.rt.alloc();
+            let profile = with_description(alloc, profile, setting.options, state.serial, name)?;
+            Ok(Config::Adapter(profile))
+        }
+        Config::Scanner(profile) => Ok(Config::Scanner(profile)),
+    }
+}
+
+/// What a station that starts has: its first line, its slots, and the seconds for which an adapter's stream may be silent.
+#[derive(Clone, Copy)]
+struct Start<'a> {
+    line: &'a str,
+    slots: u32,
+    silent_s: u16,
+}
+
+impl<'a> Start<'a> {
+    /// What a station at this place has.
+    fn of(line: &'a str, place: &StationPlace, slots: u32) -> Start<'a> {
+        Start {
+            line,
+            slots,
+            silent_s: place.inactivity_s,
         }
     }
 }
@@ -201,8 +239,7 @@ fn serve<R>(
     setting: &Stationed<'_, R>,
     config: &Config,
     mut port: StationPort<R>,
-    start: &str,
-    slots: u32,
+    start: &Start<'_>,
 ) -> Result<(), Failure>
 where
     R: AllocGlobal + Files<File = File> + Clock + HostNet + RandomSource + Wait + Copy + Drop,
@@ -213,7 +250,7 @@ where
     let waker = port.waker()?;
     let recorder = recorder_of(setting, config)?;
     if !setting.options.quiet {
-        report_line(rt, setting.rim, start.as_bytes());
+        report_line(rt, setting.rim, start.line.as_bytes());
     }
     let (out, err) = (setting.rim.out.sink(rt)?, setting.rim.err.sink(rt)?);
     let mut observer = StationObserver::new(alloc, config, recorder, out, err)?;
@@ -224,11 +261,11 @@ where
     let clock = SystemClock::new(rt);
     let voice = Voice {
         quiet: setting.options.quiet,
-        silent_s: setting.options.inactivity_s,
+        silent_s: start.silent_s,
     };
     let port = FaultyPort::new(alloc, port, SystemClock::new(rt), rates_of(setting.options));
     let mut station = Station::new(alloc, config, port, clock, device, observer, voice)?;
-    let ending = ending_of(setting.options, slots);
+    let ending = ending_of(setting.options, start.slots);
     let ended = if setting.options.no_input && !setting.options.page_writes {
         station.run(&mut NoLines, ending)
     } else {
@@ -239,26 +276,6 @@ where
     match station.record_fault() {
         Some(_) => Err(Failure::RecordEnd),
         None => Ok(()),
-    }
-}
-
-/// When a station of so many slots ends.
-fn ending_of(options: &Options, slots: u32) -> Ending
-    ensures { result ≡ ending_of options.now slots }
-{
-    Ending {
-        slots,
-        ms: ms_of(options.seconds),
-    }
-}
-
-/// The milliseconds of so many seconds, if there is an end.
-fn ms_of(seconds: Option<u32>) -> Option<u64>
-    ensures { result ≡ ms_of seconds }
-{
-    match seconds {
-        Some(seconds) => Some(u64::from(seconds) * 1_000),
-        None => None,
     }
 }
 

@@ -20,6 +20,7 @@ adapter_profile incarnation node mask = record {
   config = Some (record { instance = 151; len = 0 });
   input_only = 152;
   listen_only = 153;
+  description = None;
 }
 
 -- a slot that owns output 150 of its target and gathers input 100, each every 10 ms

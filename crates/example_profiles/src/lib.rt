@@ -84,6 +84,7 @@ pub fn adapter(
         config: Some(point(CONFIG, 0)),
         input_only: 152,
         listen_only: 153,
+        description: None,
     })
 }
 

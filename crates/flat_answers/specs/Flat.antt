@@ -28,6 +28,7 @@
 --     53  stream closed                  stream
 --     54  state of a slot                slot      state
 --     55  no ids left for a slot         slot
+--     56  reset requested                type
 --     64  refused: encapsulation         slot      status
 --     65  refused: unreadable            slot
 --     66  refused: by the target         slot      general  1 or 0      extended
@@ -49,7 +50,7 @@ use Rattle.cip_events.specs.declared.event.Delivery.{Delivery}
 use Rattle.cip_events.specs.declared.event.Delivery.TheVariants.{Applied, Idle, Heartbeat, Duplicate, Old, UnknownId, WrongSize, Malformed}
 use Rattle.cip_events.specs.declared.event.Frame.{Frame}
 use Rattle.cip_events.specs.declared.event.Notice.{Notice}
-use Rattle.cip_events.specs.declared.event.Notice.TheVariants.{Opened, Closed, Expired, Dropped, Replaced, StreamClosed, Slot, Refused, NoIds}
+use Rattle.cip_events.specs.declared.event.Notice.TheVariants.{Opened, Closed, Expired, Dropped, Replaced, StreamClosed, Slot, Refused, NoIds, Reset}
 use Rattle.cip_events.specs.declared.event.OutgoingDatagram.{OutgoingDatagram}
 use Rattle.cip_events.specs.declared.event.Reason.{Reason}
 use Rattle.cip_events.specs.declared.event.Reason.TheVariants as reason
@@ -147,6 +148,7 @@ notice_head (Replaced triad) = triad_head 52 triad
 notice_head (StreamClosed stream) = head 53 stream 0 0 0
 notice_head (Slot slot state) = head 54 slot state 0 0
 notice_head (NoIds slot) = head 55 slot 0 0 0
+notice_head (Reset type) = head 56 type 0 0 0
 notice_head (Refused slot why) = reason_head slot why
 
 abbrev pub notice_item : Notice → List ℕ

@@ -26,6 +26,7 @@ pub fn notice_head(notice: Notice) -> ItemHeader
             ..one_number(54, slot)
         },
         Notice::NoIds(slot) => one_number(55, slot),
+        Notice::Reset(kind) => one_number(56, kind as u32),
         Notice::Refused(slot, why) => reason_head(slot, why),
     }
 }

@@ -4,6 +4,7 @@ ghost use Rattle.std.specs.Prelude.{◌≡◌, ◌≤◌, find, length, slice_ge
 ghost use Rattle.std.specs.List.{list_any};
 ghost use Rattle.adapter_table.specs.Rows.{is_established, is_timed_out, drives, is_member};
 ghost use Rattle.adapter_table.specs.States.{count_consuming};
+ghost use Rattle.adapter_table.specs.Objects.{is_owning, is_running};
 ghost use Rattle.cip_tables.specs.Wakes.{connections_due};
 ghost use Rattle.cip_productions.specs.Productions.{is_on_change};
 ghost use Rattle.conn_slab.specs.Connections.{is_listening, is_changing};
@@ -12,7 +13,7 @@ use adapter_table::{Row, State, consumes, drives, is_established, is_member, is_
 use cip_netparams::Trigger;
 use cip_productions::Kind;
 use conn_slab::Rows;
-use connection_list::connection_due;
+use connection_list::{connection_due, is_owning, is_running};
 
 /// Whether some connection is established.
 pub fn is_any_established(rows: Rows<'_>) -> bool
@@ -20,6 +21,42 @@ pub fn is_any_established(rows: Rows<'_>) -> bool
 {
     for row in rows {
         if is_established(&row) {
+            return true;
+        }
+    }
+    false
+}
+
+/// Whether some connection is an established exclusive owner.
+pub fn is_any_owning(rows: Rows<'_>) -> bool
+    ensures { result ≡ list_any is_owning rows.entry }
+{
+    for row in rows {
+        if is_owning(&row) {
+            return true;
+        }
+    }
+    false
+}
+
+/// Whether the newest data of some established connection are in run mode.
+pub fn is_any_running(rows: Rows<'_>) -> bool
+    ensures { result ≡ list_any is_running rows.entry }
+{
+    for row in rows {
+        if is_running(&row) {
+            return true;
+        }
+    }
+    false
+}
+
+/// Whether some connection has timed out.
+pub fn is_any_timed_out(rows: Rows<'_>) -> bool
+    ensures { result ≡ list_any is_timed_out rows.entry }
+{
+    for row in rows {
+        if !is_established(&row) {
             return true;
         }
     }

@@ -11,11 +11,11 @@ use crate::counts::{close, close_each, counted, expire, open};
 use crate::expiries::{expired, has_any_run_out, has_any_timed_out, is_any_left};
 use crate::from_list::{from_rows, replaced};
 use crate::queries::{
-    count_consuming, first_due, first_member, first_owner, is_any_established, is_changing,
-    is_listening, nth,
+    count_consuming, first_due, first_member, first_owner, is_any_established, is_any_owning,
+    is_any_running, is_any_timed_out, is_changing, is_listening, nth,
 };
 use crate::{ConsumerTable, changed_datagrams, due_datagrams, remaining_datagrams};
-use adapter_table::{Profile, Row, State};
+use adapter_table::{IoState, Profile, Row, State};
 use app_rules::{ConnectionsView, Rules};
 use assembly_set::AssemblySet;
 use cip_datagram::Datagram;
@@ -236,6 +236,15 @@ impl ConnectionTable for IndexedConnections {
 
     fn count_consuming(&self, kind: Kind, point: u32) -> usize {
         count_consuming(self.connections.rows(), kind, point)
+    }
+
+    fn io_state(&self) -> IoState {
+        IoState {
+            owned: is_any_owning(self.connections.rows()),
+            running: is_any_running(self.connections.rows()),
+            established: is_any_established(self.connections.rows()),
+            timed_out: is_any_timed_out(self.connections.rows()),
+        }
     }
 
     fn find(&self, triad: Triad) -> Option<Row> {

@@ -3,15 +3,14 @@ use Rattle.std.proofs.Common.{◌≡◌, ℕ, zero, suc, ◌+◌, true, List, []
 use Rattle.std.specs.Prelude.{All}
 use Rattle.std.proofs.lemmas.List.{length-map, length_push}
 use Rattle.std.proofs.lemmas.List.Elements.{All-append, All-cons, All-head, All-nil, All-push, All-tail}
-use Rattle.cip_events.specs.Arrivals.{is_own}
 use Rattle.cip_events.specs.declared.event.Event.{Event}
 use Rattle.cip_events.specs.declared.event.Event.TheVariants.{Mode, Start, Tick}
-use Rattle.line_threads.specs.Scripts.{events_in, IsOwn}
+use Rattle.line_threads.specs.Scripts.{is_local, events_in, IsOwn}
 use Rattle.line_setup.specs.Scripts.{adapter_script, line_scripts, output_of, scanner_script, scanner_scripts, turn_of, turns_of, write_of}
 
 -- the event is a call of the application, or a tick
 abbrev Own : Event → Type 0
-Own e = is_own e ≡ true
+Own e = is_local e ≡ true
 
 turn_is_own : (point : Option ℕ) (turn : ℕ) → IsOwn (turn_of point turn)
 turn_is_own None turn = All-cons Own (Tick 1) [] refl (All-nil Own)

@@ -3,7 +3,6 @@ use Rattle.std.proofs.Common.{◌≡◌, suc, List, [], ◌∷◌, ◌++◌, len
 use Rattle.std.specs.Prelude.{All, filter}
 use Rattle.std.proofs.lemmas.List.{map-append}
 use Rattle.std.proofs.lemmas.List.Elements.{All-head, All-tail}
-use Rattle.cip_events.specs.Arrivals.{is_own}
 use Rattle.cip_events.specs.declared.event.Event.{Event}
 use Rattle.cip_tables.specs.declared.table.Config.{Config}
 use Rattle.device_lock.specs.declared.receipt.Receipt.{Receipt}
@@ -11,7 +10,7 @@ use Rattle.device_lock.specs.Histories.{HistoryValue}
 use Rattle.schedule_search.specs.Histories.{config_in, configs_of}
 use Rattle.line_threads.specs.Accounts.{own_in, HasItsReceipts}
 use Rattle.line_threads.specs.Lines.{byte_of, ReportsScripts}
-use Rattle.line_threads.specs.Scripts.{events_in}
+use Rattle.line_threads.specs.Scripts.{is_local, events_in}
 
 pub more_configs : (old new : List HistoryValue) (history : HistoryValue) (configs : List Config) (config : Config) → new ≡ old ++ history ∷ [] → configs_of old ≡ configs → config_in history ≡ config → configs_of new ≡ configs ++ config ∷ []
 more_configs old new history configs config is so_far next =
@@ -30,5 +29,5 @@ own_is_scripts [] (s ∷ ss) rs many reports reported = absurd (omega arith)
 own_is_scripts (h ∷ hs) [] rs many reports reported = absurd (omega arith)
 own_is_scripts (h ∷ hs) (s ∷ ss) rs many reports reported =
     lists_same (own_in h) (events_in s) (map own_in hs) (map events_in ss)
-    (ap (filter is_own) (sym (All-head (HasItsReceipts rs) h hs reported)) ∙ reports 0 s (omega arith))
+    (ap (filter is_local) (sym (All-head (HasItsReceipts rs) h hs reported)) ∙ reports 0 s (omega arith))
     (own_is_scripts hs ss rs (omega arith) (λ i script lt. reports (suc i) script (omega arith)) (All-tail (HasItsReceipts rs) h hs reported))

@@ -1,17 +1,17 @@
 -- What the receipts of a device say of its script.
 use Rattle.std.specs.Prelude.{◌≡◌, ◌==◌, ℕ, List, map, filter, All}
-use Rattle.cip_events.specs.Arrivals.{is_own}
 use Rattle.cip_events.specs.declared.event.Event.{Event}
 use Rattle.device_lock.specs.declared.receipt.Receipt.{Receipt}
 use Rattle.device_lock.specs.Histories.{HistoryValue}
 use Rattle.schedule_search.specs.Histories.{byte_in}
+use Rattle.line_threads.specs.Scripts.{is_local}
 
 abbrev pub event_of : Receipt → Event
 event_of r = r.event
 
 -- the events of the application and of time, in order
 abbrev pub own_events : List Receipt → List Event
-own_events rs = filter is_own (map event_of rs)
+own_events rs = filter is_local (map event_of rs)
 
 -- the receipts of one device, which is given by its incarnation byte
 abbrev pub of_device : ℕ → List Receipt → List Receipt
@@ -44,4 +44,4 @@ HasItsReceipts rs h = events_reported (byte_in h) rs ≡ h.events
 
 -- what the application of a device did, and the passing of time, in order: its history without what arrived
 abbrev pub own_in : HistoryValue → List Event
-own_in h = filter is_own h.events
+own_in h = filter is_local h.events

@@ -10,6 +10,6 @@ mod reply;
 mod station;
 
 pub use inquiry::Inquiry;
-pub use name::{NameFault, ProductName};
+pub use name::{LONGEST_NAME, NameFault, ProductName};
 pub use reply::{identity_reply, inquiry_reply};
 pub use station::StationIdentity;

@@ -12,7 +12,7 @@ use thiserror::Error;
 /// A product name has at most so many bytes.
 ///
 /// Volume 1, chapter 5, Identity object, attribute 7.
-const LONGEST_NAME: usize = 32;
+pub const LONGEST_NAME: usize = 32;
 
 /// Why bytes are no product name.
 #[derive(Clone, Copy, Debug, PartialEq, Eq, Error)]

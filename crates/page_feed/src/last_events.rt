@@ -67,10 +67,12 @@ impl LastEvents {
     }
 }
 
-/// Whether an event is shown: not a datagram, and not time that passes, but for one with a notice.
+/// Whether an event is shown: not a datagram or an inquiry, and not time that passes, but for one with a notice.
 fn is_shown(event: &Event, outcome: &Outcome) -> bool {
     match event {
-        Event::Datagram { .. } | Event::Tick { .. } => has_notice(outcome),
+        Event::Datagram { .. } | Event::Inquiry { .. } | Event::Tick { .. } => {
+            has_notice(outcome)
+        }
         _ => true,
     }
 }

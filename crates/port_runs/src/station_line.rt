@@ -2,8 +2,6 @@
 
 use crate::fault::PortRunFault;
 use cip_events::Arrival;
-use cip_types::Identity;
-use list_identity::StationIdentity;
 use port_streams::Destination;
 use socket_port::{LOOPBACK, loopback};
 use station_port::{SocketCause, StationFault, StationPlace, StationPort};
@@ -24,15 +22,6 @@ const MOST_TRIES: u32 = 16;
 
 /// A session has to be registered on a scanner's stream within so many milliseconds: longer than any of these runs.
 const OPEN_MS: u64 = 60_000;
-
-/// The identity of the adapters.
-const IDENTITY: Identity = Identity {
-    vendor: 1,
-    device_type: 12,
-    product: 7,
-    major: 2,
-    minor: 3,
-};
 
 /// Ports of TCP and UDP that nobody uses.
 fn free_ports<R>(rt: &R) -> io::Result<(u16, u16)>
@@ -91,8 +80,7 @@ where
         peer.set_nonblocking(true)?;
         let to = peer.local_addr()?.port();
         let (tcp, udp) = free_ports(&rt)?;
-        let identity = StationIdentity::of(alloc, IDENTITY, 1, b"runs")?;
-        match StationPort::adapter(alloc, rt, &place(tcp, udp, to), identity) {
+        match StationPort::adapter(alloc, rt, &place(tcp, udp, to)) {
             Ok(port) => Ok(Some(AdapterPort {
                 port,
                 peer,

@@ -12,7 +12,7 @@ use Rattle.trace_lines.specs.Kinds.{multicast_word}
 use Rattle.profile_faults.specs.declared.defects.LineName.TheVariants as name
 use Rattle.profile_faults.specs.declared.defects.ProfileReason.{ProfileReason}
 use Rattle.profile_faults.specs.Defects.{IsFailing}
-use Rattle.profile_faults.specs.Named.{NamesItemWord, NamesConfigWord, NamesSlotWord, NamesWordOfSlots, NamesWord, NamesWordOfScanner}
+use Rattle.profile_faults.specs.Named.{NamesItemWord, NamesConfigWord, NamesDescribedWord, NamesSlotWord, NamesWordOfSlots, NamesWord, NamesWordOfScanner}
 
 pub named_output : (profile : Profile) (reason : ProfileReason) → NamesItemWord name.Output output_words profile.outputs reason → NamesWord profile reason
 named_output profile reason is = rw is.0 is.1
@@ -22,6 +22,9 @@ named_input profile reason is = rw is.0 is.1
 
 pub named_config : (profile : Profile) (reason : ProfileReason) → NamesConfigWord profile.config reason → NamesWord profile reason
 named_config profile reason is = rw is.0 is.1
+
+pub named_described : (profile : Profile) (reason : ProfileReason) → NamesDescribedWord profile.description reason → NamesWord profile reason
+named_described profile reason is = rw is.0 is.1
 
 pub named_slot : (profile : ScannerProfile) (reason : ProfileReason) → NamesWordOfSlots profile.slots reason → NamesWordOfScanner profile reason
 named_slot profile reason is = (rw is.0 is.1.0, is.1.1)

@@ -1,6 +1,7 @@
 -- The word that a reason names: that word of the line, as a trace writes it, has the value that the reason has.
 use Rattle.std.specs.Prelude.{ℕ, ◌≡◌, ◌-◌, List, [], length, get_or, codes, decimal, Option, Some, None}
 use Rattle.std.specs.List.{slice_get}
+use Rattle.adapter_table.specs.declared.profile.Description.{Description}
 use Rattle.adapter_table.specs.declared.profile.InputPoint.{InputPoint}
 use Rattle.scanner_table.specs.declared.profile.SlotConfig.{SlotConfig}
 use Rattle.adapter_table.specs.declared.profile.Profile.{Profile}
@@ -8,7 +9,7 @@ use Rattle.scanner_table.specs.declared.profile.ScannerProfile.{ScannerProfile}
 use Rattle.cip_tables.specs.declared.table.Config.{Config}
 use Rattle.cip_tables.specs.declared.table.Config.TheVariants as config
 use Rattle.trace_words.specs.Words.{node_word, bytes_word}
-use Rattle.trace_lines.specs.WrittenProfiles.{adapter_words, output_words, point_words, heartbeat_words}
+use Rattle.trace_lines.specs.WrittenProfiles.{adapter_words, output_words, point_words, description_words, heartbeat_words}
 use Rattle.trace_lines.specs.Slots.{scanner_words, slot_words}
 use Rattle.profile_faults.specs.declared.defects.LineName.{LineName}
 use Rattle.profile_faults.specs.declared.defects.LineName.TheVariants as name
@@ -29,6 +30,7 @@ adapter_line profile name.Adapter index = adapter_words profile
 adapter_line profile name.Output index = line_of output_words (slice_get profile.outputs index)
 adapter_line profile name.Input index = line_of (point_words (codes "input")) (slice_get profile.inputs index)
 adapter_line profile name.Config index = line_of (point_words (codes "config")) profile.config
+adapter_line profile name.Describe index = line_of description_words profile.description
 adapter_line profile name.Heartbeat index = heartbeat_words profile
 adapter_line profile name.Scanner index = []
 adapter_line profile name.Slot index = []
@@ -78,6 +80,9 @@ IsWordOf (defect.Inhibit slot ms api) word = word ≡ decimal ms
 IsWordOf (defect.Waiting wait ms) word = word ≡ decimal ms
 IsWordOf (defect.Major major) word = word ≡ decimal major
 IsWordOf (defect.Minor minor) word = word ≡ decimal minor
+IsWordOf (defect.NameLen len) word = AreBytes word len
+IsWordOf (defect.AddressLen len) word = AreBytes word len
+IsWordOf (defect.Inactivity seconds) word = word ≡ decimal seconds
 
 -- the slot of the defect, if it is one of a slot, has this number
 abbrev pub IsOfSlot : ℕ → Defect → Type 0
@@ -115,6 +120,10 @@ NamesItemWord line words items reason =
 abbrev pub NamesConfigWord : Option InputPoint → ProfileReason → Type 0
 NamesConfigWord point reason =
     (reason.place.line ≡ name.Config) × IsWordOf reason.defect (word_at (line_of (point_words (codes "config")) point) reason.place.word)
+
+abbrev pub NamesDescribedWord : Option Description → ProfileReason → Type 0
+NamesDescribedWord described reason =
+    (reason.place.line ≡ name.Describe) × IsWordOf reason.defect (word_at (line_of description_words described) reason.place.word)
 
 -- the defect is in this word of the slot of this number
 abbrev pub IsInSlot : ℕ → SlotConfig → ℕ → Defect → Type 0

@@ -3,16 +3,19 @@
 ghost use Rattle.std.specs.Prelude.{◌≡◌, IfOk, IfSome, codes};
 ghost use Rattle.std.specs.List.{list_all};
 ghost use Rattle.cip_events.specs.declared.profile_fault.ProfileFault.TheVariants as fault;
-ghost use Rattle.adapter_table.specs.Profiles.{profile_fault, is_address, are_few, has_output_len, has_input_len, has_config_len, are_long_enough, is_revision, is_point_len};
+ghost use Rattle.adapter_table.specs.Profiles.{profile_fault, is_address, are_few, has_output_len, has_input_len, has_config_len, are_long_enough, is_revision, is_described, is_point_len};
 ghost use Rattle.profile_faults.specs.Defects.{Explains, reason_at, reason_fault};
-ghost use Rattle.profile_faults.specs.Named.{NamesWord, NamesItemWord, NamesConfigWord};
+ghost use Rattle.profile_faults.specs.Named.{NamesWord, NamesItemWord, NamesConfigWord, NamesDescribedWord};
 ghost use Rattle.trace_lines.specs.WrittenProfiles.{output_words, point_words};
 
 use crate::defects::{Defect, LineName, ProfileReason};
 use crate::instances::instance_reason;
-use adapter_table::{InputPoint, OutputPoint, Profile};
+use adapter_table::{
+    Description, InputPoint, LONGEST_INACTIVITY, OutputPoint, PHYSICAL_ADDRESS, Profile,
+};
 use cip_types::limits::{LONGEST_CONFIG, LONGEST_POINT, MOST_POINTS};
 use cip_types::{Node, OutOfMemory};
+use list_identity::LONGEST_NAME;
 use std::alloc::Global;
 
 /// The first defect of a profile. OutOfMemory is the only fault.
@@ -41,7 +44,10 @@ pub fn adapter_reason(
     if let Some(reason) = length_reason(profile) {
         return Ok(Some(reason));
     }
-    Ok(revision_reason(profile))
+    if let Some(reason) = revision_reason(profile) {
+        return Ok(Some(reason));
+    }
+    Ok(described_reason(profile))
 }
 
 /// A defect at a word of the profile's first line.
@@ -159,4 +165,42 @@ fn revision_reason(profile: &Profile) -> Option<ProfileReason>
         return Some(at_adapter(9, Defect::Minor(identity.minor)));
     }
     None
+}
+
+/// What is wrong with the description, if there is one.
+#[tactic(auto, using(crate::proofs::Named::named_described))]
+fn described_reason(profile: &Profile) -> Option<ProfileReason>
+    ensures fault { Explains result (is_described profile.now.description) fault.Description }
+    ensures named { IfSome result (NamesWord profile.now) }
+{
+    description_reason(&profile.description)
+}
+
+/// What is wrong with a description: its name, its physical address, or its inactivity time-out.
+fn description_reason(description: &Option<Description>) -> Option<ProfileReason>
+    ensures fault { Explains result (is_described description.now) fault.Description }
+    ensures named { IfSome result (NamesDescribedWord description.now) }
+{
+    let Some(description) = description else {
+        return None;
+    };
+    let name_len = description.name.as_slice().len();
+    if name_len > LONGEST_NAME {
+        return Some(at_description(3, Defect::NameLen(name_len)));
+    }
+    let address_len = description.mac.as_slice().len();
+    if address_len != PHYSICAL_ADDRESS {
+        return Some(at_description(7, Defect::AddressLen(address_len)));
+    }
+    if description.inactivity > LONGEST_INACTIVITY {
+        return Some(at_description(8, Defect::Inactivity(description.inactivity)));
+    }
+    None
+}
+
+/// A defect at a word of the description's line.
+fn at_description(word: usize, defect: Defect) -> ProfileReason
+    ensures { result ≡ reason_at LineName.Describe 0 word defect }
+{
+    ProfileReason::at(LineName::Describe, 0, word, defect)
 }

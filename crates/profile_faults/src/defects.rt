@@ -14,6 +14,7 @@ pub enum LineName {
     Output,
     Input,
     Config,
+    Describe,
     Heartbeat,
     Scanner,
     Slot,
@@ -104,6 +105,12 @@ pub enum Defect {
     Major(u8),
     /// The minor revision.
     Minor(u8),
+    /// The bytes of the name of a description.
+    NameLen(usize),
+    /// The bytes of the physical address of a description.
+    AddressLen(usize),
+    /// The inactivity time-out of a description, in seconds.
+    Inactivity(u16),
 }
 
 /// Why a profile is bad.
@@ -154,6 +161,9 @@ impl Defect {
             | Defect::Inhibit(_, _, _)
             | Defect::Waiting(_, _) => ProfileFault::Timing,
             Defect::Major(_) | Defect::Minor(_) => ProfileFault::Identity,
+            Defect::NameLen(_) | Defect::AddressLen(_) | Defect::Inactivity(_) => {
+                ProfileFault::Description
+            }
         }
     }
 }

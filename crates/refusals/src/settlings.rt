@@ -91,16 +91,18 @@ fn call_kind(call: &LocalCall) -> u8 {
         LocalCall::Start { .. } => 3,
         LocalCall::Stop { .. } => 4,
         LocalCall::Tick { .. } => 5,
+        LocalCall::Inquiry { .. } => 10,
     }
 }
 
-/// The number of the point or slot of a call, or the number of milliseconds.
+/// The number of the point or slot of a call, the number of milliseconds, or the address of the peer.
 fn call_number(call: &LocalCall) -> u64 {
     match call {
         LocalCall::Write { point, .. } | LocalCall::Read { point } => u64::from(*point),
         LocalCall::Mode { run } => u64::from(*run),
         LocalCall::Start { slot } | LocalCall::Stop { slot } => u64::from(*slot),
         LocalCall::Tick { ms } => u64::from(*ms),
+        LocalCall::Inquiry { peer, .. } => u64::from(peer.0),
     }
 }
 

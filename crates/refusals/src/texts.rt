@@ -7,7 +7,7 @@ use cip_tables::Device;
 use cip_types::OutOfMemory;
 use std::alloc::Global;
 use std::marker::PhantomData;
-use trace_lines::write_outcome;
+use trace_outcomes::write_outcome;
 use trace_stepper::Report;
 use trace_text::{Trace, read_trace, write_trace};
 

@@ -2,6 +2,8 @@
 use lib.Count.{ones}
 use Rattle.std.proofs.Common.{◌≡◌, refl, nat_lt, true, false, List, [], ◌∷◌, Some, None, Err}
 use Rattle.cip_events.specs.declared.event.StepFault.TheVariants.{NotAllowedNow, NoSuchPoint, TickTooLong}
+use Rattle.cip_events.specs.declared.event.Event.TheVariants.{Inquiry}
+use Rattle.cip_events.specs.declared.event.Verdict.TheVariants.{BadFrame}
 use Rattle.cip_events.specs.declared.profile_fault.ProfileFault.TheVariants.{Incarnation, Points}
 use Rattle.adapter_table.specs.declared.profile.Profile.{Profile}
 use Rattle.cip_tables.specs.declared.table.Config.{Config}
@@ -15,7 +17,7 @@ use Rattle.segment_world.specs.declared.fault.WorldFault.TheVariants.{SameIncarn
 use Rattle.segment_world.specs.World.{opened_if, most_stream_numbers}
 use Rattle.segment_world.specs.Configs.{world_fault}
 use Rattle.samples.specs.Devices.{common}
-use Rattle.samples.specs.Worlds.{neighbour, home, two, knowing, ended, over, says, said, nothing}
+use Rattle.samples.specs.Worlds.{neighbour, home, two, knowing, ended, over, says, said, nothing, reports, plainly}
 use Rattle.samples.proofs.WorldPlaying.{playing}
 
 -- ---- acts
@@ -64,6 +66,11 @@ a_step_s_fault :
     ≡ Err (Step TickTooLong) ∷ Err (Step NotAllowedNow) ∷ Err (Step NotAllowedNow) ∷ Err (Step NoSuchPoint) ∷ []
 unfolding playing
 a_step_s_fault = refl
+
+-- what is no inquiry is a bad frame to an adapter, and leaves the network
+bytes_that_inquire_nothing : says two (Local 1 (call.Inquiry home []) ∷ []) ≡ reports 1 (Inquiry home []) (plainly BadFrame) ∷ []
+unfolding playing
+bytes_that_inquire_nothing = refl
 
 -- ---- worlds
 

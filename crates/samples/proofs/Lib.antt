@@ -8,6 +8,8 @@ mod OwnerData
 pub mod Productions
 pub mod Times
 pub mod Requests
+mod ObjectSamples
+mod InquirySamples
 pub mod Profiles
 pub mod Frames
 pub mod AdapterWakes

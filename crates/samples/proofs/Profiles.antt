@@ -1,14 +1,16 @@
 -- The first thing that is wrong with a profile.
 use lib.Count.{ones, ones_cat}
-use Rattle.std.proofs.Common.{◌≡◌, refl, ◌∙◌, arith, ℕ, ◌+◌, [], ◌∷◌, map, Some, None}
+use Rattle.std.proofs.Common.{◌≡◌, refl, ◌∙◌, arith, ℕ, ◌+◌, List, [], ◌∷◌, map, Some, None}
 use Rattle.adapter_table.specs.declared.profile.Action.TheVariants.{Zero}
+use Rattle.adapter_table.specs.declared.profile.Description.{Description}
 use Rattle.adapter_table.specs.declared.profile.InputPoint.{InputPoint}
 use Rattle.adapter_table.specs.declared.profile.OutputPoint.{OutputPoint}
 use Rattle.adapter_table.specs.declared.profile.Profile.{Profile}
-use Rattle.cip_events.specs.declared.profile_fault.ProfileFault.TheVariants.{Incarnation, Address, Points, SameInstance, Length, Identity as IdentityFault}
+use Rattle.cip_events.specs.declared.profile_fault.ProfileFault.TheVariants.{Incarnation, Address, Points, SameInstance, Length, Identity as IdentityFault, Description as DescriptionFault}
 use Rattle.adapter_table.specs.Profiles.{profile_fault}
 use Rattle.cip_events.specs.Faults.{fault_number}
 use Rattle.samples.specs.Devices.{common, configured, double, output, input}
+use Rattle.samples.specs.Described.{pump, described}
 use Rattle.samples.specs.Rows.{from}
 use Rattle.samples.specs.Computing.{computing}
 
@@ -184,6 +186,39 @@ other_revisions : map profile_fault (revised 0 1 ∷ revised 128 1 ∷ revised 2
 unfolding computing ones
 other_revisions = refl
 
+-- ---- the description
+
+abbrev saying : Description → Profile
+saying d = record described { description = Some d }
+
+abbrev in_range : List Description
+in_range =
+    pump
+    ∷ record pump { name = [] }
+    ∷ record pump { name = from 65 32 }
+    ∷ record pump { inactivity = 0 }
+    ∷ record pump { inactivity = 3600 }
+    ∷ []
+
+abbrev out_of_range : List Description
+out_of_range =
+    record pump { name = from 65 33 }
+    ∷ record pump { mac = from 1 5 }
+    ∷ record pump { mac = from 1 7 }
+    ∷ record pump { mac = [] }
+    ∷ record pump { inactivity = 3601 }
+    ∷ []
+
+descriptions_in_range : map (λ d. profile_fault (saying d)) in_range ≡ None ∷ None ∷ None ∷ None ∷ None ∷ []
+unfolding computing ones
+descriptions_in_range = refl
+
+descriptions_out_of_range :
+    map (λ d. profile_fault (saying d)) out_of_range
+    ≡ Some DescriptionFault ∷ Some DescriptionFault ∷ Some DescriptionFault ∷ Some DescriptionFault ∷ Some DescriptionFault ∷ []
+unfolding computing ones
+descriptions_out_of_range = refl
+
 -- ---- the first of two
 
 the_incarnation_before_the_address : profile_fault (record (addressed 0xC0A80100 0xFFFFFF00) { incarnation = 0 }) ≡ Some Incarnation
@@ -206,7 +241,11 @@ the_lengths_before_the_revision : profile_fault (record (revised 2 0) { config =
 unfolding computing ones
 the_lengths_before_the_revision = refl
 
+the_revision_before_the_description : profile_fault (record (revised 2 0) { description = Some (record pump { mac = [] }) }) ≡ Some IdentityFault
+unfolding computing ones
+the_revision_before_the_description = refl
+
 -- ---- numbers
 
-faults_by_number : map fault_number (Incarnation ∷ Address ∷ Points ∷ SameInstance ∷ Length ∷ IdentityFault ∷ []) ≡ 1 ∷ 2 ∷ 3 ∷ 4 ∷ 5 ∷ 7 ∷ []
+faults_by_number : map fault_number (Incarnation ∷ Address ∷ Points ∷ SameInstance ∷ Length ∷ IdentityFault ∷ DescriptionFault ∷ []) ≡ 1 ∷ 2 ∷ 3 ∷ 4 ∷ 5 ∷ 7 ∷ 8 ∷ []
 faults_by_number = refl

@@ -2,7 +2,7 @@
 use Rattle.std.proofs.Common.{◌≡◌, ◌<◌, ◌==◌, ℕ, zero, suc, true, false, List, [], ◌∷◌, ◌++◌, length, slice_get, slice_index, Some, Ok, refl, subst, arith}
 use Rattle.std.proofs.lemmas.Bool.Decides.{nat_tests}
 use Rattle.cip_events.specs.declared.event.Event.{Event}
-use Rattle.cip_events.specs.declared.event.Event.TheVariants.{StreamOpened, StreamCut, Tick, Datagram}
+use Rattle.cip_events.specs.declared.event.Event.TheVariants.{StreamOpened, StreamCut, Tick, Datagram, Inquiry}
 use Rattle.cip_events.specs.declared.event.Verdict.TheVariants.{Done}
 use Rattle.cip_tables.specs.declared.table.Config.TheVariants as config
 use Rattle.cip_tables.specs.declared.table.DeviceTable.{DeviceTable}
@@ -254,3 +254,8 @@ sent = record two { sent = record { from = other; bytes = [] } ∷ [] }
 a_datagram_that_was_sent_has_a_way : (rest : ℕ → List Event) → NoWay rest sent 0 (Datagram other []) → ⊥
 unfolding playing
 a_datagram_that_was_sent_has_a_way rest none = none.alone (Deliver 0 0) (record { report = _; after = _; is = refl; device = refl; event = refl })
+
+-- a peer outside inquires whenever it likes
+an_inquiry_has_a_way : (rest : ℕ → List Event) → NoWay rest two 0 (Inquiry other []) → ⊥
+unfolding playing
+an_inquiry_has_a_way rest none = none.alone (Local 0 (call.Inquiry other [])) (record { report = _; after = _; is = refl; device = refl; event = refl })

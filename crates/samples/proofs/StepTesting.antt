@@ -18,7 +18,7 @@ use Rattle.cip_events.specs.declared.event.Reason.{Reason}
 use Rattle.cip_fwdopen.specs.declared.reply.OpenAnswer.{OpenAnswer}
 use Rattle.cip_fwdopen.specs.declared.reply.OpenAnswer.TheVariants as answer
 use Rattle.cip_fwdopen.specs.Open.{OpenFields}
-use Rattle.cip_router.specs.Requests.{RouterRequestFields, nothing, refused, closing, assembly, opening, router_request_reading}
+use Rattle.cip_router.specs.Requests.{RouterRequestFields, nothing, refused, closing, object, opening, router_request_reading}
 use Rattle.adapter_table.specs.Checks.{is_multicast}
 use Rattle.adapter_table.specs.Connections.{Row}
 use Rattle.adapter_table.specs.declared.table.AdapterTable.{AdapterTable}
@@ -56,7 +56,7 @@ request_step : (profile : ScannerProfile) (bytes : List ℕ) (m : MessageFields)
 request_step profile bytes m packet nothing one two is law = refl
 request_step profile bytes m packet (refused service why) one two is law = refl
 request_step profile bytes m packet (closing request) one two is law = refl
-request_step profile bytes m packet (assembly service instance attribute body) one two is law = refl
+request_step profile bytes m packet (object service class instance attribute body) one two is law = refl
 request_step profile bytes m packet (opening large request) one two is law =
     own_passes profile request (law request (record { message = m; reads = one; packet = packet; packet_is = two; large = large; opens = is }))
 

@@ -1,5 +1,5 @@
 -- The adapters of the samples, and who speaks to them.
-use Rattle.std.specs.Prelude.{ℕ, [], ◌∷◌, Some}
+use Rattle.std.specs.Prelude.{ℕ, [], ◌∷◌, Some, None}
 use Rattle.cip_types.specs.declared.names.Node.{Node}
 use Rattle.cip_types.specs.declared.names.Triad.{Triad}
 use Rattle.adapter_table.specs.declared.profile.Action.{Action}
@@ -31,6 +31,7 @@ common = record {
   config = Some (input 151 0);
   input_only = 152;
   listen_only = 153;
+  description = None;
 }
 
 -- the same with two bytes of configuration

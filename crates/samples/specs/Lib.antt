@@ -1,5 +1,6 @@
 pub mod Hex
 pub mod Devices
+pub mod Described
 pub mod Requests
 pub mod Datagrams
 pub mod Runs

@@ -15,7 +15,7 @@ use Rattle.cip_events.specs.declared.event.Reason.{Reason}
 use Rattle.cip_fwdopen.specs.declared.reply.OpenAnswer.{OpenAnswer}
 use Rattle.cip_fwdopen.specs.declared.reply.OpenAnswer.TheVariants as answer
 use Rattle.cip_fwdopen.specs.Open.{OpenFields}
-use Rattle.cip_router.specs.Requests.{RouterRequestFields, nothing, refused, closing, assembly, opening, router_request_reading}
+use Rattle.cip_router.specs.Requests.{RouterRequestFields, nothing, refused, closing, object, opening, router_request_reading}
 use Rattle.adapter_table.specs.Checks.{is_multicast}
 use Rattle.adapter_table.specs.Connections.{Row}
 use Rattle.adapter_table.specs.declared.table.AdapterTable.{AdapterTable}
@@ -44,7 +44,7 @@ abbrev pub request_asks_own : ScannerProfile → RouterRequestFields → Bool
 request_asks_own profile nothing = true
 request_asks_own profile (refused service why) = true
 request_asks_own profile (closing request) = true
-request_asks_own profile (assembly service instance attribute body) = true
+request_asks_own profile (object service class instance attribute body) = true
 request_asks_own profile (opening large request) = asks_own profile request
 
 abbrev pub packet_asks_own : ScannerProfile → Result PacketFields ItemFault → Bool

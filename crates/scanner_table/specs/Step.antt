@@ -1,7 +1,7 @@
 -- One event at a scanner's table.
 use Rattle.std.specs.Prelude.{false, [], map, replicate, Result, Ok, Err}
 use Rattle.cip_events.specs.declared.event.Event.{Event}
-use Rattle.cip_events.specs.declared.event.Event.TheVariants.{Request, StreamOpened, Frame, StreamCut, Datagram, Write, Read, Tick, Mode, Start, Stop}
+use Rattle.cip_events.specs.declared.event.Event.TheVariants.{Request, StreamOpened, Frame, StreamCut, Datagram, Inquiry, Write, Read, Tick, Mode, Start, Stop}
 use Rattle.cip_events.specs.declared.event.StepFault.{StepFault}
 use Rattle.cip_events.specs.declared.event.StepFault.TheVariants.{NotAllowedNow}
 use Rattle.scanner_table.specs.declared.profile.SlotConfig.{SlotConfig}
@@ -23,6 +23,7 @@ scanner_step t (StreamOpened stream peer) = stream_opened t stream peer
 scanner_step t (Frame stream bytes) = frame t stream bytes
 scanner_step t (StreamCut stream) = stream_cut t stream
 scanner_step t (Datagram peer bytes) = Ok (received t peer bytes)
+scanner_step t (Inquiry peer bytes) = Err NotAllowedNow
 scanner_step t (Write point bytes) = write t point bytes
 scanner_step t (Read point) = read t point
 scanner_step t (Tick ms) = tick t ms

@@ -104,6 +104,12 @@ fn print_sent(rt: &impl Print, alloc: Global, sent: &SentOutput) -> Result<(), D
             println!(rt; "datagram {a}.{b}.{c}.{d} {digits}")?;
         }
         SentOutput::Close { stream } => println!(rt; "close {stream}")?,
+        SentOutput::Reply { peer, bytes } => {
+            let Node(address) = *peer;
+            let [a, b, c, d] = address.to_be_bytes();
+            let digits = hex::encode(alloc, bytes.as_slice())?;
+            println!(rt; "reply {a}.{b}.{c}.{d} {digits}")?;
+        }
     }
     Ok(())
 }

@@ -50,6 +50,7 @@ fn arrival_of(event: Event) -> Option<Arrival> {
         Event::Frame { stream, bytes } => Some(Arrival::Frame { stream, bytes }),
         Event::StreamCut { stream } => Some(Arrival::Cut { stream }),
         Event::Datagram { peer, bytes } => Some(Arrival::Datagram { peer, bytes }),
+        Event::Inquiry { peer, bytes } => Some(Arrival::Inquiry { peer, bytes }),
         _ => None,
     }
 }

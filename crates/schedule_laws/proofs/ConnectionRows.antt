@@ -24,6 +24,7 @@ use Rattle.adapter_table.specs.Closing.{stays}
 use Rattle.adapter_table.specs.Connections.{Row}
 use Rattle.adapter_table.specs.Datagrams.{is_for, accepted_row, accepted_if_for, row_delivery, accepted_table, delivered, found_datagram, datagram_of, received}
 use Rattle.adapter_table.specs.Encapsulation.{frame}
+use Rattle.adapter_table.specs.Inquiries.{inquiry_reply, inquired_by, inquired}
 use Rattle.adapter_table.specs.Productions.{produced_state, produced_row, changed_state, changed_row}
 use Rattle.adapter_table.specs.Profiles.{is_at}
 use Rattle.adapter_table.specs.Requests.{Next}
@@ -122,6 +123,10 @@ tick_rows O lasts t ms rows =
     either (OkRows O) (nat_lt longest_tick ms) (Err TickTooLong) _ tt
     (either (OkRows O) (nat_lt clock_end (t.clock.0 + ms)) (Err ClockEnd) (Ok (advanced (clocked_table t ms))) tt (advanced_rows O lasts t ms rows))
 
+inquired_rows : (O : Row → Type 0) (t : AdapterTable) (peer : Node) (reply : Option (List ℕ)) → RowsAre O t → NextRows O (inquired_by t peer reply)
+inquired_rows O t peer None rows = rows
+inquired_rows O t peer (Some text) rows = rows
+
 -- ---- a step
 
 -- what holds of the connection that the event opens; no request comes but over a stream
@@ -131,13 +136,14 @@ EventMakes O t (event.Frame number bytes) = MessageMakes O t (message_reading by
 EventMakes O t other = Unit {0}
 
 all_rows : (O : Row → Type 0) → Lasts O → (t : AdapterTable) (happens : Event) → EventMakes O t happens → RowsAre O t → OkRows O (adapter_step t happens)
-unfolding received write frame stream_cut stream_opened
+unfolding received inquired write frame stream_cut stream_opened
 all_rows O lasts t (event.Request peer bytes) makes rows = absurd makes
 all_rows O lasts t (event.StreamOpened number peer) makes rows =
     either (OkRows O) (is_taken t.streams number) (Err NotAllowedNow) (Ok (plain_answer Done, with_stream t number peer)) tt (streamed_rows O t number peer rows)
 all_rows O lasts t (event.Frame number bytes) makes rows = frame_rows O t bytes (find (is_stream number) t.streams) makes rows
 all_rows O lasts t (event.StreamCut number) makes rows = cut_rows O t (find (is_stream number) t.streams) rows
 all_rows O lasts t (event.Datagram peer bytes) makes rows = datagram_rows O lasts t peer (datagram_reading bytes) rows
+all_rows O lasts t (event.Inquiry peer bytes) makes rows = inquired_rows O t peer (inquiry_reply t bytes) rows
 all_rows O lasts t (event.Write point bytes) makes rows = write_rows O lasts t point bytes (find (is_at point) t.profile.inputs) rows
 all_rows O lasts t (event.Tick ms) makes rows = tick_rows O lasts t ms rows
 all_rows O lasts t other makes rows = passive_holds (OkRows O) t (λ why. tt) (λ verdict. rows) other refl

@@ -203,6 +203,7 @@ none_of id (frame ∷ frames) none =
 answers_open_none : (t u : AdapterTable) (happens : Event) (frame : Frame) → IsInSchedule happens → IsAnswerTo t u happens frame → IsNoOpening frame.bytes
 answers_open_none t u (event.Request peer bytes) frame possible is = absurd possible
 answers_open_none t u (event.Frame number bytes) frame possible is = is.opens_nothing
+answers_open_none t u (event.Inquiry peer bytes) frame possible is = is.opens_nothing
 answers_open_none t u other frame possible is = absurd is
 
 -- the new connection's T->O id is this one only where the frame asked for it

@@ -32,7 +32,7 @@ abbrev pub WasSent : List Sent → Node → List ℕ → Type 0
 WasSent sent peer bytes = (k : ℕ) × (slice_get sent k ≡ Some (record { from = peer; bytes = bytes }))
 
 -- The event can come to the device by an act that is no cut: it waits first on its stream, it is a datagram that was
--- sent, or the application or time does it. No act is a request over no stream.
+-- sent, or the application, time, or a peer outside with an inquiry does it. No act is a request over no stream.
 abbrev pub CanCome : World → ℕ → Event → Type 0
 CanCome w i (Request peer bytes) = ⊥
 CanCome w i (StreamOpened stream peer) = WaitsFirst w stream i (StreamOpened stream peer)

@@ -183,9 +183,9 @@ fn sent_cause<D: Device + Drop>(
     }
 }
 
-// THE APPLICATION AND TIME
+// CALLS
 
-// The act that is this event of a device's application, or of time at it.
+// The act that is this event of a device's application, of time at it, or of a peer outside.
 #[tactic(auto, using(crate::proofs::Ways::call_is_cause))]
 fn local_cause<D: Device + Drop>(_world: &World<D>, device: u32, _event: &Event, call: Call) -> Act
     requires { event_of_call call ≡ _event.now }
@@ -231,6 +231,10 @@ pub fn cause<D: Device + Drop>(
         Event::Mode { run } => Call::Mode { run: *run },
         Event::Start { slot } => Call::Start { slot: *slot },
         Event::Stop { slot } => Call::Stop { slot: *slot },
+        Event::Inquiry { peer, bytes } => Call::Inquiry {
+            peer: *peer,
+            bytes: Items::copy_of(alloc, bytes.as_slice())?,
+        },
     };
     Ok(Some(local_cause(world, device, event, call)))
 }

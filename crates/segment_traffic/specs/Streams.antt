@@ -5,7 +5,7 @@ use Rattle.cip_events.specs.declared.event.Frame.{Frame}
 use Rattle.cip_events.specs.declared.event.Recipient.{Recipient}
 use Rattle.cip_events.specs.declared.event.Recipient.TheVariants as recipient
 use Rattle.cip_events.specs.declared.event.Notice.{Notice}
-use Rattle.cip_events.specs.declared.event.Notice.TheVariants.{Opened, Closed, Expired, Dropped, Replaced, StreamClosed, Slot, Refused, NoIds}
+use Rattle.cip_events.specs.declared.event.Notice.TheVariants.{Opened, Closed, Expired, Dropped, Replaced, StreamClosed, Slot, Refused, NoIds, Reset}
 use Rattle.segment_traffic.specs.declared.direction.Direction.{Direction}
 use Rattle.segment_traffic.specs.declared.direction.Direction.TheVariants.{Forth, Back}
 
@@ -78,7 +78,7 @@ sent_along bytes s (Some direction) = with_side direction s (queued (Queued byte
 abbrev pub sent_over : ℕ → List ℕ → Stream → Stream
 sent_over device bytes s = sent_along bytes s (way_from device s)
 
--- frames for a peer answer requests that came over no stream
+-- frames for a peer answer requests and inquiries that came over no stream
 abbrev pub frame_sent : ℕ → List Stream → List ℕ → Recipient → List Stream
 frame_sent device streams bytes (recipient.Stream n) = with_stream (sent_over device bytes) n streams
 frame_sent device streams bytes (recipient.Peer node) = streams
@@ -120,6 +120,7 @@ notice_applied device streams (Replaced triad) = streams
 notice_applied device streams (Slot slot state) = streams
 notice_applied device streams (Refused slot reason) = streams
 notice_applied device streams (NoIds slot) = streams
+notice_applied device streams (Reset kind) = streams
 
 unfoldable pub notices_applied : ℕ → List Stream → List Notice → List Stream
 notices_applied device streams [] = streams

@@ -19,6 +19,8 @@ use Rattle.segment_world.specs.declared.act.Act.{Act}
 use Rattle.segment_world.specs.declared.act.Act.TheVariants.{Local, Deliver, NextFrame, OpenStream, CutStream}
 use Rattle.segment_world.specs.declared.act.Call.{Call}
 use Rattle.segment_world.specs.declared.act.Call.TheVariants as call
+use Rattle.segment_world.specs.declared.act.ReadyCall.{ReadyCall}
+use Rattle.segment_world.specs.declared.act.ReadyCall.TheVariants as ready
 use Rattle.segment_world.specs.declared.act.ActFault.{ActFault}
 use Rattle.segment_world.specs.declared.act.ActFault.TheVariants.{NoSuchDevice, NeverSent, StreamEmpty, NoSuchStream, Step}
 
@@ -75,6 +77,11 @@ event_of_call (call.Mode run) = event.Mode run
 event_of_call (call.Start slot) = event.Start slot
 event_of_call (call.Stop slot) = event.Stop slot
 event_of_call (call.Tick ms) = event.Tick ms
+event_of_call (call.Inquiry peer bytes) = event.Inquiry peer bytes
+
+abbrev pub event_of_ready : ReadyCall → Event
+event_of_ready (ready.Write point bytes) = event.Write point bytes.now
+event_of_ready (ready.Event made) = made
 
 abbrev pub delivered : ℕ → World → Option DeviceTable → Option Sent → Happened
 delivered device w None sent = Err NoSuchDevice

@@ -1,16 +1,18 @@
 //! Acts in a world, and their faults.
 
+ghost use Rattle.std.specs.Prelude.{◌≡◌, IfOk};
 ghost use Rattle.cip_events.specs.Outcomes.{Follows};
 ghost use Rattle.cip_tables.specs.Step.{step};
-ghost use Rattle.segment_world.specs.World.{event_of_call};
+ghost use Rattle.segment_world.specs.World.{event_of_call, event_of_ready};
 
 use cip_events::{Event, Outcome, StepFault};
 use cip_tables::Device;
-use cip_types::{Items, OutOfMemory};
+use cip_types::{Items, Node, OutOfMemory};
 use segment_traffic::Direction;
+use std::alloc::Global;
 use thiserror::Error;
 
-/// A call of the application at its device, or a tick of the device's clock.
+/// A call of the application at its device, a tick of the device's clock, or an inquiry from outside the network.
 #[derive(Drop)]
 pub enum Call {
     /// The application writes an input of an adapter, or the output of a scanner's slot.
@@ -25,21 +27,45 @@ pub enum Call {
     Stop { slot: u32 },
     /// A number of milliseconds passes, at most 60,000.
     Tick { ms: u32 },
+    /// A peer sends an encapsulation message over no stream. The reply goes to the peer, and over no stream of the network.
+    Inquiry { peer: Node, bytes: Items<u8> },
+}
+
+/// A call that a device can perform: the write of these bytes to a point, or another event.
+pub enum ReadyCall<'a> {
+    Write(u32, &'a [u8]),
+    Event(Event),
 }
 
 impl Call {
+    /// Makes the call ready, with a copy of the bytes of an inquiry. `OutOfMemory` is the only error.
+    pub fn ready(&self, alloc: Global) -> Result<ReadyCall<'_>, OutOfMemory>
+        ensures { IfOk result (λ ready. event_of_ready ready ≡ event_of_call self.now) }
+    {
+        Ok(match self {
+            Call::Write { point, bytes } => ReadyCall::Write(*point, bytes.as_slice()),
+            Call::Read { point } => ReadyCall::Event(Event::Read { point: *point }),
+            Call::Mode { run } => ReadyCall::Event(Event::Mode { run: *run }),
+            Call::Start { slot } => ReadyCall::Event(Event::Start { slot: *slot }),
+            Call::Stop { slot } => ReadyCall::Event(Event::Stop { slot: *slot }),
+            Call::Tick { ms } => ReadyCall::Event(Event::Tick { ms: *ms }),
+            Call::Inquiry { peer, bytes } => ReadyCall::Event(Event::Inquiry {
+                peer: *peer,
+                bytes: Items::copy_of(alloc, bytes.as_slice())?,
+            }),
+        })
+    }
+}
+
+impl ReadyCall<'_> {
     /// Performs the call at a device.
-    pub fn perform<D: Device>(&self, device: &mut D) -> Outcome
-        ensures { Follows (step (D.table device.old) (event_of_call self.now))
+    pub fn perform<D: Device>(self, device: &mut D) -> Outcome
+        ensures { Follows (step (D.table device.old) (event_of_ready self.entry))
             (D.table device.old) result (D.table device.new) }
     {
         match self {
-            Call::Write { point, bytes } => device.write_point(*point, bytes.as_slice()),
-            Call::Read { point } => device.step(&Event::Read { point: *point }),
-            Call::Mode { run } => device.step(&Event::Mode { run: *run }),
-            Call::Start { slot } => device.step(&Event::Start { slot: *slot }),
-            Call::Stop { slot } => device.step(&Event::Stop { slot: *slot }),
-            Call::Tick { ms } => device.step(&Event::Tick { ms: *ms }),
+            ReadyCall::Write(point, bytes) => device.write_point(point, bytes),
+            ReadyCall::Event(event) => device.step(&event),
         }
     }
 }
@@ -48,7 +74,7 @@ impl Call {
 /// are numbered from 0 in the order in which they were opened.
 #[derive(Drop)]
 pub enum Act {
-    /// The application of a device makes a call, or time passes at the device.
+    /// The application of a device makes a call, time passes at the device, or it receives an inquiry.
     Local { device: u32, call: Call },
     /// A device receives a datagram, given by its index among all that were ever sent. The device need not be one that
     /// the datagram was sent to, and the same datagram may be delivered again.

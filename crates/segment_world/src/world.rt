@@ -134,7 +134,7 @@ impl<D: Device> World<D> {
         }
     }
 
-    /// Performs a call of the application of a device, or lets time pass there, as the act `Local` does.
+    /// Performs a call at a device, as the act `Local` does.
     ///
     /// The errors, in order: `NoSuchDevice`, `OutOfMemory`, `Step` with the fault of the device.
     pub fn local(&mut self, device: u32, call: &Call) -> Result<Option<Answer>, ActFault>
@@ -146,7 +146,10 @@ impl<D: Device> World<D> {
         let Ok(()) = self.traffic.reserve_answer() else {
             return Err(ActFault::OutOfMemory);
         };
-        match call_at(&mut self.devices, device as usize, call) {
+        let Ok(ready) = call.ready(self.alloc) else {
+            return Err(ActFault::OutOfMemory);
+        };
+        match call_at(&mut self.devices, device as usize, ready) {
             Ok(answer) => {
                 self.traffic.fan_out(device, node, &answer);
                 Ok(Some(answer))

@@ -222,6 +222,7 @@ fn push_what(
     push_place(out, records, at)?;
     match records.event(at) {
         Some(Event::Datagram { .. }) => push_text(out, "a datagram"),
+        Some(Event::Inquiry { .. }) => push_text(out, "an inquiry"),
         Some(Event::StreamOpened { stream, .. }) => Ok(write!(
             out,
             "the opening of stream {stream}"

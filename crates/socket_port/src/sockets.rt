@@ -187,6 +187,8 @@ impl PortSockets {
                 self.streams.close(*stream);
                 Ok(())
             }
+            // (it hands out no inquiry, and so has none to reply to)
+            Output::Reply { peer: _, bytes: _ } => Ok(()),
         }
     }
 

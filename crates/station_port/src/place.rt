@@ -1,9 +1,11 @@
 //! Where a station is, where it sends, and when it ends a silent stream.
 
 ghost use Rattle.std.specs.Prelude.{◌≡◌, false};
+ghost use Rattle.station_port.specs.Items.{originator_use, target_use};
 
 use cip_types::Node;
 use cip_types::limits::{TCP_PORT, UDP_PORT};
+use item_ports::ItemUse;
 
 /// The encapsulation inactivity time-out, in seconds.
 ///
@@ -29,12 +31,15 @@ pub struct StationPlace {
     pub multicast: bool,
     /// An adapter ends a stream over which no whole message came for so many seconds; 0: none.
     pub inactivity_s: u16,
+    /// Whether a scanner names its UDP port in its requests to open a connection, and an adapter sends the datagrams of a
+    /// connection to the port that its originator has named.
+    pub item_ports: bool,
 }
 
 impl StationPlace {
     /// A station at this address, with the standard's ports and its time-out, which sends a copy to each consumer.
     pub fn at(address: Node) -> StationPlace
-        ensures { result ≡ record { address = address; mask = 4294967295; tcp = 44818; udp = 2222; peer_udp = 2222; multicast = false; inactivity_s = 120 } }
+        ensures { result ≡ record { address = address; mask = 4294967295; tcp = 44818; udp = 2222; peer_udp = 2222; multicast = false; inactivity_s = 120; item_ports = false } }
     {
         StationPlace {
             address,
@@ -44,6 +49,29 @@ impl StationPlace {
             peer_udp: UDP_PORT,
             multicast: false,
             inactivity_s: INACTIVITY_S,
+            item_ports: false,
+        }
+    }
+
+    /// What an adapter's port does with socket address items.
+    pub(crate) fn target_use(&self) -> ItemUse
+        ensures { result ≡ target_use self.now }
+    {
+        if self.item_ports {
+            ItemUse::Honoured
+        } else {
+            ItemUse::Unused
+        }
+    }
+
+    /// What a scanner's port does with socket address items.
+    pub(crate) fn originator_use(&self) -> ItemUse
+        ensures { result ≡ originator_use self.now }
+    {
+        if self.item_ports {
+            ItemUse::Named(self.udp)
+        } else {
+            ItemUse::Unused
         }
     }
 }

@@ -6,10 +6,11 @@ ghost use Rattle.station_streams.specs.Waits.{streams_wait};
 
 use crate::bind::made;
 use crate::fault::{StationFault, StationSocket};
-use crate::finder::Finder;
+use crate::finder::{Finder, NextInquiry};
 use cip_events::Arrival;
 use cip_types::limits::MOST_STREAMS;
 use cip_types::{Items, Node, OutOfMemory};
+use item_ports::ItemPorts;
 use mio::net::{TcpListener, TcpStream, UdpSocket};
 use mio::{Interest, Registry};
 use port_streams::{PollOrder, SpareBytes};
@@ -46,7 +47,7 @@ pub(crate) struct StationSockets {
     newcomer: Option<Newcomer>,
     pub(crate) streams: KeptStreams,
     targets: Targets,
-    peer_udp: u16,
+    items: ItemPorts,
     buffer: Vec<u8>,
     spare: SpareBytes,
     order: PollOrder,
@@ -63,7 +64,7 @@ impl StationSockets {
         finder: Option<Finder>,
         streams: KeptStreams,
         targets: Targets,
-        peer_udp: u16,
+        items: ItemPorts,
     ) -> Result<StationSockets, OutOfMemory> {
         Ok(StationSockets {
             alloc,
@@ -73,7 +74,7 @@ impl StationSockets {
             newcomer: None,
             streams,
             targets,
-            peer_udp,
+            items,
             buffer: vec![in alloc; 0; BUFFER_BYTES]?,
             spare: SpareBytes::none(),
             order: PollOrder::begin(),
@@ -146,27 +147,30 @@ impl StationSockets {
         self.targets.succeed(target);
     }
 
-    /// The arrival that is there now. A poll that asks all asks the streams before the datagrams, and each socket.
+    /// The arrival that is there now. A poll that asks all asks first for an inquiry, of which there are few, then the
+    /// streams, and then the datagrams. Any other poll asks the datagrams, the streams, and for an inquiry.
     pub(crate) fn poll(
         &mut self,
         registry: &Registry,
         all: bool,
         now_ms: u64,
     ) -> Result<Option<Arrival>, PortFault> {
-        let arrival = if all {
+        if all {
             self.admit(registry, now_ms)?;
-            self.first_stream_arrival(now_ms)?
-        } else {
-            self.first_datagram(now_ms)?
-        };
-        if arrival.is_none() && !all {
-            self.admit(registry, now_ms)?;
+            return self.first_inquiry(now_ms);
         }
-        Ok(arrival)
+        if let Some(arrival) = self.first_datagram(now_ms)? {
+            return Ok(Some(arrival));
+        }
+        self.admit(registry, now_ms)?;
+        self.poll_inquiries(now_ms)
     }
 
-    /// The arrival of a stream, or else a datagram.
-    fn first_stream_arrival(&mut self, now_ms: u64) -> Result<Option<Arrival>, PortFault> {
+    /// An inquiry, or else the arrival of a stream, or else a datagram.
+    fn first_inquiry(&mut self, now_ms: u64) -> Result<Option<Arrival>, PortFault> {
+        if let Some(arrival) = self.poll_inquiries(now_ms)? {
+            return Ok(Some(arrival));
+        }
         if let Some(arrival) = self.poll_streams(now_ms)? {
             return Ok(Some(arrival));
         }
@@ -181,7 +185,7 @@ impl StationSockets {
         self.poll_streams(now_ms)
     }
 
-    /// Accepts a connection, adds the streams that have opened, and answers a ListIdentity request.
+    /// Accepts a connection, and adds the streams that have opened.
     fn admit(&mut self, registry: &Registry, now_ms: u64) -> Result<(), PortFault> {
         if self.ready.listener {
             self.accept(registry, now_ms)?;
@@ -189,12 +193,6 @@ impl StationSockets {
         if self.ready.openings {
             self.ready.openings = false;
             self.ready.streams |= self.targets.settle(registry, &mut self.streams, now_ms);
-        }
-        if self.ready.finder {
-            self.ready.finder = match &self.finder {
-                Some(finder) => finder.answer(&mut self.buffer)?,
-                None => false,
-            };
         }
         Ok(())
     }
@@ -263,6 +261,37 @@ impl StationSockets {
         }
     }
 
+    /// The inquiry that is there now, if the device may be given one.
+    fn poll_inquiries(&mut self, now_ms: u64) -> Result<Option<Arrival>, PortFault> {
+        match self.next_inquiry(now_ms)? {
+            NextInquiry::Inquiry(asker, count) => self.inquiry(asker.node, count),
+            NextInquiry::Later => Ok(None),
+            NextInquiry::Nothing => {
+                self.ready.finder = false;
+                Ok(None)
+            }
+        }
+    }
+
+    /// The next inquiry in the buffer.
+    fn next_inquiry(&mut self, now_ms: u64) -> Result<NextInquiry, PortFault> {
+        match &mut self.finder {
+            Some(finder) if self.ready.finder => finder.next(&mut self.buffer, now_ms),
+            _ => Ok(NextInquiry::Nothing),
+        }
+    }
+
+    /// The inquiry of a peer at the front of the buffer.
+    fn inquiry(&self, peer: Node, count: usize) -> Result<Option<Arrival>, PortFault> {
+        let Some(message) = self.buffer.get(..count) else {
+            return Ok(None);
+        };
+        match Items::copy_of(self.alloc, message) {
+            Ok(bytes) => Ok(Some(Arrival::Inquiry { peer, bytes })),
+            Err(OutOfMemory) => Err(PortFault::Memory),
+        }
+    }
+
     /// The next datagram in the buffer: the number of its bytes, and its sender.
     fn next_datagram(&mut self) -> Result<Option<(usize, SocketAddr)>, PortFault> {
         received(self.udp.recv_from(&mut self.buffer))
@@ -284,7 +313,7 @@ impl StationSockets {
             found |= self.read(number)?;
             if let Some(arrival) = self.streams.next(number, now_ms) {
                 self.order.begin_behind(number);
-                return self.pass_on(arrival, now_ms);
+                return Ok(Some(self.pass_on(arrival, now_ms)?));
             }
         }
         self.ready.streams = found;
@@ -314,23 +343,41 @@ impl StationSockets {
         }
     }
 
-    /// An arrival of a stream on its way to the device. A ListIdentity request is answered here; the reply of a target that
-    /// registers a session, or refuses it, is noted; after a cut the stream to its target is opened again later.
-    fn pass_on(&mut self, arrival: Arrival, now_ms: u64) -> Result<Option<Arrival>, PortFault> {
-        match &arrival {
-            Arrival::Frame { stream, bytes } => {
-                if self.finds(*stream, bytes.as_slice())? {
-                    return Ok(None);
-                }
-                // (a message is read only where its stream has no session yet, and then the device reads it too)
-                if self.targets.is_registering(*stream) {
-                    self.note_session(*stream, bytes.as_slice(), now_ms);
-                }
+    /// An arrival of a stream on its way to the device. After a cut the stream to its target is opened again later.
+    fn pass_on(&mut self, arrival: Arrival, now_ms: u64) -> Result<Arrival, PortFault> {
+        match arrival {
+            Arrival::Frame { stream, bytes } => self.pass_message(stream, bytes, now_ms),
+            Arrival::Cut { stream } => {
+                self.targets.lose(stream, now_ms);
+                Ok(Arrival::Cut { stream })
             }
-            Arrival::Cut { stream } => self.targets.lose(*stream, now_ms),
-            _ => {}
+            other => Ok(other),
         }
-        Ok(Some(arrival))
+    }
+
+    /// A message on its way to the device. The reply of a target that registers a session, or refuses it, is
+    /// noted. The item of a port that is honoured is taken off, for which there is memory or the
+    /// stream ends.
+    fn pass_message(
+        &mut self,
+        stream: u16,
+        bytes: Items<u8>,
+        now_ms: u64,
+    ) -> Result<Arrival, PortFault> {
+        // (a message is read only where its stream has no session yet, and then the device reads it too)
+        if self.targets.is_registering(stream) {
+            self.note_session(stream, bytes.as_slice(), now_ms);
+        }
+        let bytes = match self.items.arrive(self.alloc, stream, bytes.as_slice()) {
+            Ok(Some(shorter)) => Items::from_vec(shorter),
+            Ok(None) => bytes,
+            Err(OutOfMemory) => {
+                self.streams.end(stream, EndCause::Cut);
+                self.ready.streams = true;
+                return Err(PortFault::Memory);
+            }
+        };
+        Ok(Arrival::Frame { stream, bytes })
     }
 
     /// Notes what a message says of the session that is being registered on its stream: a stream whose session is refused
@@ -347,26 +394,6 @@ impl StationSockets {
         }
     }
 
-    /// Answers a message over its stream if it is a ListIdentity request. Whether it is.
-    fn finds(&mut self, stream: u16, message: &[u8]) -> Result<bool, PortFault> {
-        let Some(finder) = &self.finder else {
-            return Ok(false);
-        };
-        let own = if finder.is_anywhere() {
-            self.streams.own_address(stream)
-        } else {
-            None
-        };
-        match finder.reply(message, own) {
-            Ok(Some(reply)) => {
-                self.streams.send(stream, reply.as_slice());
-                Ok(true)
-            }
-            Ok(None) => Ok(false),
-            Err(OutOfMemory) => Err(PortFault::Memory),
-        }
-    }
-
     /// Sends an output. A message that its stream does not take whole ends the stream, whose end is the next arrival. A
     /// datagram that the system does not take is lost, as it may be on the network.
     pub(crate) fn send(&mut self, output: &Output<'_>, now_ms: u64)
@@ -374,7 +401,7 @@ impl StationSockets {
     {
         match output {
             Output::Frame { stream, bytes } => {
-                self.streams.send(*stream, bytes);
+                self.send_message(*stream, bytes);
                 self.ready.streams = true;
             }
             Output::Datagram { node, bytes } => self.send_datagram(*node, bytes),
@@ -382,11 +409,35 @@ impl StationSockets {
                 self.streams.close(*stream);
                 self.targets.lose(*stream, now_ms);
             }
+            Output::Reply { peer, bytes } => self.reply(*peer, bytes),
         }
     }
 
-    /// Sends a datagram to a node or a group.
+    /// Sends a reply to where the last inquiry of a peer came from.
+    fn reply(&mut self, peer: Node, bytes: &[u8])
+        ensures { self.new.targets ≡ self.old.targets }
+    {
+        if let Some(finder) = &mut self.finder {
+            finder.reply(peer, bytes);
+        }
+    }
+
+    /// Sends a message over a stream: a request with the item that names the station's port, if it has one. A stream for whose
+    /// message there is no memory ends.
+    fn send_message(&mut self, stream: u16, bytes: &[u8])
+        ensures { self.new.targets.links ≡ self.old.targets.links }
+    {
+        let peer = self.streams.peer(stream);
+        match self.items.leave(self.alloc, stream, peer, bytes) {
+            Ok(Some(longer)) => self.streams.send(stream, longer.as_slice()),
+            Ok(None) => self.streams.send(stream, bytes),
+            Err(OutOfMemory) => self.streams.end(stream, EndCause::Cut),
+        }
+    }
+
+    /// Sends a datagram to a node or a group, at the port that an originator has named for it or at the usual one.
     fn send_datagram(&self, node: Node, bytes: &[u8]) {
-        let _ = self.udp.send_to(bytes, address_of(node, self.peer_udp));
+        let port = self.items.port_for(node, bytes);
+        let _ = self.udp.send_to(bytes, address_of(node, port));
     }
 }

@@ -10,7 +10,7 @@ use crate::sockets::StationSockets;
 use crate::waits::{wait_length, whole_ms};
 use cip_events::Arrival;
 use cip_types::{Items, Node};
-use list_identity::StationIdentity;
+use item_ports::ItemPorts;
 use mio::{Events, Poll, Waker};
 use port_alarm::Alarm;
 use port_streams::Destination;
@@ -45,20 +45,16 @@ pub struct StationPort<R: System + Drop> {
 }
 
 impl<R: System + Net + Drop> StationPort<R> {
-    /// An adapter's port: its peers open its streams, and it answers ListIdentity with this identity.
-    pub fn adapter(
-        alloc: Global,
-        rt: R,
-        place: &StationPlace,
-        identity: StationIdentity,
-    ) -> Result<Self, StationFault>
+    /// An adapter's port: its peers open its streams, and inquire which device it is.
+    pub fn adapter(alloc: Global, rt: R, place: &StationPlace) -> Result<Self, StationFault>
         ensures { IfOk result (λ port. port.failures ≡ 0) }
     {
         let listener = listen(&rt, address_of(place.address, place.tcp))?;
         let udp = datagrams(&rt, address_of(place.address, place.udp))?;
-        let finder = Finder::new(alloc, &rt, place, identity)?;
+        let finder = Finder::new(&rt, place)?;
         let streams = KeptStreams::new(alloc, place.inactivity_s)?;
         let targets = Targets::new(alloc, place.address, &[], 0)?;
+        let items = ItemPorts::new(alloc, place.target_use(), place.peer_udp)?;
         let sockets = StationSockets::new(
             alloc,
             Some(listener),
@@ -66,7 +62,7 @@ impl<R: System + Net + Drop> StationPort<R> {
             Some(finder),
             streams,
             targets,
-            place.peer_udp,
+            items,
         )?;
         StationPort::begin(alloc, rt, sockets, place.multicast)
     }
@@ -85,15 +81,8 @@ impl<R: System + Net + Drop> StationPort<R> {
         let udp = datagrams(&rt, address_of(place.address, place.udp))?;
         let streams = KeptStreams::new(alloc, 0)?;
         let targets = Targets::new(alloc, place.address, targets, open_ms)?;
-        let sockets = StationSockets::new(
-            alloc,
-            None,
-            udp,
-            None,
-            streams,
-            targets,
-            place.peer_udp,
-        )?;
+        let items = ItemPorts::new(alloc, place.originator_use(), place.peer_udp)?;
+        let sockets = StationSockets::new(alloc, None, udp, None, streams, targets, items)?;
         StationPort::begin(alloc, rt, sockets, place.multicast)
     }
 

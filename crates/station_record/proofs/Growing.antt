@@ -9,7 +9,7 @@ use Rattle.cip_events.specs.Outcomes.{Outcome}
 use Rattle.cip_tables.specs.declared.table.Config.{Config}
 use Rattle.trace_text.specs.Reading.{Entry}
 use Rattle.trace_text.specs.Written.{config_lines, entries_text, event_words, recorded_text, trace_text}
-use Rattle.trace_lines.specs.WrittenOutcomes.{outcome_text}
+use Rattle.trace_outcomes.specs.WrittenOutcomes.{outcome_text}
 use Rattle.trace_words.specs.Words.{line_text}
 use Rattle.station_record.specs.Records.{GoesOn, IsNoted, IsRecordedAs, IsTraceOf, Records, SaysEnd, entries_of, entry_text, next_number, said_end}
 use Rattle.station_record.specs.Shortened.{recorded_event}

@@ -6,7 +6,7 @@ use Rattle.cip_events.specs.declared.event.StepFault.TheVariants as fault
 use Rattle.cip_events.specs.Outcomes.{Outcome}
 use Rattle.cip_tables.specs.declared.table.Config.{Config}
 use Rattle.trace_words.specs.Words.{line_text}
-use Rattle.trace_lines.specs.WrittenOutcomes.{outcome_text}
+use Rattle.trace_outcomes.specs.WrittenOutcomes.{outcome_text}
 use Rattle.trace_text.specs.Reading.{Entry}
 use Rattle.trace_text.specs.Written.{event_words, trace_text}
 use Rattle.station_record.specs.declared.fault.RecordFault.{RecordFault}

@@ -87,6 +87,12 @@ fn print_output<R: Print>(rt: &R, alloc: Global, output: &Output<'_>) {
         Output::Close { stream } => {
             let _ = println!(rt; "sends close {stream}");
         }
+        Output::Reply { peer, bytes } => {
+            let [a, b, c, d] = peer.0.to_be_bytes();
+            if let Ok(digits) = hex::encode(alloc, bytes) {
+                let _ = println!(rt; "sends reply {a}.{b}.{c}.{d} {digits}");
+            }
+        }
     }
 }
 
@@ -109,6 +115,12 @@ fn print_arrival<R: Print>(rt: &R, alloc: Global, arrival: &Arrival) {
             let [a, b, c, d] = peer.0.to_be_bytes();
             if let Ok(digits) = hex::encode(alloc, bytes.as_slice()) {
                 let _ = println!(rt; "takes datagram {a}.{b}.{c}.{d} {digits}");
+            }
+        }
+        Arrival::Inquiry { peer, bytes } => {
+            let [a, b, c, d] = peer.0.to_be_bytes();
+            if let Ok(digits) = hex::encode(alloc, bytes.as_slice()) {
+                let _ = println!(rt; "takes inquiry {a}.{b}.{c}.{d} {digits}");
             }
         }
     }

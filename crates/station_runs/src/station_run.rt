@@ -76,6 +76,7 @@ fn arrival_of(event: Event) -> Result<Arrival, TextFault> {
         Event::Frame { stream, bytes } => Ok(Arrival::Frame { stream, bytes }),
         Event::StreamCut { stream } => Ok(Arrival::Cut { stream }),
         Event::Datagram { peer, bytes } => Ok(Arrival::Datagram { peer, bytes }),
+        Event::Inquiry { peer, bytes } => Ok(Arrival::Inquiry { peer, bytes }),
         _ => Err(TextFault::Bad),
     }
 }

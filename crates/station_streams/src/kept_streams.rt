@@ -17,7 +17,6 @@ use port_streams::PortStreams;
 use socket_port::{ReadOutcome, read_outcome};
 use std::alloc::Global;
 use std::io::Read;
-use std::net::SocketAddr;
 use stream_rules::{Place, StreamKeeper};
 use udp_runner::{EndCause, PortReport, RefusalCause};
 
@@ -132,9 +131,12 @@ impl KeptStreams {
         }
     }
 
-    /// The address of this host that the peer of a stream reaches.
-    pub fn own_address(&self, number: u16) -> Option<SocketAddr> {
-        self.streams.to_read(number)?.local_addr().ok()
+    /// The peer of the stream of this number, if it is open.
+    pub fn peer(&self, number: u16) -> Option<Node> {
+        match self.keeper.stream(number) {
+            Some(stream) => Some(stream.peer),
+            None => None,
+        }
     }
 
     /// Receives bytes of a stream. If there is no memory for them, the stream ends.

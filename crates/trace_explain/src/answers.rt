@@ -7,11 +7,11 @@ use crate::replies::push_reply;
 use crate::statuses::{encap_words, push_fault};
 use crate::values::{push_data, push_id, push_triad};
 use cip_events::{
-    Answer, Delivery, Frame, Notice, Outcome, OutgoingDatagram, Reason, Recipient, SlotPhase,
-    Verdict,
+    Answer, Delivery, Event, Frame, Notice, Outcome, OutgoingDatagram, Reason, Recipient,
+    SlotPhase, Verdict,
 };
 use cip_tables::Config;
-use cip_types::OutOfMemory;
+use cip_types::{Node, OutOfMemory};
 use std::alloc::Global;
 use trace_words::{push_node, push_nodes, push_text};
 
@@ -23,10 +23,11 @@ pub fn push_outcome(
     alloc: Global,
     out: &mut String,
     config: &Config,
+    event: &Event,
     outcome: &Outcome,
 ) -> Result<(), OutOfMemory> {
     match outcome {
-        Ok(answer) => push_answer(alloc, out, config, answer),
+        Ok(answer) => push_answer(alloc, out, config, event, answer),
         Err(fault) => {
             push_text(out, INDENT)?;
             Ok(write!(out, "refused: {fault}")?)
@@ -38,13 +39,14 @@ fn push_answer(
     alloc: Global,
     out: &mut String,
     config: &Config,
+    event: &Event,
     answer: &Answer,
 ) -> Result<(), OutOfMemory> {
     push_text(out, INDENT)?;
     push_verdict(alloc, out, &answer.verdict)?;
     for frame in answer.frames.as_slice() {
         push_text(out, INDENT)?;
-        push_frame(alloc, out, config, frame)?;
+        push_frame(alloc, out, config, event, frame)?;
     }
     for outgoing in answer.datagrams.as_slice() {
         push_text(out, INDENT)?;
@@ -87,6 +89,7 @@ fn push_frame(
     alloc: Global,
     out: &mut String,
     config: &Config,
+    event: &Event,
     frame: &Frame,
 ) -> Result<(), OutOfMemory> {
     match frame.to {
@@ -101,11 +104,26 @@ fn push_frame(
             )
         }
         Recipient::Peer(node) => {
-            push_text(out, "replies to ")?;
-            push_node(out, node)?;
-            push_text(out, ": ")?;
-            push_reply(alloc, out, frame.bytes.as_slice())
+            push_to_peer(alloc, out, config, event, node, frame.bytes.as_slice())
         }
+    }
+}
+
+/// A reply over no stream: an encapsulation message to an inquiry, and that of a message router to another event.
+fn push_to_peer(
+    alloc: Global,
+    out: &mut String,
+    config: &Config,
+    event: &Event,
+    node: Node,
+    bytes: &[u8],
+) -> Result<(), OutOfMemory> {
+    push_text(out, "replies to ")?;
+    push_node(out, node)?;
+    push_text(out, ": ")?;
+    match event {
+        Event::Inquiry { .. } => push_message(alloc, out, config, bytes, false),
+        _ => push_reply(alloc, out, bytes),
     }
 }
 
@@ -148,7 +166,22 @@ fn push_notice(out: &mut String, notice: Notice) -> Result<(), OutOfMemory> {
             push_triad(out, triad)
         }
         Notice::StreamClosed(stream) => Ok(write!(out, "closes stream {stream}")?),
+        Notice::Reset(kind) => {
+            let words = reset_words(kind);
+            Ok(write!(out, "a peer requests a reset of type {kind}{words}")?)
+        }
         _ => push_slot_notice(out, notice),
+    }
+}
+
+/// What a reset of this type is.
+///
+/// Volume 1, chapter 5, Identity object, Reset service.
+fn reset_words(kind: u8) -> &'static str {
+    match kind {
+        0 => ": as a power cycle",
+        1 => ": as a power cycle, to the settings of the factory",
+        _ => "",
     }
 }
 

@@ -32,6 +32,12 @@ pub fn push_event(
             push_text(out, ": ")?;
             push_request(alloc, out, config, bytes.as_slice())
         }
+        Event::Inquiry { peer, bytes } => {
+            push_text(out, "inquiry from ")?;
+            push_node(out, *peer)?;
+            push_text(out, ": ")?;
+            push_message(alloc, out, config, bytes.as_slice(), true)
+        }
         Event::StreamOpened { stream, peer } => push_stream(out, config, *stream, *peer),
         Event::Frame { stream, bytes } => {
             write!(out, "frame on stream {stream}: ")?;

@@ -1,5 +1,6 @@
 //! Encapsulation messages in words.
 
+use crate::identities::push_identity;
 use crate::replies::push_reply;
 use crate::requests::push_request;
 use crate::statuses::encap_words;
@@ -8,10 +9,12 @@ use cip_encap::{MessageView, read_items, read_message};
 use cip_router::Command;
 use cip_tables::Config;
 use cip_types::OutOfMemory;
+use identity_reading::read_identity_reply;
 use std::alloc::Global;
 use trace_words::push_text;
 
-/// A message, by its command and fields: one from an originator to a target, or its reply.
+/// A message, by its command and fields: one from an originator to a target, or its reply. The reply to ListIdentity says
+/// which device it is of.
 ///
 /// Volume 2, chapter 2, encapsulation messages.
 pub fn push_message(
@@ -33,6 +36,11 @@ pub fn push_message(
         let status = message.status;
         let words = encap_words(status);
         write!(out, ", status {status:#06x} ({words})")?;
+    }
+    if !to_target {
+        if let Ok(found) = read_identity_reply(message.context, bytes) {
+            return push_identity(out, &found);
+        }
     }
     push_contents(alloc, out, config, &message, to_target)
 }

@@ -6,6 +6,7 @@ mod connections;
 mod datagrams;
 mod events;
 mod frames;
+mod identities;
 mod lines;
 mod replies;
 mod requests;

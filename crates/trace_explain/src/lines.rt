@@ -94,7 +94,7 @@ fn entry_words(
     let mut out = String::new(alloc);
     push_event(alloc, &mut out, config, event)?;
     if let Some(outcome) = recorded.get() {
-        push_outcome(alloc, &mut out, config, outcome)?;
+        push_outcome(alloc, &mut out, config, event, outcome)?;
     }
     Ok(out)
 }
@@ -109,7 +109,7 @@ pub fn explain_event(
 ) -> Result<String, OutOfMemory> {
     let mut out = String::new(alloc);
     push_event(alloc, &mut out, config, event)?;
-    push_outcome(alloc, &mut out, config, outcome)?;
+    push_outcome(alloc, &mut out, config, event, outcome)?;
     Ok(out)
 }
 

@@ -1,10 +1,9 @@
 //! Replies of the message router in words.
 
+use crate::requests::service_name;
 use crate::statuses::push_fault;
 use crate::values::{push_data, push_id, push_interval, push_triad};
-use cip_fwdopen::service::{
-    FORWARD_CLOSE, FORWARD_OPEN, GET_ATTRIBUTE_SINGLE, LARGE_FORWARD_OPEN, REPLY,
-};
+use cip_fwdopen::service::{FORWARD_CLOSE, FORWARD_OPEN, LARGE_FORWARD_OPEN, REPLY};
 use cip_fwdopen::{
     CloseAnswer, GetAnswer, OpenAnswer, Opened, Refused, read_close_reply, read_get_reply,
     read_open_reply,
@@ -37,12 +36,11 @@ pub fn push_reply(alloc: Global, out: &mut String, bytes: &[u8]) -> Result<(), O
             push_text(out, "reply to Forward_Close: ")?;
             push_close_reply(alloc, out, bytes)
         }
-        GET_ATTRIBUTE_SINGLE => {
-            push_text(out, "reply to Get_Attribute_Single: ")?;
-            push_get_reply(alloc, out, bytes)
-        }
         service => {
-            write!(out, "reply to service {service:#04x}: ")?;
+            match service_name(service) {
+                Some(name) => write!(out, "reply to {name}: ")?,
+                None => write!(out, "reply to service {service:#04x}: ")?,
+            }
             push_get_reply(alloc, out, bytes)
         }
     }

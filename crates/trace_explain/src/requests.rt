@@ -23,8 +23,8 @@ pub fn push_request(
         RouterRequest::Nothing => push_text(out, "a request without a byte"),
         RouterRequest::Refused(service, status) => push_refused(out, service, status),
         RouterRequest::Closing(request) => push_close(out, &request),
-        RouterRequest::Assembly(service, instance, attribute, data) => {
-            push_assembly(alloc, out, service, instance, attribute, data)
+        RouterRequest::Object(service, class, instance, attribute, data) => {
+            push_object(alloc, out, service, (class, instance, attribute), data)
         }
         RouterRequest::Opening(service, request) => push_open(
             alloc, out, config, service, &request,
@@ -43,25 +43,55 @@ fn push_close(out: &mut String, request: &CloseRequest<&[u8]>) -> Result<(), Out
     push_triad(out, request.triad)
 }
 
-fn push_assembly(
+/// A service of the attribute of an instance of a class.
+fn push_object(
     alloc: Global,
     out: &mut String,
     service: u8,
-    instance: u32,
-    attribute: Option<u32>,
+    (class, instance, attribute): (u32, u32, Option<u32>),
     data: &[u8],
 ) -> Result<(), OutOfMemory> {
-    if service == 0x0E {
-        push_text(out, "Get_Attribute_Single")?;
-    } else {
-        write!(out, "service {service:#04x}")?;
+    match service_name(service) {
+        Some(name) => push_text(out, name)?,
+        None => write!(out, "service {service:#04x}")?,
     }
-    write!(out, " of assembly {instance}")?;
+    match class_name(class) {
+        Some(name) => write!(out, " of {name} {instance}")?,
+        None => write!(out, " of class {class:#04x} instance {instance}")?,
+    }
     if let Some(attribute) = attribute {
         write!(out, " attribute {attribute}")?;
     }
     push_text(out, ", ")?;
     push_data(alloc, out, data)
+}
+
+/// The name of a service of many objects.
+///
+/// Volume 1, appendix A, common services.
+pub fn service_name(service: u8) -> Option<&'static str> {
+    match service {
+        0x01 => Some("Get_Attributes_All"),
+        0x05 => Some("Reset"),
+        0x0E => Some("Get_Attribute_Single"),
+        0x10 => Some("Set_Attribute_Single"),
+        _ => None,
+    }
+}
+
+/// The name of an object that the field's tools ask.
+///
+/// Volume 1, chapter 5, object library. Volume 2, chapter 5.
+fn class_name(class: u32) -> Option<&'static str> {
+    match class {
+        0x01 => Some("Identity"),
+        0x02 => Some("Message Router"),
+        0x04 => Some("assembly"),
+        0x06 => Some("Connection Manager"),
+        0xF5 => Some("TCP/IP Interface"),
+        0xF6 => Some("Ethernet Link"),
+        _ => None,
+    }
 }
 
 fn push_open(

@@ -2,6 +2,7 @@
 
 use cip_types::{ConnId, OutOfMemory, Triad};
 use std::alloc::Global;
+use std::str;
 use trace_words::{push_bytes, push_text};
 
 /// The three numbers that name a connection.
@@ -31,6 +32,20 @@ pub fn push_interval(out: &mut String, us: u32) -> Result<(), OutOfMemory> {
         return Ok(write!(out, "{ms} ms")?);
     }
     Ok(write!(out, "{ms}.{rest:03} ms")?)
+}
+
+/// A name in quotes; one with bytes that are no printed ASCII characters, or with quotes, by its bytes.
+pub fn push_name(out: &mut String, name: &[u8]) -> Result<(), OutOfMemory> {
+    match str::from_utf8(name) {
+        Ok(text) if is_plain(name) => Ok(write!(out, "\"{text}\"")?),
+        _ => push_bytes(out, name),
+    }
+}
+
+/// Whether all bytes are printed ASCII characters but the quote.
+fn is_plain(name: &[u8]) -> bool {
+    name.iter()
+        .all(|byte| *byte >= b' ' && *byte <= b'~' && *byte != b'"')
 }
 
 /// The number of bytes, and the bytes.

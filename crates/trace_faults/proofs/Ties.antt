@@ -2,9 +2,10 @@
 use Rattle.std.proofs.Common.{◌≡◌, refl, List, ◌∷◌, [], Option, Some, None, true, false, Bool, ℕ, ◌∙◌, subst}
 use Rattle.std.specs.Prelude.{is_some, if◌then◌else◌, option_map, option_and_then}
 use Rattle.trace_lines.specs.declared.shapes.WordKind.{WordKind}
-use Rattle.trace_lines.specs.declared.shapes.TheConstants.{ADAPTER, OUTPUT, POINT, HEARTBEAT, SCANNER, SLOT, RATE, FROM_NODE, STREAM, FRAME, CUT, WRITE, NUMBER, MODE}
+use Rattle.trace_lines.specs.declared.shapes.TheConstants.{ADAPTER, OUTPUT, POINT, DESCRIBE, HEARTBEAT, SCANNER, SLOT, RATE, FROM_NODE, STREAM, FRAME, CUT, WRITE, NUMBER, MODE}
 use Rattle.trace_lines.specs.Kinds.{ValueOf, value_of}
 use Rattle.cip_events.specs.declared.event.Event.{Event}
+use Rattle.adapter_table.specs.declared.profile.Description.{Description}
 use Rattle.adapter_table.specs.declared.profile.OutputPoint.{OutputPoint}
 use Rattle.adapter_table.specs.declared.profile.InputPoint.{InputPoint}
 use Rattle.scanner_table.specs.declared.profile.SlotConfig.{SlotConfig}
@@ -12,7 +13,7 @@ use Rattle.trace_lines.specs.declared.forms.AdapterLine.{AdapterLine}
 use Rattle.trace_lines.specs.declared.forms.HeartbeatLine.{HeartbeatLine}
 use Rattle.trace_lines.specs.declared.forms.ScannerLine.{ScannerLine}
 use Rattle.trace_lines.specs.declared.forms.Rate.{Rate}
-use Rattle.trace_lines.specs.Profiles.{adapter_reader, output_reader, point_reader, heartbeat_reader}
+use Rattle.trace_lines.specs.Profiles.{adapter_reader, output_reader, point_reader, description_reader, heartbeat_reader}
 use Rattle.trace_lines.specs.Shapes.{Build, shaped, Shape, behind_kinds, is_shaped, is_end, may_go_on, line_shapes, shape_of}
 use Rattle.trace_lines.specs.Slots.{scanner_reader, slot_reader, stated_rate, rate_reader}
 use Rattle.trace_text.specs.declared.forms.TraceLine.{TraceLine}
@@ -89,6 +90,9 @@ output_shape = of_shape OutputPoint [] OUTPUT _ (λ _ _ _ _. ends_at OutputPoint
 point_shape : IsOfShape InputPoint point_reader (Some (POINT, []))
 point_shape = of_shape InputPoint [] POINT _ (λ _ _. ends_at InputPoint _)
 
+description_shape : IsOfShape Description description_reader (Some (DESCRIBE, []))
+description_shape = of_shape Description [] DESCRIBE _ (λ _ _ _ _ _ _ _. ends_at Description _)
+
 heartbeat_shape : IsOfShape HeartbeatLine heartbeat_reader (Some (HEARTBEAT, []))
 heartbeat_shape = of_shape HeartbeatLine [] HEARTBEAT _ (λ _ _. ends_at HeartbeatLine _)
 
@@ -120,34 +124,40 @@ lines_are_tied = (
       (
         (refl, mapped_shape _ _ line.Config point_reader (POINT, []) point_shape),
         (
-          (refl, mapped_shape _ _ line.Heartbeat heartbeat_reader (HEARTBEAT, []) heartbeat_shape),
+          (refl, mapped_shape _ _ line.Description description_reader (DESCRIBE, []) description_shape),
           (
-            (refl, mapped_shape _ _ line.Scanner scanner_reader (SCANNER, []) scanner_shape),
+            (refl, mapped_shape _ _ line.Heartbeat heartbeat_reader (HEARTBEAT, []) heartbeat_shape),
             (
-              (refl, mapped_shape _ _ line.Slot slot_reader (SLOT, RATE) slot_shape),
+              (refl, mapped_shape _ _ line.Scanner scanner_reader (SCANNER, []) scanner_shape),
               (
-                (refl, event_shape FROM_NODE _ (λ _ _. ends_at Event _)),
+                (refl, mapped_shape _ _ line.Slot slot_reader (SLOT, RATE) slot_shape),
                 (
-                  (refl, event_shape STREAM _ (λ _ _. ends_at Event _)),
+                  (refl, event_shape FROM_NODE _ (λ _ _. ends_at Event _)),
                   (
-                    (refl, event_shape FRAME _ (λ _ _. ends_at Event _)),
+                    (refl, event_shape FROM_NODE _ (λ _ _. ends_at Event _)),
                     (
-                      (refl, event_shape CUT _ (λ _. ends_at Event _)),
+                      (refl, event_shape STREAM _ (λ _ _. ends_at Event _)),
                       (
-                        (refl, event_shape FROM_NODE _ (λ _ _. ends_at Event _)),
+                        (refl, event_shape FRAME _ (λ _ _. ends_at Event _)),
                         (
-                          (refl, event_shape WRITE _ (λ _ _. ends_at Event _)),
+                          (refl, event_shape CUT _ (λ _. ends_at Event _)),
                           (
-                            (refl, event_shape NUMBER _ (λ _. ends_at Event _)),
+                            (refl, event_shape FROM_NODE _ (λ _ _. ends_at Event _)),
                             (
-                              (refl, event_shape NUMBER _ (λ _. ends_at Event _)),
+                              (refl, event_shape WRITE _ (λ _ _. ends_at Event _)),
                               (
-                                (refl, event_shape MODE _ (λ _. ends_at Event _)),
+                                (refl, event_shape NUMBER _ (λ _. ends_at Event _)),
                                 (
                                   (refl, event_shape NUMBER _ (λ _. ends_at Event _)),
                                   (
-                                    (refl, event_shape NUMBER _ (λ _. ends_at Event _)),
-                                    tt,
+                                    (refl, event_shape MODE _ (λ _. ends_at Event _)),
+                                    (
+                                      (refl, event_shape NUMBER _ (λ _. ends_at Event _)),
+                                      (
+                                        (refl, event_shape NUMBER _ (λ _. ends_at Event _)),
+                                        tt,
+                                      ),
+                                    ),
                                   ),
                                 ),
                               ),

@@ -2,7 +2,7 @@
 use Rattle.std.specs.Prelude.{ℕ, ◌≡◌, Bool, true, false, List, [], ◌∷◌, Option, Some, None, is_some}
 use Rattle.trace_faults.specs.declared.reasons.LineReason.{LineReason}
 use Rattle.trace_faults.specs.declared.reasons.LineReason.TheVariants.{Misplaced}
-use Rattle.trace_lines.specs.Parts.{part_reader}
+use Rattle.trace_outcomes.specs.Parts.{part_reader}
 
 -- the line is read, and only its place is wrong
 abbrev pub is_misplaced : LineReason → Bool

@@ -1,10 +1,12 @@
 //! The defects of profiles in words: what is wrong, its value, and what is allowed.
 
+use adapter_table::{LONGEST_INACTIVITY, PHYSICAL_ADDRESS};
 use cip_productions::Kind;
 use cip_types::limits::{
     LONGEST_CONFIG, LONGEST_POINT, LONGEST_RPI_US, LONGEST_WAIT_MS, MOST_POINTS, MOST_SLOTS,
 };
 use cip_types::{Node, OutOfMemory};
+use list_identity::LONGEST_NAME;
 use profile_faults::{Defect, LineName, PacketDirection, WaitingTime, WordPlace};
 use trace_words::{push_node, push_text};
 
@@ -53,6 +55,9 @@ pub fn push_defect(
             point,
         } => push_group(out, (slot, other), (target, point), earlier),
         Defect::Waiting(wait, ms) => push_waiting(out, wait, ms),
+        Defect::NameLen(_) | Defect::AddressLen(_) | Defect::Inactivity(_) => {
+            push_described(out, defect)
+        }
         _ => push_count(out, defect),
     }
 }
@@ -111,6 +116,28 @@ fn push_waiting(out: &mut String, wait: WaitingTime, ms: u64) -> Result<(), OutO
     };
     write!(out, "the {name} is {ms} ms, and it is 1 to ")?;
     push_limit(out, LONGEST_WAIT_MS)
+}
+
+/// A value of a description that is none.
+fn push_described(out: &mut String, defect: Defect) -> Result<(), OutOfMemory> {
+    match defect {
+        Defect::NameLen(len) => Ok(write!(
+            out,
+            "the name has {len} bytes, and a name has 0 to {LONGEST_NAME}"
+        )?),
+        Defect::AddressLen(len) => Ok(write!(
+            out,
+            "the physical address has {len} bytes, and a physical address has {PHYSICAL_ADDRESS}"
+        )?),
+        Defect::Inactivity(seconds) => {
+            write!(
+                out,
+                "the inactivity time-out is {seconds} seconds, and it is 0 to "
+            )?;
+            push_limit(out, u64::from(LONGEST_INACTIVITY))
+        }
+        _ => Ok(()),
+    }
 }
 
 /// A count of points or slots that is none.

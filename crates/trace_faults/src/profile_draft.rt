@@ -1,7 +1,7 @@
 //! The profile at the front of a text, and the lines that it is in.
 
 use crate::text_lines::first_line;
-use adapter_table::{InputPoint, OutputPoint};
+use adapter_table::{Description, InputPoint, OutputPoint};
 use cip_tables::Config;
 use cip_types::{Items, OutOfMemory};
 use profile_faults::LineName;
@@ -9,8 +9,8 @@ use scanner_table::SlotConfig;
 use std::alloc::Global;
 use std::str;
 use trace_lines::{
-    AdapterLine, HeartbeatLine, ScannerLine, profile_with, read_adapter, read_heartbeat,
-    read_output, read_point, read_scanner, read_slot, scanner_with,
+    AdapterLine, HeartbeatLine, ScannerLine, profile_with, read_adapter, read_description,
+    read_heartbeat, read_output, read_point, read_scanner, read_slot, scanner_with,
 };
 use trace_words::{TextFault, Words};
 
@@ -21,6 +21,7 @@ fn name_of(word: &str) -> Option<LineName> {
         "output" => Some(LineName::Output),
         "input" => Some(LineName::Input),
         "config" => Some(LineName::Config),
+        "describe" => Some(LineName::Describe),
         "heartbeat" => Some(LineName::Heartbeat),
         "scanner" => Some(LineName::Scanner),
         "slot" => Some(LineName::Slot),
@@ -67,6 +68,7 @@ struct ProfileDraft {
     outputs: Vec<OutputPoint>,
     inputs: Vec<InputPoint>,
     config: Option<InputPoint>,
+    description: Option<Description>,
     heartbeat: Option<HeartbeatLine>,
     scanner: Option<ScannerLine>,
     slots: Vec<SlotConfig>,
@@ -79,6 +81,7 @@ impl ProfileDraft {
             outputs: Vec::new(alloc),
             inputs: Vec::new(alloc),
             config: None,
+            description: None,
             heartbeat: None,
             scanner: None,
             slots: Vec::new(alloc),
@@ -97,6 +100,7 @@ impl ProfileDraft {
             LineName::Output => self.outputs.push(read_output(words)?)?,
             LineName::Input => self.inputs.push(read_point(words)?)?,
             LineName::Config => self.config = Some(read_point(words)?),
+            LineName::Describe => self.description = Some(read_description(alloc, words)?),
             LineName::Heartbeat => self.heartbeat = Some(read_heartbeat(words)?),
             LineName::Scanner => self.scanner = Some(read_scanner(words)?),
             LineName::Slot => self.slots.push(read_slot(alloc, words)?)?,
@@ -112,7 +116,14 @@ impl ProfileDraft {
         if let Some(scanner) = self.scanner {
             return Some(Config::Scanner(scanner_with(scanner, slots)));
         }
-        let profile = profile_with(self.adapter?, outputs, inputs, self.config, self.heartbeat?);
+        let profile = profile_with(
+            self.adapter?,
+            outputs,
+            inputs,
+            self.config,
+            self.description,
+            self.heartbeat?,
+        );
         Some(Config::Adapter(profile))
     }
 }

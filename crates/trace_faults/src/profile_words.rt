@@ -42,7 +42,8 @@ fn push_fault(out: &mut String, number: u8) -> Result<(), OutOfMemory> {
         4 => ProfileFault::SameInstance,
         5 => ProfileFault::Length,
         6 => ProfileFault::Timing,
-        _ => ProfileFault::Identity,
+        7 => ProfileFault::Identity,
+        _ => ProfileFault::Description,
     };
     Ok(write!(out, "{fault}")?)
 }

@@ -3,7 +3,7 @@
 ghost use Rattle.std.specs.Prelude.{◌≡◌, ◌&&◌, false, IfOk, IfSome, is_none, is_some};
 ghost use Rattle.trace_words.specs.Reader.{unread_words};
 ghost use Rattle.trace_words.specs.Words.{words_of};
-ghost use Rattle.trace_lines.specs.Parts.{part_reader};
+ghost use Rattle.trace_outcomes.specs.Parts.{part_reader};
 ghost use Rattle.trace_lines.specs.Shapes.{behind_kinds, is_shaped};
 ghost use Rattle.trace_text.specs.Forms.{line_of, line_reader};
 ghost use Rattle.trace_faults.specs.Lexical.{bad_character};
@@ -12,7 +12,8 @@ ghost use Rattle.trace_faults.specs.Reasons.{is_misplaced, is_part_line, IsFirst
 use crate::lexical::{Character, bad_character};
 use cip_types::OutOfMemory;
 use std::alloc::Global;
-use trace_lines::{Shape, WordKind, part_shape_of, read_part, shape_of, skip_word};
+use trace_lines::{Shape, WordKind, part_shape_of, shape_of, skip_word};
+use trace_outcomes::read_part;
 use trace_text::ascii_text;
 use trace_words::{TextFault, Words, read_u64};
 

@@ -2,8 +2,8 @@
 use Rattle.std.specs.Prelude.{ℕ, ◌+◌, ◌-◌, ◌^◌, ◌≡◌, ◌==◌, ◌&&◌, nat_le, min, Bool, false, if◌then◌else◌, List, [], ◌∷◌, option_map, Option, Some, None, Result, Ok, Err}
 use Rattle.cip_events.specs.declared.event.Event.{Event}
 use Rattle.cip_events.specs.Outcomes.{Outcome}
-use Rattle.trace_lines.specs.declared.part.Part.{Part}
-use Rattle.trace_lines.specs.Parts.{part_reader}
+use Rattle.trace_outcomes.specs.declared.part.Part.{Part}
+use Rattle.trace_outcomes.specs.Parts.{part_reader}
 use Rattle.trace_text.specs.Recorded.{recorded_with}
 use Rattle.trace_text.specs.Forms.{event_of, is_ascii}
 use Rattle.trace_words.specs.declared.words.TextFault.{TextFault}

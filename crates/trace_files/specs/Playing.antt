@@ -6,7 +6,7 @@ use Rattle.cip_events.specs.declared.event.StepFault.{StepFault}
 use Rattle.cip_events.specs.Outcomes.{Outcome}
 use Rattle.cip_tables.specs.declared.table.DeviceTable.{DeviceTable}
 use Rattle.cip_tables.specs.Run.{outcome_of, table_of}
-use Rattle.trace_lines.specs.WrittenOutcomes.{outcome_text}
+use Rattle.trace_outcomes.specs.WrittenOutcomes.{outcome_text}
 use Rattle.trace_stepper.specs.declared.stepper.StepperFault.{StepperFault}
 use Rattle.trace_stepper.specs.declared.stepper.StepperFault.TheVariants as fault
 use Rattle.trace_stepper.specs.Compared.{AgreesWith}

@@ -9,7 +9,7 @@ use cip_tables::{Event, Outcome};
 use cip_types::OutOfMemory;
 use std::alloc::Global;
 use std::mem;
-use trace_lines::{Part, read_part};
+use trace_outcomes::{Part, read_part};
 use trace_text::{Recorded, ascii_text, read_event_line, recorded_with};
 use trace_words::{TextFault, Words};
 

@@ -3,7 +3,7 @@
 ghost use Rattle.std.specs.Prelude.{◌≡◌, ◌↔◌, None, Err, IsTrue, IfOk, IfErr, OnOk, string_bytes};
 ghost use Rattle.cip_tables.specs.Run.{outcome_of, table_of};
 ghost use Rattle.cip_tables.specs.Step.{config_fault, opening_table, step};
-ghost use Rattle.trace_lines.specs.WrittenOutcomes.{outcome_text};
+ghost use Rattle.trace_outcomes.specs.WrittenOutcomes.{outcome_text};
 ghost use Rattle.trace_stepper.specs.Stepping.{IsRefused};
 ghost use Rattle.trace_files.specs.Playing.{JudgesOn, StepsTo, WritesOutcome};
 ghost use Rattle.trace_files.specs.Profile.{one_more};

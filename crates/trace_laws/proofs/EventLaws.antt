@@ -9,9 +9,9 @@ use Rattle.cip_events.specs.Outcomes.{Outcome}
 use Rattle.cip_tables.specs.declared.table.Config.{Config}
 use Rattle.trace_words.specs.Words.{node_word, bytes_word, line_text, number_of}
 use Rattle.trace_words.specs.Reader.{Reader, gives}
-use Rattle.trace_lines.specs.declared.part.Part.{Part}
+use Rattle.trace_outcomes.specs.declared.part.Part.{Part}
 use Rattle.trace_lines.specs.Kinds.{mode_of, mode_word}
-use Rattle.trace_lines.specs.Parts.{part_reader}
+use Rattle.trace_outcomes.specs.Parts.{part_reader}
 use Rattle.trace_text.specs.Recorded.{recorded_with}
 use Rattle.trace_text.specs.declared.builder.TraceBuilder.{TraceBuilder}
 use Rattle.trace_text.specs.declared.builder.TraceBuilder.TheVariants.{Events}
@@ -43,6 +43,7 @@ event_is (event.StreamOpened stream peer) fits = line_is (codes "stream") (decim
 event_is (event.Frame stream bytes) fits = line_is (codes "frame") (decimal stream ∷ bytes_word bytes ∷ []) (line.Event (event.Frame stream bytes)) refl refl (rw (c16 stream fits.0, bytes_clean bytes fits.1) refl) (rw (n16 stream fits.0, bytes_back bytes fits.1) refl)
 event_is (event.StreamCut stream) fits = line_is (codes "cut") (decimal stream ∷ []) (line.Event (event.StreamCut stream)) refl refl (rw (c16 stream fits) refl) (rw (n16 stream fits) refl)
 event_is (event.Datagram peer bytes) fits = line_is (codes "datagram") (node_word peer ∷ bytes_word bytes ∷ []) (line.Event (event.Datagram peer bytes)) refl refl (rw (node_clean peer, bytes_clean bytes fits.1) refl) (rw (node_back peer fits.0, bytes_back bytes fits.1) refl)
+event_is (event.Inquiry peer bytes) fits = line_is (codes "inquiry") (node_word peer ∷ bytes_word bytes ∷ []) (line.Event (event.Inquiry peer bytes)) refl refl (rw (node_clean peer, bytes_clean bytes fits.1) refl) (rw (node_back peer fits.0, bytes_back bytes fits.1) refl)
 event_is (event.Write point bytes) fits = line_is (codes "write") (decimal point ∷ bytes_word bytes ∷ []) (line.Event (event.Write point bytes)) refl refl (rw (c32 point fits.0, bytes_clean bytes fits.1) refl) (rw (n32 point fits.0, bytes_back bytes fits.1) refl)
 event_is (event.Read point) fits = line_is (codes "read") (decimal point ∷ []) (line.Event (event.Read point)) refl refl (rw (c32 point fits) refl) (rw (n32 point fits) refl)
 event_is (event.Tick ms) fits = line_is (codes "tick") (decimal ms ∷ []) (line.Event (event.Tick ms)) refl refl (rw (c32 ms fits) refl) (rw (n32 ms fits) refl)

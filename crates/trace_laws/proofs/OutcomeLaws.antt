@@ -23,9 +23,9 @@ use Rattle.cip_events.specs.declared.event.Verdict.{Verdict}
 use Rattle.cip_events.specs.declared.event.Verdict.TheVariants as verdict
 use Rattle.cip_events.specs.Outcomes.{Outcome}
 use Rattle.trace_words.specs.Words.{node_word, nodes_word, bytes_word, id_word, general_word, extended_word, line_text}
-use Rattle.trace_lines.specs.declared.part.Part.TheVariants as part
-use Rattle.trace_lines.specs.Parts.{part_reader, verdict_of, fault_of, mismatch_of}
-use Rattle.trace_lines.specs.WrittenOutcomes.{fault_word, delivery_word, verdict_words, triad_words, recipient_words, notice_words, frame_line, outgoing_line, notice_line, outcome_text}
+use Rattle.trace_outcomes.specs.declared.part.Part.TheVariants as part
+use Rattle.trace_outcomes.specs.Parts.{part_reader, verdict_of, fault_of, mismatch_of}
+use Rattle.trace_outcomes.specs.WrittenOutcomes.{fault_word, delivery_word, verdict_words, triad_words, recipient_words, notice_words, frame_line, outgoing_line, notice_line, outcome_text}
 use Rattle.trace_text.specs.declared.builder.TraceBuilder.{TraceBuilder}
 use Rattle.trace_text.specs.declared.builder.TraceBuilder.TheVariants.{Events}
 use Rattle.trace_text.specs.Reading.{Entry}
@@ -157,6 +157,7 @@ notice_list (notice.StreamClosed stream) = codes "stream-closed" ∷ decimal str
 notice_list (notice.Slot slot state) = codes "slot" ∷ decimal slot ∷ decimal state ∷ []
 notice_list (notice.Refused slot why) = codes "refused" ∷ decimal slot ∷ reason_list why
 notice_list (notice.NoIds slot) = codes "no-ids" ∷ decimal slot ∷ []
+notice_list (notice.Reset type) = codes "reset" ∷ decimal type ∷ []
 
 triad_joined : (triad : Triad) (rest : List ℕ) → triad_words triad ++ rest ≡ decimal triad.serial ++ 32 ∷ (decimal triad.vendor ++ 32 ∷ (decimal triad.originator ++ rest))
 triad_joined triad rest =
@@ -179,6 +180,7 @@ notice_joined (notice.Refused slot (reason.Mismatch mismatch.Id)) fits = refl
 notice_joined (notice.Refused slot (reason.Mismatch mismatch.Api)) fits = refl
 notice_joined (notice.Refused slot (reason.Mismatch (mismatch.Refused why))) fits = absurd fits.1
 notice_joined (notice.NoIds slot) fits = refl
+notice_joined (notice.Reset type) fits = refl
 
 notice_read : (given : Notice) → NoticeFits given → part_reader (codes "note" ∷ notice_list given) ≡ Some (part.Notice given, [])
 unfolding mismatch_of
@@ -197,6 +199,7 @@ notice_read (notice.Refused slot (reason.Mismatch mismatch.Id)) fits = rw (n32 s
 notice_read (notice.Refused slot (reason.Mismatch mismatch.Api)) fits = rw (n32 slot fits.0) refl
 notice_read (notice.Refused slot (reason.Mismatch (mismatch.Refused why))) fits = absurd fits.1
 notice_read (notice.NoIds slot) fits = rw (n32 slot fits) refl
+notice_read (notice.Reset type) fits = rw (n8 type fits) refl
 
 notice_clean : (given : Notice) → NoticeFits given → are_clean (codes "note" ∷ notice_list given) ≡ true
 notice_clean (notice.Opened triad id) fits = rw (c16 triad.serial fits.0.0, c16 triad.vendor fits.0.1, c32 triad.originator fits.0.2, id_clean id) refl
@@ -214,6 +217,7 @@ notice_clean (notice.Refused slot (reason.Mismatch mismatch.Id)) fits = rw (c32 
 notice_clean (notice.Refused slot (reason.Mismatch mismatch.Api)) fits = rw (c32 slot fits.0) refl
 notice_clean (notice.Refused slot (reason.Mismatch (mismatch.Refused why))) fits = absurd fits.1
 notice_clean (notice.NoIds slot) fits = rw (c32 slot fits) refl
+notice_clean (notice.Reset type) fits = rw (c8 type fits) refl
 
 -- THE LINES AS THEY ARE PRINTED
 
@@ -247,6 +251,7 @@ noted (notice.StreamClosed stream) fits = ap (λ t. codes "note " ++ t) (notice_
 noted (notice.Slot slot state) fits = ap (λ t. codes "note " ++ t) (notice_joined (notice.Slot slot state) fits)
 noted (notice.Refused slot why) fits = ap (λ t. codes "note " ++ t) (notice_joined (notice.Refused slot why) fits)
 noted (notice.NoIds slot) fits = ap (λ t. codes "note " ++ t) (notice_joined (notice.NoIds slot) fits)
+noted (notice.Reset type) fits = ap (λ t. codes "note " ++ t) (notice_joined (notice.Reset type) fits)
 
 spelled : (n : ℕ) (body : List ℕ) (words : List (List ℕ)) → body ≡ join_with_byte 32 (codes "note" ∷ words) → decimal n ++ (32 ∷ (body ++ 10 ∷ [])) ≡ line_text (decimal n ∷ codes "note" ∷ words)
 spelled n body words is = numbered_line n body (codes "note") words is

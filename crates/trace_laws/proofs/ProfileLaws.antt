@@ -1,10 +1,11 @@
 -- A profile that is written is read as itself.
-use Rattle.std.proofs.Common.{◌≡◌, ℕ, ◌<◌, ◌^◌, true, List, [], ◌∷◌, ◌++◌, Option, Some, None, refl, sym, ap, subst, arith, append_assoc}
+use Rattle.std.proofs.Common.{◌≡◌, ℕ, ◌<◌, ◌^◌, true, List, [], ◌∷◌, ◌++◌, Option, Some, None, refl, sym, subst, arith, append_assoc}
 use Rattle.std.specs.Prelude.{decimal, codes, drop, flat_map, IfSome}
 use Rattle.std.specs.List.{All}
 use Rattle.std.proofs.lemmas.List.{append-nil}
 use Rattle.adapter_table.specs.declared.profile.Action.{Action}
 use Rattle.adapter_table.specs.declared.profile.Action.TheVariants.{Zero, Hold}
+use Rattle.adapter_table.specs.declared.profile.Description.{Description}
 use Rattle.adapter_table.specs.declared.profile.InputPoint.{InputPoint}
 use Rattle.adapter_table.specs.declared.profile.OutputPoint.{OutputPoint}
 use Rattle.adapter_table.specs.declared.profile.Profile.{Profile}
@@ -13,13 +14,15 @@ use Rattle.trace_words.specs.Words.{number_of, action_word, line_text}
 use Rattle.trace_lines.specs.declared.forms.AdapterLine.{AdapterLine}
 use Rattle.trace_lines.specs.declared.forms.HeartbeatLine.{HeartbeatLine}
 use Rattle.trace_lines.specs.Profiles.{profile_with}
-use Rattle.trace_lines.specs.WrittenProfiles.{adapter_words, output_words, point_words, heartbeat_words, config_text, profile_text}
-use Rattle.trace_text.specs.declared.builder.TraceBuilder.TheVariants.{Empty, Points, Configured, Events}
+use Rattle.trace_lines.specs.WrittenProfiles.{adapter_words, output_words, point_words, description_words, heartbeat_words, config_text, description_text, profile_text}
+use Rattle.trace_text.specs.declared.builder.TraceBuilder.{TraceBuilder}
+use Rattle.trace_text.specs.declared.builder.TraceBuilder.TheVariants.{Empty, Points, Configured, Described, Events}
 use Rattle.trace_text.specs.declared.forms.TraceLine.TheVariants as line
 use Rattle.trace_text.specs.Forms.{line_reader}
-use Rattle.trace_laws.specs.TraceBack.{OutputFits, InputFits, ProfileFits}
-use Rattle.trace_laws.proofs.WordLaws.{number_back, node_back, action_back}
-use Rattle.trace_laws.proofs.CleanWords.{decimal_clean, node_clean}
+use Rattle.trace_text.specs.Reading.{builder_with}
+use Rattle.trace_laws.specs.TraceBack.{OutputFits, InputFits, DescriptionFits, ProfileFits}
+use Rattle.trace_laws.proofs.WordLaws.{number_back, node_back, bytes_back, action_back}
+use Rattle.trace_laws.proofs.CleanWords.{decimal_clean, node_clean, bytes_clean}
 use Rattle.trace_laws.proofs.LineLaws.{is_clean, are_clean}
 use Rattle.trace_laws.proofs.TextLaws.{first_of, rest_of, Reads, reads_none, reads_both, line_reads}
 
@@ -52,6 +55,9 @@ input_read point fits = rw (n32 point.instance fits.0, n64 point.len fits.1) ref
 config_read : (point : InputPoint) → InputFits point → line_reader (point_words (codes "config") point) ≡ Some (line.Config point, [])
 config_read point fits = rw (n32 point.instance fits.0, n64 point.len fits.1) refl
 
+description_read : (described : Description) → DescriptionFits described → line_reader (description_words described) ≡ Some (line.Description described, [])
+description_read described fits = rw (n32 described.serial fits.serial_fits, bytes_back described.name fits.name_fits, n16 described.port fits.port_fits, n32 described.speed fits.speed_fits, n32 described.flags fits.flags_fit, bytes_back described.mac fits.mac_fits, n16 described.inactivity fits.inactivity_fits) refl
+
 abbrev heartbeat_line : Profile → HeartbeatLine
 heartbeat_line profile = record { input_only = profile.input_only; listen_only = profile.listen_only }
 
@@ -72,6 +78,13 @@ c32 n fits = decimal_clean n (omega (arith, fits))
 action_clean : (action : Action) → is_clean (action_word action) ≡ true
 action_clean Zero = refl
 action_clean Hold = refl
+
+-- the words of a description behind its keyword
+abbrev behind_describe : Description → List (List ℕ)
+behind_describe described = drop 1 (description_words described)
+
+description_clean : (described : Description) → DescriptionFits described → are_clean (behind_describe described) ≡ true
+description_clean described fits = rw (c32 described.serial fits.serial_fits, bytes_clean described.name fits.name_fits, c16 described.port fits.port_fits, c32 described.speed fits.speed_fits, c32 described.flags fits.flags_fit, bytes_clean described.mac fits.mac_fits, c16 described.inactivity fits.inactivity_fits) refl
 
 -- ONE AFTER THE OTHER
 
@@ -96,18 +109,39 @@ inputs_read adapter outputs before (point ∷ points) fit =
 heartbeat_clean : (profile : Profile) → ProfileFits profile → are_clean (decimal profile.input_only ∷ decimal profile.listen_only ∷ []) ≡ true
 heartbeat_clean profile fits = rw (c32 profile.input_only fits.input_only_fits, c32 profile.listen_only fits.listen_only_fits) refl
 
--- the configuration, where there is one, and the heartbeats
-ends_read : (profile : Profile) (settings : Option InputPoint) → profile.config ≡ settings → ProfileFits profile → IfSome settings InputFits → Reads (Points (adapter_line profile) profile.outputs profile.inputs) (config_text settings ++ line_text (heartbeat_words profile)) (Events (config.Adapter profile) [] None)
-ends_read profile None is fits fit =
-    let same : profile_with (adapter_line profile) profile.outputs profile.inputs None (heartbeat_line profile) ≡ profile = ap (λ c. profile_with (adapter_line profile) profile.outputs profile.inputs c (heartbeat_line profile)) (sym is) in
-    subst (λ p. Reads (Points (adapter_line profile) profile.outputs profile.inputs) (line_text (heartbeat_words profile)) (Events (config.Adapter p) [] None)) same
-    (line_reads _ _ (codes "heartbeat") (decimal profile.input_only ∷ decimal profile.listen_only ∷ []) (line.Heartbeat (heartbeat_line profile)) refl refl (heartbeat_clean profile fits) (heartbeat_read profile fits) refl)
-ends_read profile (Some point) is fits fit =
-    let same : profile_with (adapter_line profile) profile.outputs profile.inputs (Some point) (heartbeat_line profile) ≡ profile = ap (λ c. profile_with (adapter_line profile) profile.outputs profile.inputs c (heartbeat_line profile)) (sym is) in
+-- what was read behind the configuration, where there is one
+abbrev beside : Profile → Option InputPoint → TraceBuilder
+beside profile None = Points (adapter_line profile) profile.outputs profile.inputs
+beside profile (Some point) = Configured (adapter_line profile) profile.outputs profile.inputs point
+
+settings_read : (profile : Profile) (settings : Option InputPoint) → IfSome settings InputFits → Reads (Points (adapter_line profile) profile.outputs profile.inputs) (config_text settings) (beside profile settings)
+settings_read profile None fit = reads_none (Points (adapter_line profile) profile.outputs profile.inputs)
+settings_read profile (Some point) fit =
     let clean : are_clean (decimal point.instance ∷ decimal point.len ∷ []) ≡ true = rw (c32 point.instance fit.0, decimal_clean point.len fit.1) refl in
-    let one : Reads (Points (adapter_line profile) profile.outputs profile.inputs) (line_text (point_words (codes "config") point)) (Configured (adapter_line profile) profile.outputs profile.inputs point) = line_reads _ _ (codes "config") (decimal point.instance ∷ decimal point.len ∷ []) (line.Config point) refl refl clean (config_read point fit) refl in
-    let last : Reads (Configured (adapter_line profile) profile.outputs profile.inputs point) (line_text (heartbeat_words profile)) (Events (config.Adapter (profile_with (adapter_line profile) profile.outputs profile.inputs (Some point) (heartbeat_line profile))) [] None) = line_reads _ _ (codes "heartbeat") (decimal profile.input_only ∷ decimal profile.listen_only ∷ []) (line.Heartbeat (heartbeat_line profile)) refl refl (heartbeat_clean profile fits) (heartbeat_read profile fits) refl in
-    subst (λ p. Reads (Points (adapter_line profile) profile.outputs profile.inputs) (line_text (point_words (codes "config") point) ++ line_text (heartbeat_words profile)) (Events (config.Adapter p) [] None)) same (reads_both _ _ _ _ _ one last)
+    line_reads _ _ (codes "config") (decimal point.instance ∷ decimal point.len ∷ []) (line.Config point) refl refl clean (config_read point fit) refl
+
+-- the profile with this configuration and this description
+abbrev with_ends : Profile → Option InputPoint → Option Description → TraceBuilder
+with_ends profile settings described = Events (config.Adapter (profile_with (adapter_line profile) profile.outputs profile.inputs settings described (heartbeat_line profile))) [] None
+
+heartbeats_read : (profile : Profile) → ProfileFits profile → (builder : TraceBuilder) (settings : Option InputPoint) (described : Option Description) → builder_with builder (line.Heartbeat (heartbeat_line profile)) ≡ Some (with_ends profile settings described) → Reads builder (line_text (heartbeat_words profile)) (with_ends profile settings described)
+heartbeats_read profile fits builder settings described built =
+    line_reads builder (with_ends profile settings described) (codes "heartbeat") (decimal profile.input_only ∷ decimal profile.listen_only ∷ []) (line.Heartbeat (heartbeat_line profile)) refl refl (heartbeat_clean profile fits) (heartbeat_read profile fits) built
+
+described_lines : (builder builder' : TraceBuilder) (described : Description) → DescriptionFits described → builder_with builder (line.Description described) ≡ Some builder' → Reads builder (line_text (description_words described)) builder'
+described_lines builder builder' described fit built =
+    line_reads builder builder' (codes "describe") (behind_describe described) (line.Description described) refl refl (description_clean described fit) (description_read described fit) built
+
+-- the description, where there is one, and the heartbeats
+ends_read : (profile : Profile) (settings : Option InputPoint) (described : Option Description) → ProfileFits profile → IfSome described DescriptionFits → Reads (beside profile settings) (description_text described ++ line_text (heartbeat_words profile)) (with_ends profile settings described)
+ends_read profile None None fits fit = heartbeats_read profile fits (beside profile None) None None refl
+ends_read profile (Some point) None fits fit = heartbeats_read profile fits (beside profile (Some point)) (Some point) None refl
+ends_read profile None (Some described) fits fit =
+    reads_both _ _ _ _ _ (described_lines (beside profile None) (Described (adapter_line profile) profile.outputs profile.inputs None described) described fit refl)
+    (heartbeats_read profile fits (Described (adapter_line profile) profile.outputs profile.inputs None described) None (Some described) refl)
+ends_read profile (Some point) (Some described) fits fit =
+    reads_both _ _ _ _ _ (described_lines (beside profile (Some point)) (Described (adapter_line profile) profile.outputs profile.inputs (Some point) described) described fit refl)
+    (heartbeats_read profile fits (Described (adapter_line profile) profile.outputs profile.inputs (Some point) described) (Some point) (Some described) refl)
 
 -- the words of an adapter behind its keyword
 abbrev behind_adapter : Profile → List (List ℕ)
@@ -124,4 +158,5 @@ profile_read profile fits =
     reads_both _ _ _ _ _ one
     (reads_both _ _ _ _ _ (outputs_read (adapter_line profile) [] profile.outputs fits.outputs_fit)
     (reads_both _ _ _ _ _ (inputs_read (adapter_line profile) profile.outputs [] profile.inputs fits.inputs_fit)
-    (ends_read profile profile.config refl fits fits.config_fits)))
+    (reads_both _ _ _ _ _ (settings_read profile profile.config fits.config_fits)
+    (ends_read profile profile.config profile.description fits fits.description_fits))))

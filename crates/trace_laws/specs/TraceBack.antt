@@ -10,6 +10,7 @@ use Rattle.cip_types.specs.declared.names.Identity.{Identity}
 use Rattle.cip_types.specs.declared.names.Mismatch.{Mismatch}
 use Rattle.cip_types.specs.declared.names.Mismatch.TheVariants as mismatch
 use Rattle.cip_types.specs.declared.names.Triad.{Triad}
+use Rattle.adapter_table.specs.declared.profile.Description.{Description}
 use Rattle.adapter_table.specs.declared.profile.InputPoint.{InputPoint}
 use Rattle.adapter_table.specs.declared.profile.OutputPoint.{OutputPoint}
 use Rattle.adapter_table.specs.declared.profile.Profile.{Profile}
@@ -46,6 +47,15 @@ OutputFits point = (point.instance < 2 ^ 32) × (point.len < 2 ^ 64)
 abbrev pub InputFits : InputPoint → Type 0
 InputFits point = (point.instance < 2 ^ 32) × (point.len < 2 ^ 64)
 
+pub record DescriptionFits (described : Description) : Type 0 where
+  pub serial_fits : described.serial < 2 ^ 32
+  pub name_fits : IsBytes described.name
+  pub port_fits : described.port < 2 ^ 16
+  pub speed_fits : described.speed < 2 ^ 32
+  pub flags_fit : described.flags < 2 ^ 32
+  pub mac_fits : IsBytes described.mac
+  pub inactivity_fits : described.inactivity < 2 ^ 16
+
 pub record ProfileFits (profile : Profile) : Type 0 where
   pub incarnation_fits : profile.incarnation < 2 ^ 8
   pub node_fits : profile.node.0 < 2 ^ 32
@@ -56,6 +66,7 @@ pub record ProfileFits (profile : Profile) : Type 0 where
   pub config_fits : IfSome profile.config InputFits
   pub input_only_fits : profile.input_only < 2 ^ 32
   pub listen_only_fits : profile.listen_only < 2 ^ 32
+  pub description_fits : IfSome profile.description DescriptionFits
 
 -- PROFILES OF SCANNERS
 
@@ -94,6 +105,7 @@ EventFits (event.StreamOpened stream peer) = (stream < 2 ^ 16) × (peer.0 < 2 ^ 
 EventFits (event.Frame stream bytes) = (stream < 2 ^ 16) × IsBytes bytes
 EventFits (event.StreamCut stream) = stream < 2 ^ 16
 EventFits (event.Datagram peer bytes) = (peer.0 < 2 ^ 32) × IsBytes bytes
+EventFits (event.Inquiry peer bytes) = (peer.0 < 2 ^ 32) × IsBytes bytes
 EventFits (event.Write point bytes) = (point < 2 ^ 32) × IsBytes bytes
 EventFits (event.Read point) = point < 2 ^ 32
 EventFits (event.Tick ms) = ms < 2 ^ 32
@@ -130,6 +142,7 @@ NoticeFits (notice.StreamClosed stream) = stream < 2 ^ 16
 NoticeFits (notice.Slot slot state) = (slot < 2 ^ 32) × (state < 2 ^ 8)
 NoticeFits (notice.Refused slot why) = (slot < 2 ^ 32) × ReasonFits why
 NoticeFits (notice.NoIds slot) = slot < 2 ^ 32
+NoticeFits (notice.Reset type) = type < 2 ^ 8
 
 abbrev pub RecipientFits : Recipient → Type 0
 RecipientFits (recipient.Stream stream) = stream < 2 ^ 16

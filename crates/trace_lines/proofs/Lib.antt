@@ -1,3 +1,4 @@
+mod DescriptionSamples
 mod Keys
 mod Pieces
 mod Skipping

@@ -12,3 +12,6 @@ four s0 s1 s2 s3 s4 a b c d text e1 e2 e3 e4 is = two s0 s1 s4 a (b ++ (c ++ d))
 
 pub five : (s0 s1 s2 s3 s4 s5 a b c d e text : List ℕ) → s1 ≡ s0 ++ a → s2 ≡ s1 ++ b → s3 ≡ s2 ++ c → s4 ≡ s3 ++ d → s5 ≡ s4 ++ e → a ++ (b ++ (c ++ (d ++ e))) ≡ text → s5 ≡ s0 ++ text
 five s0 s1 s2 s3 s4 s5 a b c d e text e1 e2 e3 e4 e5 is = two s0 s1 s5 a (b ++ (c ++ (d ++ e))) text e1 (four s1 s2 s3 s4 s5 b c d e (b ++ (c ++ (d ++ e))) e2 e3 e4 e5 refl) is
+
+pub six : (s0 s1 s2 s3 s4 s5 s6 a b c d e f text : List ℕ) → s1 ≡ s0 ++ a → s2 ≡ s1 ++ b → s3 ≡ s2 ++ c → s4 ≡ s3 ++ d → s5 ≡ s4 ++ e → s6 ≡ s5 ++ f → a ++ (b ++ (c ++ (d ++ (e ++ f)))) ≡ text → s6 ≡ s0 ++ text
+six s0 s1 s2 s3 s4 s5 s6 a b c d e f text e1 e2 e3 e4 e5 e6 is = two s0 s1 s6 a (b ++ (c ++ (d ++ (e ++ f)))) text e1 (five s1 s2 s3 s4 s5 s6 b c d e f (b ++ (c ++ (d ++ (e ++ f)))) e2 e3 e4 e5 e6 refl) is

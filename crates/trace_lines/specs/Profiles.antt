@@ -2,10 +2,11 @@
 use Rattle.std.specs.Prelude.{List, Option}
 use Rattle.adapter_table.specs.declared.profile.OutputPoint.{OutputPoint}
 use Rattle.adapter_table.specs.declared.profile.InputPoint.{InputPoint}
+use Rattle.adapter_table.specs.declared.profile.Description.{Description}
 use Rattle.adapter_table.specs.declared.profile.Profile.{Profile}
 use Rattle.trace_lines.specs.declared.forms.AdapterLine.{AdapterLine}
 use Rattle.trace_lines.specs.declared.forms.HeartbeatLine.{HeartbeatLine}
-use Rattle.trace_lines.specs.declared.shapes.TheConstants.{ADAPTER, OUTPUT, POINT, HEARTBEAT}
+use Rattle.trace_lines.specs.declared.shapes.TheConstants.{ADAPTER, OUTPUT, POINT, DESCRIBE, HEARTBEAT}
 use Rattle.trace_words.specs.Reader.{Reader, ends}
 use Rattle.trace_lines.specs.Shapes.{shaped}
 
@@ -26,13 +27,26 @@ output_reader = shaped OUTPUT (λ instance len idle lost. ends (record { instanc
 abbrev pub point_reader : Reader InputPoint
 point_reader = shaped POINT (λ instance len. ends (record { instance = instance; len = len }))
 
+-- what a device says of itself to tools: serial number, name, TCP port, speed and flags of the link, physical address,
+-- and the seconds after which it ends a silent stream
+abbrev pub description_reader : Reader Description
+description_reader = shaped DESCRIBE (λ serial name port speed flags mac inactivity. ends (record {
+  serial = serial;
+  name = name;
+  port = port;
+  speed = speed;
+  flags = flags;
+  mac = mac;
+  inactivity = inactivity;
+}))
+
 -- the points of input-only and of listen-only connections
 abbrev pub heartbeat_reader : Reader HeartbeatLine
 heartbeat_reader = shaped HEARTBEAT (λ input_only listen_only. ends (record { input_only = input_only; listen_only = listen_only }))
 
 -- the profile with the values of its lines
-abbrev pub profile_with : AdapterLine → List OutputPoint → List InputPoint → Option InputPoint → HeartbeatLine → Profile
-profile_with adapter outputs inputs config heartbeat = record {
+abbrev pub profile_with : AdapterLine → List OutputPoint → List InputPoint → Option InputPoint → Option Description → HeartbeatLine → Profile
+profile_with adapter outputs inputs config description heartbeat = record {
   incarnation = adapter.incarnation;
   node = adapter.node;
   mask = adapter.mask;
@@ -42,4 +56,5 @@ profile_with adapter outputs inputs config heartbeat = record {
   config = config;
   input_only = heartbeat.input_only;
   listen_only = heartbeat.listen_only;
+  description = description;
 }

@@ -2,7 +2,7 @@
 -- written and why it is bad are made of these tables of the code.
 use Rattle.std.specs.Prelude.{ℕ, Bool, true, false, List, [], ◌∷◌, ◌++◌, codes, option_map, option_and_then, ◌≡◌, Option, Some, None, Result, Ok, Err}
 use Rattle.trace_lines.specs.declared.shapes.WordKind.{WordKind}
-use Rattle.trace_lines.specs.declared.shapes.TheConstants.{ADAPTER, OUTPUT, POINT, HEARTBEAT, SCANNER, SLOT, RATE, FROM_NODE, STREAM, FRAME, CUT, WRITE, NUMBER, MODE, SEND, VALUE}
+use Rattle.trace_lines.specs.declared.shapes.TheConstants.{ADAPTER, OUTPUT, POINT, DESCRIBE, HEARTBEAT, SCANNER, SLOT, RATE, FROM_NODE, STREAM, FRAME, CUT, WRITE, NUMBER, MODE, SEND, VALUE}
 use Rattle.trace_words.specs.declared.words.TextFault.{TextFault}
 use Rattle.trace_words.specs.declared.words.TextFault.TheVariants.{Bad, OutOfMemory}
 use Rattle.trace_words.specs.Reader.{Reader, next_word, Meanings, meaning, ◌>>=◌}
@@ -77,10 +77,12 @@ line_shapes =
     ∷ (codes "output", alone OUTPUT)
     ∷ (codes "input", alone POINT)
     ∷ (codes "config", alone POINT)
+    ∷ (codes "describe", alone DESCRIBE)
     ∷ (codes "heartbeat", alone HEARTBEAT)
     ∷ (codes "scanner", alone SCANNER)
     ∷ (codes "slot", Some (SLOT, RATE))
     ∷ (codes "request", alone FROM_NODE)
+    ∷ (codes "inquiry", alone FROM_NODE)
     ∷ (codes "stream", alone STREAM)
     ∷ (codes "frame", alone FRAME)
     ∷ (codes "cut", alone CUT)

@@ -1,10 +1,11 @@
--- How a profile is written: a line for the device, and a line for each of its points. One space separates the words of
+-- How a profile is written: a line for the device, a line for each of its points, and its description if it has one. One space separates the words of
 -- a line, and LF ends it.
 use Rattle.std.specs.Prelude.{ℕ, List, [], ◌∷◌, ◌++◌, codes, flat_map, Option, Some, None}
 use Rattle.adapter_table.specs.declared.profile.OutputPoint.{OutputPoint}
 use Rattle.adapter_table.specs.declared.profile.InputPoint.{InputPoint}
+use Rattle.adapter_table.specs.declared.profile.Description.{Description}
 use Rattle.adapter_table.specs.declared.profile.Profile.{Profile}
-use Rattle.trace_lines.specs.declared.shapes.TheConstants.{ADAPTER, OUTPUT, POINT, HEARTBEAT}
+use Rattle.trace_lines.specs.declared.shapes.TheConstants.{ADAPTER, OUTPUT, POINT, DESCRIBE, HEARTBEAT}
 use Rattle.trace_words.specs.Words.{line_text}
 use Rattle.trace_lines.specs.Shapes.{spelled}
 
@@ -18,6 +19,9 @@ output_words point = spelled (codes "output" ∷ []) OUTPUT point.instance point
 abbrev pub point_words : List ℕ → InputPoint → List (List ℕ)
 point_words keyword point = spelled (keyword ∷ []) POINT point.instance point.len
 
+abbrev pub description_words : Description → List (List ℕ)
+description_words described = spelled (codes "describe" ∷ []) DESCRIBE described.serial described.name described.port described.speed described.flags described.mac described.inactivity
+
 abbrev pub heartbeat_words : Profile → List (List ℕ)
 heartbeat_words profile = spelled (codes "heartbeat" ∷ []) HEARTBEAT profile.input_only profile.listen_only
 
@@ -25,9 +29,14 @@ abbrev pub config_text : Option InputPoint → List ℕ
 config_text None = []
 config_text (Some point) = line_text (point_words (codes "config") point)
 
+abbrev pub description_text : Option Description → List ℕ
+description_text None = []
+description_text (Some described) = line_text (description_words described)
+
 abbrev pub profile_text : Profile → List ℕ
 profile_text profile =
     line_text (adapter_words profile)
     ++ (flat_map (λ point. line_text (output_words point)) profile.outputs
     ++ (flat_map (λ point. line_text (point_words (codes "input") point)) profile.inputs
-    ++ (config_text profile.config ++ line_text (heartbeat_words profile))))
+    ++ (config_text profile.config
+    ++ (description_text profile.description ++ line_text (heartbeat_words profile)))))

@@ -1,28 +1,21 @@
-//! The shapes of the lines of a trace; the lines for profiles and for outcomes, as they are read and as they are written.
+//! The shapes of the lines of a trace; the lines for profiles, as they are read and as they are written.
 #![tactic(auto)]
 
 mod forms;
 mod names;
-mod notice_lines;
-mod part;
-mod part_lines;
 mod profile_lines;
 mod shapes;
 mod slot_lines;
-mod written_outcomes;
 mod written_profiles;
 mod written_slots;
 
 pub use forms::{AdapterLine, HeartbeatLine, Rate, ScannerLine, profile_with, scanner_with};
 pub use names::read_mode;
-pub use part::Part;
-pub use part_lines::read_part;
-pub use profile_lines::{read_adapter, read_heartbeat, read_output, read_point};
+pub use profile_lines::{read_adapter, read_description, read_heartbeat, read_output, read_point};
 pub use shapes::{
-    ADAPTER, CUT, FRAME, FROM_NODE, HEARTBEAT, MODE, NUMBER, OUTPUT, POINT, RATE, SCANNER, SEND,
-    SLOT, STREAM, Shape, VALUE, WRITE, WordKind, part_shape_of, shape_of, skip_word,
+    ADAPTER, CUT, DESCRIBE, FRAME, FROM_NODE, HEARTBEAT, MODE, NUMBER, OUTPUT, POINT, RATE,
+    SCANNER, SEND, SLOT, STREAM, Shape, VALUE, WRITE, WordKind, part_shape_of, shape_of, skip_word,
 };
 pub use slot_lines::{read_scanner, read_slot};
-pub use written_outcomes::{push_outcome, write_outcome};
 pub use written_profiles::push_profile;
 pub use written_slots::push_scanner;

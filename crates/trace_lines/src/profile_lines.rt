@@ -1,11 +1,12 @@
 //! The lines of an adapter's profile.
 
 ghost use Rattle.trace_words.specs.Reader.{unread_words, Takes};
-ghost use Rattle.trace_lines.specs.Profiles.{adapter_reader, output_reader, point_reader, heartbeat_reader};
+ghost use Rattle.trace_lines.specs.Profiles.{adapter_reader, output_reader, point_reader, description_reader, heartbeat_reader};
 
 use crate::forms::{AdapterLine, HeartbeatLine};
-use adapter_table::{InputPoint, OutputPoint};
+use adapter_table::{Description, InputPoint, OutputPoint};
 use cip_types::Identity;
+use std::alloc::Global;
 use trace_words::{TextFault, Words};
 
 /// What follows `adapter`: `INCARNATION NODE MASK VENDOR TYPE PRODUCT MAJOR MINOR`.
@@ -47,6 +48,22 @@ pub fn read_point(words: &mut Words<'_>) -> Result<InputPoint, TextFault>
     let instance = words.u32()?;
     let len = words.u64()?;
     words.last(InputPoint { instance, len })
+}
+
+/// What follows `describe`: `SERIAL NAME PORT SPEED FLAGS MAC SECONDS`.
+pub fn read_description(alloc: Global, words: &mut Words<'_>) -> Result<Description, TextFault>
+    ensures { Takes (description_reader (unread_words words.old)) result (unread_words words.new) }
+{
+    let description = Description {
+        serial: words.u32()?,
+        name: words.bytes(alloc)?,
+        port: words.u16()?,
+        speed: words.u32()?,
+        flags: words.u32()?,
+        mac: words.bytes(alloc)?,
+        inactivity: words.u16()?,
+    };
+    words.last(description)
 }
 
 /// What follows `heartbeat`: `INPUTONLY LISTENONLY`.

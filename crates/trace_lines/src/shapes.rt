@@ -59,6 +59,17 @@ pub const OUTPUT: [WordKind; 4] = [
 /// Instance and length.
 pub const POINT: [WordKind; 2] = [WordKind::U32, WordKind::U64];
 
+/// Serial number, name, TCP port, speed and flags of the link, physical address, and inactivity time-out.
+pub const DESCRIBE: [WordKind; 7] = [
+    WordKind::U32,
+    WordKind::Hex,
+    WordKind::U16,
+    WordKind::U32,
+    WordKind::U32,
+    WordKind::Hex,
+    WordKind::U16,
+];
+
 /// The points of input-only and of listen-only connections.
 pub const HEARTBEAT: [WordKind; 2] = [WordKind::U32, WordKind::U32];
 
@@ -127,10 +138,11 @@ pub fn shape_of(first: &str) -> Option<Shape>
         "adapter" => Some((&ADAPTER, &[])),
         "output" => Some((&OUTPUT, &[])),
         "input" | "config" => Some((&POINT, &[])),
+        "describe" => Some((&DESCRIBE, &[])),
         "heartbeat" => Some((&HEARTBEAT, &[])),
         "scanner" => Some((&SCANNER, &[])),
         "slot" => Some((&SLOT, &RATE)),
-        "request" | "datagram" => Some((&FROM_NODE, &[])),
+        "request" | "datagram" | "inquiry" => Some((&FROM_NODE, &[])),
         "stream" => Some((&STREAM, &[])),
         "frame" => Some((&FRAME, &[])),
         "cut" => Some((&CUT, &[])),

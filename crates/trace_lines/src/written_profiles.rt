@@ -2,11 +2,11 @@
 
 ghost use Rattle.std.specs.Prelude.{◌≡◌, ◌++◌, OnOk, string_bytes, flat_map, codes, drop};
 ghost use Rattle.trace_words.specs.Words.{action_word, line_text};
-ghost use Rattle.trace_lines.specs.WrittenProfiles.{adapter_words, output_words, point_words, heartbeat_words, config_text, profile_text};
+ghost use Rattle.trace_lines.specs.WrittenProfiles.{adapter_words, output_words, point_words, description_words, heartbeat_words, config_text, description_text, profile_text};
 
-use adapter_table::{Action, InputPoint, OutputPoint, Profile};
+use adapter_table::{Action, Description, InputPoint, OutputPoint, Profile};
 use cip_types::{Node, OutOfMemory};
-use trace_words::push_node;
+use trace_words::{push_bytes, push_node};
 
 /// Appends the lines of an adapter's profile. If an allocation is refused, a part of them may be appended.
 pub fn push_profile(out: &mut String, profile: &Profile) -> Result<(), OutOfMemory>
@@ -16,6 +16,7 @@ pub fn push_profile(out: &mut String, profile: &Profile) -> Result<(), OutOfMemo
     push_outputs(out, profile.outputs.as_slice())?;
     push_inputs(out, profile.inputs.as_slice())?;
     push_config(out, profile.config)?;
+    push_description(out, &profile.description)?;
     push_heartbeat(out, profile)?;
     Ok(())
 }
@@ -94,6 +95,31 @@ fn push_config(out: &mut String, config: Option<InputPoint>) -> Result<(), OutOf
         Some(config) => push_point(out, "config", config),
         None => Ok(()),
     }
+}
+
+fn push_description(out: &mut String, description: &Option<Description>) -> Result<(), OutOfMemory>
+    ensures { OnOk result (string_bytes out.new ≡ string_bytes out.old ++ description_text description.now) }
+{
+    match description {
+        Some(description) => push_described(out, description),
+        None => Ok(()),
+    }
+}
+
+fn push_described(out: &mut String, description: &Description) -> Result<(), OutOfMemory>
+    ensures { OnOk result
+        (string_bytes out.new ≡ string_bytes out.old ++ line_text (description_words description.now)) }
+{
+    write!(out, "describe {} ", description.serial)?;
+    push_bytes(out, description.name.as_slice())?;
+    write!(
+        out,
+        " {} {} {} ",
+        description.port, description.speed, description.flags
+    )?;
+    push_bytes(out, description.mac.as_slice())?;
+    write!(out, " {}\n", description.inactivity)?;
+    Ok(())
 }
 
 fn push_heartbeat(out: &mut String, profile: &Profile) -> Result<(), OutOfMemory>

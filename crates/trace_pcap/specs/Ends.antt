@@ -41,10 +41,15 @@ ends_of Peer side stream = reversed (device_ends side stream)
 abbrev pub datagram_ends : Node → Node → Ends
 datagram_ends source destination = record { source = source; source_port = 2222; destination = destination; destination_port = 2222 }
 
--- the four first bits of the address of a group of hosts are 1110 (RFC 1112, section 4)
-abbrev pub is_multicast : Node → Bool
-is_multicast node = node.0 / 0x10000000 == 14
-
 -- a dynamic port (RFC 6335, section 6), another one for each of 16,384 events in a row
 unfoldable pub stream_port : ℕ → ℕ
 stream_port number = 49152 + number % 16384
+
+-- The ends of an inquiry at the event of this number, from its peer to the device: the peer has a dynamic port, and the
+-- device that of encapsulation messages.
+abbrev pub inquiry_ends : ℕ → Node → Node → Ends
+inquiry_ends number peer device = record { source = peer; source_port = stream_port number; destination = device; destination_port = 44818 }
+
+-- the four first bits of the address of a group of hosts are 1110 (RFC 1112, section 4)
+abbrev pub is_multicast : Node → Bool
+is_multicast node = node.0 / 0x10000000 == 14

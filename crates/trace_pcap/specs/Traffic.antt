@@ -3,7 +3,7 @@
 use Rattle.std.specs.Prelude.{ℕ, ◌+◌, ◌%◌, ◌^◌, ◌==◌, not, if◌then◌else◌, List, [], ◌∷◌, ◌++◌, length, find, filter, flat_map, Option, Some, None}
 use Rattle.cip_types.specs.declared.names.Node.{Node}
 use Rattle.cip_events.specs.declared.event.Event.{Event}
-use Rattle.cip_events.specs.declared.event.Event.TheVariants.{StreamOpened, Frame, StreamCut, Datagram}
+use Rattle.cip_events.specs.declared.event.Event.TheVariants.{StreamOpened, Frame, StreamCut, Datagram, Inquiry}
 use Rattle.cip_events.specs.declared.event.Answer.{Answer}
 use Rattle.cip_events.specs.declared.event.Frame as framed
 use Rattle.cip_events.specs.declared.event.OutgoingDatagram.{OutgoingDatagram}
@@ -17,7 +17,7 @@ use Rattle.trace_pcap.specs.declared.ends.Sender.TheVariants as by
 use Rattle.trace_pcap.specs.declared.ends.Side.{Side}
 use Rattle.trace_pcap.specs.declared.headers.Control.{Control}
 use Rattle.trace_pcap.specs.declared.traffic.Moment.{Moment}
-use Rattle.trace_pcap.specs.Ends.{ends_of, datagram_ends, is_multicast, stream_port}
+use Rattle.trace_pcap.specs.Ends.{ends_of, reversed, datagram_ends, inquiry_ends, is_multicast, stream_port}
 use Rattle.trace_pcap.specs.Packets.{shown, tcp_record, udp_record}
 
 -- STREAMS
@@ -105,6 +105,7 @@ event_records moment (StreamOpened stream peer) streams = opening_records moment
 event_records moment (Frame stream bytes) streams = data_records moment by.Peer bytes (stream_of stream streams)
 event_records moment (StreamCut stream) streams = end_records moment by.Peer (stream_of stream streams)
 event_records moment (Datagram peer bytes) streams = udp_record moment.time (datagram_ends peer moment.side.node) bytes
+event_records moment (Inquiry peer bytes) streams = udp_record moment.time (inquiry_ends moment.number peer moment.side.node) bytes
 event_records moment _ streams = []
 
 abbrev pub event_streams : Moment → Event → Streams → Streams
@@ -137,6 +138,19 @@ frames_records moment (frame ∷ frames) streams = frame_records moment frame st
 abbrev pub frames_streams : List framed.Frame → Streams → Streams
 frames_streams [] streams = streams
 frames_streams (frame ∷ frames) streams = frames_streams frames (frame_streams frame streams)
+
+-- a reply to an inquiry goes to the port that the inquiry came from
+abbrev pub inquirer_records : Moment → List ℕ → Recipient → List ℕ
+inquirer_records moment bytes (Peer node) = udp_record moment.time (reversed (inquiry_ends moment.number node moment.side.node)) bytes
+inquirer_records moment bytes (Stream number) = []
+
+abbrev pub inquired_records : Moment → framed.Frame → List ℕ
+inquired_records moment frame = inquirer_records moment frame.bytes frame.to
+
+-- the replies to an event that is an inquiry
+abbrev pub replies_records : Moment → Event → List framed.Frame → List ℕ
+replies_records moment (Inquiry peer bytes) frames = flat_map (inquired_records moment) frames
+replies_records moment _ frames = []
 
 abbrev pub copies_records : Moment → List ℕ → List Node → List ℕ
 copies_records moment bytes nodes = flat_map (λ node. udp_record moment.time (datagram_ends moment.side.node node) bytes) nodes

@@ -9,7 +9,7 @@ use Rattle.trace_pcap.specs.declared.ends.Side.{Side}
 use Rattle.trace_pcap.specs.declared.traffic.Moment.{Moment}
 use Rattle.trace_pcap.specs.Ends.{side_of}
 use Rattle.trace_pcap.specs.Packets.{file_header}
-use Rattle.trace_pcap.specs.Traffic.{Streams, event_records, event_streams, answer_records, answer_streams}
+use Rattle.trace_pcap.specs.Traffic.{Streams, event_records, event_streams, replies_records, answer_records, answer_streams}
 
 abbrev pub is_refused : Option Outcome → Bool
 is_refused (Some (Err fault)) = true
@@ -27,7 +27,8 @@ time_after time _ outcome = time
 abbrev pub entry_records : Moment → Event → Option Outcome → Streams → List ℕ
 entry_records moment event None streams = event_records moment event streams
 entry_records moment event (Some (Ok answer)) streams =
-    event_records moment event streams ++ answer_records moment answer (event_streams moment event streams)
+    event_records moment event streams
+    ++ (replies_records moment event answer.frames ++ answer_records moment answer (event_streams moment event streams))
 entry_records moment event (Some (Err fault)) streams = []
 
 abbrev pub entry_streams : Moment → Event → Option Outcome → Streams → Streams

@@ -1,13 +1,13 @@
 //! The ends of packets: the traced device and its peers.
 
 ghost use Rattle.std.specs.Prelude.{◌≡◌};
-ghost use Rattle.trace_pcap.specs.Ends.{side_of, device_ends, reversed, ends_of, datagram_ends, is_multicast, stream_port};
+ghost use Rattle.trace_pcap.specs.Ends.{side_of, device_ends, reversed, ends_of, datagram_ends, inquiry_ends, is_multicast, stream_port};
 
 use cip_tables::Config;
 use cip_types::Node;
 use open_streams::Numbered;
 
-/// The TCP port of explicit messages at an adapter.
+/// The TCP port of explicit messages at an adapter, and the UDP port of inquiries.
 pub const ENCAPSULATION_PORT: u16 = 44818;
 
 /// The UDP port of class 1 datagrams.
@@ -83,7 +83,7 @@ pub fn ends_of(sender: Sender, side: Side, stream: &CapturedStream) -> Ends
 }
 
 /// The ends of a packet that is sent back.
-fn reversed(ends: Ends) -> Ends
+pub fn reversed(ends: Ends) -> Ends
     ensures { result ≡ reversed ends }
 {
     Ends {
@@ -120,6 +120,19 @@ pub fn datagram_ends(source: Node, destination: Node) -> Ends
         source_port: DATAGRAM_PORT,
         destination,
         destination_port: DATAGRAM_PORT,
+    }
+}
+
+/// The ends of an inquiry at the event of this number. The trace does not have the port of the peer; a dynamic one stands
+/// for it.
+pub fn inquiry_ends(number: u64, peer: Node, device: Node) -> Ends
+    ensures { result ≡ inquiry_ends number peer device }
+{
+    Ends {
+        source: peer,
+        source_port: stream_port(number),
+        destination: device,
+        destination_port: ENCAPSULATION_PORT,
     }
 }
 

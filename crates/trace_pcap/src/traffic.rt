@@ -1,10 +1,11 @@
 //! The packets of a trace's events.
 
-ghost use Rattle.std.specs.Prelude.{◌≡◌, ◌++◌, OnOk};
-ghost use Rattle.trace_pcap.specs.Traffic.{without, replaced_stream, stream_of, control_of, segment_record, sent_more, opener, other_end, start_of, opened_by, opening_records, data_records, data_streams, last_bits, end_records, event_records, event_streams, frame_records, frame_streams, frames_records, frames_streams, copies_records, outgoing_records, datagrams_records, notice_records, notice_streams, notices_records, notices_streams, answer_records, answer_streams};
+ghost use Rattle.std.specs.Prelude.{◌≡◌, ◌++◌, OnOk, flat_map};
+ghost use Rattle.trace_pcap.specs.Traffic.{without, replaced_stream, stream_of, control_of, segment_record, sent_more, opener, other_end, start_of, opened_by, opening_records, data_records, data_streams, last_bits, end_records, event_records, event_streams, frame_records, frame_streams, frames_records, frames_streams, inquired_records, replies_records, copies_records, outgoing_records, datagrams_records, notice_records, notice_streams, notices_records, notices_streams, answer_records, answer_streams};
 
 use crate::ends::{
-    CapturedStream, Sender, Side, datagram_ends, ends_of, is_multicast, stream_port,
+    CapturedStream, Sender, Side, datagram_ends, ends_of, inquiry_ends, is_multicast, reversed,
+    stream_port,
 };
 use crate::headers::Control;
 use crate::packets::{MOST_TCP, push_tcp, push_udp, shown};
@@ -251,7 +252,47 @@ pub fn push_event(
             let ends = datagram_ends(*peer, moment.side.node);
             push_udp(out, moment.time, &ends, bytes.as_slice())
         }
+        Event::Inquiry { peer, bytes } => {
+            let ends = inquiry_ends(moment.number, *peer, moment.side.node);
+            push_udp(out, moment.time, &ends, bytes.as_slice())
+        }
         _ => Ok(()),
+    }
+}
+
+/// The replies to an event that is an inquiry: each goes to the port that the inquiry came from.
+pub fn push_replies(
+    out: &mut Vec<u8>,
+    moment: Moment,
+    event: &Event,
+    frames: &[Frame],
+) -> Result<(), OutOfMemory>
+    ensures { OnOk result (out.new.items ≡ out.old.items ++ replies_records moment event.now frames.now) }
+{
+    match event {
+        Event::Inquiry { .. } => push_inquired(out, moment, frames),
+        _ => Ok(()),
+    }
+}
+
+fn push_inquired(out: &mut Vec<u8>, moment: Moment, frames: &[Frame]) -> Result<(), OutOfMemory>
+    ensures { OnOk result (out.new.items ≡ out.old.items ++ flat_map (inquired_records moment) frames.now) }
+{
+    for frame in frames {
+        push_to_inquirer(out, moment, frame)?;
+    }
+    Ok(())
+}
+
+fn push_to_inquirer(out: &mut Vec<u8>, moment: Moment, frame: &Frame) -> Result<(), OutOfMemory>
+    ensures { OnOk result (out.new.items ≡ out.old.items ++ inquired_records moment frame.now) }
+{
+    match frame.to {
+        Recipient::Peer(node) => {
+            let ends = reversed(inquiry_ends(moment.number, node, moment.side.node));
+            push_udp(out, moment.time, &ends, frame.bytes.as_slice())
+        }
+        Recipient::Stream(_) => Ok(()),
     }
 }
 

@@ -1,12 +1,12 @@
 //! A trace as a capture file.
 
 ghost use Rattle.std.specs.Prelude.{◌≡◌, ◌++◌, [], IfOk, OnOk};
-ghost use Rattle.trace_pcap.specs.Traffic.{event_records, event_streams, answer_records, answer_streams};
+ghost use Rattle.trace_pcap.specs.Traffic.{event_records, event_streams, replies_records, answer_records, answer_streams};
 ghost use Rattle.trace_pcap.specs.Written.{later, is_refused, time_after, entry_records, entry_streams, entries_records, pcap_text};
 
 use crate::ends::{CapturedStream, Side, side_of};
 use crate::packets::push_file_header;
-use crate::traffic::{Moment, push_answer, push_event};
+use crate::traffic::{Moment, push_answer, push_event, push_replies};
 use cip_events::{Answer, Event};
 use cip_types::OutOfMemory;
 use std::alloc::Global;
@@ -15,9 +15,10 @@ use trace_text::{Recorded, Trace};
 /// The bytes of a capture file with the packets of a trace: a classic pcap file of raw IPv4 packets, in the order of
 /// the trace. OutOfMemory is the only fault.
 ///
-/// The clock begins at the given milliseconds since 1970 (0 if the time is not known), and each `tick` moves it on. A stream is a TCP connection with the end that does not open
-/// it at port 44818, a datagram a UDP datagram from port 2222 to port 2222. What is answered is shown where the
-/// outcome is recorded. An event with a recorded fault shows nothing, and a request without a stream shows nothing.
+/// The clock begins at the given milliseconds since 1970 (0 if the time is not known), and each `tick` moves it on. A stream
+/// is a TCP connection with the end that does not open it at port 44818, a datagram a UDP datagram from port 2222 to port
+/// 2222, an inquiry a UDP datagram to port 44818 from a dynamic port, to which its reply goes. What is answered is shown
+/// where the outcome is recorded. An event with a recorded fault shows nothing, and a request without a stream shows nothing.
 ///
 /// RFC 791, 768 and 9293 for IPv4, UDP and TCP.
 #[tactic(auto, unfolding(crate::specs::Written::pcap_text))]
@@ -113,10 +114,12 @@ fn push_answered(
     ensures records { OnOk result
         (out.new.items ≡ out.old.items
         ++ (event_records moment event.now streams.old.items
-        ++ answer_records moment answer.now (event_streams moment event.now streams.old.items))) }
+        ++ (replies_records moment event.now answer.now.frames
+        ++ answer_records moment answer.now (event_streams moment event.now streams.old.items)))) }
     ensures streams { OnOk result
         (streams.new.items ≡ answer_streams answer.now (event_streams moment event.now streams.old.items)) }
 {
     push_event(out, streams, moment, event)?;
+    push_replies(out, moment, event, answer.frames.as_slice())?;
     push_answer(out, streams, moment, answer)
 }

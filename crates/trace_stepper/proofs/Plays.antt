@@ -10,7 +10,7 @@ use Rattle.cip_events.specs.Outcomes.{Outcome}
 use Rattle.cip_tables.specs.Run.{outcomes_of}
 use Rattle.trace_text.specs.declared.trace.Trace.{Trace}
 use Rattle.trace_text.specs.Reading.{Entry}
-use Rattle.trace_lines.specs.WrittenOutcomes.{outcome_text, outcomes_text}
+use Rattle.trace_outcomes.specs.WrittenOutcomes.{outcome_text, outcomes_text}
 use Rattle.trace_stepper.specs.Compared.{AgreesWith, AgreeAt, AgreeBefore, recorded_at, IsJudged, JudgesOn}
 use Rattle.trace_stepper.specs.Playing.{WritesFirst}
 use Rattle.trace_stepper.specs.Stepping.{events_of, outcomes_of_trace, MovesOn}

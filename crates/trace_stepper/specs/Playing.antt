@@ -4,7 +4,7 @@ use Rattle.std.specs.Io.KnownBytes.{Appends}
 use Rattle.cip_events.specs.Outcomes.{Outcome}
 use Rattle.cip_tables.specs.Step.{config_fault}
 use Rattle.trace_text.specs.declared.trace.Trace.{Trace}
-use Rattle.trace_lines.specs.WrittenOutcomes.{outcomes_text}
+use Rattle.trace_outcomes.specs.WrittenOutcomes.{outcomes_text}
 use Rattle.trace_stepper.specs.declared.stepper.StepperFault.{StepperFault}
 use Rattle.trace_stepper.specs.declared.stepper.StepperFault.TheVariants as fault
 use Rattle.trace_stepper.specs.Compared.{IsJudged}

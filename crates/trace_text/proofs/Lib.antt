@@ -1,4 +1,5 @@
 mod AsciiLines
+mod DescribedSamples
 mod EntryTexts
 mod Pieces
 mod Samples

@@ -9,9 +9,9 @@ use Rattle.cip_events.specs.declared.event.Reason.TheVariants.{Encap, Unreadable
 use Rattle.cip_events.specs.declared.event.Verdict.TheVariants as verdict
 use Rattle.trace_text.specs.declared.forms.TraceLine.{TraceLine}
 use Rattle.trace_text.specs.declared.forms.TraceLine.TheVariants.{Event as EventLine, Recorded}
-use Rattle.trace_lines.specs.declared.part.Part.TheVariants as part
+use Rattle.trace_outcomes.specs.declared.part.Part.TheVariants as part
 use Rattle.trace_words.specs.Words.{number_of, bytes_of, general_of, extended_of}
-use Rattle.trace_lines.specs.Parts.{mismatch_of, verdict_of}
+use Rattle.trace_outcomes.specs.Parts.{mismatch_of, verdict_of}
 use Rattle.trace_lines.specs.Kinds.{mode_of}
 use Rattle.trace_text.specs.Forms.{line_of, event_of}
 

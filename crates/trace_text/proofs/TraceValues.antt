@@ -4,6 +4,7 @@ use Rattle.std.proofs.Common.{◌≡◌, ℕ, ◌+◌, Bool, true, false, cond, 
 use Rattle.std.specs.Prelude.{option_to_list, option_map, option_and_then}
 use Rattle.std.proofs.lemmas.Bool.Decides.{nat_tests}
 use Rattle.std.proofs.lemmas.List.{append-nil, length-append}
+use Rattle.adapter_table.specs.declared.profile.Description.{Description}
 use Rattle.adapter_table.specs.declared.profile.Profile.{Profile}
 use Rattle.adapter_table.specs.declared.profile.InputPoint.{InputPoint}
 use Rattle.adapter_table.specs.declared.profile.OutputPoint.{OutputPoint}
@@ -23,11 +24,11 @@ use Rattle.trace_lines.specs.declared.forms.HeartbeatLine.{HeartbeatLine}
 use Rattle.trace_lines.specs.declared.forms.ScannerLine.{ScannerLine}
 use Rattle.trace_lines.specs.Profiles.{profile_with}
 use Rattle.trace_lines.specs.Slots.{scanner_with}
-use Rattle.trace_lines.specs.declared.part.Part.{Part}
-use Rattle.trace_lines.specs.declared.part.Part.TheVariants as part
+use Rattle.trace_outcomes.specs.declared.part.Part.{Part}
+use Rattle.trace_outcomes.specs.declared.part.Part.TheVariants as part
 use Rattle.trace_text.specs.Recorded.{recorded_with}
 use Rattle.trace_text.specs.declared.builder.TraceBuilder.{TraceBuilder}
-use Rattle.trace_text.specs.declared.builder.TraceBuilder.TheVariants.{Empty, Points, Configured, Slots, Events}
+use Rattle.trace_text.specs.declared.builder.TraceBuilder.TheVariants.{Empty, Points, Configured, Described, Slots, Events}
 use Rattle.trace_text.specs.declared.forms.TraceLine.{TraceLine}
 use Rattle.trace_text.specs.declared.forms.TraceLine.TheVariants as line
 use Rattle.trace_text.specs.declared.trace.Trace.{Trace}
@@ -79,6 +80,7 @@ abbrev pub so_far : TraceBuilder → List TraceLine
 so_far Empty = []
 so_far (Points adapter outputs inputs) = line.Adapter adapter ∷ (map line.Output outputs ++ map line.Input inputs)
 so_far (Configured adapter outputs inputs point) = line.Adapter adapter ∷ (map line.Output outputs ++ (map line.Input inputs ++ line.Config point ∷ []))
+so_far (Described adapter outputs inputs settings described) = line.Adapter adapter ∷ (map line.Output outputs ++ (map line.Input inputs ++ (map line.Config (option_to_list settings) ++ line.Description described ∷ [])))
 so_far (Slots scanner slots) = line.Scanner scanner ∷ map line.Slot slots
 so_far (Events made_of entries last) = config_values made_of ++ entries_values 1 (entries ++ option_to_list last)
 
@@ -184,12 +186,26 @@ part_added made_of entries event recorded number more next is =
     ∙ ap (λ t. t ++ line.Recorded number more ∷ []) (sym (entries_last 1 entries (event, recorded))))
     ∙ sym (append_assoc (config_values made_of) (entries_values 1 (entries ++ (event, recorded) ∷ [])) (line.Recorded number more ∷ []))
 
+-- a line behind the lists of a profile
+ends_last : (adapter : AdapterLine) (outputs inputs ends : List TraceLine) (last : TraceLine) → line.Adapter adapter ∷ (outputs ++ (inputs ++ (ends ++ last ∷ []))) ≡ (line.Adapter adapter ∷ (outputs ++ (inputs ++ ends))) ++ last ∷ []
+ends_last adapter outputs inputs ends last =
+    ap (λ t. line.Adapter adapter ∷ t) (sym (append_assoc outputs (inputs ++ ends) (last ∷ []) ∙ ap (λ t. outputs ++ t) (append_assoc inputs ends (last ∷ []))))
+
+points_last : (adapter : AdapterLine) (outputs inputs : List TraceLine) (last : TraceLine) → line.Adapter adapter ∷ (outputs ++ (inputs ++ last ∷ [])) ≡ (line.Adapter adapter ∷ (outputs ++ inputs)) ++ last ∷ []
+points_last adapter outputs inputs last = ap (λ t. line.Adapter adapter ∷ t) (sym (append_assoc outputs inputs (last ∷ [])))
+
+described_last : (adapter : AdapterLine) (outputs inputs settings : List TraceLine) (described last : TraceLine) → line.Adapter adapter ∷ (outputs ++ (inputs ++ (settings ++ described ∷ last ∷ []))) ≡ (line.Adapter adapter ∷ (outputs ++ (inputs ++ (settings ++ described ∷ [])))) ++ last ∷ []
+described_last adapter outputs inputs settings described last =
+    ap (λ t. line.Adapter adapter ∷ (outputs ++ (inputs ++ t))) (sym (append_assoc settings (described ∷ []) (last ∷ [])))
+    ∙ ends_last adapter outputs inputs (settings ++ described ∷ []) last
+
 -- a line that is allowed is one line more
 pub added : (builder : TraceBuilder) (parsed : TraceLine) (next : TraceBuilder) → builder_with builder parsed ≡ Some next → so_far next ≡ so_far builder ++ parsed ∷ []
 added Empty (line.Adapter value) next is = so_far_is _ _ is
 added Empty (line.Output value) next is = absurd (cc)
 added Empty (line.Input value) next is = absurd (cc)
 added Empty (line.Config value) next is = absurd (cc)
+added Empty (line.Description value) next is = absurd (cc)
 added Empty (line.Heartbeat value) next is = absurd (cc)
 added Empty (line.Scanner value) next is = so_far_is _ _ is
 added Empty (line.Slot value) next is = absurd (cc)
@@ -199,7 +215,8 @@ added (Points adapter outputs inputs) (line.Adapter value) next is = absurd (cc)
 added (Points adapter outputs inputs) (line.Output value) next is = output_added adapter outputs inputs value next is
 added (Points adapter outputs inputs) (line.Input value) next is = so_far_is _ _ is ∙ ap (λ t. line.Adapter adapter ∷ (map line.Output outputs ++ t)) (map_last line.Input inputs value) ∙ ap (λ t. line.Adapter adapter ∷ t) (sym (append_assoc (map line.Output outputs) (map line.Input inputs) (line.Input value ∷ [])))
 added (Points adapter outputs inputs) (line.Config value) next is = so_far_is _ _ is ∙ ap (λ t. line.Adapter adapter ∷ t) (sym (append_assoc (map line.Output outputs) (map line.Input inputs) (line.Config value ∷ [])))
-added (Points adapter outputs inputs) (line.Heartbeat value) next is = so_far_is _ _ is ∙ append-nil _ ∙ ap (λ t. line.Adapter adapter ∷ t) (sym (append_assoc (map line.Output outputs) (map line.Input inputs) (line.Heartbeat value ∷ [])))
+added (Points adapter outputs inputs) (line.Description value) next is = so_far_is _ _ is ∙ points_last adapter (map line.Output outputs) (map line.Input inputs) (line.Description value)
+added (Points adapter outputs inputs) (line.Heartbeat value) next is = so_far_is _ _ is ∙ append-nil _ ∙ points_last adapter (map line.Output outputs) (map line.Input inputs) (line.Heartbeat value)
 added (Points adapter outputs inputs) (line.Scanner value) next is = absurd (cc)
 added (Points adapter outputs inputs) (line.Slot value) next is = absurd (cc)
 added (Points adapter outputs inputs) (line.Event value) next is = absurd (cc)
@@ -208,15 +225,27 @@ added (Configured adapter outputs inputs point) (line.Adapter value) next is = a
 added (Configured adapter outputs inputs point) (line.Output value) next is = absurd (cc)
 added (Configured adapter outputs inputs point) (line.Input value) next is = absurd (cc)
 added (Configured adapter outputs inputs point) (line.Config value) next is = absurd (cc)
-added (Configured adapter outputs inputs point) (line.Heartbeat value) next is = so_far_is _ _ is ∙ append-nil _ ∙ ap (λ t. line.Adapter adapter ∷ t) (sym (append_assoc (map line.Output outputs) (map line.Input inputs ++ line.Config point ∷ []) (line.Heartbeat value ∷ []) ∙ ap (λ t. map line.Output outputs ++ t) (append_assoc (map line.Input inputs) (line.Config point ∷ []) (line.Heartbeat value ∷ []))))
+added (Configured adapter outputs inputs point) (line.Description value) next is = so_far_is _ _ is ∙ ends_last adapter (map line.Output outputs) (map line.Input inputs) (line.Config point ∷ []) (line.Description value)
+added (Configured adapter outputs inputs point) (line.Heartbeat value) next is = so_far_is _ _ is ∙ append-nil _ ∙ ends_last adapter (map line.Output outputs) (map line.Input inputs) (line.Config point ∷ []) (line.Heartbeat value)
 added (Configured adapter outputs inputs point) (line.Scanner value) next is = absurd (cc)
 added (Configured adapter outputs inputs point) (line.Slot value) next is = absurd (cc)
 added (Configured adapter outputs inputs point) (line.Event value) next is = absurd (cc)
 added (Configured adapter outputs inputs point) (line.Recorded number value) next is = absurd (cc)
+added (Described adapter outputs inputs settings described) (line.Adapter value) next is = absurd (cc)
+added (Described adapter outputs inputs settings described) (line.Output value) next is = absurd (cc)
+added (Described adapter outputs inputs settings described) (line.Input value) next is = absurd (cc)
+added (Described adapter outputs inputs settings described) (line.Config value) next is = absurd (cc)
+added (Described adapter outputs inputs settings described) (line.Description value) next is = absurd (cc)
+added (Described adapter outputs inputs settings described) (line.Heartbeat value) next is = so_far_is _ _ is ∙ append-nil _ ∙ described_last adapter (map line.Output outputs) (map line.Input inputs) (map line.Config (option_to_list settings)) (line.Description described) (line.Heartbeat value)
+added (Described adapter outputs inputs settings described) (line.Scanner value) next is = absurd (cc)
+added (Described adapter outputs inputs settings described) (line.Slot value) next is = absurd (cc)
+added (Described adapter outputs inputs settings described) (line.Event value) next is = absurd (cc)
+added (Described adapter outputs inputs settings described) (line.Recorded number value) next is = absurd (cc)
 added (Slots scanner slots) (line.Adapter value) next is = absurd (cc)
 added (Slots scanner slots) (line.Output value) next is = absurd (cc)
 added (Slots scanner slots) (line.Input value) next is = absurd (cc)
 added (Slots scanner slots) (line.Config value) next is = absurd (cc)
+added (Slots scanner slots) (line.Description value) next is = absurd (cc)
 added (Slots scanner slots) (line.Heartbeat value) next is = absurd (cc)
 added (Slots scanner slots) (line.Scanner value) next is = absurd (cc)
 added (Slots scanner slots) (line.Slot value) next is = so_far_is _ _ is ∙ ap (λ t. line.Scanner scanner ∷ t) (map_last line.Slot slots value)
@@ -226,6 +255,7 @@ added (Events made_of entries None) (line.Adapter value) next is = absurd (cc)
 added (Events made_of entries None) (line.Output value) next is = absurd (cc)
 added (Events made_of entries None) (line.Input value) next is = absurd (cc)
 added (Events made_of entries None) (line.Config value) next is = absurd (cc)
+added (Events made_of entries None) (line.Description value) next is = absurd (cc)
 added (Events made_of entries None) (line.Heartbeat value) next is = absurd (cc)
 added (Events made_of entries None) (line.Scanner value) next is = absurd (cc)
 added (Events made_of entries None) (line.Slot value) next is = absurd (cc)
@@ -235,6 +265,7 @@ added (Events made_of entries (Some (event, recorded))) (line.Adapter value) nex
 added (Events made_of entries (Some (event, recorded))) (line.Output value) next is = absurd (cc)
 added (Events made_of entries (Some (event, recorded))) (line.Input value) next is = absurd (cc)
 added (Events made_of entries (Some (event, recorded))) (line.Config value) next is = absurd (cc)
+added (Events made_of entries (Some (event, recorded))) (line.Description value) next is = absurd (cc)
 added (Events made_of entries (Some (event, recorded))) (line.Heartbeat value) next is = absurd (cc)
 added (Events made_of entries (Some (event, recorded))) (line.Scanner value) next is = absurd (cc)
 added (Events made_of entries (Some (event, recorded))) (line.Slot value) next is = absurd (cc)
@@ -279,9 +310,11 @@ no_points = record { input_only = 0; listen_only = 0 }
 pub completed : (builder : TraceBuilder) → (trace : Trace) × ((more : List TraceLine) × (so_far builder ++ more ≡ trace_values trace))
 completed Empty = (record { config = config.Scanner no_scanner; events = [] }, (config_values (config.Scanner no_scanner) ++ [], refl))
 completed (Points adapter outputs inputs) =
-    (record { config = config.Adapter (profile_with adapter outputs inputs None no_points); events = [] }, (line.Heartbeat no_points ∷ [], sym (added (Points adapter outputs inputs) (line.Heartbeat no_points) _ refl)))
+    (record { config = config.Adapter (profile_with adapter outputs inputs None None no_points); events = [] }, (line.Heartbeat no_points ∷ [], sym (added (Points adapter outputs inputs) (line.Heartbeat no_points) _ refl)))
 completed (Configured adapter outputs inputs point) =
-    (record { config = config.Adapter (profile_with adapter outputs inputs (Some point) no_points); events = [] }, (line.Heartbeat no_points ∷ [], sym (added (Configured adapter outputs inputs point) (line.Heartbeat no_points) _ refl)))
+    (record { config = config.Adapter (profile_with adapter outputs inputs (Some point) None no_points); events = [] }, (line.Heartbeat no_points ∷ [], sym (added (Configured adapter outputs inputs point) (line.Heartbeat no_points) _ refl)))
+completed (Described adapter outputs inputs settings described) =
+    (record { config = config.Adapter (profile_with adapter outputs inputs settings (Some described) no_points); events = [] }, (line.Heartbeat no_points ∷ [], sym (added (Described adapter outputs inputs settings described) (line.Heartbeat no_points) _ refl)))
 completed (Slots scanner slots) = (record { config = config.Scanner (scanner_with scanner slots); events = [] }, ([], refl))
 completed (Events made_of entries last) = (record { config = made_of; events = entries ++ option_to_list last }, ([], append-nil _))
 
@@ -304,15 +337,17 @@ inputs_run : (adapter : AdapterLine) (outputs : List OutputPoint) (before inputs
 inputs_run adapter outputs before [] = ap (λ t. Some (Points adapter outputs t)) (sym (append-nil before))
 inputs_run adapter outputs before (input ∷ inputs) = inputs_run adapter outputs (before ++ input ∷ []) inputs ∙ ap (λ t. Some (Points adapter outputs t)) (append_assoc before (input ∷ []) inputs)
 
-ends_run : (adapter : AdapterLine) (outputs : List OutputPoint) (inputs : List InputPoint) (settings : Option InputPoint) (points : HeartbeatLine) → run (Points adapter outputs inputs) (map Some (map line.Config (option_to_list settings) ++ line.Heartbeat points ∷ [])) ≡ Some (Events (config.Adapter (profile_with adapter outputs inputs settings points)) [] None)
-ends_run adapter outputs inputs None points = refl
-ends_run adapter outputs inputs (Some point) points = refl
+ends_run : (adapter : AdapterLine) (outputs : List OutputPoint) (inputs : List InputPoint) (settings : Option InputPoint) (described : Option Description) (points : HeartbeatLine) → run (Points adapter outputs inputs) (map Some (map line.Config (option_to_list settings) ++ (map line.Description (option_to_list described) ++ line.Heartbeat points ∷ []))) ≡ Some (Events (config.Adapter (profile_with adapter outputs inputs settings described points)) [] None)
+ends_run adapter outputs inputs None None points = refl
+ends_run adapter outputs inputs None (Some described) points = refl
+ends_run adapter outputs inputs (Some point) None points = refl
+ends_run adapter outputs inputs (Some point) (Some described) points = refl
 
 adapter_run : (profile : Profile) → run Empty (map Some (config_values (config.Adapter profile))) ≡ Some (Events (config.Adapter profile) [] None)
 adapter_run profile =
     both_run (Points (adapter_line_of profile) [] []) (Points (adapter_line_of profile) profile.outputs []) (map line.Output profile.outputs) _ _ (outputs_run (adapter_line_of profile) [] profile.outputs)
     (both_run (Points (adapter_line_of profile) profile.outputs []) (Points (adapter_line_of profile) profile.outputs profile.inputs) (map line.Input profile.inputs) _ _ (inputs_run (adapter_line_of profile) profile.outputs [] profile.inputs)
-    (ends_run (adapter_line_of profile) profile.outputs profile.inputs profile.config (heartbeat_line_of profile)))
+    (ends_run (adapter_line_of profile) profile.outputs profile.inputs profile.config profile.description (heartbeat_line_of profile)))
 
 slots_run : (scanner : ScannerLine) (before slots : List SlotConfig) → run (Slots scanner before) (map Some (map line.Slot slots)) ≡ Some (Slots scanner (before ++ slots))
 slots_run scanner before [] = ap (λ t. Some (Slots scanner t)) (sym (append-nil before))

@@ -14,9 +14,9 @@ use Rattle.cip_events.specs.Outcomes.{Outcome}
 use Rattle.trace_lines.specs.declared.forms.AdapterLine.{AdapterLine}
 use Rattle.trace_text.specs.declared.forms.TraceLine.{TraceLine}
 use Rattle.trace_text.specs.declared.forms.TraceLine.TheVariants as line
-use Rattle.trace_lines.specs.declared.part.Part.{Part}
+use Rattle.trace_outcomes.specs.declared.part.Part.{Part}
 use Rattle.trace_text.specs.declared.builder.TraceBuilder.{TraceBuilder}
-use Rattle.trace_text.specs.declared.builder.TraceBuilder.TheVariants.{Empty, Points, Configured, Slots, Events}
+use Rattle.trace_text.specs.declared.builder.TraceBuilder.TheVariants.{Empty, Points, Configured, Described, Slots, Events}
 use Rattle.trace_text.specs.declared.trace.Trace.{Trace}
 use Rattle.trace_text.specs.declared.trace.TraceFault.{TraceFault}
 use Rattle.trace_text.specs.declared.trace.TraceFault.TheVariants as fault
@@ -48,8 +48,11 @@ builder_with Empty (line.Scanner scanner) = Some (Slots scanner [])
 builder_with (Points adapter outputs inputs) (line.Output output) = with_output adapter outputs inputs output
 builder_with (Points adapter outputs inputs) (line.Input input) = Some (Points adapter outputs (inputs ++ input ∷ []))
 builder_with (Points adapter outputs inputs) (line.Config point) = Some (Configured adapter outputs inputs point)
-builder_with (Points adapter outputs inputs) (line.Heartbeat heartbeat) = Some (Events (config.Adapter (profile_with adapter outputs inputs None heartbeat)) [] None)
-builder_with (Configured adapter outputs inputs point) (line.Heartbeat heartbeat) = Some (Events (config.Adapter (profile_with adapter outputs inputs (Some point) heartbeat)) [] None)
+builder_with (Points adapter outputs inputs) (line.Description described) = Some (Described adapter outputs inputs None described)
+builder_with (Points adapter outputs inputs) (line.Heartbeat heartbeat) = Some (Events (config.Adapter (profile_with adapter outputs inputs None None heartbeat)) [] None)
+builder_with (Configured adapter outputs inputs point) (line.Description described) = Some (Described adapter outputs inputs (Some point) described)
+builder_with (Configured adapter outputs inputs point) (line.Heartbeat heartbeat) = Some (Events (config.Adapter (profile_with adapter outputs inputs (Some point) None heartbeat)) [] None)
+builder_with (Described adapter outputs inputs settings described) (line.Heartbeat heartbeat) = Some (Events (config.Adapter (profile_with adapter outputs inputs settings (Some described) heartbeat)) [] None)
 builder_with (Slots scanner slots) (line.Slot slot) = Some (Slots scanner (slots ++ slot ∷ []))
 builder_with (Slots scanner slots) (line.Event event) = Some (Events (config.Scanner (scanner_with scanner slots)) [] (Some (event, None)))
 builder_with (Events made_of entries last) (line.Event event) = Some (Events made_of (entries ++ option_to_list last) (Some (event, None)))

@@ -5,8 +5,8 @@ use Rattle.cip_events.specs.declared.event.Frame.{Frame}
 use Rattle.cip_events.specs.declared.event.OutgoingDatagram.{OutgoingDatagram}
 use Rattle.cip_events.specs.declared.event.Verdict.{Verdict}
 use Rattle.cip_events.specs.Outcomes.{Outcome}
-use Rattle.trace_lines.specs.declared.part.Part.{Part}
-use Rattle.trace_lines.specs.declared.part.Part.TheVariants as part
+use Rattle.trace_outcomes.specs.declared.part.Part.{Part}
+use Rattle.trace_outcomes.specs.declared.part.Part.TheVariants as part
 
 -- a frame comes before all datagrams and notices
 abbrev pub with_frame : Answer → Frame → Option Answer

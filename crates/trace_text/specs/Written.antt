@@ -4,14 +4,14 @@ use Rattle.std.specs.Prelude.{ℕ, ◌+◌, List, [], ◌∷◌, ◌++◌, codes
 use Rattle.cip_tables.specs.declared.table.Config.{Config}
 use Rattle.cip_tables.specs.declared.table.Config.TheVariants.{Adapter, Scanner}
 use Rattle.cip_events.specs.declared.event.Event.{Event}
-use Rattle.cip_events.specs.declared.event.Event.TheVariants.{Request, StreamOpened, Frame, StreamCut, Datagram, Write, Read, Tick, Mode, Start, Stop}
+use Rattle.cip_events.specs.declared.event.Event.TheVariants.{Request, StreamOpened, Frame, StreamCut, Datagram, Inquiry, Write, Read, Tick, Mode, Start, Stop}
 use Rattle.cip_events.specs.Outcomes.{Outcome}
 use Rattle.trace_text.specs.declared.trace.Trace.{Trace}
 use Rattle.trace_words.specs.Words.{line_text}
 use Rattle.trace_lines.specs.declared.shapes.TheConstants.{FROM_NODE, STREAM, FRAME, CUT, WRITE, NUMBER, MODE}
 use Rattle.trace_lines.specs.Shapes.{spelled}
 use Rattle.trace_text.specs.Reading.{Entry}
-use Rattle.trace_lines.specs.WrittenOutcomes.{outcome_text}
+use Rattle.trace_outcomes.specs.WrittenOutcomes.{outcome_text}
 use Rattle.trace_lines.specs.WrittenProfiles.{profile_text}
 use Rattle.trace_lines.specs.Slots.{scanner_text}
 
@@ -23,6 +23,7 @@ event_words (StreamOpened stream peer) = spelled (codes "stream" ∷ []) STREAM 
 event_words (Frame stream bytes) = spelled (codes "frame" ∷ []) FRAME stream bytes
 event_words (StreamCut stream) = spelled (codes "cut" ∷ []) CUT stream
 event_words (Datagram peer bytes) = spelled (codes "datagram" ∷ []) FROM_NODE peer bytes
+event_words (Inquiry peer bytes) = spelled (codes "inquiry" ∷ []) FROM_NODE peer bytes
 event_words (Write point bytes) = spelled (codes "write" ∷ []) WRITE point bytes
 event_words (Read point) = spelled (codes "read" ∷ []) NUMBER point
 event_words (Tick ms) = spelled (codes "tick" ∷ []) NUMBER ms

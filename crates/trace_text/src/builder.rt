@@ -8,12 +8,14 @@ ghost use Rattle.trace_text.specs.Reading.{builder_with, Leaves};
 use crate::forms::TraceLine;
 use crate::kept::Recorded;
 use crate::recorded::{recorded_with, with_item};
+use adapter_table::Description;
 use cip_tables::{Config, Event, InputPoint, Outcome, OutputPoint};
 use cip_types::{Items, OutOfMemory};
 use scanner_table::SlotConfig;
 use std::alloc::Global;
 use std::mem;
-use trace_lines::{AdapterLine, Part, ScannerLine, profile_with, scanner_with};
+use trace_lines::{AdapterLine, ScannerLine, profile_with, scanner_with};
+use trace_outcomes::Part;
 use trace_words::TextFault;
 
 /// The part of a trace in the lines so far.
@@ -33,6 +35,14 @@ pub enum TraceBuilder {
         outputs: Items<OutputPoint>,
         inputs: Items<InputPoint>,
         config: InputPoint,
+    },
+    /// A profile up to its description.
+    Described {
+        adapter: AdapterLine,
+        outputs: Items<OutputPoint>,
+        inputs: Items<InputPoint>,
+        config: Option<InputPoint>,
+        description: Description,
     },
     /// A scanner's profile up to its slots.
     Slots {
@@ -89,6 +99,13 @@ fn builder_with(
             inputs,
             config,
         } => after_config(alloc, adapter, outputs, inputs, config, parsed),
+        TraceBuilder::Described {
+            adapter,
+            outputs,
+            inputs,
+            config,
+            description,
+        } => after_description(alloc, adapter, outputs, inputs, config, description, parsed),
         TraceBuilder::Slots { scanner, slots } => after_slots(alloc, scanner, slots, parsed),
         TraceBuilder::Events {
             config,
@@ -150,8 +167,15 @@ fn after_points(
             inputs,
             config,
         }),
+        TraceLine::Description(description) => Ok(TraceBuilder::Described {
+            adapter,
+            outputs,
+            inputs,
+            config: None,
+            description,
+        }),
         TraceLine::Heartbeat(heartbeat) => {
-            let profile = profile_with(adapter, outputs, inputs, None, heartbeat);
+            let profile = profile_with(adapter, outputs, inputs, None, None, heartbeat);
             Ok(after_profile(alloc, Config::Adapter(profile), None))
         }
         _ => Err(TextFault::Bad),
@@ -169,8 +193,43 @@ fn after_config(
     ensures { Finds (builder_with (TraceBuilder.Configured adapter outputs inputs config) parsed) result }
 {
     match parsed {
+        TraceLine::Description(description) => Ok(TraceBuilder::Described {
+            adapter,
+            outputs,
+            inputs,
+            config: Some(config),
+            description,
+        }),
         TraceLine::Heartbeat(heartbeat) => {
-            let profile = profile_with(adapter, outputs, inputs, Some(config), heartbeat);
+            let profile = profile_with(adapter, outputs, inputs, Some(config), None, heartbeat);
+            Ok(after_profile(alloc, Config::Adapter(profile), None))
+        }
+        _ => Err(TextFault::Bad),
+    }
+}
+
+fn after_description(
+    alloc: Global,
+    adapter: AdapterLine,
+    outputs: Items<OutputPoint>,
+    inputs: Items<InputPoint>,
+    config: Option<InputPoint>,
+    description: Description,
+    parsed: TraceLine,
+) -> Result<TraceBuilder, TextFault>
+    ensures { Finds
+        (builder_with (TraceBuilder.Described adapter outputs inputs config description) parsed) result }
+{
+    match parsed {
+        TraceLine::Heartbeat(heartbeat) => {
+            let profile = profile_with(
+                adapter,
+                outputs,
+                inputs,
+                config,
+                Some(description),
+                heartbeat,
+            );
             Ok(after_profile(alloc, Config::Adapter(profile), None))
         }
         _ => Err(TextFault::Bad),

@@ -1,8 +1,10 @@
 //! The values of the lines of a trace.
 
+use adapter_table::Description;
 use cip_tables::{Event, InputPoint, OutputPoint};
 use scanner_table::SlotConfig;
-use trace_lines::{AdapterLine, HeartbeatLine, Part, ScannerLine};
+use trace_lines::{AdapterLine, HeartbeatLine, ScannerLine};
+use trace_outcomes::Part;
 
 /// The value of a line, whatever its position.
 #[derive(Drop)]
@@ -11,6 +13,7 @@ pub enum TraceLine {
     Output(OutputPoint),
     Input(InputPoint),
     Config(InputPoint),
+    Description(Description),
     Heartbeat(HeartbeatLine),
     Scanner(ScannerLine),
     Slot(SlotConfig),

@@ -13,6 +13,6 @@ pub use kept::Recorded;
 pub use lines::{ascii_text, read_event_line};
 pub use recorded::recorded_with;
 pub use trace::{Trace, TraceFault, has_one_reading, read_trace};
-pub use trace_lines::{push_outcome, write_outcome};
+pub use trace_outcomes::{push_outcome, write_outcome};
 pub use trace_words::TextFault;
 pub use written::{push_config, push_event, write_trace};

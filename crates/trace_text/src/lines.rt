@@ -10,9 +10,10 @@ use cip_tables::Event;
 use std::alloc::Global;
 use std::str;
 use trace_lines::{
-    read_adapter, read_heartbeat, read_mode, read_output, read_part, read_point, read_scanner,
-    read_slot,
+    read_adapter, read_description, read_heartbeat, read_mode, read_output, read_point,
+    read_scanner, read_slot,
 };
+use trace_outcomes::read_part;
 use trace_words::{TextFault, Words, read_u64};
 
 /// The value of a line.
@@ -99,9 +100,9 @@ fn read_words(alloc: Global, words: &mut Words<'_>) -> Result<TraceLine, TextFau
     }
 }
 
-/// What follows the word of a request, of a stream's event or of a profile's line, or the number of an event.
+/// What follows the word of a request, of an inquiry, of a stream's event or of a profile's line, or the number of an event.
 fn read_other(alloc: Global, words: &mut Words<'_>, word: &str) -> Result<TraceLine, TextFault>
-    ensures { Takes (meaning (take 11 line_meanings) (numbered (number_of 64 word.now)) word.now
+    ensures { Takes (meaning (take 13 line_meanings) (numbered (number_of 64 word.now)) word.now
         (unread_words words.old)) result (unread_words words.new) }
 {
     match word {
@@ -110,6 +111,13 @@ fn read_other(alloc: Global, words: &mut Words<'_>, word: &str) -> Result<TraceL
             let bytes = words.bytes(alloc)?;
             words
                 .last(Event::Request { peer, bytes })
+                .map(TraceLine::Event)
+        }
+        "inquiry" => {
+            let peer = words.node()?;
+            let bytes = words.bytes(alloc)?;
+            words
+                .last(Event::Inquiry { peer, bytes })
                 .map(TraceLine::Event)
         }
         "frame" => {
@@ -132,10 +140,25 @@ fn read_other(alloc: Global, words: &mut Words<'_>, word: &str) -> Result<TraceL
                 .last(Event::StreamCut { stream })
                 .map(TraceLine::Event)
         }
+        _ => read_profile_line(alloc, words, word),
+    }
+}
+
+/// What follows the word of a profile's line, or the number of an event.
+fn read_profile_line(
+    alloc: Global,
+    words: &mut Words<'_>,
+    word: &str,
+) -> Result<TraceLine, TextFault>
+    ensures { Takes (meaning (take 8 line_meanings) (numbered (number_of 64 word.now)) word.now
+        (unread_words words.old)) result (unread_words words.new) }
+{
+    match word {
         "adapter" => read_adapter(words).map(TraceLine::Adapter),
         "output" => read_output(words).map(TraceLine::Output),
         "input" => read_point(words).map(TraceLine::Input),
         "config" => read_point(words).map(TraceLine::Config),
+        "describe" => read_description(alloc, words).map(TraceLine::Description),
         "heartbeat" => read_heartbeat(words).map(TraceLine::Heartbeat),
         "scanner" => read_scanner(words).map(TraceLine::Scanner),
         "slot" => read_slot(alloc, words).map(TraceLine::Slot),

@@ -7,7 +7,7 @@ ghost use Rattle.trace_text.specs.Recorded.{with_frame, with_datagram, recorded_
 use cip_events::{Answer, Frame, Outcome, OutgoingDatagram};
 use cip_types::{Items, OutOfMemory};
 use std::alloc::Global;
-use trace_lines::Part;
+use trace_outcomes::Part;
 use trace_words::TextFault;
 
 /// A recorded outcome with one part more.

@@ -10,7 +10,8 @@ use crate::trace::Trace;
 use cip_tables::{Config, Event};
 use cip_types::{Node, OutOfMemory};
 use std::alloc::Global;
-use trace_lines::{push_outcome, push_profile, push_scanner};
+use trace_lines::{push_profile, push_scanner};
+use trace_outcomes::push_outcome;
 use trace_words::{push_last_bytes, push_node};
 
 /// The text of a trace. The recorded outcome of an event follows its line.
@@ -68,6 +69,7 @@ pub fn push_event(out: &mut String, event: &Event) -> Result<(), OutOfMemory>
         Event::Datagram { peer, bytes } => {
             push_of_node(out, "datagram", *peer, bytes.as_slice())
         }
+        Event::Inquiry { peer, bytes } => { push_of_node(out, "inquiry", *peer, bytes.as_slice()) }
         Event::Write { point, bytes } => { push_of_number(out, "write", *point, bytes.as_slice()) }
         Event::Read { point } => push_number(out, "read", *point),
         Event::Tick { ms } => push_number(out, "tick", *ms),

@@ -9,7 +9,7 @@ use Rattle.cip_encap.specs.declared.packet.ItemFault.{ItemFault}
 use Rattle.cip_encap.specs.Packet.{PacketFields}
 use Rattle.cip_encap.specs.PacketReading.{packet_reading}
 use Rattle.cip_events.specs.declared.event.Event.{Event}
-use Rattle.cip_events.specs.declared.event.Event.TheVariants.{Request, StreamOpened, Frame, StreamCut, Datagram, Write, Tick}
+use Rattle.cip_events.specs.declared.event.Event.TheVariants.{Request, StreamOpened, Frame, StreamCut, Datagram, Inquiry, Write, Tick}
 use Rattle.cip_events.specs.declared.event.StepFault.{StepFault}
 use Rattle.cip_events.specs.declared.event.StepFault.TheVariants.{NotAllowedNow, TickTooLong, ClockEnd, WrongLength}
 use Rattle.cip_events.specs.declared.event.Verdict.TheVariants.{Done}
@@ -21,7 +21,7 @@ use Rattle.cip_router.specs.declared.command.Command.{Command}
 use Rattle.cip_router.specs.declared.command.Command.TheVariants as command
 use Rattle.cip_router.specs.declared.command.EncapStatus.TheVariants as encap
 use Rattle.cip_router.specs.declared.refusal.Refusal.{Refusal}
-use Rattle.cip_router.specs.Requests.{RouterRequestFields, nothing, refused, closing, assembly, opening, router_request_reading}
+use Rattle.cip_router.specs.Requests.{RouterRequestFields, nothing, refused, closing, object, opening, router_request_reading}
 use Rattle.cip_router.specs.Commands.{command_of, is_silent}
 use Rattle.cip_router.specs.Frames.{RequestHeader, FrameFields, without_header, wrong_length, whole, frame_reading, protocol_text}
 use Rattle.adapter_table.specs.declared.profile.InputPoint.{InputPoint}
@@ -29,13 +29,14 @@ use Rattle.adapter_table.specs.Connections.{Row}
 use Rattle.adapter_table.specs.declared.table.AdapterTable.{AdapterTable}
 use Rattle.adapter_table.specs.declared.table.Stream.{Stream}
 use Rattle.adapter_table.specs.Profiles.{is_at}
-use Rattle.adapter_table.specs.Points.{bytes_at}
 use Rattle.adapter_table.specs.Rows.{has_triad}
 use Rattle.adapter_table.specs.Checks.{Admitted, admission}
+use Rattle.adapter_table.specs.Inquiries.{inquiry_reply, inquired_by, inquired}
+use Rattle.adapter_table.specs.Objects.{ObjectAnswer, said, denied, resetting, object_answer}
 use Rattle.adapter_table.specs.Opening.{opened_row, opened_table, opened_notices}
-use Rattle.adapter_table.specs.Requests.{Next, Served, judged_open, admitted_open, served_open, close_of, served_close, is_value_attribute, assembly_of, served_assembly, served, answered, requested}
+use Rattle.adapter_table.specs.Requests.{Next, Served, judged_open, admitted_open, served_open, close_of, served_close, object_served, served_object, served, answered, requested}
 use Rattle.adapter_table.specs.Streams.{is_stream, is_taken, with_stream, without_stream, has_session, registered_table, stream_opened, cut_of, stream_cut}
-use Rattle.adapter_table.specs.Encapsulation.{Handled, refusal, unanswered, session_begun, session_ended, register_session, request_replied, packet_replied, handled, frame_answer, frame_of, frame}
+use Rattle.adapter_table.specs.Encapsulation.{Handled, refusal, unanswered, session_begun, session_ended, register_session, request_replied, packet_replied, handled, frame_answer, stream_answer, frame_of, frame}
 use Rattle.adapter_table.specs.Datagrams.{is_for, row_delivery, accepted_table, delivered, found_datagram, datagram_of, received}
 use Rattle.adapter_table.specs.Ticks.{clocked_table, advanced, tick}
 use Rattle.adapter_table.specs.Step.{adapter_step, write, write_of, written, written_table}
@@ -78,13 +79,10 @@ keeps_close : (given : Event) (t : AdapterTable) → TriadsDiffer t.rows → (re
 keeps_close given t differ request None = unchanged given t
 keeps_close given t differ request (Some row) = keeps_closed given t row differ
 
-keeps_assembly : (given : Event) (t : AdapterTable) (service : ℕ) (attribute : Option ℕ) (body : List ℕ) (found : Option (List ℕ)) → ServedKeeps given t (assembly_of t service attribute body found)
-keeps_assembly given t service attribute body None = unchanged given t
-keeps_assembly given t service attribute body (Some value) =
-    let same = unchanged given t in
-    either (ServedKeeps given t) (not (service == 0x0E)) _ _ same
-    (either (ServedKeeps given t) (not (is_value_attribute attribute)) _ _ same
-    (either (ServedKeeps given t) (not (length body == 0)) _ _ same same))
+keeps_object : (given : Event) (t : AdapterTable) (service : ℕ) (answer : ObjectAnswer) → ServedKeeps given t (object_served t service answer)
+keeps_object given t service (said by value) = unchanged given t
+keeps_object given t service (denied why) = unchanged given t
+keeps_object given t service (resetting kind) = unchanged given t
 
 -- the same of what is served, if something is
 abbrev AnyKeeps : Event → AdapterTable → Option Served → Type 0
@@ -92,11 +90,11 @@ AnyKeeps given t None = Unit {0}
 AnyKeeps given t (Some s) = ServedKeeps given t s
 
 keeps_served : (given : Event) (t : AdapterTable) → OpeningsKeep given t → (peer : Node) (request : RouterRequestFields) → AnyKeeps given t (served t peer request)
-unfolding served_open served_close served_assembly
+unfolding served_open served_close served_object
 keeps_served given t opens peer nothing = tt
 keeps_served given t opens peer (refused service why) = unchanged given t
 keeps_served given t opens peer (closing request) = keeps_close given t opens.differ request (find (has_triad request.triad) t.rows)
-keeps_served given t opens peer (assembly service instance attribute body) = keeps_assembly given t service attribute body (bytes_at t.values instance)
+keeps_served given t opens peer (object service class instance attribute body) = keeps_object given t service (object_answer t service class instance attribute body)
 keeps_served given t opens peer (opening large request) = keeps_judged given t opens peer large request (admission t request) refl
 
 -- an answer and the next table keep the places
@@ -162,9 +160,17 @@ abbrev OkKeeps : Event → AdapterTable → Result Next StepFault → Type 0
 OkKeeps given t (Ok next) = NextKeeps given t next
 OkKeeps given t (Err fault) = Unit {0}
 
+keeps_stream : (given : Event) (t : AdapterTable) → OpeningsKeep given t → (stream : Stream) (bytes : List ℕ) (reply : Option (List ℕ)) → NextKeeps given t (stream_answer t stream bytes reply)
+keeps_stream given t opens stream bytes None = keeps_frame given t opens stream (frame_reading bytes)
+keeps_stream given t opens stream bytes (Some text) = unchanged given t
+
+keeps_inquired : (given : Event) (t : AdapterTable) (peer : Node) (reply : Option (List ℕ)) → NextKeeps given t (inquired_by t peer reply)
+keeps_inquired given t peer None = unchanged given t
+keeps_inquired given t peer (Some text) = unchanged given t
+
 ok_framed : (given : Event) (t : AdapterTable) → OpeningsKeep given t → (bytes : List ℕ) (found : Option Stream) → OkKeeps given t (frame_of t bytes found)
 ok_framed given t opens bytes None = tt
-ok_framed given t opens bytes (Some stream) = keeps_frame given t opens stream (frame_reading bytes)
+ok_framed given t opens bytes (Some stream) = keeps_stream given t opens stream bytes (inquiry_reply t bytes)
 
 ok_cut : (given : Event) (t : AdapterTable) (found : Option Stream) → OkKeeps given t (cut_of t found)
 unfolding without_stream
@@ -183,13 +189,14 @@ ok_ticked given t differ ms =
     (either (OkKeeps given t) (nat_lt clock_end (t.clock.0 + ms)) (Err ClockEnd) (Ok (advanced (clocked_table t ms))) tt (keeps_advanced given t ms differ))
 
 ok_step : (given : Event) (t : AdapterTable) → OpeningsKeep given t → (event : Event) → OkKeeps given t (adapter_step t event)
-unfolding requested received write frame stream_cut stream_opened with_stream
+unfolding requested received inquired write frame stream_cut stream_opened with_stream
 ok_step given t opens (Request peer bytes) = keeps_answered given t peer (served t peer (router_request_reading bytes)) (keeps_served given t opens peer (router_request_reading bytes))
 ok_step given t opens (StreamOpened number peer) =
     either (OkKeeps given t) (is_taken t.streams number) (Err NotAllowedNow) (Ok (plain_answer Done, with_stream t number peer)) tt (unchanged given t)
 ok_step given t opens (Frame number bytes) = ok_framed given t opens bytes (find (is_stream number) t.streams)
 ok_step given t opens (StreamCut number) = ok_cut given t (find (is_stream number) t.streams)
 ok_step given t opens (Datagram peer bytes) = keeps_datagram given t peer (datagram_reading bytes)
+ok_step given t opens (Inquiry peer bytes) = keeps_inquired given t peer (inquiry_reply t bytes)
 ok_step given t opens (Write input bytes) = ok_written given t input bytes (find (is_at input) t.profile.inputs)
 ok_step given t opens (Tick ms) = ok_ticked given t opens.differ ms
 ok_step given t opens other = passive_holds (OkKeeps given t) t (λ why. tt) (λ verdict. unchanged given t) other refl

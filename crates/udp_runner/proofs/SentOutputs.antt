@@ -1,5 +1,5 @@
 -- What is sent of a list, one element after another.
-use Rattle.std.proofs.Common.{◌≡◌, ◌<◌, ℕ, ◌+◌, List, [], ◌∷◌, ◌++◌, length, take, drop, get_or, Result, Ok, Err, OnErr, refl, ap, ◌∙◌, sym, append_assoc, append-nil}
+use Rattle.std.proofs.Common.{◌≡◌, ◌<◌, ℕ, ◌+◌, List, [], ◌∷◌, ◌++◌, length, take, drop, get_or, Result, Ok, Err, OnOk, OnErr, refl, ap, ◌∙◌, sym, append_assoc, append-nil}
 use Rattle.std.specs.List.{flat_map}
 use Rattle.std.proofs.lemmas.List.{take_more, take-append-drop, drop_more}
 use Rattle.udp_runner.specs.declared.output.SentOutput.{SentOutput}
@@ -54,3 +54,19 @@ one_unsent old new o same = record { done = []; failed = o; unsent = []; parts =
 pub on_err_is : {T E : Type 0} (r : Result T E) (Q : Type 0) → Q → OnErr r Q
 on_err_is (Ok x) Q q = tt
 on_err_is (Err e) Q q = q
+
+-- what follows where a call does not fail, and where it fails
+pub on_ok_map : {T E : Type 0} (r : Result T E) (P Q : Type 0) → (P → Q) → OnOk r P → OnOk r Q
+on_ok_map (Ok x) P Q f p = f p
+on_ok_map (Err e) P Q f p = tt
+
+pub on_err_map : {T E : Type 0} (r : Result T E) (P Q : Type 0) → (P → Q) → OnErr r P → OnErr r Q
+on_err_map (Ok x) P Q f p = tt
+on_err_map (Err e) P Q f p = f p
+
+-- the first of two lists is sent in part, or all of it and the second one in part
+pub some_first : (old new : Tape) (xs ys : List SentOutput) → SendsSome old new xs → SendsSome old new (xs ++ ys)
+some_first old new xs ys part = some_within old old new [] xs ys (xs ++ ys) (sends_none old) part refl
+
+pub some_second : (old middle new : Tape) (xs ys : List SentOutput) → middle ≡ with_sent old xs → SendsSome middle new ys → SendsSome old new (xs ++ ys)
+some_second old middle new xs ys first part = some_within old middle new xs ys [] (xs ++ ys) first part (ap (λ os. xs ++ os) (sym (append-nil ys)))

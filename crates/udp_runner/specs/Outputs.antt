@@ -3,6 +3,9 @@ use Rattle.std.specs.Prelude.{ℕ, ◌≡◌, ◌+◌, ◌&&◌, nat_le, nat_lt,
 use Rattle.std.specs.List.{flat_map}
 use Rattle.cip_types.specs.declared.names.Node.{Node}
 use Rattle.cip_events.specs.declared.event.Answer.{Answer}
+use Rattle.cip_events.specs.declared.event.Frame.{Frame}
+use Rattle.cip_events.specs.declared.event.Recipient.{Recipient}
+use Rattle.cip_events.specs.declared.event.Recipient.TheVariants.{Stream, Peer}
 use Rattle.cip_events.specs.Outputs.{AnswerOutput, answer_outputs}
 use Rattle.cip_events.specs.Outputs.AnswerOutput.{Message, Datagram, End}
 use Rattle.udp_runner.specs.declared.output.Output.{Output}
@@ -16,6 +19,7 @@ abbrev pub view_output : Output → SentOutput
 view_output (output.Frame stream bytes) = sent.Frame stream bytes.now
 view_output (output.Datagram node bytes) = sent.Datagram node bytes.now
 view_output (output.Close stream) = sent.Close stream
+view_output (output.Reply peer bytes) = sent.Reply peer bytes.now
 
 -- the address is that of a multicast group, 224.0.0.0 to 239.255.255.255
 abbrev pub is_group : Node → Bool
@@ -31,9 +35,17 @@ output_sent (Message stream bytes) = sent.Frame stream bytes ∷ []
 output_sent (Datagram datagram) = flat_map (copy_to datagram.bytes) datagram.nodes
 output_sent (End stream) = sent.Close stream ∷ []
 
--- all that an answer sends, in order
+-- the reply of an inquiry is for a peer, and goes to where that inquired from
+abbrev pub reply_to : Recipient → List ℕ → List SentOutput
+reply_to (Stream stream) bytes = []
+reply_to (Peer peer) bytes = sent.Reply peer bytes ∷ []
+
+abbrev pub reply_sent : Frame → List SentOutput
+reply_sent frame = reply_to frame.to frame.bytes
+
+-- all that an answer sends, in order: its outputs, and then its replies to inquiries
 abbrev pub answer_sent : Answer → List SentOutput
-answer_sent answer = flat_map output_sent (answer_outputs answer)
+answer_sent answer = flat_map output_sent (answer_outputs answer) ++ flat_map reply_sent answer.frames
 
 -- the first of these outputs were sent, and the next one was not
 pub record SendsSome (old new : Tape) (all : List SentOutput) : Type 0 where

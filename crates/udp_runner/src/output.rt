@@ -15,6 +15,8 @@ pub enum Output<'a> {
     Datagram { node: Node, bytes: &'a [u8] },
     /// The end of a stream. Its number is free again.
     Close { stream: u16 },
+    /// The reply to the last inquiry of a peer, to where that came from.
+    Reply { peer: Node, bytes: &'a [u8] },
 }
 
 /// One output that was sent over a port, with bytes of its own.
@@ -26,6 +28,8 @@ pub enum SentOutput {
     Datagram { node: Node, bytes: Items<u8> },
     /// The end of a stream.
     Close { stream: u16 },
+    /// The reply to an inquiry of a peer.
+    Reply { peer: Node, bytes: Items<u8> },
 }
 
 impl Output<'_> {
@@ -43,6 +47,10 @@ impl Output<'_> {
                 bytes: Items::copy_of(alloc, bytes)?,
             },
             Output::Close { stream } => SentOutput::Close { stream: *stream },
+            Output::Reply { peer, bytes } => SentOutput::Reply {
+                peer: *peer,
+                bytes: Items::copy_of(alloc, bytes)?,
+            },
         })
     }
 }

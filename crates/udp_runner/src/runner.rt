@@ -1,19 +1,22 @@
 //! Turns of a device.
 
-ghost use Rattle.std.specs.Prelude.{◌≡◌, ◌<◌, ◌-◌, ◌^◌, ◌*◌, ◌∷◌, [], true, min, None, Ok, drop, OnOk};
+ghost use Rattle.std.specs.Prelude.{◌≡◌, ◌<◌, ◌+◌, ◌-◌, ◌^◌, ◌*◌, ◌∷◌, [], true, min, None, Ok, drop, OnOk, OnErr};
+ghost use Rattle.std.specs.List.{flat_map};
 ghost use Rattle.cip_events.specs.Arrivals.{arrival_event};
 ghost use Rattle.cip_events.specs.Outcomes.{Follows};
 ghost use Rattle.cip_tables.specs.Step.{step};
 ghost use Rattle.cip_tables.specs.Wakes.{due_in};
 ghost use Rattle.udp_runner.specs.Driving.{Drove, Stepped, once, seen};
-ghost use Rattle.udp_runner.specs.Tape.{first_or};
+ghost use Rattle.udp_runner.specs.Outputs.{SendsSome, answer_sent, reply_sent};
+ghost use Rattle.udp_runner.specs.Tape.{first_or, with_sent};
 ghost use Rattle.udp_runner.specs.Turns.{arrivals_of, events_of, ticks_of, turn_of};
 
-use crate::fault::RunFault;
+use crate::fault::{PortFault, RunFault};
 use crate::observer::{Observer, Unobserved};
 use crate::outlet::AtPort;
+use crate::output::Output;
 use crate::port::{Clock, Port};
-use cip_events::{Arrival, Event, Outcome, send_answer};
+use cip_events::{Answer, Arrival, Event, Frame, Outcome, Recipient, send_answer};
 use cip_tables::Device;
 use cip_types::limits::LONGEST_TICK_MS;
 use cip_types::{Items, Ms, Node};
@@ -22,7 +25,8 @@ use cip_types::{Items, Ms, Node};
 ///
 /// A turn reads the clock once. If time passed, it steps the device by a tick of at most 60,000 ms, drops the time
 /// above that, and sends the answer. Then it receives at most one arrival, steps the device by it, and sends the answer:
-/// the frames, the datagrams, each once to each of its nodes, and the ends of the streams that closed.
+/// the frames, the datagrams, each once to each of its nodes, the ends of the streams that closed, and the replies to an
+/// inquiry.
 ///
 /// The fault is `Port` only if the port's count of failures rose. The device is then in the state after the event whose
 /// answer was not sent completely or, if the receive failed, after its last event. With the fault `Step` it is in the
@@ -222,8 +226,57 @@ pub fn act<P: Port, D: Device, O: Observer>(
     ensures stepped { Stepped O.notes event.now observer.old observer.new (D.table device.old) (D.table device.new) }
 {
     let answer = step(device, observer, event)?;
-    send_answer(&AtPort, port, &answer)?;
+    send(port, &answer)?;
     Ok(())
+}
+
+/// Sends an answer: its outputs, and then its replies to an inquiry.
+fn send<P: Port>(port: &mut P, answer: &Answer) -> Result<(), PortFault>
+    requires { P.failed port.old < 2 ^ 64 - 1 }
+    ensures sent { OnOk result
+        (P.is_scripted ≡ true → P.tape port.new ≡ with_sent (P.tape port.old) (answer_sent answer.now)) }
+    ensures worked { OnOk result (P.failed port.new ≡ P.failed port.old) }
+    ensures some { OnErr result
+        (P.is_scripted ≡ true → SendsSome (P.tape port.old) (P.tape port.new) (answer_sent answer.now)) }
+    ensures counted { OnErr result (P.failed port.new ≡ P.failed port.old + 1) }
+{
+    send_answer(&AtPort, port, answer)?;
+    send_replies(port, answer.frames.as_slice())
+}
+
+/// Sends the frames to peers, each as a reply to the last inquiry of its peer.
+fn send_replies<P: Port>(port: &mut P, frames: &[Frame]) -> Result<(), PortFault>
+    requires { P.failed port.old < 2 ^ 64 - 1 }
+    ensures sent { OnOk result
+        (P.is_scripted ≡ true → P.tape port.new ≡ with_sent (P.tape port.old) (flat_map reply_sent frames.now)) }
+    ensures worked { OnOk result (P.failed port.new ≡ P.failed port.old) }
+    ensures some { OnErr result
+        (P.is_scripted ≡ true → SendsSome (P.tape port.old) (P.tape port.new) (flat_map reply_sent frames.now)) }
+    ensures counted { OnErr result (P.failed port.new ≡ P.failed port.old + 1) }
+{
+    for frame in frames {
+        send_reply(port, frame)?;
+    }
+    Ok(())
+}
+
+/// Sends a frame, if it is for a peer. One for a stream has gone before.
+fn send_reply<P: Port>(port: &mut P, frame: &Frame) -> Result<(), PortFault>
+    requires { P.failed port.old < 2 ^ 64 - 1 }
+    ensures sent { OnOk result
+        (P.is_scripted ≡ true → P.tape port.new ≡ with_sent (P.tape port.old) (reply_sent frame.now)) }
+    ensures worked { OnOk result (P.failed port.new ≡ P.failed port.old) }
+    ensures some { OnErr result
+        (P.is_scripted ≡ true → SendsSome (P.tape port.old) (P.tape port.new) (reply_sent frame.now)) }
+    ensures counted { OnErr result (P.failed port.new ≡ P.failed port.old + 1) }
+{
+    match frame.to {
+        Recipient::Stream(_) => Ok(()),
+        Recipient::Peer(peer) => {
+            let bytes = frame.bytes.as_slice();
+            port.send(&Output::Reply { peer, bytes })
+        }
+    }
 }
 
 /// Steps the device by one event, and hands both to the observer.

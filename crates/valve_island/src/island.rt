@@ -47,6 +47,7 @@ fn profile(alloc: Global) -> Result<Profile, OutOfMemory> {
         config: None,
         input_only: 152,
         listen_only: 153,
+        description: None,
     })
 }
 

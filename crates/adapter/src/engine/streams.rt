@@ -3,19 +3,22 @@
 ghost use Rattle.std.specs.Prelude.{◌≡◌, ◌∷◌, [], Ok, IfOk, Some};
 ghost use Rattle.cip_events.specs.declared.event.Notice.TheVariants.{StreamClosed};
 ghost use Rattle.cip_events.specs.declared.event.Verdict.TheVariants.{Done};
-ghost use Rattle.adapter_table.specs.Encapsulation.{frame, wrong_length_answer, framed, refusal, handled, session_begun, register_session, unregister_session, send_rr_data};
+ghost use Rattle.adapter_table.specs.Encapsulation.{frame, frame_answer, stream_answer, wrong_length_answer, framed, refusal, handled, session_begun, register_session, unregister_session, send_rr_data};
 ghost use Rattle.adapter_table.specs.Streams.{stream_opened, stream_cut, without_stream, registered_table};
+ghost use Rattle.adapter_table.specs.Inquiries.{inquiry_reply};
 ghost use Rattle.cip_router.specs.Commands.{command_of};
+ghost use Rattle.cip_router.specs.Frames.{frame_reading};
 ghost use Rattle.cip_events.specs.Outcomes.{Follows};
 ghost use Rattle.adapter_replies.specs.Routes.{view_request_header, view_frame_reply, IsWritableFrame, framed_answer};
 
 use super::Adapter;
 use adapter_replies::{
-    FrameReply, FrameView, RequestHeader, Route, ended_answer, frame_answer, is_protocol,
-    read_frame,
+    FrameReply, FrameView, RequestHeader, Route, ended_answer, frame_answer, inquiry_answer,
+    is_protocol, read_frame,
 };
 use adapter_table::laws::tables_are_whole;
 use cip_encap::read_items;
+use cip_events::Recipient;
 use cip_tables::{Answer, Command, EncapStatus, Outcome, StepFault, Stream, Verdict};
 use cip_types::{Node, OutOfMemory};
 use connection_list::ConnectionTable;
@@ -232,6 +235,32 @@ impl<T: ConnectionTable> Adapter<T> {
         self.refuse_frame(number, request_header, EncapStatus::InvalidLength)
     }
 
+    /// The bytes of a frame that is no inquiry.
+    fn command(&mut self, stream: &Stream, bytes: &[u8]) -> Outcome
+        ensures { Follows (Ok (frame_answer self.old stream.now (frame_reading bytes.now)))
+            self.old result self.new }
+    {
+        match read_frame(bytes) {
+            FrameView::NoHeader => Ok(Answer::plain(self.alloc, Verdict::BadFrame)),
+            FrameView::BadLength(request_header) => self.wrong_length(
+                stream.number,
+                request_header,
+            ),
+            FrameView::Whole(request_header, body) => self.handle(stream, request_header, body),
+        }
+    }
+
+    /// The bytes of a frame of an open stream: an inquiry is answered before any command.
+    fn receive_frame(&mut self, stream: &Stream, bytes: &[u8]) -> Outcome
+        ensures { Follows (Ok (stream_answer self.old stream.now bytes.now (inquiry_reply self.old bytes.now)))
+            self.old result self.new }
+    {
+        match self.inquiry_reply(bytes)? {
+            Some(text) => Ok(inquiry_answer(self.alloc, Recipient::Stream(stream.number), text)?),
+            None => self.command(stream, bytes),
+        }
+    }
+
     /// The bytes of a frame that is received over a stream.
     #[tactic(auto, unfolding(adapter_table::specs::Encapsulation::frame))]
     pub(crate) fn frame(&mut self, number: u16, bytes: &[u8]) -> Outcome
@@ -240,13 +269,6 @@ impl<T: ConnectionTable> Adapter<T> {
         let Some(stream) = find_stream(&self.streams, number) else {
             return Err(StepFault::NotAllowedNow);
         };
-        match read_frame(bytes) {
-            FrameView::NoHeader => Ok(Answer::plain(self.alloc, Verdict::BadFrame)),
-            FrameView::BadLength(request_header) => self.wrong_length(
-                stream.number,
-                request_header,
-            ),
-            FrameView::Whole(request_header, body) => self.handle(&stream, request_header, body),
-        }
+        self.receive_frame(&stream, bytes)
     }
 }

@@ -1,12 +1,13 @@
 -- Events that bring neither data nor time: requests, streams, and all that leave the table as it is. What one open, one close
 -- and each change of a stream do, each such event does.
-use Rattle.std.proofs.Common.{◌≡◌, ℕ, Bool, true, false, Ok, refl, subst}
+use Rattle.std.proofs.Common.{◌≡◌, ℕ, Bool, true, false, List, Option, Some, None, Ok, refl, subst}
 use Rattle.cip_types.specs.declared.names.Node.{Node}
 use Rattle.cip_events.specs.declared.event.Event.{Event}
-use Rattle.cip_events.specs.declared.event.Event.TheVariants.{Request, StreamOpened, Frame, StreamCut, Datagram, Write, Tick}
+use Rattle.cip_events.specs.declared.event.Event.TheVariants.{Request, StreamOpened, Frame, StreamCut, Datagram, Inquiry, Write, Tick}
 use Rattle.cip_router.specs.Requests.{router_request_reading}
 use Rattle.adapter_table.specs.declared.table.AdapterTable.{AdapterTable}
 use Rattle.adapter_table.specs.Requests.{Next, requested}
+use Rattle.adapter_table.specs.Inquiries.{inquiry_reply, inquired_by, inquired}
 use Rattle.adapter_table.specs.Streams.{is_taken, with_stream}
 use Rattle.adapter_table.specs.Step.{adapter_step}
 use Rattle.adapter_table.specs.Lemmas.PassiveLemmas.{passive_is}
@@ -23,8 +24,12 @@ brings_data other = false
 abbrev pub StreamsDo : (AdapterTable → AdapterTable → Type 0) → Type 0
 StreamsDo R = (t : AdapterTable) (number : ℕ) (peer : Node) → is_taken t.streams number ≡ false → R t (with_stream t number peer)
 
+inquired_does : (R : AdapterTable → AdapterTable → Type 0) → RequestsDo R → (t : AdapterTable) (peer : Node) (text : Option (List ℕ)) → R t (inquired_by t peer text).1
+inquired_does R does t peer None = does.stays t
+inquired_does R does t peer (Some text) = does.stays t
+
 pub control_does : (R : AdapterTable → AdapterTable → Type 0) → RequestsDo R → StreamsDo R → (t : AdapterTable) (event : Event) (next : Next) → brings_data event ≡ false → adapter_step t event ≡ Ok next → R t next.1
-unfolding requested
+unfolding requested inquired
 control_does R does streams t (Request peer bytes) next none is = subst (λ (n : Next). R t n.1) (next_is _ _ is) (answered_does R does t peer (router_request_reading bytes))
 control_does R does streams t (StreamOpened number peer) next none is =
     let streamed = streamed_is t number peer next is in
@@ -32,6 +37,7 @@ control_does R does streams t (StreamOpened number peer) next none is =
 control_does R does streams t (Frame number bytes) next none is = frame_does R does t number bytes next is
 control_does R does streams t (StreamCut number) next none is = cut_does R does t number next is
 control_does R does streams t (Datagram peer bytes) next none is = absurd (let e = none in cc)
+control_does R does streams t (Inquiry peer bytes) next none is = subst (λ (n : Next). R t n.1) (next_is _ _ is) (inquired_does R does t peer (inquiry_reply t bytes))
 control_does R does streams t (Write point bytes) next none is = absurd (let e = none in cc)
 control_does R does streams t (Tick ms) next none is = absurd (let e = none in cc)
 control_does R does streams t other next none is = subst (λ (n : Next). R t n.1) (passive_is t other next refl is).said (does.stays t)

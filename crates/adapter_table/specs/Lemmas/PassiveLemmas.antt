@@ -2,7 +2,7 @@
 -- other events, and cites this for all that are passive.
 use Rattle.std.proofs.Common.{◌≡◌, ℕ, Bool, true, false, List, Option, Some, None, Result, Ok, Err}
 use Rattle.cip_events.specs.declared.event.Event.{Event}
-use Rattle.cip_events.specs.declared.event.Event.TheVariants.{Request, StreamOpened, Frame, StreamCut, Datagram, Write, Read, Tick}
+use Rattle.cip_events.specs.declared.event.Event.TheVariants.{Request, StreamOpened, Frame, StreamCut, Datagram, Inquiry, Write, Read, Tick}
 use Rattle.cip_events.specs.declared.event.StepFault.{StepFault}
 use Rattle.cip_events.specs.declared.event.StepFault.TheVariants.{NoSuchPoint}
 use Rattle.cip_events.specs.declared.event.Verdict.{Verdict}
@@ -21,6 +21,7 @@ is_passive (StreamOpened stream peer) = false
 is_passive (Frame stream bytes) = false
 is_passive (StreamCut stream) = false
 is_passive (Datagram peer bytes) = false
+is_passive (Inquiry peer bytes) = false
 is_passive (Write point bytes) = false
 is_passive (Tick ms) = false
 is_passive other = true
@@ -37,6 +38,7 @@ passive_holds Q t refused answered (StreamOpened stream peer) passive = absurd (
 passive_holds Q t refused answered (Frame stream bytes) passive = absurd (let e = passive in cc)
 passive_holds Q t refused answered (StreamCut stream) passive = absurd (let e = passive in cc)
 passive_holds Q t refused answered (Datagram peer bytes) passive = absurd (let e = passive in cc)
+passive_holds Q t refused answered (Inquiry peer bytes) passive = absurd (let e = passive in cc)
 passive_holds Q t refused answered (Write point bytes) passive = absurd (let e = passive in cc)
 passive_holds Q t refused answered (Read point) passive = read_passive Q t refused answered (bytes_at t.values point)
 passive_holds Q t refused answered (Tick ms) passive = absurd (let e = passive in cc)

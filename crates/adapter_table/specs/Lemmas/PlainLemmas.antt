@@ -8,7 +8,7 @@ use Rattle.cip_datagram.specs.Datagram.{DatagramFields}
 use Rattle.cip_datagram.specs.Reading.{datagram_reading}
 use Rattle.cip_events.specs.declared.event.Delivery.TheVariants.{UnknownId, Malformed}
 use Rattle.cip_events.specs.declared.event.Event.{Event}
-use Rattle.cip_events.specs.declared.event.Event.TheVariants.{Request, StreamOpened, Frame, StreamCut, Datagram, Write, Tick}
+use Rattle.cip_events.specs.declared.event.Event.TheVariants.{Request, StreamOpened, Frame, StreamCut, Datagram, Inquiry, Write, Tick}
 use Rattle.cip_events.specs.declared.event.StepFault.{StepFault}
 use Rattle.cip_events.specs.declared.event.StepFault.TheVariants.{NotAllowedNow}
 use Rattle.cip_events.specs.declared.event.Verdict.{Verdict}
@@ -46,6 +46,7 @@ datagram_plain P t holds peer (Ok d) = found_plain P t holds peer d (find (is_fo
 abbrev pub answers_more : Event → Bool
 answers_more (Request peer bytes) = true
 answers_more (Frame stream bytes) = true
+answers_more (Inquiry peer bytes) = true
 answers_more (Write point bytes) = true
 answers_more (Tick ms) = true
 answers_more other = false
@@ -58,6 +59,7 @@ plain_holds Q t refused holds (StreamOpened number peer) more =
 plain_holds Q t refused holds (Frame stream bytes) more = absurd (let e = more in cc)
 plain_holds Q t refused holds (StreamCut number) more = cut_plain Q t refused holds (find (is_stream number) t.streams)
 plain_holds Q t refused holds (Datagram peer bytes) more = datagram_plain (λ next. Q (Ok next)) t holds peer (datagram_reading bytes)
+plain_holds Q t refused holds (Inquiry peer bytes) more = absurd (let e = more in cc)
 plain_holds Q t refused holds (Write point bytes) more = absurd (let e = more in cc)
 plain_holds Q t refused holds (Tick ms) more = absurd (let e = more in cc)
 plain_holds Q t refused holds other more = passive_holds Q t refused (λ verdict. holds verdict t) other refl

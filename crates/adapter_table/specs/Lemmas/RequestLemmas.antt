@@ -1,5 +1,5 @@
 -- What a peer's requests and frames do to a table: nothing, or one of few things.
-use Rattle.std.proofs.Common.{◌≡◌, ℕ, ◌==◌, Bool, true, false, cond, not, List, [], length, find, Option, Some, None, Result, Ok, Err, refl, subst}
+use Rattle.std.proofs.Common.{◌≡◌, ℕ, ◌==◌, Bool, true, false, cond, not, List, length, find, Option, Some, None, Result, Ok, Err, refl, subst}
 use Rattle.std.specs.Str.{bytes_eq}
 use Rattle.cip_types.specs.declared.names.Node.{Node}
 use Rattle.cip_types.specs.declared.names.Triad.{Triad}
@@ -15,23 +15,22 @@ use Rattle.cip_events.specs.declared.event.StepFault.{StepFault}
 use Rattle.cip_events.specs.declared.event.StepFault.TheVariants.{NotAllowedNow}
 use Rattle.cip_events.specs.declared.event.Verdict.TheVariants.{Done, BadFrame}
 use Rattle.cip_router.specs.declared.refusal.Refusal.{Refusal}
-use Rattle.cip_router.specs.declared.refusal.Status.TheVariants as status
 use Rattle.adapter_table.specs.Connections.{Row}
 use Rattle.adapter_table.specs.declared.table.Stream.{Stream}
 use Rattle.adapter_table.specs.declared.table.AdapterTable.{AdapterTable}
-use Rattle.adapter_table.specs.Points.{bytes_at}
 use Rattle.adapter_table.specs.Rows.{has_triad}
 use Rattle.adapter_table.specs.Checks.{Admitted, admission}
 use Rattle.adapter_table.specs.Opening.{opened_row, opened_table}
 use Rattle.adapter_table.specs.Closing.{closed_table}
-use Rattle.cip_router.specs.Replies.{got}
-use Rattle.cip_router.specs.Requests.{RouterRequestFields, nothing, refused, closing, assembly, opening, router_request_reading}
-use Rattle.adapter_table.specs.Requests.{Next, Served, served_open, judged_open, admitted_open, served_close, close_of, served_assembly, assembly_of, get_of, is_value_attribute, router_refusal, served, answered}
+use Rattle.adapter_table.specs.Objects.{ObjectAnswer, said, denied, resetting, object_answer}
+use Rattle.cip_router.specs.Requests.{RouterRequestFields, nothing, refused, closing, object, opening, router_request_reading}
+use Rattle.adapter_table.specs.Requests.{Next, Served, served_open, judged_open, admitted_open, served_close, close_of, object_served, served_object, served, answered}
 use Rattle.cip_events.specs.Answers.{plain_answer}
 use Rattle.adapter_table.specs.Streams.{is_stream, is_taken, with_stream, without_stream, has_session, registered_table, stream_opened, cut_of, stream_cut}
 use Rattle.cip_router.specs.Commands.{command_of, is_silent}
 use Rattle.cip_router.specs.Frames.{RequestHeader, FrameFields, without_header, wrong_length, whole, frame_reading, protocol_text}
-use Rattle.adapter_table.specs.Encapsulation.{Handled, refusal, session_begun, register_session, request_replied, packet_replied, handled, framed, frame_answer, frame_of, frame}
+use Rattle.adapter_table.specs.Encapsulation.{Handled, refusal, session_begun, register_session, request_replied, packet_replied, handled, framed, frame_answer, stream_answer, frame_of, frame}
+use Rattle.adapter_table.specs.Inquiries.{inquiry_reply}
 
 -- a request changes nothing, opens a connection, or closes one; a frame may also end a stream, or register a
 -- session on one
@@ -53,17 +52,10 @@ does_close : (R : AdapterTable → AdapterTable → Type 0) → RequestsDo R →
 does_close R does t request None is = does.stays t
 does_close R does t request (Some row) is = does.closed t request.triad row is
 
-does_get : (R : AdapterTable → AdapterTable → Type 0) → RequestsDo R → (t : AdapterTable) (service : ℕ) (attribute : Option ℕ) (body value : List ℕ) → R t (get_of t service attribute body value).table
-does_get R does t service attribute body value = get_step (not (service == 0x0E)) (not (is_value_attribute attribute)) (not (length body == 0)) where
-  get_step : (a b c : Bool) → R t (cond a (router_refusal t service status.Service) (cond b (router_refusal t service status.Attribute) (cond c (router_refusal t service status.TooMuchData) (record { reply = got value; address = None; notices = []; table = t })))).table
-  get_step true b c = does.stays t
-  get_step false true c = does.stays t
-  get_step false false true = does.stays t
-  get_step false false false = does.stays t
-
-does_assembly : (R : AdapterTable → AdapterTable → Type 0) → RequestsDo R → (t : AdapterTable) (service : ℕ) (attribute : Option ℕ) (body : List ℕ) (found : Option (List ℕ)) → R t (assembly_of t service attribute body found).table
-does_assembly R does t service attribute body None = does.stays t
-does_assembly R does t service attribute body (Some value) = does_get R does t service attribute body value
+does_object : (R : AdapterTable → AdapterTable → Type 0) → RequestsDo R → (t : AdapterTable) (service : ℕ) (answer : ObjectAnswer) → R t (object_served t service answer).table
+does_object R does t service (said by value) = does.stays t
+does_object R does t service (denied why) = does.stays t
+does_object R does t service (resetting kind) = does.stays t
 
 -- the table after what is served of a request, where there is one
 abbrev pub served_table : AdapterTable → Option Served → AdapterTable
@@ -71,11 +63,11 @@ served_table t None = t
 served_table t (Some s) = s.table
 
 served_does : (R : AdapterTable → AdapterTable → Type 0) → RequestsDo R → (t : AdapterTable) (peer : Node) (router_request : RouterRequestFields) → R t (served_table t (served t peer router_request))
-unfolding served_open served_close served_assembly
+unfolding served_open served_close served_object
 served_does R does t peer nothing = does.stays t
 served_does R does t peer (refused service why) = does.stays t
 served_does R does t peer (closing request) = does_close R does t request (find (has_triad request.triad) t.rows) refl
-served_does R does t peer (assembly service instance attribute body) = does_assembly R does t service attribute body (bytes_at t.values instance)
+served_does R does t peer (object service class instance attribute body) = does_object R does t service (object_answer t service class instance attribute body)
 served_does R does t peer (opening large request) = does_judged R does t peer large request (admission t request) refl
 
 answered_by : (P : AdapterTable → Type 0) (t : AdapterTable) (peer : Node) (s : Option Served) → P (served_table t s) → P (answered t peer s).1
@@ -127,9 +119,13 @@ does_frame R does t stream (whole request_header body) = handled_does R does t s
 pub next_is : (x y : Next) → ◌≡◌ {A = Result Next StepFault} (Ok x) (Ok y) → x ≡ y
 next_is x y h = cc
 
+does_message : (R : AdapterTable → AdapterTable → Type 0) → RequestsDo R → (t : AdapterTable) (stream : Stream) (bytes : List ℕ) (inquiry : Option (List ℕ)) → R t (stream_answer t stream bytes inquiry).1
+does_message R does t stream bytes None = does_frame R does t stream (frame_reading bytes)
+does_message R does t stream bytes (Some text) = does.stays t
+
 frame_by : (R : AdapterTable → AdapterTable → Type 0) → RequestsDo R → (t : AdapterTable) (bytes : List ℕ) (found : Option Stream) (next : Next) → frame_of t bytes found ≡ Ok next → R t next.1
 frame_by R does t bytes None next is = absurd cc
-frame_by R does t bytes (Some stream) next is = subst (λ (n : Next). R t n.1) (next_is _ _ is) (does_frame R does t stream (frame_reading bytes))
+frame_by R does t bytes (Some stream) next is = subst (λ (n : Next). R t n.1) (next_is _ _ is) (does_message R does t stream bytes (inquiry_reply t bytes))
 
 -- each frame that is dealt with
 pub frame_does : (R : AdapterTable → AdapterTable → Type 0) → RequestsDo R → (t : AdapterTable) (number : ℕ) (bytes : List ℕ) (next : Next) → frame t number bytes ≡ Ok next → R t next.1

@@ -26,12 +26,13 @@ use Rattle.cip_epath.specs.Path.{PathFields}
 use Rattle.cip_epath.specs.Reading.{path_reading}
 use Rattle.cip_fwdopen.specs.Open.{OpenFields}
 use Rattle.cip_fwdopen.specs.Close.{CloseFields, closed_text}
-use Rattle.cip_fwdopen.specs.Get.{got_text}
 use Rattle.cip_fwdopen.specs.Reply.{opened_text, refused_text}
 use Rattle.cip_events.specs.declared.event.Event.{Event}
 use Rattle.cip_events.specs.declared.event.Event.TheVariants as event
 use Rattle.cip_events.specs.declared.event.StepFault.{StepFault}
 use Rattle.cip_events.specs.declared.event.StepFault.TheVariants.{NotAllowedNow, TickTooLong, ClockEnd, WrongLength}
+use Rattle.cip_events.specs.declared.event.Recipient.{Recipient}
+use Rattle.cip_events.specs.declared.event.Recipient.TheVariants.{Peer, Stream as OverStream}
 use Rattle.cip_events.specs.declared.event.Verdict.TheVariants.{Done}
 use Rattle.cip_events.specs.Answers.{plain_answer, is_accepted}
 use Rattle.cip_events.specs.Clock.{longest_tick, clock_end}
@@ -42,14 +43,15 @@ use Rattle.cip_router.specs.declared.command.Command.TheVariants as command
 use Rattle.cip_router.specs.declared.command.EncapStatus.TheVariants as encap
 use Rattle.cip_router.specs.declared.refusal.Refusal.{Refusal}
 use Rattle.cip_router.specs.declared.refusal.Refusal.TheVariants as refused_as
+use Rattle.cip_router.specs.declared.object_service.ObjectService.TheVariants.{Reset}
 use Rattle.cip_router.specs.declared.refusal.Status.{Status}
 use Rattle.cip_router.specs.declared.refusal.Status.TheVariants as status
-use Rattle.cip_router.specs.Requests.{RouterRequestFields, nothing, refused, closing, assembly, opening, router_request_reading}
+use Rattle.cip_router.specs.Requests.{RouterRequestFields, nothing, refused, closing, object, opening, router_request_reading}
 use Rattle.cip_router.specs.Commands.{command_of, is_silent}
-use Rattle.cip_router.specs.Frames.{RequestHeader, request_header_of, wrong_length_of, frame_fields, FrameReply, services, registered, other_version, router_reply, services_text, protocol_text, socket_of, reply_message, frame_reading}
+use Rattle.cip_router.specs.Frames.{RequestHeader, request_header_of, wrong_length_of, frame_fields, FrameReply, services, registered, other_version, router_reply, protocol_text, socket_of, reply_message, frame_reading}
 use Rattle.cip_router.specs.Frames as frames
 use Rattle.cip_router.specs.Refusals.{status_fault, refusal_fault, status_code}
-use Rattle.cip_router.specs.Replies.{ReplyFields, opened, closed, got, reply_text}
+use Rattle.cip_router.specs.Replies.{ReplyFields, opened, closed, object_reply, object_reply_text, reply_text}
 use Rattle.cip_router.specs.Replies as replies
 use Rattle.adapter_table.specs.declared.profile.InputPoint.{InputPoint}
 use Rattle.adapter_table.specs.Connections.{Row}
@@ -59,7 +61,8 @@ use Rattle.adapter_table.specs.declared.table.AdapterTable.{AdapterTable}
 use Rattle.adapter_table.specs.declared.table.Stream.{Stream}
 use Rattle.adapter_table.specs.declared.admission.ConsumedPoint.{ConsumedPoint}
 use Rattle.adapter_table.specs.Profiles.{is_at}
-use Rattle.adapter_table.specs.Points.{bytes_at}
+use Rattle.adapter_table.specs.Objects.{ObjectAnswer, said, denied, resetting, object_answer}
+use Rattle.adapter_table.specs.Inquiries.{frame_alone, inquiry_reply, inquired_by, inquired}
 use Rattle.adapter_table.specs.Rows.{has_triad, is_member, written_state, written_row}
 use Rattle.adapter_table.specs.Checks.{Check, Points, Admitted, drawn_ids, group_of, joined, named_points, points_of, path_check, consumed_point_of, input_of, is_multicast, judged, view_of, verdict, admission}
 use Rattle.adapter_table.specs.Opening.{opened_t_o_id, opened_row, opened_table}
@@ -67,16 +70,17 @@ use Rattle.adapter_table.specs.Closing.{stays, without_triad, closed_table}
 use Rattle.adapter_table.specs.Datagrams.{is_for, accepted_row, accepted_if_for, row_delivery, accepted_table, delivered, found_datagram, datagram_of, received}
 use Rattle.adapter_table.specs.Productions as productions
 use Rattle.adapter_table.specs.Productions.{state_producer, producer_in, producers, production_of, is_due, due_producers, produced_state, produced_row, produces_on_change, producers_on_change, changed_state, changed_row}
-use Rattle.adapter_table.specs.Requests.{Next, Served, judged_open, admitted_open, served_open, close_of, served_close, is_value_attribute, router_refusal, assembly_of, served_assembly, served}
+use Rattle.adapter_table.specs.Requests.{Next, Served, judged_open, admitted_open, served_open, close_of, served_close, router_refusal, object_served, served_object, served}
 use Rattle.adapter_table.specs.Streams.{is_stream, is_taken, with_stream, without_stream, has_session, registered_table, stream_opened, cut_of, stream_cut}
-use Rattle.adapter_table.specs.Encapsulation.{Handled, refusal, unanswered, session_begun, session_ended, register_session, request_replied, packet_replied, handled, reply_frames, framed, frame_answer, frame_of, frame}
+use Rattle.adapter_table.specs.Encapsulation.{Handled, refusal, unanswered, session_begun, session_ended, register_session, request_replied, packet_replied, handled, reply_frames, framed, frame_answer, stream_answer, frame_of, frame}
 use Rattle.adapter_table.specs.Ticks.{has_expired, expired_row, expired_rows, clocked_table, expired_table, produced_table, advanced, tick}
 use Rattle.adapter_table.specs.Step.{written_table, changed_table, written, write_of, write, adapter_step}
 use Rattle.answer_sizes.specs.Sizes.{IsShortFrame, IsSmall}
 use Rattle.device_laws.specs.Ids.{RequestIds, PayloadIds, PacketIds, MessageIds, FrameIds, HasFrameIds, HasDatagramId, AnswerIds, RowIds, FromTo, IdsFromTo, EventIds}
 use Rattle.device_laws.specs.Lemmas.Lists.{all_both, all_more, all_filtered, all_mapped, all_found, all_ordered, all_firsts, all_made}
 use Rattle.device_laws.specs.Lemmas.Texts.{either, Cuts, message_ids, packet_ids, datagram_id}
-use Rattle.device_laws.specs.Lemmas.Payloads.{opened_ids, closed_ids, got_ids, refused_ids}
+use Rattle.device_laws.specs.Lemmas.Payloads.{opened_ids, closed_ids, object_ids, refused_ids}
+use Rattle.device_laws.specs.Lemmas.InquiryTexts.{IsPlainText, plain_services, plain_ids, inquiry_plain}
 use Rattle.adapter_table.specs.Lemmas.PassiveLemmas.{passive_holds}
 
 abbrev pub RowsHold : (P Q : ℕ → Type 0) → List Row → Type 0
@@ -163,6 +167,9 @@ nonzero status.Service = refl
 nonzero status.NotEnoughData = refl
 nonzero status.Attribute = refl
 nonzero status.TooMuchData = refl
+nonzero status.NotSettable = refl
+nonzero status.StateConflict = refl
+nonzero status.InvalidParameter = refl
 
 refusal_holds : (P Q : ℕ → Type 0) (t : AdapterTable) (service : ℕ) (why : Status) → RowsHold P Q t.rows → ServedHolds P Q (router_refusal t service why)
 refusal_holds P Q t service why rows = (refused_ids P service (status_fault why) None (nonzero why), rows)
@@ -189,13 +196,10 @@ close_holds P Q t request None rows = (refused_ids P 0x4E (refusal_fault refused
 close_holds P Q t request (Some row) rows =
     (closed_ids P row.triad, all_filtered (RowIds P Q) (stays (without_triad row.triad t.rows)) (without_triad row.triad t.rows) (all_filtered (RowIds P Q) _ t.rows rows))
 
-assembly_holds : (P Q : ℕ → Type 0) (t : AdapterTable) (service : ℕ) (attribute : Option ℕ) (body : List ℕ) (found : Option (List ℕ)) → RowsHold P Q t.rows → ServedHolds P Q (assembly_of t service attribute body found)
-assembly_holds P Q t service attribute body None rows = refusal_holds P Q t service status.PathDestination rows
-assembly_holds P Q t service attribute body (Some value) rows =
-    let all : Served = record { reply = got value; address = None; notices = []; table = t } in
-    either (ServedHolds P Q) (not (service == 0x0E)) _ _ (refusal_holds P Q t service status.Service rows)
-    (either (ServedHolds P Q) (not (is_value_attribute attribute)) _ _ (refusal_holds P Q t service status.Attribute rows)
-    (either (ServedHolds P Q) (not (length body == 0)) (router_refusal t service status.TooMuchData) all (refusal_holds P Q t service status.TooMuchData rows) (got_ids P value, rows)))
+object_holds : (P Q : ℕ → Type 0) (t : AdapterTable) (service : ℕ) (answer : ObjectAnswer) → RowsHold P Q t.rows → ServedHolds P Q (object_served t service answer)
+object_holds P Q t service (said by value) rows = (object_ids P by value, rows)
+object_holds P Q t service (denied why) rows = refusal_holds P Q t service why rows
+object_holds P Q t service (resetting kind) rows = (object_ids P Reset [], rows)
 
 -- the same, if something is served
 abbrev AnyHolds : (P Q : ℕ → Type 0) → Option Served → Type 0
@@ -206,11 +210,11 @@ next_of next None = next
 next_of next (Some s) = s.table.next_id
 
 served_holds : (P Q : ℕ → Type 0) → Cuts P → (t : AdapterTable) (peer : Node) (request : RouterRequestFields) (to : ℕ) → next_of to (served t peer request) ≤ to → HasDrawn P Q t to → RequestIds P request → RowsHold P Q t.rows → AnyHolds P Q (served t peer request)
-unfolding served_open served_close served_assembly
+unfolding served_open served_close served_object
 served_holds P Q cuts t peer nothing to below drawn ids rows = tt
 served_holds P Q cuts t peer (refused service why) to below drawn ids rows = refusal_holds P Q t service why rows
 served_holds P Q cuts t peer (closing request) to below drawn ids rows = close_holds P Q t request (find (has_triad request.triad) t.rows) rows
-served_holds P Q cuts t peer (assembly service instance attribute body) to below drawn ids rows = assembly_holds P Q t service attribute body (bytes_at t.values instance) rows
+served_holds P Q cuts t peer (object service class instance attribute body) to below drawn ids rows = object_holds P Q t service (object_answer t service class instance attribute body) rows
 served_holds P Q cuts t peer (opening large request) to below drawn ids rows =
     open_holds P Q cuts t peer large request (admission t request) to below drawn (admission_holds P Q t request rows) ids rows
 
@@ -254,10 +258,6 @@ handled_holds P Q cuts to t stream request_header body _ drawn ids rows = λ bel
 
 -- ---- frames
 
-pub plain_services : packet_reading services_text ≡ Err Bad
-unfolding packet_reading are_sockets behind_socket
-plain_services = refl
-
 pub plain_protocol : packet_reading protocol_text ≡ Err Bad
 unfolding packet_reading are_sockets behind_socket
 plain_protocol = refl
@@ -267,10 +267,10 @@ unfolding packet_reading are_sockets behind_socket
 plain_none = refl
 
 pub some_bytes : (reply : ReplyFields) → 1 ≤ length (reply_text reply)
-unfolding opened_text closed_text got_text refused_text
+unfolding opened_text closed_text object_reply_text refused_text
 some_bytes (opened large o) = omega arith
 some_bytes (closed triad) = omega arith
-some_bytes (got value) = omega arith
+some_bytes (object_reply by value) = omega arith
 some_bytes (replies.refused service fault triad) = omega arith
 
 pub few_bytes : (m : MessageFields) (payload : List ℕ) (socket : Option SocketAddress) → m.payload ≡ packet_text payload socket → length (message_text m) ≤ 2048 → length payload ≤ 65535
@@ -319,10 +319,22 @@ abbrev pub OkHolds : (P Q : ℕ → Type 0) → ℕ → Result Next StepFault �
 OkHolds P Q to (Ok next) = NextHolds P Q to next
 OkHolds P Q to (Err fault) = Unit {0}
 
-frame_holds : ItemsReadBack → (P Q : ℕ → Type 0) → Cuts P → (to : ℕ) (t : AdapterTable) (bytes : List ℕ) (found : Option Stream) → HasDrawn P Q t to → FrameIds P bytes → RowsHold P Q t.rows → OkHolds P Q to (frame_of t bytes found)
+-- an answer of the reply to an inquiry alone
+inquiry_holds : (P Q : ℕ → Type 0) (to : Recipient) (t : AdapterTable) (text : List ℕ) → IsPlainText text → RowsHold P Q t.rows → AnswerIds P (frame_alone to text) × RowsHold P Q t.rows
+inquiry_holds P Q to t text plain rows = (record { frames = (plain_ids P text plain, tt); datagrams = tt }, rows)
+
+stream_holds : ItemsReadBack → (P Q : ℕ → Type 0) → Cuts P → (to : ℕ) (t : AdapterTable) (stream : Stream) (bytes : List ℕ) (reply : Option (List ℕ)) → IfSome reply IsPlainText → HasDrawn P Q t to → FrameIds P bytes → RowsHold P Q t.rows → NextHolds P Q to (stream_answer t stream bytes reply)
 unfolding frame_reading
+stream_holds back P Q cuts to t stream bytes None plain drawn ids rows = message_holds back P Q cuts to t stream _ (message_reading bytes) drawn ids rows
+stream_holds back P Q cuts to t stream bytes (Some text) plain drawn ids rows = λ below small. inquiry_holds P Q (OverStream stream.number) t text plain rows
+
+inquired_holds : (P Q : ℕ → Type 0) (to : ℕ) (t : AdapterTable) (peer : Node) (reply : Option (List ℕ)) → IfSome reply IsPlainText → RowsHold P Q t.rows → NextHolds P Q to (inquired_by t peer reply)
+inquired_holds P Q to t peer None plain rows = λ below small. (record { frames = tt; datagrams = tt }, rows)
+inquired_holds P Q to t peer (Some text) plain rows = λ below small. inquiry_holds P Q (Peer peer) t text plain rows
+
+frame_holds : ItemsReadBack → (P Q : ℕ → Type 0) → Cuts P → (to : ℕ) (t : AdapterTable) (bytes : List ℕ) (found : Option Stream) → HasDrawn P Q t to → FrameIds P bytes → RowsHold P Q t.rows → OkHolds P Q to (frame_of t bytes found)
 frame_holds back P Q cuts to t bytes None drawn ids rows = tt
-frame_holds back P Q cuts to t bytes (Some stream) drawn ids rows = message_holds back P Q cuts to t stream _ (message_reading bytes) drawn ids rows
+frame_holds back P Q cuts to t bytes (Some stream) drawn ids rows = stream_holds back P Q cuts to t stream bytes (inquiry_reply t bytes) (inquiry_plain t bytes) drawn ids rows
 
 -- ---- datagrams received
 
@@ -405,13 +417,14 @@ cut_holds P Q to t None rows = tt
 cut_holds P Q to t (Some stream) rows = (λ below small. (record { frames = tt; datagrams = tt }, rows))
 
 pub adapter_holds : ItemsReadBack → (P Q : ℕ → Type 0) → Cuts P → (to : ℕ) (t : AdapterTable) (happens : Event) → HasDrawn P Q t to → EventIds P happens → RowsHold P Q t.rows → OkHolds P Q to (adapter_step t happens)
-unfolding received write frame stream_cut stream_opened with_stream
+unfolding received inquired write frame stream_cut stream_opened with_stream
 adapter_holds back P Q cuts to t (event.Request peer bytes) drawn ids rows = absurd ids
 adapter_holds back P Q cuts to t (event.StreamOpened number peer) drawn ids rows =
     either (OkHolds P Q to) (is_taken t.streams number) (Err NotAllowedNow) (Ok (plain_answer Done, with_stream t number peer)) tt (λ below small. (record { frames = tt; datagrams = tt }, rows))
 adapter_holds back P Q cuts to t (event.Frame number bytes) drawn ids rows = frame_holds back P Q cuts to t bytes (find (is_stream number) t.streams) drawn ids rows
 adapter_holds back P Q cuts to t (event.StreamCut number) drawn ids rows = cut_holds P Q to t (find (is_stream number) t.streams) rows
 adapter_holds back P Q cuts to t (event.Datagram peer bytes) drawn ids rows = datagram_holds P Q to t peer (datagram_reading bytes) rows
+adapter_holds back P Q cuts to t (event.Inquiry peer bytes) drawn ids rows = inquired_holds P Q to t peer (inquiry_reply t bytes) (inquiry_plain t bytes) rows
 adapter_holds back P Q cuts to t (event.Write point bytes) drawn ids rows = found_write P Q cuts to t point bytes (find (is_at point) t.profile.inputs) rows
 adapter_holds back P Q cuts to t (event.Tick ms) drawn ids rows = tick_holds P Q cuts to t ms rows
 adapter_holds back P Q cuts to t other drawn ids rows = passive_holds (OkHolds P Q to) t (λ why. tt) (λ verdict below small. (record { frames = tt; datagrams = tt }, rows)) other refl

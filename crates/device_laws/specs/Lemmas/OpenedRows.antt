@@ -19,20 +19,20 @@ use Rattle.cip_router.specs.declared.command.Command.{Command}
 use Rattle.cip_router.specs.declared.command.Command.TheVariants as command
 use Rattle.cip_router.specs.declared.command.EncapStatus.TheVariants as encap
 use Rattle.cip_router.specs.declared.refusal.Refusal.{Refusal}
-use Rattle.cip_router.specs.declared.refusal.Status.TheVariants as status
-use Rattle.cip_router.specs.Requests.{RouterRequestFields, nothing, refused, closing, assembly, opening, router_request_reading}
+use Rattle.cip_router.specs.Requests.{RouterRequestFields, nothing, refused, closing, object, opening, router_request_reading}
 use Rattle.cip_router.specs.Commands.{command_of, is_silent}
 use Rattle.cip_router.specs.Frames.{RequestHeader, request_header_of, request_header_in, wrong_length_of, frame_fields, protocol_text, frame_reading}
-use Rattle.cip_router.specs.Replies.{got}
 use Rattle.adapter_table.specs.declared.table.AdapterTable.{AdapterTable}
 use Rattle.adapter_table.specs.declared.table.Stream.{Stream}
 use Rattle.adapter_table.specs.Checks.{Admitted, admission}
 use Rattle.adapter_table.specs.Closing.{stays, without_triad, closed_table}
 use Rattle.adapter_table.specs.Connections.{Row}
-use Rattle.adapter_table.specs.Encapsulation.{Handled, refusal, unanswered, session_begun, session_ended, register_session, request_replied, packet_replied, handled, framed, frame_answer, frame_of}
+use Rattle.adapter_table.specs.Encapsulation.{Handled, refusal, unanswered, session_begun, session_ended, register_session, request_replied, packet_replied, handled, framed, frame_answer, stream_answer, frame_of}
+use Rattle.adapter_table.specs.Inquiries.{inquiry_reply}
+use Rattle.adapter_table.specs.Objects.{ObjectAnswer, object_answer}
+use Rattle.adapter_table.specs.Objects as objects
 use Rattle.adapter_table.specs.Opening.{opened_row, opened_table}
-use Rattle.adapter_table.specs.Points.{bytes_at}
-use Rattle.adapter_table.specs.Requests.{Next, Served, judged_open, admitted_open, served_open, close_of, served_close, is_value_attribute, router_refusal, assembly_of, served_assembly, served}
+use Rattle.adapter_table.specs.Requests.{Next, Served, judged_open, admitted_open, served_open, close_of, served_close, object_served, served_object, served}
 use Rattle.adapter_table.specs.Rows.{has_triad}
 use Rattle.adapter_table.specs.Streams.{without_stream, has_session, registered_table}
 use Rattle.device_laws.specs.Lemmas.Lists.{all_both, all_filtered}
@@ -60,20 +60,17 @@ close_rows O t request (Some row) rows = all_filtered O (stays (without_triad ro
 abbrev ServedRows : (Row → Type 0) → Served → Type 0
 ServedRows O s = RowsAre O s.table
 
-assembly_rows : (O : Row → Type 0) (t : AdapterTable) (service : ℕ) (attribute : Option ℕ) (body : List ℕ) (found : Option (List ℕ)) → RowsAre O t → ServedRows O (assembly_of t service attribute body found)
-assembly_rows O t service attribute body None rows = rows
-assembly_rows O t service attribute body (Some value) rows =
-    let all : Served = record { reply = got value; address = None; notices = []; table = t } in
-    either (ServedRows O) (not (service == 0x0E)) _ _ rows
-    (either (ServedRows O) (not (is_value_attribute attribute)) _ _ rows
-    (either (ServedRows O) (not (length body == 0)) (router_refusal t service status.TooMuchData) all rows rows))
+object_rows : (O : Row → Type 0) (t : AdapterTable) (service : ℕ) (answer : ObjectAnswer) → RowsAre O t → ServedRows O (object_served t service answer)
+object_rows O t service (objects.said by value) rows = rows
+object_rows O t service (objects.denied why) rows = rows
+object_rows O t service (objects.resetting kind) rows = rows
 
 served_rows : (O : Row → Type 0) (t : AdapterTable) (peer : Node) (requested : RouterRequestFields) → Makes O t requested → RowsAre O t → IfSome (served t peer requested) (ServedRows O)
-unfolding served_open served_close served_assembly
+unfolding served_open served_close served_object
 served_rows O t peer nothing makes rows = tt
 served_rows O t peer (refused service why) makes rows = rows
 served_rows O t peer (closing request) makes rows = close_rows O t request (find (has_triad request.triad) t.rows) rows
-served_rows O t peer (assembly service instance attribute body) makes rows = assembly_rows O t service attribute body (bytes_at t.values instance) rows
+served_rows O t peer (object service class instance attribute body) makes rows = object_rows O t service (object_answer t service class instance attribute body) rows
 served_rows O t peer (opening large request) makes rows = open_rows O t peer large request (admission t request) refl (makes large request refl peer) rows
 
 -- ---- a frame
@@ -131,7 +128,11 @@ message_rows : (O : Row → Type 0) (t : AdapterTable) (stream : Stream) (header
 message_rows O t stream header (Err why) makes rows = wrong_length_rows O t stream header rows
 message_rows O t stream header (Ok m) makes rows = handled_rows O t stream (request_header_of m) m.payload (command_of m.command) (makes m refl) rows
 
-pub frame_rows : (O : Row → Type 0) (t : AdapterTable) (bytes : List ℕ) (found : Option Stream) → MessageMakes O t (message_reading bytes) → RowsAre O t → IfOk (frame_of t bytes found) (NextRows O)
+stream_rows : (O : Row → Type 0) (t : AdapterTable) (stream : Stream) (bytes : List ℕ) (reply : Option (List ℕ)) → MessageMakes O t (message_reading bytes) → RowsAre O t → NextRows O (stream_answer t stream bytes reply)
 unfolding frame_reading
+stream_rows O t stream bytes None makes rows = message_rows O t stream _ (message_reading bytes) makes rows
+stream_rows O t stream bytes (Some text) makes rows = rows
+
+pub frame_rows : (O : Row → Type 0) (t : AdapterTable) (bytes : List ℕ) (found : Option Stream) → MessageMakes O t (message_reading bytes) → RowsAre O t → IfOk (frame_of t bytes found) (NextRows O)
 frame_rows O t bytes None makes rows = tt
-frame_rows O t bytes (Some stream) makes rows = message_rows O t stream _ (message_reading bytes) makes rows
+frame_rows O t bytes (Some stream) makes rows = stream_rows O t stream bytes (inquiry_reply t bytes) makes rows

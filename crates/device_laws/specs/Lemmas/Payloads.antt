@@ -21,10 +21,12 @@ use Rattle.cip_fwdopen.specs.Front.{parted, front_at}
 use Rattle.cip_fwdopen.specs.Request.{request_widths, request_path_len, with_target, request_of, request_reading}
 use Rattle.cip_fwdopen.specs.Open.{OpenFields, open_widths, path_len, open_of, open_reading, open_numbers, open_text}
 use Rattle.cip_fwdopen.specs.Close.{CloseFields, close_reading, closed_text}
-use Rattle.cip_fwdopen.specs.Get.{got_text}
 use Rattle.cip_fwdopen.specs.Reply.{reply_service, opened_service, opened_widths, opened_numbers, opened_text, extended_text, failure_text, refused_text, reply_widths, extended_len, fault_of, application_len, opened_of, failure_reading, opened_reading, refused_by, answer_reading, with_answer, unread, unread_reading, reply_of, open_reply_reading}
 use Rattle.cip_router.specs.Requests.{request_to_open, request_to_close, request_to_manager, is_manager, router_request_of, router_request_reading, refused}
+use Rattle.cip_router.specs.declared.object_service.ObjectService.{ObjectService}
+use Rattle.cip_router.specs.declared.object_service.ObjectService.TheVariants as object_service
 use Rattle.cip_router.specs.declared.refusal.Status.TheVariants as status
+use Rattle.cip_router.specs.Replies.{object_reply_text}
 use Rattle.scanner_table.specs.Requests.{manager, manager_text}
 use Rattle.scanner_table.specs.Replies.{serviced, reply_answer}
 use Rattle.device_laws.specs.Ids.{RequestIds, ReplyIds, PayloadIds}
@@ -49,8 +51,7 @@ requested_manager_ids P service body none =
 requested_of_ids : (P : ℕ → Type 0) (service : ℕ) (body : List ℕ) (reading : Result Target PathFault) → OpensNone service → RequestIds P (router_request_of service (with_target service body reading))
 requested_of_ids P service body (Err fault) none = tt
 requested_of_ids P service body (Ok target) none =
-    either (RequestIds P) (is_manager target) (request_to_manager service body) _ (requested_manager_ids P service body none)
-    (either (RequestIds P) (target.class == 4) _ _ tt tt)
+    either (RequestIds P) (is_manager target) (request_to_manager service body) _ (requested_manager_ids P service body none) tt
 
 requested_front_ids : (P : ℕ → Type 0) (service : ℕ) (r : Option (List ℕ × List ℕ)) → OpensNone service → RequestIds P (router_request_of service (request_of (parted request_path_len (then_at r (λ ns after. Some (service ∷ ns, after))))))
 requested_front_ids P service None none = tt
@@ -164,9 +165,11 @@ pub closed_ids : (P : ℕ → Type 0) (triad : Triad) → PayloadIds P (closed_t
 unfolding closed_text
 closed_ids P triad = other_ids P 0xCE _ (record { small = refl; large = refl }) (record { small = refl; large = refl })
 
-pub got_ids : (P : ℕ → Type 0) (value : List ℕ) → PayloadIds P (got_text value)
-unfolding got_text
-got_ids P value = other_ids P 0x8E _ (record { small = refl; large = refl }) (record { small = refl; large = refl })
+pub object_ids : (P : ℕ → Type 0) (by : ObjectService) (value : List ℕ) → PayloadIds P (object_reply_text by value)
+unfolding object_reply_text
+object_ids P object_service.GetAll value = other_ids P 0x81 _ (record { small = refl; large = refl }) (record { small = refl; large = refl })
+object_ids P object_service.Reset value = other_ids P 0x85 _ (record { small = refl; large = refl }) (record { small = refl; large = refl })
+object_ids P object_service.GetSingle value = other_ids P 0x8E _ (record { small = refl; large = refl }) (record { small = refl; large = refl })
 
 above : (n m : ℕ) → m < n → (n == m) ≡ false
 above n m lt = grind (arith, nat_tests)

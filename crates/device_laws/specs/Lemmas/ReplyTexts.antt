@@ -3,7 +3,6 @@ use Rattle.std.proofs.Common.{◌≡◌, ◌<◌, ℕ, zero, suc, get_or, ◌==�
 use Rattle.std.specs.Int.{w16, w32, w64, to_le_bytes, from_le_bytes}
 use Rattle.std.proofs.lemmas.Nat.{le_bytes_8}
 use Rattle.cip_fwdopen.specs.Close.{closed_text}
-use Rattle.cip_fwdopen.specs.Get.{got_text}
 use Rattle.std.specs.Option.{option_map}
 use Rattle.cip_types.specs.Fields.{fields_text}
 use Rattle.cip_types.specs.Texts.{Found, whole as is_whole, found_image, Tailed, tail_found, fixed_found}
@@ -19,13 +18,13 @@ use Rattle.cip_fwdopen.specs.declared.reply.OpenAnswer.TheVariants as answer
 use Rattle.cip_fwdopen.specs.Readings.{answer_of, seen}
 use Rattle.cip_fwdopen.specs.Reply.{opened_service, opened_widths, opened_numbers, opened_text, refused_text, extended_len, application_len, opened_of, opened_reading, answer_reading, with_answer, unread, unread_reading, reply_of, open_reply_reading}
 use Rattle.cip_fwdopen.specs.Front.{parted}
-use Rattle.cip_router.specs.Replies.{ReplyFields, opened, closed, got, reply_text}
+use Rattle.cip_router.specs.Replies.{ReplyFields, opened, closed, object_reply, object_reply_text, reply_text}
 use Rattle.cip_router.specs.Replies as replies
 use Rattle.scanner_table.specs.Replies.{reply_answer}
 use Rattle.device_laws.specs.Ids.{RequestIds, ReplyIds, PayloadIds}
 use Rattle.device_laws.specs.Lemmas.Texts.{either, cut, fields_cut, all_cut}
 use Rattle.cip_router.specs.Requests.{router_request_reading}
-use Rattle.device_laws.specs.Lemmas.Payloads.{OpensNone, requests_none, closed_ids, got_ids, refused_ids, front_bytes}
+use Rattle.device_laws.specs.Lemmas.Payloads.{OpensNone, requests_none, closed_ids, object_ids, refused_ids, front_bytes}
 use Rattle.device_laws.specs.Frames.{again, SuccessIs, ContextFits}
 
 -- ---- a message that was written
@@ -136,12 +135,12 @@ opened_says Q large o holds = record {
 abbrev pub ReplyHolds : (Opened → Type 0) → ReplyFields → Type 0
 ReplyHolds Q (opened large o) = (read : Opened) → IsReadBack o read → Q read
 ReplyHolds Q (closed triad) = Unit {0}
-ReplyHolds Q (got value) = Unit {0}
+ReplyHolds Q (object_reply by value) = Unit {0}
 ReplyHolds Q (replies.refused service fault triad) = (fault.general == 0) ≡ false
 
 -- the bytes of a reply are a success only where the reply is one
 pub reply_says : (Q : Opened → Type 0) (reply : ReplyFields) → ReplyHolds Q reply → PayloadSays Q (reply_text reply)
 reply_says Q (opened large o) holds = opened_says Q large o holds
 reply_says Q (closed triad) holds = payload_none Q (closed_text triad) (closed_ids (λ id. ⊥) triad)
-reply_says Q (got value) holds = payload_none Q (got_text value) (got_ids (λ id. ⊥) value)
+reply_says Q (object_reply by value) holds = payload_none Q (object_reply_text by value) (object_ids (λ id. ⊥) by value)
 reply_says Q (replies.refused service fault triad) holds = payload_none Q (refused_text service fault triad) (refused_ids (λ id. ⊥) service fault triad holds)

@@ -20,7 +20,7 @@ use Rattle.cip_encap.specs.Message.{message_text}
 use Rattle.cip_encap.specs.Packet.{PacketFields}
 use Rattle.cip_encap.specs.PacketReading.{packet_reading}
 use Rattle.cip_encap.specs.ReadsBack.{ItemsReadBack}
-use Rattle.cip_router.specs.Requests.{RouterRequestFields, nothing, refused, assembly, request_to_open, request_to_manager, router_request_of, router_request_reading}
+use Rattle.cip_router.specs.Requests.{RouterRequestFields, nothing, refused, object, request_to_open, request_to_manager, router_request_of, router_request_reading}
 use Rattle.cip_router.specs.Requests as router
 use Rattle.adapter_table.specs.Checks.{is_multicast}
 use Rattle.scanner_table.specs.declared.profile.ScannerProfile.{ScannerProfile}
@@ -42,7 +42,7 @@ abbrev pub RequestOpens : (OpenFields → Type 0) → RouterRequestFields → Ty
 RequestOpens Q nothing = Unit {0}
 RequestOpens Q (refused service why) = Unit {0}
 RequestOpens Q (router.closing request) = Unit {0}
-RequestOpens Q (assembly service instance attribute body) = Unit {0}
+RequestOpens Q (object service class instance attribute body) = Unit {0}
 RequestOpens Q (router.opening large request) = Q request
 
 abbrev pub PacketOpens : (OpenFields → Type 0) → Result PacketFields ItemFault → Type 0
@@ -53,7 +53,7 @@ opens_none : (Q : OpenFields → Type 0) (requested : RouterRequestFields) → R
 opens_none Q nothing none = tt
 opens_none Q (refused service why) none = tt
 opens_none Q (router.closing request) none = tt
-opens_none Q (assembly service instance attribute body) none = tt
+opens_none Q (object service class instance attribute body) none = tt
 opens_none Q (router.opening large request) none = absurd none
 
 abbrev ReadSo : (OpenFields → Type 0) → Result OpenFields ReadFault → Type 0

@@ -18,7 +18,7 @@ use Rattle.cip_events.specs.declared.event.StepFault.{StepFault}
 use Rattle.cip_events.specs.declared.event.StepFault.TheVariants as fault
 use Rattle.cip_fwdopen.specs.Open.{open_text}
 use Rattle.cip_fwdopen.specs.Close.{close_text}
-use Rattle.cip_router.specs.Requests.{RouterRequestFields, nothing, refused, assembly, router_request_reading}
+use Rattle.cip_router.specs.Requests.{RouterRequestFields, nothing, refused, object, router_request_reading}
 use Rattle.cip_router.specs.Requests as router
 use Rattle.scanner_table.specs.declared.profile.ScannerProfile.{ScannerProfile}
 use Rattle.scanner_table.specs.declared.slot.SlotConnection.{SlotConnection}
@@ -55,7 +55,7 @@ request_has : (P : ℕ → Type 0) (id : ℕ) (requested : RouterRequestFields) 
 request_has P id nothing ids asks = no_way asks
 request_has P id (refused service why) ids asks = no_way asks
 request_has P id (router.closing request) ids asks = no_way asks
-request_has P id (assembly service instance attribute body) ids asks = no_way asks
+request_has P id (object service class instance attribute body) ids asks = no_way asks
 request_has P id (router.opening large request) ids asks = subst P (eqb-true request.t_o_id.0 id asks) ids
 
 packet_has : (P : ℕ → Type 0) (id : ℕ) (reading : Result PacketFields ItemFault) → PacketIds P reading → packet_asks id reading ≡ true → P id

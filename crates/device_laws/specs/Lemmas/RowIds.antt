@@ -33,11 +33,9 @@ use Rattle.cip_router.specs.declared.command.Command.{Command}
 use Rattle.cip_router.specs.declared.command.Command.TheVariants as command
 use Rattle.cip_router.specs.declared.command.EncapStatus.TheVariants as encap
 use Rattle.cip_router.specs.declared.refusal.Refusal.{Refusal}
-use Rattle.cip_router.specs.declared.refusal.Status.TheVariants as status
-use Rattle.cip_router.specs.Requests.{RouterRequestFields, nothing, refused, closing, assembly, opening, router_request_reading}
+use Rattle.cip_router.specs.Requests.{RouterRequestFields, nothing, refused, closing, object, opening, router_request_reading}
 use Rattle.cip_router.specs.Commands.{command_of, is_silent}
 use Rattle.cip_router.specs.Frames.{RequestHeader, request_header_of, request_header_in, wrong_length_of, frame_fields, protocol_text, frame_reading}
-use Rattle.cip_router.specs.Replies.{got}
 use Rattle.adapter_table.specs.declared.profile.InputPoint.{InputPoint}
 use Rattle.adapter_table.specs.Connections.{Row}
 use Rattle.adapter_table.specs.declared.row.State.{State}
@@ -47,13 +45,15 @@ use Rattle.adapter_table.specs.declared.table.Stream.{Stream}
 use Rattle.adapter_table.specs.Checks.{Admitted, admission}
 use Rattle.adapter_table.specs.Closing.{stays, without_triad, closed_table}
 use Rattle.adapter_table.specs.Datagrams.{is_for, accepted_row, accepted_if_for, row_delivery, accepted_table, delivered, found_datagram, datagram_of, received}
-use Rattle.adapter_table.specs.Encapsulation.{Handled, refusal, unanswered, session_begun, session_ended, register_session, request_replied, packet_replied, handled, framed, frame_answer, frame_of, frame}
+use Rattle.adapter_table.specs.Encapsulation.{Handled, refusal, unanswered, session_begun, session_ended, register_session, request_replied, packet_replied, handled, framed, frame_answer, stream_answer, frame_of, frame}
 use Rattle.adapter_table.specs.Newest.{was_opened_as}
 use Rattle.adapter_table.specs.Opening.{opened_row, opened_table}
-use Rattle.adapter_table.specs.Points.{bytes_at}
+use Rattle.adapter_table.specs.Objects.{ObjectAnswer, object_answer}
+use Rattle.adapter_table.specs.Objects as objects
+use Rattle.adapter_table.specs.Inquiries.{inquiry_reply, inquired_by, inquired}
 use Rattle.adapter_table.specs.Productions.{producer_of, produced_state, produced_row, changed_state, changed_row}
 use Rattle.adapter_table.specs.Profiles.{is_at}
-use Rattle.adapter_table.specs.Requests.{Next, Served, judged_open, admitted_open, served_open, close_of, served_close, is_value_attribute, router_refusal, assembly_of, served_assembly, served, answered, requested}
+use Rattle.adapter_table.specs.Requests.{Next, Served, judged_open, admitted_open, served_open, close_of, served_close, object_served, served_object, served, answered, requested}
 use Rattle.adapter_table.specs.Rows.{lives, has_triad, written_state, written_row}
 use Rattle.adapter_table.specs.Sound.{IdsAreDrawn}
 use Rattle.adapter_table.specs.Step.{written_table, changed_table, written, write_of, write, adapter_step}
@@ -203,20 +203,17 @@ close_after O t peer request (Some row) = record {
 abbrev ServedAfter : (OpenFields → Type 0) → AdapterTable → Node → Served → Type 0
 ServedAfter O t peer s = TableAfter O t peer s.table
 
-assembly_after : (O : OpenFields → Type 0) (t : AdapterTable) (peer : Node) (service : ℕ) (attribute : Option ℕ) (body : List ℕ) (found : Option (List ℕ)) → ServedAfter O t peer (assembly_of t service attribute body found)
-assembly_after O t peer service attribute body None = stays_so O t peer
-assembly_after O t peer service attribute body (Some value) =
-    let all : Served = record { reply = got value; address = None; notices = []; table = t } in
-    either (ServedAfter O t peer) (not (service == 0x0E)) _ _ (stays_so O t peer)
-    (either (ServedAfter O t peer) (not (is_value_attribute attribute)) _ _ (stays_so O t peer)
-    (either (ServedAfter O t peer) (not (length body == 0)) (router_refusal t service status.TooMuchData) all (stays_so O t peer) (stays_so O t peer)))
+object_after : (O : OpenFields → Type 0) (t : AdapterTable) (peer : Node) (service : ℕ) (answer : ObjectAnswer) → ServedAfter O t peer (object_served t service answer)
+object_after O t peer service (objects.said by value) = stays_so O t peer
+object_after O t peer service (objects.denied why) = stays_so O t peer
+object_after O t peer service (objects.resetting kind) = stays_so O t peer
 
 served_after : (O : OpenFields → Type 0) (t : AdapterTable) (peer : Node) (requested : RouterRequestFields) → ((large : Bool) (request : OpenFields) → requested ≡ opening large request → O request) → IdsAreDrawn t.profile t.next_id t.rows → IfSome (served t peer requested) (ServedAfter O t peer)
-unfolding served_open served_close served_assembly
+unfolding served_open served_close served_object
 served_after O t peer nothing asks drawn = tt
 served_after O t peer (refused service why) asks drawn = stays_so O t peer
 served_after O t peer (closing request) asks drawn = close_after O t peer request (find (has_triad request.triad) t.rows)
-served_after O t peer (assembly service instance attribute body) asks drawn = assembly_after O t peer service attribute body (bytes_at t.values instance)
+served_after O t peer (object service class instance attribute body) asks drawn = object_after O t peer service (object_answer t service class instance attribute body)
 served_after O t peer (opening large request) asks drawn = open_after O t peer large request (admission t request) refl (asks large request refl) drawn
 
 -- ---- messages
@@ -309,9 +306,9 @@ rows_stay t next happens rows same = record {
 table_stays : (t : AdapterTable) (happens : Event) → Came t t happens
 table_stays t happens = rows_stay t t happens (were_there t) refl
 
-frame_of_came : (t : AdapterTable) (number : ℕ) (bytes : List ℕ) (found : Option Stream) → find (is_stream number) t.streams ≡ found → IdsAreDrawn t.profile t.next_id t.rows → OkCame t (event.Frame number bytes) (frame_of t bytes found)
-frame_of_came t number bytes None is drawn = tt
-frame_of_came t number bytes (Some stream) is drawn =
+stream_came : (t : AdapterTable) (number : ℕ) (bytes : List ℕ) (stream : Stream) (reply : Option (List ℕ)) → find (is_stream number) t.streams ≡ Some stream → IdsAreDrawn t.profile t.next_id t.rows → Came t (stream_answer t stream bytes reply).1 (event.Frame number bytes)
+stream_came t number bytes stream (Some text) is drawn = table_stays t (event.Frame number bytes)
+stream_came t number bytes stream None is drawn =
     let next = (frame_answer t stream (frame_reading bytes)).1 in
     let goes : TableAfter (IsOpening bytes) t stream.peer next = frame_after (IsOpening bytes) t stream bytes (frame_requests bytes) drawn in
     record { rows = all_more (RowAfter (IsOpening bytes) t next stream.peer) (RowCame t next (event.Frame number bytes)) news next.rows goes.rows; streams = old_streams t (event.Frame number bytes) next.streams goes.streams }
@@ -319,6 +316,14 @@ frame_of_came t number bytes (Some stream) is drawn =
     news : (row : Row) → RowAfter (IsOpening bytes) t (frame_answer t stream (frame_reading bytes)).1 stream.peer row → RowCame t (frame_answer t stream (frame_reading bytes)).1 (event.Frame number bytes) row
     news row (inl was) = inl was
     news row (inr new) = inr (record { stream = stream; found = is; new = new.new; request = new.request; requested = new.so; produced = new.produced })
+
+frame_of_came : (t : AdapterTable) (number : ℕ) (bytes : List ℕ) (found : Option Stream) → find (is_stream number) t.streams ≡ found → IdsAreDrawn t.profile t.next_id t.rows → OkCame t (event.Frame number bytes) (frame_of t bytes found)
+frame_of_came t number bytes None is drawn = tt
+frame_of_came t number bytes (Some stream) is drawn = stream_came t number bytes stream (inquiry_reply t bytes) is drawn
+
+inquired_came : (t : AdapterTable) (peer : Node) (bytes : List ℕ) (reply : Option (List ℕ)) → OkCame t (event.Inquiry peer bytes) (Ok (inquired_by t peer reply))
+inquired_came t peer bytes None = table_stays t (event.Inquiry peer bytes)
+inquired_came t peer bytes (Some text) = table_stays t (event.Inquiry peer bytes)
 
 -- nothing need hold of a request
 abbrev Anything : OpenFields → Type 0
@@ -390,13 +395,14 @@ tick_came t ms =
     (either (OkCame t (event.Tick ms)) (nat_lt clock_end (t.clock.0 + ms)) (Err ClockEnd) (Ok (advanced (clocked_table t ms))) tt (advanced_came t ms))
 
 step_came : (t : AdapterTable) (happens : Event) → IdsAreDrawn t.profile t.next_id t.rows → OkCame t happens (adapter_step t happens)
-unfolding requested received write frame stream_cut stream_opened
+unfolding requested received inquired write frame stream_cut stream_opened
 step_came t (event.Request peer bytes) drawn = request_came t peer bytes (served t peer (router_request_reading bytes)) (served_after Anything t peer (router_request_reading bytes) (λ large request is. tt) drawn)
 step_came t (event.StreamOpened number peer) drawn =
     either (OkCame t (event.StreamOpened number peer)) (is_taken t.streams number) (Err NotAllowedNow) (Ok (plain_answer Done, with_stream t number peer)) tt (opened_came t number peer)
 step_came t (event.Frame number bytes) drawn = frame_of_came t number bytes (find (is_stream number) t.streams) refl drawn
 step_came t (event.StreamCut number) drawn = cut_came t number (find (is_stream number) t.streams)
 step_came t (event.Datagram peer bytes) drawn = datagram_came t peer bytes (datagram_reading bytes)
+step_came t (event.Inquiry peer bytes) drawn = inquired_came t peer bytes (inquiry_reply t bytes)
 step_came t (event.Write point bytes) drawn = write_came t point bytes (find (is_at point) t.profile.inputs)
 step_came t (event.Tick ms) drawn = tick_came t ms
 step_came t other drawn = passive_holds (OkCame t other) t (λ why. tt) (λ verdict. table_stays t other) other refl

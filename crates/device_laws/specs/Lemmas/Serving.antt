@@ -1,5 +1,5 @@
 -- What an adapter serves: the reply of a success is that of the connection which the request opened.
-use Rattle.std.proofs.Common.{◌≡◌, ℕ, ◌*◌, ◌==◌, not, Bool, true, false, List, [], ◌∷◌, ◌++◌, length, find, Option, Some, None, Result, Ok, Err, refl}
+use Rattle.std.proofs.Common.{◌≡◌, ℕ, ◌*◌, Bool, true, false, List, [], ◌∷◌, ◌++◌, find, Option, Some, None, Result, Ok, Err, refl}
 use Rattle.std.specs.Int.{w32}
 use Rattle.std.specs.List.{AllByRecursion}
 use Rattle.std.specs.Option.{IfSome}
@@ -10,21 +10,18 @@ use Rattle.cip_fwdopen.specs.Open.{OpenFields}
 use Rattle.cip_fwdopen.specs.Close.{CloseFields}
 use Rattle.cip_fwdopen.specs.declared.reply.Opened.{Opened}
 use Rattle.cip_router.specs.declared.refusal.Refusal.{Refusal}
-use Rattle.cip_router.specs.declared.refusal.Status.TheVariants as status
-use Rattle.cip_router.specs.Requests.{RouterRequestFields, nothing, refused, closing, assembly, opening}
-use Rattle.cip_router.specs.Replies.{got}
+use Rattle.cip_router.specs.Requests.{RouterRequestFields, nothing, refused, closing, object, opening}
 use Rattle.adapter_table.specs.declared.profile.Profile.{Profile}
 use Rattle.adapter_table.specs.Connections.{Row}
 use Rattle.adapter_table.specs.declared.table.AdapterTable.{AdapterTable}
 use Rattle.adapter_table.specs.Checks.{Admitted, admission}
 use Rattle.adapter_table.specs.Newest.{was_opened_as}
 use Rattle.adapter_table.specs.Opening.{opened_row, opened_table}
-use Rattle.adapter_table.specs.Points.{bytes_at}
-use Rattle.adapter_table.specs.Requests.{Served, judged_open, admitted_open, served_open, close_of, served_close, is_value_attribute, router_refusal, assembly_of, served_assembly, served}
+use Rattle.adapter_table.specs.Objects.{ObjectAnswer, said, denied, resetting, object_answer}
+use Rattle.adapter_table.specs.Requests.{Served, judged_open, admitted_open, served_open, close_of, served_close, object_served, served_object, served}
 use Rattle.adapter_table.specs.Rows.{has_triad}
 use Rattle.adapter_table.specs.Sound.{IdsAreDrawn}
 use Rattle.device_laws.specs.Lemmas.Lists.{all_filtered}
-use Rattle.device_laws.specs.Lemmas.Texts.{either}
 use Rattle.device_laws.specs.Frames.{again}
 use Rattle.device_laws.specs.Lemmas.ReplyTexts.{ReplyHolds}
 
@@ -76,18 +73,15 @@ close_has : (t : AdapterTable) (request : CloseFields) (found : Option Row) → 
 close_has t request None = refl
 close_has t request (Some row) = tt
 
-assembly_has : (t : AdapterTable) (service : ℕ) (attribute : Option ℕ) (body : List ℕ) (found : Option (List ℕ)) → ServedHas t (assembly_of t service attribute body found)
-assembly_has t service attribute body None = nonzero status.PathDestination
-assembly_has t service attribute body (Some value) =
-    let all : Served = record { reply = got value; address = None; notices = []; table = t } in
-    either (ServedHas t) (not (service == 0x0E)) _ _ (nonzero status.Service)
-    (either (ServedHas t) (not (is_value_attribute attribute)) _ _ (nonzero status.Attribute)
-    (either (ServedHas t) (not (length body == 0)) (router_refusal t service status.TooMuchData) all (nonzero status.TooMuchData) tt))
+object_has : (t : AdapterTable) (service : ℕ) (answer : ObjectAnswer) → ServedHas t (object_served t service answer)
+object_has t service (said by value) = tt
+object_has t service (denied why) = nonzero why
+object_has t service (resetting kind) = tt
 
 pub served_has : (t : AdapterTable) (peer : Node) (requested : RouterRequestFields) → IdsAreDrawn t.profile t.next_id t.rows → IfSome (served t peer requested) (ServedHas t)
-unfolding served_open served_close served_assembly
+unfolding served_open served_close served_object
 served_has t peer nothing drawn = tt
 served_has t peer (refused service why) drawn = nonzero why
 served_has t peer (closing request) drawn = close_has t request (find (has_triad request.triad) t.rows)
-served_has t peer (assembly service instance attribute body) drawn = assembly_has t service attribute body (bytes_at t.values instance)
+served_has t peer (object service class instance attribute body) drawn = object_has t service (object_answer t service class instance attribute body)
 served_has t peer (opening large request) drawn = open_has t peer large request (admission t request) drawn

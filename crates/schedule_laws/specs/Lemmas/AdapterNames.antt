@@ -399,9 +399,9 @@ frame_named w new opened device t u n bytes answer step comes came replies =
     entries_of more (inl none) = subst (AllByRecursion (IsEntry new (opened ++ more))) (sym none.none) tt
     entries_of more (inr one) = subst (AllByRecursion (IsEntry new (opened ++ more))) (sym one.more_is) (new_entry w new opened device t u n bytes comes.other more step comes.holds one, tt)
 
--- no frame came, and nothing is opened
-quiet_named : (w new : World) (opened : List Opened) (device : ℕ) (t u : AdapterTable) (happens : Event) (answer : Answer) → AdapterStep w new opened device t u → EventArrives (Waits w opened) w device happens → Came t u happens → ((row : Row) → IsNewRow t u happens row → ⊥) → ((frame : Frame) → IsAnswerTo t u happens frame → ⊥) → AllByRecursion (IsAnswerTo t u happens) answer.frames → LeavesNamed w new opened [] device u answer
-quiet_named w new opened device t u happens answer step comes came none unanswered frames =
+-- no frame came, nothing is opened, and the answer goes over no stream
+quiet_named : (w new : World) (opened : List Opened) (device : ℕ) (t u : AdapterTable) (happens : Event) (answer : Answer) → AdapterStep w new opened device t u → EventArrives (Waits w opened) w device happens → Came t u happens → ((row : Row) → IsNewRow t u happens row → ⊥) → ((frame : Frame) → IsAnswerTo t u happens frame → (n : ℕ) → frame.to ≡ recipient.Stream n → ⊥) → AllByRecursion (IsAnswerTo t u happens) answer.frames → LeavesNamed w new opened [] device u answer
+quiet_named w new opened device t u happens answer step comes came none unstreamed frames =
     let named = step.named in
     record {
       entries = tt;
@@ -409,7 +409,7 @@ quiet_named w new opened device t u happens answer step comes came none unanswer
         rows = all_more (RowCame t u happens) (HasEntry new (opened ++ []) device) rows u.rows came.rows;
         streams = all_more (StreamCame t happens) (IsKnown new device) (λ s by. stream_named (Waits w opened) w new device t happens s step.later named.streams comes by) u.streams came.streams;
       };
-      frames = all_more (IsAnswerTo t u happens) (FrameSent (Waits new (opened ++ [])) (map ends_of w.streams) device) (λ frame is. absurd (unanswered frame is)) answer.frames frames;
+      frames = all_more (IsAnswerTo t u happens) (FrameSent (Waits new (opened ++ [])) (map ends_of w.streams) device) (λ frame is n e to at. absurd (unstreamed frame is n to)) answer.frames frames;
     }
   where
     rows : (row : Row) → RowCame t u happens row → HasEntry new (opened ++ []) device row
@@ -419,4 +419,6 @@ quiet_named w new opened device t u happens answer step comes came none unanswer
 pub adapter_named : (w new : World) (opened : List Opened) (device : ℕ) (t u : AdapterTable) (happens : Event) (answer : Answer) → AdapterStep w new opened device t u → EventArrives (Waits w opened) w device happens → Came t u happens → AllByRecursion (IsAnswerTo t u happens) answer.frames → LeavesNamed w new opened (frame_opens w device (Adapter t) happens (Adapter u)) device u answer
 adapter_named w new opened device t u (event.Request peer bytes) answer step comes came frames = absurd comes
 adapter_named w new opened device t u (event.Frame n bytes) answer step comes came frames = frame_named w new opened device t u n bytes answer step comes came frames
-adapter_named w new opened device t u other answer step comes came frames = quiet_named w new opened device t u other answer step comes came (λ row none. none) (λ frame none. none) frames
+adapter_named w new opened device t u (event.Inquiry peer bytes) answer step comes came frames =
+    quiet_named w new opened device t u (event.Inquiry peer bytes) answer step comes came (λ row none. none) (λ frame is n to. absurd (let e = sym is.to ∙ to in cc)) frames
+adapter_named w new opened device t u other answer step comes came frames = quiet_named w new opened device t u other answer step comes came (λ row none. none) (λ frame none n to. none) frames

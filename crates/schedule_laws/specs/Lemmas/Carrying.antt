@@ -16,7 +16,7 @@ use Rattle.cip_events.specs.declared.event.Reason.{Reason}
 use Rattle.cip_fwdopen.specs.declared.reply.OpenAnswer.{OpenAnswer}
 use Rattle.cip_fwdopen.specs.declared.reply.OpenAnswer.TheVariants as answer
 use Rattle.cip_fwdopen.specs.Reply.{open_reply_reading}
-use Rattle.cip_router.specs.Requests.{RouterRequestFields, nothing, refused, closing, assembly, opening, router_request_reading}
+use Rattle.cip_router.specs.Requests.{RouterRequestFields, nothing, refused, closing, object, opening, router_request_reading}
 use Rattle.scanner_table.specs.declared.slot.SlotState.{SlotState}
 use Rattle.scanner_table.specs.declared.slot.SlotState.TheVariants.{Idle, Opening, Established, TimedOut, Closing}
 use Rattle.scanner_table.specs.Replies.{reply_answer}
@@ -38,7 +38,7 @@ request_more : (P Q : ℕ → Type 0) → More P Q → (requested : RouterReques
 request_more P Q more nothing ids = tt
 request_more P Q more (refused service why) ids = tt
 request_more P Q more (closing request) ids = tt
-request_more P Q more (assembly service instance attribute body) ids = tt
+request_more P Q more (object service class instance attribute body) ids = tt
 request_more P Q more (opening large request) ids = more _ ids
 
 reported_more : (P Q : ℕ → Type 0) → More P Q → (reported : Result OpenAnswer Reason) → ReplyIds P reported → ReplyIds Q reported

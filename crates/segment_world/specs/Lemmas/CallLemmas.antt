@@ -1,4 +1,4 @@
--- A call of an application makes an event of its own device. A law cites this in place of a list of calls. (Of two clauses the
+-- A call makes an event of one device, and no item of a stream. A law cites this in place of a list of calls. (Of two clauses the
 -- last one is read call by call, so a new call changes nothing here.)
 use Rattle.std.proofs.Common.{◌≡◌, true, refl}
 use Rattle.cip_events.specs.Arrivals.{is_own}

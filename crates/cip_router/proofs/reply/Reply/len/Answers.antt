@@ -1,6 +1,6 @@
 use Rattle.std.proofs.Common.{arith, sym}
 use Rattle.cip_fwdopen.specs.Services.{is_large_open}
-use Rattle.cip_router.proofs.Lengths.{opened_len, closed_len, got_len, refused_len}
+use Rattle.cip_router.proofs.Lengths.{opened_len, closed_len, object_reply_len, refused_len}
 use Rattle.cip_router.proofs.reply.Reply.len.Goals as goal
 
 pub returns-in-Opened : goal.returns-in-Opened
@@ -9,8 +9,8 @@ returns-in-Opened c = rw c.in-Opened.is (sym (opened_len (is_large_open c.in-Ope
 pub returns-in-Closed : goal.returns-in-Closed
 returns-in-Closed c = rw c.in-Closed.is (sym (closed_len c.in-Closed.field-0))
 
-pub returns-in-Got : goal.returns-in-Got
-returns-in-Got c = rw c.in-Got.is (sym (got_len c.in-Got.value.now))
+pub returns-in-Object : goal.returns-in-Object
+returns-in-Object c = rw c.in-Object.is (sym (object_reply_len c.in-Object.field-0 c.in-Object.value.now))
 
 pub returns-in-Refused : goal.returns-in-Refused
 returns-in-Refused c =

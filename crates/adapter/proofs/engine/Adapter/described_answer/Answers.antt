@@ -1,0 +1,14 @@
+use Rattle.std.proofs.Common.{rules, ◌≡◌, sym, Some, None}
+use Rattle.adapter_objects.specs.SaidLaws.{described_is, undescribed_is}
+use Rattle.adapter.proofs.engine.Adapter.described_answer.Goals as goal
+
+pub returns-in_default-clause-value : goal.returns-in_default-clause-value
+returns-in_default-clause-value g c =
+    let none : c.args.self.now.profile.description ≡ None = search rules in
+    sym (undescribed_is c.args.self.now c.args.request.service c.args.class c.args.instance c.args.request.attribute c.args.request.body.now none c.requires)
+
+pub returns-clause-value : goal.returns-clause-value
+returns-clause-value g c =
+    let is : c.args.self.now.profile.description ≡ Some c.in-Some.description = search rules in
+    let said = rw (c.io_state-io.ensures) at c.described_answer.ensures.value in
+    rw (described_is c.args.self.now c.in-Some.description c.args.request.service c.args.class c.args.instance c.args.request.attribute c.args.request.body.now is c.requires, ← c.self.view_is) said

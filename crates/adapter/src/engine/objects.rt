@@ -1,0 +1,131 @@
+//! Services of objects beside the Connection Manager, and inquiries.
+
+ghost use Rattle.std.specs.Prelude.{◌≡◌, ◌==◌, Ok, Some, IfOk, false};
+ghost use Rattle.std.specs.Option.{option_map};
+ghost use Rattle.adapter_table.specs.Inquiries.{inquired, inquiry_reply};
+ghost use Rattle.adapter_table.specs.Objects.{object_answer};
+ghost use Rattle.adapter_table.specs.Requests.{served_object};
+ghost use Rattle.adapter_objects.specs.Few.{FewSaid};
+ghost use Rattle.adapter_objects.specs.Views.{view_answer};
+ghost use Rattle.adapter_replies.specs.Routes.{routed};
+ghost use Rattle.cip_events.specs.Outcomes.{Follows};
+
+use super::Adapter;
+use adapter_objects::{
+    ObjectAnswer, ObjectRequest, assembly_answer, described_answer, is_bare_message,
+};
+use adapter_replies::{Route, inquiry_answer, object_answer};
+use cip_epath::class::ASSEMBLY;
+use cip_events::Recipient;
+use cip_tables::{Answer, Outcome, Status, Verdict};
+use cip_types::{Node, OutOfMemory};
+use connection_list::ConnectionTable;
+
+// OBJECTS
+
+impl<T: ConnectionTable> Adapter<T> {
+    /// A service of an assembly.
+    #[tactic(auto, unfolding(adapter_table::specs::Requests::served_object), using(adapter_objects::specs::SaidLaws::assembly_is, adapter_replies::specs::RouteLaws::routed_object))]
+    fn assembly(&mut self, route: Route, instance: u32, request: ObjectRequest<'_>) -> Outcome
+        ensures { Follows (Ok (routed self.old route (Some
+            (served_object self.old request.entry.service 0x04 instance request.entry.attribute
+            request.entry.body.now)))) self.old result self.new }
+    {
+        let answer = assembly_answer(self.alloc, &self.assemblies, instance, request)?;
+        Ok(object_answer(self.alloc, route, request.service, &answer)?)
+    }
+
+    /// What the device answers to a service of another object than an assembly. Without a description it has none.
+    fn described_answer(
+        &self,
+        class: u32,
+        instance: u32,
+        request: ObjectRequest<'_>,
+    ) -> Result<ObjectAnswer<'_>, OutOfMemory>
+        requires { (class == 0x04) ≡ false }
+        ensures value { IfOk result (λ answer. view_answer answer
+            ≡ object_answer self.now request.entry.service class instance request.entry.attribute
+            request.entry.body.now) }
+        ensures few { IfOk result (λ answer. FewSaid (view_answer answer)) }
+    {
+        let Some(description) = &self.assemblies.profile().description else {
+            return Ok(ObjectAnswer::Denied(Status::PathDestination));
+        };
+        let io = self.table.io_state();
+        described_answer(
+            self.alloc,
+            &self.assemblies,
+            io,
+            description,
+            class,
+            instance,
+            request,
+        )
+    }
+
+    /// A service of another object.
+    #[tactic(auto, unfolding(adapter_table::specs::Requests::served_object), using(adapter_replies::specs::RouteLaws::routed_object))]
+    fn described(
+        &mut self,
+        route: Route,
+        class: u32,
+        instance: u32,
+        request: ObjectRequest<'_>,
+    ) -> Outcome
+        requires { (class == 0x04) ≡ false }
+        ensures { Follows (Ok (routed self.old route (Some
+            (served_object self.old request.entry.service class instance request.entry.attribute
+            request.entry.body.now)))) self.old result self.new }
+    {
+        let answer = self.described_answer(class, instance, request)?;
+        Ok(object_answer(self.alloc, route, request.service, &answer)?)
+    }
+
+    /// A service of an object beside the Connection Manager's own.
+    pub(crate) fn object(
+        &mut self,
+        route: Route,
+        class: u32,
+        instance: u32,
+        request: ObjectRequest<'_>,
+    ) -> Outcome
+        ensures { Follows (Ok (routed self.old route (Some
+            (served_object self.old request.entry.service class instance request.entry.attribute
+            request.entry.body.now)))) self.old result self.new }
+    {
+        if class == ASSEMBLY {
+            return self.assembly(route, instance, request);
+        }
+        self.described(route, class, instance, request)
+    }
+}
+
+// INQUIRIES
+
+impl<T: ConnectionTable> Adapter<T> {
+    /// The reply to some bytes, if the device is described and they are an inquiry.
+    #[tactic(auto, using(adapter_objects::specs::SaidLaws::inquired_is, adapter_objects::specs::SaidLaws::uninquired_is))]
+    pub(crate) fn inquiry_reply(&self, bytes: &[u8]) -> Result<Option<Vec<u8>>, OutOfMemory>
+        ensures { IfOk result (λ reply. option_map (λ v. v.items) reply ≡ inquiry_reply self.now bytes.now) }
+    {
+        let Some(description) = &self.assemblies.profile().description else {
+            return Ok(None);
+        };
+        if !is_bare_message(bytes) {
+            return Ok(None);
+        }
+        let io = self.table.io_state();
+        adapter_objects::inquiry_reply(self.alloc, &self.assemblies, io, description, bytes)
+    }
+
+    /// An inquiry of a peer over no stream.
+    #[tactic(auto, unfolding(adapter_table::specs::Inquiries::inquired))]
+    pub(crate) fn inquire(&mut self, peer: Node, bytes: &[u8]) -> Outcome
+        ensures { Follows (Ok (inquired self.old peer bytes.now)) self.old result self.new }
+    {
+        match self.inquiry_reply(bytes)? {
+            Some(text) => Ok(inquiry_answer(self.alloc, Recipient::Peer(peer), text)?),
+            None => Ok(Answer::plain(self.alloc, Verdict::BadFrame)),
+        }
+    }
+}

@@ -1,0 +1,4 @@
+pub mod Views
+pub mod Said
+pub mod SaidLaws
+pub mod Few

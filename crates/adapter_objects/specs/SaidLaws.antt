@@ -1,0 +1,78 @@
+-- What is answered by the parts of a table is what the table answers.
+use Rattle.std.proofs.Common.{◌≡◌, ℕ, ◌==◌, ◌&&◌, Bool, true, false, cond, List, Option, Some, None, is_some, length, refl, ap, ◌∙◌}
+use Rattle.std.specs.List.{list_any}
+use Rattle.cip_router.specs.declared.refusal.Status.TheVariants as status
+use Rattle.list_identity.specs.Inquiries.{inquiry_answer}
+use Rattle.adapter_table.specs.declared.profile.Description.{Description}
+use Rattle.adapter_table.specs.declared.table.PointValue.{PointValue}
+use Rattle.adapter_table.specs.declared.table.AdapterTable.{AdapterTable}
+use Rattle.adapter_table.specs.Points.{bytes_at}
+use Rattle.adapter_table.specs.Inquiries.{inquiry_reply, inquiry_reply_of}
+use Rattle.adapter_table.specs.Objects.{ObjectAnswer, Instance, denied, io_state_of, is_owning, status_word, assembly_found, assembly_class, assembly_instance, class_instance, in_two_bytes, largest_point, described_at, instance_at, object_answer, object_said, instance_answer, reset_by}
+use Rattle.assembly_set.specs.Assemblies.{Assemblies}
+use Rattle.adapter_objects.specs.Said.{described_said, assembly_said, station_in, address_in}
+
+-- the points of a table
+abbrev pub points_of : AdapterTable → Assemblies
+points_of t = record { profile = t.profile; values = t.values }
+
+-- ---- the class decides
+
+other_class : (t : AdapterTable) (class instance : ℕ) → (class == 0x04) ≡ false → instance_at t class instance ≡ described_at t class instance t.profile.description
+unfolding instance_at
+other_class t class instance other = rw other refl
+
+-- a described device answers to a service of another object than an assembly
+pub described_is : (t : AdapterTable) (d : Description) (service class instance : ℕ) (attribute : Option ℕ) (body : List ℕ) → t.profile.description ≡ Some d → (class == 0x04) ≡ false → object_answer t service class instance attribute body ≡ described_said (points_of t) (io_state_of t.rows) d service class instance attribute body
+unfolding object_answer described_said status_word
+described_is t d service class instance attribute body is other =
+    ap (object_said (list_any is_owning t.rows) service attribute body) (other_class t class instance other ∙ ap (described_at t class instance) is)
+
+-- a device without a description has no other object
+pub undescribed_is : (t : AdapterTable) (service class instance : ℕ) (attribute : Option ℕ) (body : List ℕ) → t.profile.description ≡ None → (class == 0x04) ≡ false → object_answer t service class instance attribute body ≡ denied status.PathDestination
+unfolding object_answer
+undescribed_is t service class instance attribute body is other =
+    ap (object_said (list_any is_owning t.rows) service attribute body) (other_class t class instance other ∙ ap (described_at t class instance) is)
+
+-- ---- an assembly resets nothing
+
+never_resets : (b owned : Bool) (body : List ℕ) (otherwise : ObjectAnswer) → cond (b && false) (reset_by owned body) otherwise ≡ otherwise
+never_resets true owned body otherwise = refl
+never_resets false owned body otherwise = refl
+
+-- who owns an output makes no difference to an instance that cannot be reset
+unowned : (owned : Bool) (service : ℕ) (attribute : Option ℕ) (body : List ℕ) (o : Instance) → o.resets ≡ false → instance_answer owned service attribute body o ≡ instance_answer false service attribute body o
+unowned owned service attribute body o none = rw none (rw (never_resets (service == 0x05) owned body (denied status.Service), never_resets (service == 0x05) false body (denied status.Service)) refl)
+
+-- the class of the assemblies
+abbrev class_of : List PointValue → Instance
+class_of values = class_instance 2 (in_two_bytes (largest_point values)) (length values)
+
+class_said : (owned : Bool) (service instance : ℕ) (attribute : Option ℕ) (body : List ℕ) (values : List PointValue) (d : Option Description) → object_said owned service attribute body (assembly_class values instance d) ≡ object_said false service attribute body (assembly_class values instance d)
+class_said owned service instance attribute body values None = refl
+class_said owned service instance attribute body values (Some d) = split (instance == 0)
+  where
+    split : (b : Bool) → object_said owned service attribute body (cond b (Some (class_of values)) None) ≡ object_said false service attribute body (cond b (Some (class_of values)) None)
+    split true = unowned owned service attribute body (class_of values) refl
+    split false = refl
+
+found_said : (owned : Bool) (service instance : ℕ) (attribute : Option ℕ) (body : List ℕ) (values : List PointValue) (d : Option Description) (found : Option (List ℕ)) → object_said owned service attribute body (assembly_found values instance d found) ≡ object_said false service attribute body (assembly_found values instance d found)
+found_said owned service instance attribute body values d None = class_said owned service instance attribute body values d
+found_said owned service instance attribute body values d (Some value) = unowned owned service attribute body (assembly_instance (is_some d) value) refl
+
+-- a device answers to a service of an assembly
+pub assembly_is : (t : AdapterTable) (service instance : ℕ) (attribute : Option ℕ) (body : List ℕ) → object_answer t service 0x04 instance attribute body ≡ assembly_said (points_of t) service instance attribute body
+unfolding object_answer instance_at assembly_said
+assembly_is t service instance attribute body = found_said (list_any is_owning t.rows) service instance attribute body t.values t.profile.description (bytes_at t.values instance)
+
+-- ---- inquiries
+
+-- a described device answers an inquiry
+pub inquired_is : (t : AdapterTable) (d : Description) (bytes : List ℕ) → t.profile.description ≡ Some d → inquiry_reply t bytes ≡ inquiry_answer bytes (station_in (points_of t) (io_state_of t.rows) d) (address_in (points_of t) d)
+unfolding inquiry_reply status_word
+inquired_is t d bytes is = ap (inquiry_reply_of t bytes) is
+
+-- a device without a description answers none
+pub uninquired_is : (t : AdapterTable) (bytes : List ℕ) → t.profile.description ≡ None → inquiry_reply t bytes ≡ None
+unfolding inquiry_reply
+uninquired_is t bytes is = ap (inquiry_reply_of t bytes) is

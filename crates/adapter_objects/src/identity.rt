@@ -1,0 +1,72 @@
+//! The replies of a described device to inquiries.
+
+ghost use Rattle.std.specs.Prelude.{◌≡◌, IfOk, Some, None, false};
+ghost use Rattle.std.specs.Option.{option_map};
+ghost use Rattle.list_identity.specs.Inquiries.{inquiry_answer, inquiry_in};
+ghost use Rattle.adapter_objects.specs.Said.{station_in, address_in};
+ghost use Rattle.adapter_objects.specs.Few.{IsLimited};
+
+use crate::described::IN_OPERATION;
+use crate::status::status_word;
+use adapter_table::{Description, IoState};
+use assembly_set::AssemblySet;
+use cip_encap::{SocketAddress, read_message};
+use cip_types::OutOfMemory;
+use list_identity::{ProductName, StationIdentity, inquiry_reply as reply_to_inquiry};
+use std::alloc::Global;
+
+/// Whether some bytes are a message without status, options and data. Other bytes are no inquiry. Takes no memory.
+///
+/// Volume 2, chapter 2, encapsulation messages.
+pub fn is_bare_message(bytes: &[u8]) -> bool
+    ensures { result ≡ false → inquiry_in bytes.now ≡ None }
+{
+    match read_message(bytes) {
+        Ok(message) => message.status == 0 && message.options == 0 && message.data.is_empty(),
+        Err(_) => false,
+    }
+}
+
+/// What a device says of itself.
+#[tactic(auto, using(crate::proofs::Points::whole_name))]
+fn station_of(
+    alloc: Global,
+    assemblies: &AssemblySet,
+    io: IoState,
+    description: &Description,
+) -> Result<StationIdentity, OutOfMemory>
+    requires { IsLimited description.now }
+    ensures { IfOk result (λ station. station ≡ station_in assemblies.now io description.now) }
+{
+    Ok(StationIdentity {
+        device: assemblies.profile().identity,
+        status: status_word(assemblies, io),
+        serial: description.serial,
+        name: ProductName::front_of(alloc, description.name.as_slice())?,
+        state: IN_OPERATION,
+    })
+}
+
+/// The reply of a described device to an inquiry, and none to other bytes. Out of memory is the only fault.
+///
+/// Volume 2, chapter 2, ListIdentity, ListServices and ListInterfaces.
+#[tactic(auto, using(crate::specs::Few::description_limited))]
+pub fn inquiry_reply(
+    alloc: Global,
+    assemblies: &AssemblySet,
+    io: IoState,
+    description: &Description,
+    bytes: &[u8],
+) -> Result<Option<Vec<u8>>, OutOfMemory>
+    requires { assemblies.now.profile.description ≡ Some description.now }
+    ensures { IfOk result (λ reply. option_map (λ v. v.items) reply
+        ≡ inquiry_answer bytes.now (station_in assemblies.now io description.now)
+        (address_in assemblies.now description.now)) }
+{
+    let at = SocketAddress {
+        port: description.port,
+        address: assemblies.profile().node,
+    };
+    let station = station_of(alloc, assemblies, io, description)?;
+    reply_to_inquiry(alloc, bytes, &station, at)
+}

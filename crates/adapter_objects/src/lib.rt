@@ -1,0 +1,20 @@
+//! The objects that tools ask of an adapter: their instances, the answers to their services, and the replies to
+//! inquiries, all from its profile, what its points hold, and what its connections tell.
+//!
+//! Volume 1, chapter 5, object library. Volume 2, chapter 5, TCP/IP Interface and Ethernet Link objects.
+#![tactic(auto)]
+
+mod answer;
+mod assembly;
+mod described;
+mod identity;
+mod instance;
+mod status;
+mod value;
+
+pub use answer::{Bytes, ObjectAnswer, ObjectRequest};
+pub use assembly::assembly_answer;
+pub use described::described_answer;
+pub use identity::{inquiry_reply, is_bare_message};
+pub use instance::Instance;
+pub use value::{Attribute, Value};

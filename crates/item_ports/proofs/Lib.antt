@@ -1,0 +1,2 @@
+pub mod Messages
+mod Samples

@@ -1,0 +1,5 @@
+pub mod Naming
+pub mod Editing
+pub mod Replies
+pub mod Held
+pub mod Ports

@@ -1,0 +1,24 @@
+//! Parts of bytes.
+
+ghost use Rattle.std.specs.Prelude.{◌≡◌, ◌+◌, ◌≤◌, drop, length};
+ghost use Rattle.item_ports.specs.Naming.{be16_in};
+
+/// What is behind so many bytes: nothing, if there are no more.
+pub(crate) fn behind(bytes: &[u8], count: usize) -> &[u8]
+    ensures { result.now ≡ drop count bytes.now }
+{
+    if count <= bytes.len() {
+        &bytes[count..]
+    } else {
+        &[]
+    }
+}
+
+/// The number of 16 bits at a position, its most significant byte first.
+pub(crate) fn be16_in(bytes: &[u8], at: usize) -> u16
+    requires { at + 2 ≤ length bytes.now }
+    ensures { result ≡ be16_in bytes.now at }
+{
+    let number = &bytes[at..at + 2];
+    u16::from_be_bytes([number[0], number[1]])
+}

@@ -1,0 +1,4 @@
+mod InquiryLaws
+mod ServiceLaws
+mod IdentityLaws
+mod OwnedBit

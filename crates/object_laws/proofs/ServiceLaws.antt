@@ -1,0 +1,235 @@
+-- What the services of objects leave and report.
+use Rattle.std.proofs.Common.{◌≡◌, ◌≤◌, ◌⊎◌, inl, inr, ℕ, ◌==◌, ◌&&◌, nat_lt, Bool, true, false, cond, List, [], ◌∷◌, length, find, Option, Some, None, Result, Ok, refl, sym, ◌∙◌, ap, subst, arith}
+use Rattle.std.specs.List.{list_any}
+use Rattle.std.proofs.lemmas.Bool.{le-ltb}
+use Rattle.std.proofs.lemmas.Bool.Decides.{nat_tests}
+use Rattle.base_lemmas.specs.Booleans.{either}
+use Rattle.cip_types.specs.declared.names.Node.{Node}
+use Rattle.cip_types.specs.Fields.{fields_at}
+use Rattle.cip_encap.specs.declared.message.EncapFault.{EncapFault}
+use Rattle.cip_encap.specs.declared.packet.ItemFault.{ItemFault}
+use Rattle.cip_encap.specs.Message.{MessageFields, header_widths}
+use Rattle.cip_encap.specs.Packet.{PacketFields}
+use Rattle.cip_events.specs.declared.event.Event.{Event}
+use Rattle.cip_events.specs.declared.event.Event.TheVariants as event
+use Rattle.cip_events.specs.declared.event.Notice.{Notice}
+use Rattle.cip_events.specs.declared.event.StepFault.{StepFault}
+use Rattle.cip_router.specs.Commands.{command_of}
+use Rattle.cip_router.specs.Frames.{request_header_of, frame_fields, frame_reading}
+use Rattle.cip_router.specs.Requests.{RouterRequestFields, object, router_request_reading}
+use Rattle.cip_router.specs.declared.object_service.ObjectService.TheVariants.{GetSingle}
+use Rattle.adapter_table.specs.declared.profile.Description.{Description}
+use Rattle.adapter_table.specs.declared.table.AdapterTable.{AdapterTable}
+use Rattle.adapter_table.specs.declared.table.Stream.{Stream}
+use Rattle.adapter_table.specs.Encapsulation.{Handled, request_replied, packet_replied, handled, frame_answer, stream_answer, frame_of, frame}
+use Rattle.adapter_table.specs.Inquiries.{inquiry_reply}
+use Rattle.adapter_table.specs.Lemmas.RequestLemmas.{next_is}
+use Rattle.adapter_table.specs.Objects.{Attribute, Instance, identity_instance, status_word, described_at, instance_at, is_numbered, is_owning, ObjectAnswer, said, denied, resetting, attribute_of, single_of, set_of, all_of, reset_of, reset_by, instance_answer, object_said, object_answer}
+use Rattle.adapter_table.specs.Requests.{Next, object_served, served_object, served, replied, answered, requested}
+use Rattle.adapter_table.specs.Step.{adapter_step}
+use Rattle.adapter_table.specs.Streams.{is_stream, has_session}
+use Rattle.object_laws.specs.Services.{IsServiceRequest, IsServiceFrame, Brings, IsGet, GetsChangeNothing, IsOneReset, ResetsChangeNothing, ResetsAreReported, AttributesReadBack}
+
+-- ---- what an event that brings a service leaves
+
+-- the table, and notices of which it holds
+abbrev Leaves : (List Notice → Type 0) → AdapterTable → AdapterTable → List Notice → Type 0
+Leaves N t next notices = (next ≡ t) × N notices
+
+abbrev NextLeaves : (List Notice → Type 0) → AdapterTable → Next → Type 0
+NextLeaves N t next = Leaves N t next.1 next.0.notices
+
+abbrev HandledLeaves : (List Notice → Type 0) → AdapterTable → Handled → Type 0
+HandledLeaves N t done = Leaves N t done.table done.notices
+
+-- it holds of no notices, and of those that the service brings
+record Serves (N : List Notice → Type 0) (t : AdapterTable) (service : ℕ) : Type 0 where
+  none : N []
+  each : (class instance : ℕ) (attribute : Option ℕ) (body : List ℕ) → N (object_served t service (object_answer t service class instance attribute body)).notices
+
+object_stays : (t : AdapterTable) (service : ℕ) (answer : ObjectAnswer) → (object_served t service answer).table ≡ t
+object_stays t service (said by value) = refl
+object_stays t service (denied why) = refl
+object_stays t service (resetting kind) = refl
+
+service_leaves : (N : List Notice → Type 0) (t : AdapterTable) (service : ℕ) → Serves N t service → (class instance : ℕ) (attribute : Option ℕ) (body : List ℕ) → Leaves N t (served_object t service class instance attribute body).table (served_object t service class instance attribute body).notices
+unfolding served_object
+service_leaves N t service serves class instance attribute body =
+    (object_stays t service (object_answer t service class instance attribute body), serves.each class instance attribute body)
+
+requested_leaves : (N : List Notice → Type 0) (t : AdapterTable) (service : ℕ) → Serves N t service → (peer : Node) (bytes : List ℕ) → IsServiceRequest bytes service → NextLeaves N t (requested t peer bytes)
+unfolding requested
+requested_leaves N t service serves peer bytes is =
+    subst (λ (r : RouterRequestFields). NextLeaves N t (answered t peer (served t peer r))) (sym is.reads) (service_leaves N t service serves is.class is.instance is.attribute is.body)
+
+packet_leaves : (N : List Notice → Type 0) (t : AdapterTable) (service : ℕ) → Serves N t service → (peer : Node) (packet : PacketFields) → IsServiceRequest packet.payload service → HandledLeaves N t (packet_replied t peer (Ok packet))
+packet_leaves N t service serves peer packet is =
+    subst (λ (r : RouterRequestFields). HandledLeaves N t (request_replied t (served t peer r))) (sym is.reads) (service_leaves N t service serves is.class is.instance is.attribute is.body)
+
+sent_leaves : (N : List Notice → Type 0) (t : AdapterTable) (service : ℕ) → Serves N t service → (stream : Stream) (bytes : List ℕ) (is : IsServiceFrame bytes service) → HandledLeaves N t (handled t stream (request_header_of is.message) is.message.payload (command_of is.message.command))
+unfolding handled
+sent_leaves N t service serves stream bytes is =
+    subst (λ (c : ℕ). HandledLeaves N t (handled t stream (request_header_of is.message) is.message.payload (command_of c))) (sym is.sends)
+    (either (HandledLeaves N t) (has_session stream is.message.session) _ _
+    (subst (λ (r : Result PacketFields ItemFault). HandledLeaves N t (packet_replied t stream.peer r)) (sym is.packet_is) (packet_leaves N t service serves stream.peer is.packet is.request))
+    (refl, serves.none))
+
+message_leaves : (N : List Notice → Type 0) (t : AdapterTable) (service : ℕ) → Serves N t service → (stream : Stream) (bytes : List ℕ) → IsServiceFrame bytes service → NextLeaves N t (frame_answer t stream (frame_reading bytes))
+unfolding frame_reading
+message_leaves N t service serves stream bytes is =
+    subst (λ (r : Result MessageFields EncapFault). NextLeaves N t (frame_answer t stream (frame_fields (fields_at header_widths bytes) r))) (sym is.reads) (sent_leaves N t service serves stream bytes is)
+
+stream_leaves : (N : List Notice → Type 0) (t : AdapterTable) (service : ℕ) → Serves N t service → (stream : Stream) (bytes : List ℕ) (reply : Option (List ℕ)) → IsServiceFrame bytes service → NextLeaves N t (stream_answer t stream bytes reply)
+stream_leaves N t service serves stream bytes None is = message_leaves N t service serves stream bytes is
+stream_leaves N t service serves stream bytes (Some text) is = (refl, serves.none)
+
+frame_leaves : (N : List Notice → Type 0) (t : AdapterTable) (service : ℕ) → Serves N t service → (bytes : List ℕ) (found : Option Stream) (next : Next) → frame_of t bytes found ≡ Ok next → IsServiceFrame bytes service → NextLeaves N t next
+frame_leaves N t service serves bytes None next is brings = absurd (let e = is in cc)
+frame_leaves N t service serves bytes (Some stream) next is brings =
+    subst (NextLeaves N t) (next_is _ _ is) (stream_leaves N t service serves stream bytes (inquiry_reply t bytes) brings)
+
+step_leaves : (N : List Notice → Type 0) (t : AdapterTable) (service : ℕ) → Serves N t service → (happens : Event) (next : Next) → adapter_step t happens ≡ Ok next → Brings happens service → NextLeaves N t next
+unfolding frame
+step_leaves N t service serves (event.Request peer bytes) next is brings = subst (NextLeaves N t) (next_is _ _ is) (requested_leaves N t service serves peer bytes brings)
+step_leaves N t service serves (event.Frame number bytes) next is brings = frame_leaves N t service serves bytes (find (is_stream number) t.streams) next is brings
+step_leaves N t service serves other next is brings = absurd brings
+
+-- ---- a Get
+
+abbrev IsNoReset : ObjectAnswer → Type 0
+IsNoReset (said by value) = Unit {0}
+IsNoReset (denied why) = Unit {0}
+IsNoReset (resetting kind) = ⊥
+
+single_gets : (body : List ℕ) (found : Option Attribute) → IsNoReset (single_of body found)
+single_gets body None = tt
+single_gets body (Some attribute) = either IsNoReset (length body == 0) _ _ tt tt
+
+all_gets : (attributes : List Attribute) (body : List ℕ) → IsNoReset (all_of attributes body)
+all_gets attributes body = either IsNoReset (length body == 0) _ _ tt tt
+
+instance_gets : (owned : Bool) (service : ℕ) (attribute : Option ℕ) (body : List ℕ) (o : Instance) → IsGet service → IsNoReset (instance_answer owned service attribute body o)
+instance_gets owned service attribute body o (inl is) =
+    subst (λ (s : ℕ). IsNoReset (instance_answer owned s attribute body o)) (sym is) (either IsNoReset o.gets_all _ _ (all_gets o.attributes body) tt)
+instance_gets owned service attribute body o (inr is) =
+    subst (λ (s : ℕ). IsNoReset (instance_answer owned s attribute body o)) (sym is) (single_gets body (attribute_of o.attributes attribute))
+
+object_gets : (owned : Bool) (service : ℕ) (attribute : Option ℕ) (body : List ℕ) (found : Option Instance) → IsGet service → IsNoReset (object_said owned service attribute body found)
+object_gets owned service attribute body None get = tt
+object_gets owned service attribute body (Some o) get = instance_gets owned service attribute body o get
+
+quiet_served : (t : AdapterTable) (service : ℕ) (answer : ObjectAnswer) → IsNoReset answer → (object_served t service answer).notices ≡ []
+quiet_served t service (said by value) none = refl
+quiet_served t service (denied why) none = refl
+quiet_served t service (resetting kind) none = absurd none
+
+get_serves : (t : AdapterTable) (service : ℕ) → IsGet service → Serves (λ notices. notices ≡ []) t service
+unfolding object_answer
+get_serves t service get = record {
+  none = refl;
+  each = λ class instance attribute body.
+      quiet_served t service (object_answer t service class instance attribute body) (object_gets (list_any is_owning t.rows) service attribute body (instance_at t class instance) get);
+}
+
+pub gets_stay : GetsChangeNothing
+gets_stay t happens service next is brings get =
+    let left = step_leaves (λ notices. notices ≡ []) t service (get_serves t service get) happens next is brings in
+    record { table = left.0; notices = left.1 }
+
+-- ---- a Reset
+
+-- a reset is of type 0 or 1
+abbrev IsSmallReset : ObjectAnswer → Type 0
+IsSmallReset (said by value) = Unit {0}
+IsSmallReset (denied why) = Unit {0}
+IsSmallReset (resetting kind) = kind ≤ 1
+
+at_most : (kind : ℕ) → nat_lt 1 kind ≡ false → kind ≤ 1
+at_most kind is = grind (arith, nat_tests)
+
+kind_resets : (b owned : Bool) (kind : ℕ) (why other : ObjectAnswer) → nat_lt 1 kind ≡ b → IsSmallReset why → IsSmallReset other → IsSmallReset (cond b why (cond owned other (resetting kind)))
+kind_resets true owned kind why other is first second = first
+kind_resets false owned kind why other is first second = either IsSmallReset owned other (resetting kind) second (at_most kind is)
+
+kind_reset : (owned : Bool) (kind : ℕ) → IsSmallReset (reset_of owned kind)
+kind_reset owned kind = kind_resets (nat_lt 1 kind) owned kind _ _ refl tt tt
+
+body_resets : (owned : Bool) (body : List ℕ) → IsSmallReset (reset_by owned body)
+body_resets owned [] = kind_reset owned 0
+body_resets owned (kind ∷ []) = kind_reset owned kind
+body_resets owned (kind ∷ more ∷ rest) = tt
+
+single_resets : (body : List ℕ) (found : Option Attribute) → IsSmallReset (single_of body found)
+single_resets body None = tt
+single_resets body (Some attribute) = either IsSmallReset (length body == 0) _ _ tt tt
+
+set_resets : (found : Option Attribute) → IsSmallReset (set_of found)
+set_resets None = tt
+set_resets (Some attribute) = tt
+
+instance_resets : (owned : Bool) (service : ℕ) (attribute : Option ℕ) (body : List ℕ) (o : Instance) → IsSmallReset (instance_answer owned service attribute body o)
+instance_resets owned service attribute body o =
+    either IsSmallReset (service == 0x0E) _ _ (single_resets body (attribute_of o.attributes attribute))
+    (either IsSmallReset (service == 0x10 && o.sets) _ _ (set_resets (attribute_of o.attributes attribute))
+    (either IsSmallReset (service == 0x01 && o.gets_all) _ _ (either IsSmallReset (length body == 0) _ _ tt tt)
+    (either IsSmallReset (service == 0x05 && o.resets) _ _ (body_resets owned body) tt)))
+
+object_resets : (owned : Bool) (service : ℕ) (attribute : Option ℕ) (body : List ℕ) (found : Option Instance) → IsSmallReset (object_said owned service attribute body found)
+object_resets owned service attribute body None = tt
+object_resets owned service attribute body (Some o) = instance_resets owned service attribute body o
+
+abbrev AtMostAReset : List Notice → Type 0
+AtMostAReset notices = (notices ≡ []) ⊎ IsOneReset notices
+
+reset_served : (t : AdapterTable) (service : ℕ) (answer : ObjectAnswer) → IsSmallReset answer → AtMostAReset (object_served t service answer).notices
+reset_served t service (said by value) small = inl refl
+reset_served t service (denied why) small = inl refl
+reset_served t service (resetting kind) small = inr (record { kind = kind; small = small; alone = refl })
+
+reset_serves : (t : AdapterTable) (service : ℕ) → Serves AtMostAReset t service
+unfolding object_answer
+reset_serves t service = record {
+  none = inl refl;
+  each = λ class instance attribute body.
+      reset_served t service (object_answer t service class instance attribute body) (object_resets (list_any is_owning t.rows) service attribute body (instance_at t class instance));
+}
+
+pub resets_stay : ResetsChangeNothing
+resets_stay t happens next is brings =
+    let left = step_leaves AtMostAReset t 0x05 (reset_serves t 0x05) happens next is brings in
+    record { table = left.0; notices = left.1 }
+
+-- ---- exact answers
+
+abbrev done : Next → Result Next StepFault
+done next = Ok next
+
+-- the step of a request for a service, by what the object answers
+answered_as : (t : AdapterTable) (peer : Node) (bytes : List ℕ) (service class instance : ℕ) (attribute : Option ℕ) (body : List ℕ) (answer : ObjectAnswer) → router_request_reading bytes ≡ object service class instance attribute body → object_answer t service class instance attribute body ≡ answer → adapter_step t (event.Request peer bytes) ≡ done (replied peer (object_served t service answer))
+unfolding requested served_object
+answered_as t peer bytes service class instance attribute body answer reads is =
+    ap (λ (r : RouterRequestFields). done (answered t peer (served t peer r))) reads ∙ ap (λ (a : ObjectAnswer). done (replied peer (object_served t service a))) is
+
+-- the Identity object of a device that is described
+pub identity_found : (t : AdapterTable) (d : Description) → t.profile.description ≡ Some d → instance_at t 0x01 1 ≡ Some (identity_instance t.profile.identity d (status_word t))
+unfolding instance_at
+identity_found t d is = ap (described_at t 0x01 1) is
+
+reset_said : (t : AdapterTable) (d : Description) (attribute : Option ℕ) (kind : ℕ) → t.profile.description ≡ Some d → list_any is_owning t.rows ≡ false → kind ≤ 1 → object_answer t 0x05 0x01 1 attribute (kind ∷ []) ≡ resetting kind
+unfolding object_answer
+reset_said t d attribute kind is free small =
+    let fits : nat_lt 1 kind ≡ false = le-ltb _ _ small in
+    ap (object_said (list_any is_owning t.rows) 0x05 attribute (kind ∷ [])) (identity_found t d is) ∙ rw (free, fits) refl
+
+pub resets_said : ResetsAreReported
+resets_said t peer bytes d attribute kind is free small reads =
+    answered_as t peer bytes 0x05 0x01 1 attribute (kind ∷ []) (resetting kind) reads (reset_said t d attribute kind is free small)
+
+single_said : (t : AdapterTable) (class instance number : ℕ) (o : Instance) (attribute : Attribute) → instance_at t class instance ≡ Some o → find (is_numbered number) o.attributes ≡ Some attribute → object_answer t 0x0E class instance (Some number) [] ≡ said GetSingle attribute.value
+unfolding object_answer
+single_said t class instance number o attribute is found =
+    ap (object_said (list_any is_owning t.rows) 0x0E (Some number) []) is ∙ ap (single_of []) found
+
+pub attributes_said : AttributesReadBack
+attributes_said t peer bytes class instance number o attribute is found reads =
+    answered_as t peer bytes 0x0E class instance (Some number) [] (said GetSingle attribute.value) reads (single_said t class instance number o attribute is found)

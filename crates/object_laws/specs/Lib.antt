@@ -1,0 +1,3 @@
+pub mod Inquiries
+pub mod Services
+pub mod Identities

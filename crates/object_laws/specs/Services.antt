@@ -1,0 +1,106 @@
+-- What the services of an adapter's objects change and report (Volume 1, appendix A, common services, and chapter 5, Identity
+-- object).
+use Rattle.std.specs.Prelude.{ℕ, ◌≡◌, ◌≤◌, ◌⊎◌, false, List, [], ◌∷◌, find, Option, Some, Ok}
+use Rattle.std.specs.List.{list_any}
+use Rattle.cip_types.specs.declared.names.Node.{Node}
+use Rattle.cip_encap.specs.Message.{MessageFields}
+use Rattle.cip_encap.specs.Packet.{PacketFields}
+use Rattle.cip_encap.specs.PacketReading.{packet_reading}
+use Rattle.cip_encap.specs.Reading.{message_reading}
+use Rattle.cip_events.specs.declared.event.Answer.{Answer}
+use Rattle.cip_events.specs.declared.event.Event.{Event}
+use Rattle.cip_events.specs.declared.event.Event.TheVariants as event
+use Rattle.cip_events.specs.declared.event.Notice.{Notice}
+use Rattle.cip_events.specs.declared.event.Notice.TheVariants as notice
+use Rattle.cip_events.specs.declared.event.Verdict.TheVariants.{Done}
+use Rattle.cip_router.specs.declared.object_service.ObjectService.TheVariants.{GetSingle, Reset}
+use Rattle.cip_router.specs.Replies.{ReplyFields, object_reply}
+use Rattle.cip_router.specs.Requests.{object, router_request_reading}
+use Rattle.adapter_table.specs.declared.profile.Description.{Description}
+use Rattle.adapter_table.specs.declared.table.AdapterTable.{AdapterTable}
+use Rattle.adapter_table.specs.Objects.{Attribute, Instance, instance_at, is_numbered, is_owning}
+use Rattle.adapter_table.specs.Requests.{Next, reply_frame}
+use Rattle.adapter_table.specs.Step.{adapter_step}
+
+-- REQUESTS
+
+-- the bytes can be read as this service of an object
+pub record IsServiceRequest (bytes : List ℕ) (service : ℕ) : Type 0 where
+  pub class : ℕ
+  pub instance : ℕ
+  pub attribute : Option ℕ
+  pub body : List ℕ
+  pub reads : router_request_reading bytes ≡ object service class instance attribute body
+
+-- the frame can be read as one that sends it
+pub record IsServiceFrame (bytes : List ℕ) (service : ℕ) : Type 0 where
+  pub message : MessageFields
+  pub reads : message_reading bytes ≡ Ok message
+  pub sends : message.command ≡ 0x006F
+  pub packet : PacketFields
+  pub packet_is : packet_reading message.payload ≡ Ok packet
+  pub request : IsServiceRequest packet.payload service
+
+-- the event brings this service of an object, over a stream or over none
+abbrev pub Brings : Event → ℕ → Type 0
+Brings (event.Request peer bytes) service = IsServiceRequest bytes service
+Brings (event.Frame stream bytes) service = IsServiceFrame bytes service
+Brings other service = ⊥
+
+-- GET
+
+-- Get_Attributes_All or Get_Attribute_Single
+abbrev pub IsGet : ℕ → Type 0
+IsGet service = (service ≡ 0x01) ⊎ (service ≡ 0x0E)
+
+-- the table stays, and nothing is reported
+pub record IsQuiet (t : AdapterTable) (next : Next) : Type 0 where
+  pub table : next.1 ≡ t
+  pub notices : next.0.notices ≡ []
+
+-- so it is after every Get that is dealt with
+abbrev pub GetsChangeNothing : Type 0
+GetsChangeNothing =
+    (t : AdapterTable) (happens : Event) (service : ℕ) (next : Next) →
+    adapter_step t happens ≡ Ok next → Brings happens service → IsGet service → IsQuiet t next
+
+-- RESET
+
+-- one reset of type 0 or 1 is reported
+pub record IsOneReset (notices : List Notice) : Type 0 where
+  pub kind : ℕ
+  pub small : kind ≤ 1
+  pub alone : notices ≡ notice.Reset kind ∷ []
+
+-- the table stays, and at most a reset is reported
+pub record IsResetAlone (t : AdapterTable) (next : Next) : Type 0 where
+  pub table : next.1 ≡ t
+  pub notices : (next.0.notices ≡ []) ⊎ IsOneReset next.0.notices
+
+-- so it is after every Reset that is dealt with
+abbrev pub ResetsChangeNothing : Type 0
+ResetsChangeNothing =
+    (t : AdapterTable) (happens : Event) (next : Next) →
+    adapter_step t happens ≡ Ok next → Brings happens 0x05 → IsResetAlone t next
+
+-- an answer of one reply with these notices
+abbrev pub replied_with : Node → ReplyFields → List Notice → Answer
+replied_with peer reply notices = record { frames = reply_frame peer reply ∷ []; datagrams = []; verdict = Done; notices = notices }
+
+-- a Reset of type 0 or 1 of a described device of which no output is owned succeeds, and is reported
+abbrev pub ResetsAreReported : Type 0
+ResetsAreReported =
+    (t : AdapterTable) (peer : Node) (bytes : List ℕ) (d : Description) (attribute : Option ℕ) (kind : ℕ) →
+    t.profile.description ≡ Some d → list_any is_owning t.rows ≡ false → kind ≤ 1 →
+    router_request_reading bytes ≡ object 0x05 0x01 1 attribute (kind ∷ []) →
+    adapter_step t (event.Request peer bytes) ≡ Ok (replied_with peer (object_reply Reset []) (notice.Reset kind ∷ []), t)
+
+-- ATTRIBUTES
+
+-- each attribute of each instance is read back
+abbrev pub AttributesReadBack : Type 0
+AttributesReadBack =
+    (t : AdapterTable) (peer : Node) (bytes : List ℕ) (class instance number : ℕ) (o : Instance) (attribute : Attribute) →
+    instance_at t class instance ≡ Some o → find (is_numbered number) o.attributes ≡ Some attribute →
+    router_request_reading bytes ≡ object 0x0E class instance (Some number) [] →
+    adapter_step t (event.Request peer bytes) ≡ Ok (replied_with peer (object_reply GetSingle attribute.value) [], t)

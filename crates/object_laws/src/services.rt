@@ -1,0 +1,32 @@
+//! What an adapter answers to the services of its objects.
+
+ghost use Rattle.object_laws.specs.Services.{AttributesReadBack, GetsChangeNothing, ResetsChangeNothing, ResetsAreReported};
+
+/// Get_Attribute_Single and Get_Attributes_All leave the table of an adapter as it is, and report nothing: over a stream and over
+/// none, whether they are answered or refused. So it is of every object but instance 1 of the Connection Manager, whose services
+/// are those of connections.
+///
+/// Volume 1, appendix A, common services.
+pub fn gets_change_nothing()
+    ensures { GetsChangeNothing }
+{}
+
+/// A Reset leaves the table of an adapter as it is.
+///
+/// - `stays`: the answer reports one reset of type 0 or 1, or nothing.
+/// - `reported`: a Reset of type 0 or 1 of the Identity object of a device that is described is answered with success and reported,
+///   unless an output has an owner.
+///
+/// Volume 1, chapter 5, Identity object, Reset service.
+pub fn resets_are_reported()
+    ensures stays { ResetsChangeNothing }
+    ensures reported { ResetsAreReported }
+{}
+
+/// Each attribute of each instance that an adapter has is read back: Get_Attribute_Single of its class, instance and number is
+/// answered with exactly its bytes, and nothing changes.
+///
+/// Volume 1, appendix A, Get_Attribute_Single service.
+pub fn attributes_read_back()
+    ensures { AttributesReadBack }
+{}

@@ -1,0 +1,95 @@
+-- What the options of a station and its profile say of its port and its end.
+use Rattle.std.specs.Prelude.{ℕ, ◌*◌, ◌==◌, nat_eq, if◌then◌else◌, Bool, List, [], ◌∷◌, ◌++◌, replicate, Option, Some, None, is_some}
+use Rattle.std.specs.List.{list_any}
+use Rattle.adapter_table.specs.declared.profile.Description.{Description}
+use Rattle.adapter_table.specs.declared.profile.Profile.{Profile}
+use Rattle.cip_types.specs.declared.names.Node.{Node}
+use Rattle.list_identity.specs.Names.{name_front}
+use Rattle.port_faults.specs.declared.rates.FaultRates.{FaultRates}
+use Rattle.port_streams.specs.declared.routes.Destination.{Destination}
+use Rattle.scanner_table.specs.declared.profile.SlotConfig.{SlotConfig}
+use Rattle.station.specs.declared.run.Ending.{Ending}
+use Rattle.station_port.specs.declared.place.StationPlace.{StationPlace}
+use Rattle.command_lines.specs.declared.station_options.Options.{Options}
+
+-- the address of the options, or that of the profile
+abbrev pub given_or : Option Node → Node → Node
+given_or (Some address) node = address
+given_or None node = node
+
+-- where a station is, in the network of this mask, at this TCP port, with this inactivity time-out, and where it sends
+abbrev pub place_of : Options → Node → (mask tcp inactivity : ℕ) → StationPlace
+place_of options node mask tcp inactivity = record {
+  address = given_or options.address node;
+  mask = mask;
+  tcp = tcp;
+  udp = options.udp;
+  peer_udp = options.peer_udp;
+  multicast = options.multicast;
+  inactivity_s = inactivity;
+  item_ports = options.item_ports;
+}
+
+-- the address of the options, unless that is each address of the host, or that of the profile
+abbrev pub node_of : Option Node → Node → Node
+node_of None node = node
+node_of (Some address) node = if address.0 == 0 then node else address
+
+-- the number of an option, or this one
+abbrev pub given_or_number : Option ℕ → ℕ → ℕ
+given_or_number (Some number) other = number
+given_or_number None other = other
+
+-- a description with what the options say in its place
+abbrev pub described_as : Description → Options → List ℕ → Description
+described_as d options name = record d {
+  serial = given_or_number options.serial d.serial;
+  name = if is_some options.name_from_end then name_front name else d.name;
+  port = given_or_number options.tcp d.port;
+  inactivity = given_or_number options.inactivity_s d.inactivity;
+}
+
+-- a description of which nothing is stated but a serial number and a name
+abbrev pub own_description : ℕ → List ℕ → Description
+own_description serial name = record { serial = serial; name = name_front name; port = 44818; speed = 100; flags = 15; mac = replicate 6 0; inactivity = 120 }
+
+-- the description of a station with this serial number and name of its own
+abbrev pub description_of : Option Description → Options → ℕ → List ℕ → Description
+description_of (Some given) options serial name = described_as given options name
+description_of None options serial name = described_as (own_description serial name) options name
+
+-- the profile of an adapter station
+abbrev pub with_description : Profile → Options → ℕ → List ℕ → Profile
+with_description profile options serial name = record profile {
+  node = node_of options.address profile.node;
+  description = Some (description_of profile.description options serial name);
+}
+
+-- what becomes of the datagrams that arrive
+abbrev pub rates_of : Options → FaultRates
+rates_of options = record { lose = options.lose; repeat = options.repeat; reorder = options.reorder; delay_ms = options.delay_ms; seed = options.seed }
+
+-- the milliseconds of so many seconds, if there is an end
+abbrev pub ms_of : Option ℕ → Option ℕ
+ms_of (Some seconds) = Some (seconds * 1000)
+ms_of None = None
+
+-- when a station of so many slots ends
+abbrev pub ending_of : Options → ℕ → Ending
+ending_of options slots = record { slots = slots; ms = ms_of options.seconds }
+
+-- a target of this address is among them
+abbrev pub is_among : Node → List Destination → Bool
+is_among node targets = list_any (λ target. nat_eq target.node.0 node.0) targets
+
+-- the targets with this one, each once
+abbrev pub with_target : ℕ → List Destination → Node → List Destination
+with_target port targets node = if is_among node targets then targets else targets ++ record { node = node; port = port } ∷ []
+
+abbrev pub targets_through : ℕ → List Destination → List SlotConfig → List Destination
+targets_through port targets [] = targets
+targets_through port targets (slot ∷ slots) = targets_through port (with_target port targets slot.target) slots
+
+-- the targets of these slots, each once, at a TCP port
+abbrev pub targets_of : ℕ → List SlotConfig → List Destination
+targets_of port slots = targets_through port [] slots

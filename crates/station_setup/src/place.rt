@@ -1,0 +1,90 @@
+//! Where a station is, what becomes of the datagrams that arrive there, and when it ends.
+
+ghost use Rattle.std.specs.Prelude.{◌≡◌};
+ghost use Rattle.station_setup.specs.Settings.{ending_of, given_or, ms_of, place_of, rates_of};
+
+use adapter_table::Profile;
+use cip_tables::ScannerProfile;
+use cip_types::Node;
+use cip_types::limits::TCP_PORT;
+use command_lines::Options;
+use port_faults::FaultRates;
+use station::Ending;
+use station_port::StationPlace;
+
+/// The mask of a network of one address.
+const NO_NETWORK: u32 = 0xFFFF_FFFF;
+
+/// Where an adapter station is, and its inactivity time-out: as its description says.
+pub fn adapter_place(options: &Options, profile: &Profile) -> StationPlace {
+    let (tcp, inactivity_s) = match &profile.description {
+        Some(d) => (d.port, d.inactivity),
+        None => (TCP_PORT, 0),
+    };
+    place_of(options, profile.node, profile.mask, tcp, inactivity_s)
+}
+
+/// Where a scanner station is. No inquiry finds it, and it ends no silent stream.
+pub fn scanner_place(options: &Options, profile: &ScannerProfile) -> StationPlace {
+    let tcp = options.tcp.unwrap_or(TCP_PORT);
+    place_of(options, profile.node, NO_NETWORK, tcp, 0)
+}
+
+/// Where a station is: at the address of its options, or of its profile, in the network of this mask.
+fn place_of(options: &Options, node: Node, mask: u32, tcp: u16, inactivity_s: u16) -> StationPlace
+    ensures { result ≡ place_of options.now node mask tcp inactivity_s }
+{
+    StationPlace {
+        address: given_or(options.address, node),
+        mask,
+        tcp,
+        udp: options.udp,
+        peer_udp: options.peer_udp,
+        multicast: options.multicast,
+        inactivity_s,
+        item_ports: options.item_ports,
+    }
+}
+
+/// What becomes of the datagrams that arrive.
+pub fn rates_of(options: &Options) -> FaultRates
+    ensures { result ≡ rates_of options.now }
+{
+    FaultRates {
+        lose: options.lose,
+        repeat: options.repeat,
+        reorder: options.reorder,
+        delay_ms: options.delay_ms,
+        seed: options.seed,
+    }
+}
+
+/// The address of the options, or that of the profile.
+fn given_or(address: Option<Node>, node: Node) -> Node
+    ensures { result ≡ given_or address node }
+{
+    match address {
+        Some(address) => address,
+        None => node,
+    }
+}
+
+/// When a station of so many slots ends.
+pub fn ending_of(options: &Options, slots: u32) -> Ending
+    ensures { result ≡ ending_of options.now slots }
+{
+    Ending {
+        slots,
+        ms: ms_of(options.seconds),
+    }
+}
+
+/// The milliseconds of so many seconds, if there is an end.
+fn ms_of(seconds: Option<u32>) -> Option<u64>
+    ensures { result ≡ ms_of seconds }
+{
+    match seconds {
+        Some(seconds) => Some(u64::from(seconds) * 1_000),
+        None => None,
+    }
+}

@@ -1,8 +1,0 @@
-use Rattle.std.proofs.Common.{◌≡◌, ◌∷◌, ◌∙◌, ap, codes}
-use Rattle.trace_words.specs.Reader.{unread_words}
-use Rattle.trace_lines.proofs.notice_lines.read_reason.Goals as goal
-
-pub returns-in-unreadable : goal.returns-in-unreadable
-returns-in-unreadable c =
-    let first : unread_words c.args.words.now ≡ codes "unreadable" ∷ unread_words c.word.new.self = c.in_ok-word.ensures ∙ ap (λ word. word ∷ unread_words c.word.new.self) c.in-unreadable.is in
-    rw first c.last-in-unreadable.ensures

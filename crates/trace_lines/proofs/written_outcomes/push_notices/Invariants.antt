@@ -1,6 +1,0 @@
-use Rattle.std.proofs.Common.{◌≡◌, ◌++◌, string_bytes, flat_map, take}
-use Rattle.trace_lines.specs.WrittenOutcomes.{notice_line}
-use Rattle.trace_lines.proofs.written_outcomes.push_notices.Given as goal
-
-abbrev pub invariant-loop-notice : goal.invariant-loop-notice
-invariant-loop-notice l = string_bytes l.out ≡ string_bytes l.fn.out ++ flat_map (notice_line l.number) (take l.notice-index l.notices)

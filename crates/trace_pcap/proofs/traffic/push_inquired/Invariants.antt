@@ -1,0 +1,6 @@
+use Rattle.std.proofs.Common.{◌≡◌, ◌++◌, flat_map, take}
+use Rattle.trace_pcap.specs.Traffic.{inquired_records}
+use Rattle.trace_pcap.proofs.traffic.push_inquired.Given as goal
+
+abbrev pub invariant-loop-frame : goal.invariant-loop-frame
+invariant-loop-frame l = l.out.items ≡ l.fn.out.items ++ flat_map (inquired_records l.moment) (take l.frame-index l.frames)
