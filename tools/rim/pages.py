@@ -213,6 +213,11 @@ def run_downloads(bench, trace):
     sure(status == 200 and capture[:4] == bytes.fromhex("d4c3b2a1"), "the record and its capture file are handed out while it is written")
 
 
+def wait_for_refusal(bench, text):
+    """Waits until a further browser is refused. A station on a busy host takes those before it later."""
+    wait(lambda: asked(bench)[0] == BUSY, text, 2.5)
+
+
 def run_slow_browsers(bench):
     """Browsers that read nothing, send half a request, or come in crowds, and a device with large points."""
     bench.write("large.profile", LARGE)
@@ -223,14 +228,12 @@ def run_slow_browsers(bench):
     half = [connected(bench) for _ in range(MOST - len(unread))]
     for it in half:
         it.sendall(b"GET / HTTP/1.1\r\nHost: 127.")
-    time.sleep(0.3)
-    refused = asked(bench)[0]
-    need(refused == BUSY, f"a ninth browser is refused, and not {refused}")
+    wait_for_refusal(bench, "a ninth browser is refused")
     begin = time.monotonic()
     devices_go_on(bench, adapter, "browsers read nothing and send half a request", ["read 101"] * 200)
     late = {status_of(told(it)) for it in half}
     seconds = time.monotonic() - begin
-    sure(late == {LATE} and seconds < 6, f"eight browsers are served at once, the ninth has status {refused}; half a request has status "
+    sure(late == {LATE} and seconds < 6, f"eight browsers are served at once, the ninth has status {BUSY}; half a request has status "
          f"{late} within {seconds:.1f} s")
     for it in unread:
         it.stream.close()
@@ -254,9 +257,7 @@ def run_unread_record(bench, adapter):
     for it in unread:
         it.sendall(f"GET /record HTTP/1.1\r\nHost: {HOST}\r\n\r\n".encode())
     begin = time.monotonic()
-    time.sleep(0.3)
-    refused = asked(bench)[0]
-    need(refused == BUSY, f"all of them are served, and not {refused}")
+    wait_for_refusal(bench, "all of them are served")
     devices_go_on(bench, adapter, "eight browsers do not read the record", ["read 101"] * 20)
     wait(lambda: asked(bench)[0] == 200, "others are served again", 10)
     holds(f"browsers that read nothing lose their streams: another one is served after {time.monotonic() - begin:.1f} s")
@@ -283,9 +284,7 @@ def run_slowly_read_record(bench, adapter):
     reader = threading.Thread(target=read_slowly)
     reader.start()
     try:
-        time.sleep(0.3)
-        refused = asked(bench)[0]
-        need(refused == BUSY, f"all of them are served, and not {refused}")
+        wait_for_refusal(bench, "all of them are served")
         devices_go_on(bench, adapter, "eight browsers read the record slowly", ["read 101"] * 20)
         time.sleep(max(0.0, begin + 4 - time.monotonic()))
         need(asked(bench)[0] == BUSY, "they are served for a while, though each write may wait 3 s")
