@@ -11,7 +11,7 @@ It asks ListIdentity, ListServices and ListInterfaces over UDP and over TCP, reg
 attribute and all at once, and requests what is to be refused. It prints what it reads. Status: 0 if all is as the standard and
 the options say; 1 if anything is otherwise, with a line for each; 2 if the device does not answer.
 """
-import argparse, ipaddress, socket, struct, sys
+import argparse, ipaddress, socket, struct, sys, time
 
 IDENTITY, ROUTER, ASSEMBLY, MANAGER, INTERFACE, LINK = 0x01, 0x02, 0x04, 0x06, 0xF5, 0xF6
 GET_ALL, RESET, GET, SET = 0x01, 0x05, 0x0E, 0x10
@@ -49,6 +49,18 @@ def parts(reply, command):
     return status, session, reply[24:]
 
 
+def connected(at):
+    """A stream to a device, which may not listen yet."""
+    end = time.monotonic() + PATIENCE
+    while True:
+        try:
+            return socket.create_connection(at, PATIENCE)
+        except ConnectionRefusedError:
+            if time.monotonic() > end:
+                raise
+            time.sleep(0.02)
+
+
 class Device:
     """A device at its encapsulation port."""
 
@@ -56,7 +68,7 @@ class Device:
         self.at = (host, port)
         self.udp = socket.socket(socket.AF_INET, socket.SOCK_DGRAM)
         self.udp.settimeout(PATIENCE)
-        self.tcp = socket.create_connection(self.at, PATIENCE)
+        self.tcp = connected(self.at)
         self.session = 0
 
     def asked(self, command):
