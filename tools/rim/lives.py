@@ -143,6 +143,8 @@ def run_bad_states(bench):
 
 # WHO IT IS
 
+CONTEXT = b"\1\0whoami"  # its first two bytes name 1 ms, so that a broadcast is answered within 500
+
 def asked(bench, command, to, host="peer", broadcast=False, seconds=3.0):
     """The reply's data to an encapsulation message over UDP, or None."""
     with bench.network.inside(host), socket.socket(socket.AF_INET, socket.SOCK_DGRAM) as udp:
@@ -152,14 +154,14 @@ def asked(bench, command, to, host="peer", broadcast=False, seconds=3.0):
                 udp.setsockopt(socket.SOL_SOCKET, socket.SO_BINDTODEVICE, b"lo\0")
         udp.bind((bench.address[host], 0))
         udp.settimeout(seconds)
-        udp.sendto(struct.pack("<HHII8sI", command, 0, 0, 0, b"whoami12", 0), (to, 44818))
+        udp.sendto(struct.pack("<HHII8sI", command, 0, 0, 0, CONTEXT, 0), (to, 44818))
         try:
             reply = udp.recv(2048)
         except TimeoutError:
             return None
     with served(f"the reply to command {command:#x}"):
         got, length, _, status, context = struct.unpack("<HHII8s", reply[:20])
-        originator.expect("command, status, context", (got, status, context), (command, 0, b"whoami12"))
+        originator.expect("command, status, context", (got, status, context), (command, 0, CONTEXT))
         originator.expect("the length", length, len(reply) - 24)
         return originator.items_of(reply[24:])
 
@@ -178,7 +180,7 @@ def said_in(items):
 
 def identity_over_tcp(bench, to):
     with bench.network.inside("peer"), socket.create_connection((to, 44818), 3, (bench.address["peer"], 0)) as tcp:
-        tcp.sendall(struct.pack("<HHII8sI", 0x63, 0, 0, 0, b"whoami12", 0))
+        tcp.sendall(struct.pack("<HHII8sI", 0x63, 0, 0, 0, CONTEXT, 0))
         return said_in(originator.items_of(tcp.recv(2048)[24:]))
 
 

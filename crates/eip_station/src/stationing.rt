@@ -247,6 +247,7 @@ where
     let rt = setting.rt;
     let alloc = rt.alloc();
     port.set_alarm(setting.alarm.share()?)?;
+    seed_delays(&rt, &mut port);
     let waker = port.waker()?;
     let recorder = recorder_of(setting, config)?;
     if !setting.options.quiet {
@@ -276,6 +277,17 @@ where
     match station.record_fault() {
         Some(_) => Err(Failure::RecordEnd),
         None => Ok(()),
+    }
+}
+
+/// Has the system draw the seed of a port's delays. Where it draws none, the port's address is the seed.
+fn seed_delays<R>(rt: &R, port: &mut StationPort<R>)
+where
+    R: Clock + HostNet + RandomSource + Drop,
+{
+    let mut bytes = [0u8; 8];
+    if rt.fill_bytes(&mut bytes).is_ok() {
+        port.draw_delays_by(u64::from_le_bytes(bytes));
     }
 }
 

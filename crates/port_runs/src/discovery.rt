@@ -4,8 +4,8 @@
 use crate::fault::PortRunFault;
 use crate::station_line::{AdapterPort, is_sent, poll, print_line};
 use cip_events::Arrival;
+use inquiry_rules::MOST_IN_A_SECOND;
 use socket_port::loopback;
-use station_port::MOST_IN_A_SECOND;
 use std::net::{IpAddr, Ipv4Addr, Net, SocketAddr, TcpListener, TcpStream, UdpSocket};
 use std::rt::Clock;
 use std::time::Duration;

@@ -1,6 +1,6 @@
-pub mod Asking
 pub mod Causes
 pub mod Closes
+pub mod Finding
 pub mod Items
 pub mod Reaching
 pub mod Waits

@@ -1,17 +1,19 @@
-//! The sockets of inquiries, by which the field's tools find a station. The device answers them.
+//! The sockets of inquiries, by which the field's tools find a station. The device answers them: those to the station's own
+//! address at once, those that came by broadcast after a drawn delay.
 
 ghost use Rattle.std.specs.Prelude.{◌≡◌};
-ghost use Rattle.station_port.specs.Asking.{asker_of, has_length};
+ghost use Rattle.inquiry_rules.specs.Holds.{inquiry_wait};
 
 use crate::bind::made;
-use crate::budget::InquiryBudget;
 use crate::fault::{StationFault, StationSocket};
 use crate::place::StationPlace;
-use cip_types::Node;
+use cip_types::{Items, Node, OutOfMemory};
+use inquiry_rules::{Asker, InquiryGate, InquirySocket, has_length};
 use mio::net::UdpSocket;
 use mio::{Interest, Registry};
 use socket_port::{node_of, received};
-use station_streams::{FINDER, address_of};
+use station_streams::{FINDER, address_of, broadcast_socket};
+use std::alloc::Global;
 use std::net::{Net, SocketAddr};
 use udp_runner::PortFault;
 
@@ -21,26 +23,11 @@ const EVERYBODY: Node = Node(0xFFFF_FFFF);
 /// So many datagrams of one socket are read in a turn, so that no flood of them holds the device up.
 const MOST_IN_A_TURN: usize = 8;
 
-/// An inquiry is an encapsulation header alone.
-///
-/// Volume 2, chapter 2, encapsulation header.
-const INQUIRY_BYTES: usize = 24;
-
-/// The number of the sockets.
-const SOCKETS: u8 = 3;
-
-/// Where an inquiry came from.
-#[derive(Clone, Copy)]
-pub(crate) struct Asker {
-    pub(crate) node: Node,
-    pub(crate) at: SocketAddr,
-}
-
 /// What the sockets of inquiries have now.
-#[derive(Clone, Copy)]
+#[derive(Drop)]
 pub(crate) enum NextInquiry {
-    /// An inquiry of this peer: so many bytes at the front of the buffer.
-    Inquiry(Asker, usize),
+    /// An inquiry of this peer.
+    Inquiry(Node, Items<u8>),
     /// None now, but more datagrams may wait.
     Later,
     /// Nothing.
@@ -51,27 +38,33 @@ pub(crate) enum NextInquiry {
 #[derive(Drop)]
 pub(crate) struct Finder {
     own: UdpSocket,
-    /// Inquiries to 255.255.255.255, if no other socket of the host receives them.
+    /// Inquiries to 255.255.255.255, unless another program has it alone.
     everybody: Option<UdpSocket>,
     /// The same to the broadcast address of the station's network.
     network: Option<UdpSocket>,
-    budget: InquiryBudget,
-    /// Where the inquiry came from that the device was given last, until it is answered.
-    asker: Option<Asker>,
+    gate: InquiryGate,
 }
 
 impl Finder {
     /// Sockets at a station's address and its TCP port's number. One at 0.0.0.0 receives broadcasts too, and is bound alone.
-    pub(crate) fn new<R: Net>(rt: &R, place: &StationPlace) -> Result<Finder, StationFault> {
+    /// The address draws the delays, until a seed does.
+    pub(crate) fn new<R: Net>(
+        alloc: Global,
+        rt: &R,
+        place: &StationPlace,
+    ) -> Result<Finder, StationFault> {
         let at = address_of(place.address, place.tcp);
         let own = made(StationSocket::Identity, UdpSocket::bind(rt, at))?;
         let network = Node(place.address.0 | !place.mask);
         Ok(Finder {
             own,
-            everybody: UdpSocket::bind(rt, address_of(EVERYBODY, place.tcp)).ok(),
-            network: UdpSocket::bind(rt, address_of(network, place.tcp)).ok(),
-            budget: InquiryBudget::begin(),
-            asker: None,
+            everybody: broadcast_socket(rt, EVERYBODY, place.tcp),
+            network: if network.0 == EVERYBODY.0 {
+                None
+            } else {
+                broadcast_socket(rt, network, place.tcp)
+            },
+            gate: InquiryGate::new(alloc, u64::from(place.address.0)),
         })
     }
 
@@ -87,21 +80,40 @@ impl Finder {
         Ok(())
     }
 
-    /// The next inquiry that the device may be given at this time.
+    /// From now on this seed draws the delays.
+    pub(crate) fn draw_by(&mut self, seed: u64) {
+        self.gate.draw_by(seed);
+    }
+
+    /// The milliseconds until an inquiry that waits is due, at most so many.
+    pub(crate) fn wait(&self, now_ms: u64, most_ms: u64) -> u64
+        ensures { result ≡ inquiry_wait now_ms most_ms self.now.gate.hold.waiting }
+    {
+        self.gate.wait_ms(now_ms, most_ms)
+    }
+
+    /// The next inquiry that the device may be given at this time: one that waited and is due, or one that arrives.
     pub(crate) fn next(
         &mut self,
         buffer: &mut [u8],
         now_ms: u64,
     ) -> Result<NextInquiry, PortFault> {
+        if let Some(due) = self.gate.next_due(now_ms) {
+            return Ok(match due {
+                Some(held) => NextInquiry::Inquiry(held.asker.node, held.bytes),
+                None => NextInquiry::Later,
+            });
+        }
         let mut next = NextInquiry::Nothing;
-        for place in 0..SOCKETS {
-            match self.next_of_one(place, buffer, now_ms)? {
-                NextInquiry::Inquiry(asker, count) => {
-                    self.asker = Some(asker);
-                    return Ok(NextInquiry::Inquiry(asker, count));
-                }
-                NextInquiry::Later => next = NextInquiry::Later,
+        for socket in [
+            InquirySocket::Own,
+            InquirySocket::Everybody,
+            InquirySocket::Network,
+        ] {
+            match self.next_of_one(socket, buffer, now_ms)? {
                 NextInquiry::Nothing => {}
+                NextInquiry::Later => next = NextInquiry::Later,
+                inquiry => return Ok(inquiry),
             }
         }
         Ok(next)
@@ -110,16 +122,19 @@ impl Finder {
     /// The next inquiry of one socket: a bounded number of datagrams is read.
     fn next_of_one(
         &mut self,
-        place: u8,
+        socket: InquirySocket,
         buffer: &mut [u8],
         now_ms: u64,
     ) -> Result<NextInquiry, PortFault> {
         for _ in 0..MOST_IN_A_TURN {
-            let Some((count, from)) = self.next_datagram(place, buffer)? else {
+            let Some((count, from)) = self.next_datagram(socket, buffer)? else {
                 return Ok(NextInquiry::Nothing);
             };
-            if let Some(asker) = self.admitted(count, from, now_ms) {
-                return Ok(NextInquiry::Inquiry(asker, count));
+            let Some(request) = buffer.get(..count) else {
+                return Ok(NextInquiry::Later);
+            };
+            if let Some(inquiry) = self.take(socket, request, from, now_ms)? {
+                return Ok(inquiry);
             }
         }
         Ok(NextInquiry::Later)
@@ -128,52 +143,49 @@ impl Finder {
     /// The datagram that waits at a socket, if that is bound.
     fn next_datagram(
         &self,
-        place: u8,
+        socket: InquirySocket,
         buffer: &mut [u8],
     ) -> Result<Option<(usize, SocketAddr)>, PortFault> {
-        let socket = match place {
-            0 => Some(&self.own),
-            1 => self.everybody.as_ref(),
-            _ => self.network.as_ref(),
+        let bound = match socket {
+            InquirySocket::Own => Some(&self.own),
+            InquirySocket::Everybody => self.everybody.as_ref(),
+            InquirySocket::Network => self.network.as_ref(),
         };
-        match socket {
-            Some(socket) => received(socket.recv_from(buffer)),
+        match bound {
+            Some(bound) => received(bound.recv_from(buffer)),
             None => Ok(None),
         }
     }
 
-    /// The sender of a datagram of so many bytes, if the device may be given it at this time.
-    fn admitted(&mut self, count: usize, from: SocketAddr, now_ms: u64) -> Option<Asker> {
-        let node = node_of(from)?;
-        if has_length(count) && self.budget.admits(now_ms) {
-            Some(Asker { node, at: from })
-        } else {
-            None
+    /// Takes a datagram that may be an inquiry. One that came by broadcast waits.
+    fn take(
+        &mut self,
+        socket: InquirySocket,
+        request: &[u8],
+        from: SocketAddr,
+        now_ms: u64,
+    ) -> Result<Option<NextInquiry>, PortFault> {
+        let Some(node) = node_of(from) else {
+            return Ok(None);
+        };
+        if !has_length(request.len()) {
+            return Ok(None);
+        }
+        match self
+            .gate
+            .take(now_ms, socket, Asker { node, at: from }, request)
+        {
+            Ok(Some(bytes)) => Ok(Some(NextInquiry::Inquiry(node, bytes))),
+            Ok(None) => Ok(None),
+            Err(OutOfMemory) => Err(PortFault::Memory),
         }
     }
 
     /// Sends the device's reply to where the last inquiry of this peer came from. One that the socket does not take is lost.
     pub(crate) fn reply(&mut self, peer: Node, bytes: &[u8]) {
-        if let Some(asker) = asker_of(self.asker.take(), peer) {
+        if let Some(asker) = self.gate.answered(peer) {
             let _ = self.own.send_to(bytes, asker.at);
         }
-    }
-}
-
-/// Whether a datagram of so many bytes can be an inquiry.
-fn has_length(count: usize) -> bool
-    ensures { result ≡ has_length count }
-{
-    count == INQUIRY_BYTES
-}
-
-/// Where the reply to a peer goes: to the last asker, if that is this peer.
-fn asker_of(last: Option<Asker>, peer: Node) -> Option<Asker>
-    ensures { result ≡ asker_of last peer }
-{
-    match last {
-        Some(asker) if asker.node.0 == peer.0 => Some(asker),
-        _ => None,
     }
 }
 

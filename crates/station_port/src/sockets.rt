@@ -2,6 +2,7 @@
 
 ghost use Rattle.std.specs.Prelude.{◌≡◌};
 ghost use Rattle.station_port.specs.Closes.{links_after};
+ghost use Rattle.station_port.specs.Finding.{finder_wait};
 ghost use Rattle.station_streams.specs.Waits.{streams_wait};
 
 use crate::bind::made;
@@ -122,11 +123,30 @@ impl StationSockets {
         }
     }
 
-    /// The milliseconds until a stream is to be opened or ended, at most so many.
+    /// The milliseconds until a stream is to be opened or ended, or an inquiry that waits is due, at most so many.
     pub(crate) fn wait(&self, now_ms: u64, most_ms: u64) -> u64
-        ensures { result ≡ streams_wait self.now.streams.keeper self.now.targets.links now_ms most_ms }
+        ensures { result ≡ streams_wait self.now.streams.keeper self.now.targets.links now_ms
+            (finder_wait self.now.finder now_ms most_ms) }
     {
+        let most_ms = self.finder_wait(now_ms, most_ms);
         wait_for_streams(&self.streams, &self.targets, now_ms, most_ms)
+    }
+
+    /// The milliseconds until an inquiry that waits is due, at most so many.
+    fn finder_wait(&self, now_ms: u64, most_ms: u64) -> u64
+        ensures { result ≡ finder_wait self.now.finder now_ms most_ms }
+    {
+        match &self.finder {
+            Some(finder) => finder.wait(now_ms, most_ms),
+            None => most_ms,
+        }
+    }
+
+    /// From now on this seed draws how long the answers to broadcasts wait.
+    pub(crate) fn draw_delays_by(&mut self, seed: u64) {
+        if let Some(finder) = &mut self.finder {
+            finder.draw_by(seed);
+        }
     }
 
     /// Breaks a stream at once. Its end is its last arrival.
@@ -264,7 +284,7 @@ impl StationSockets {
     /// The inquiry that is there now, if the device may be given one.
     fn poll_inquiries(&mut self, now_ms: u64) -> Result<Option<Arrival>, PortFault> {
         match self.next_inquiry(now_ms)? {
-            NextInquiry::Inquiry(asker, count) => self.inquiry(asker.node, count),
+            NextInquiry::Inquiry(peer, bytes) => Ok(Some(Arrival::Inquiry { peer, bytes })),
             NextInquiry::Later => Ok(None),
             NextInquiry::Nothing => {
                 self.ready.finder = false;
@@ -273,22 +293,12 @@ impl StationSockets {
         }
     }
 
-    /// The next inquiry in the buffer.
+    /// The next inquiry, if a socket is reported or one that waits is due.
     fn next_inquiry(&mut self, now_ms: u64) -> Result<NextInquiry, PortFault> {
+        let is_due = self.finder_wait(now_ms, 1) == 0;
         match &mut self.finder {
-            Some(finder) if self.ready.finder => finder.next(&mut self.buffer, now_ms),
+            Some(finder) if is_due || self.ready.finder => finder.next(&mut self.buffer, now_ms),
             _ => Ok(NextInquiry::Nothing),
-        }
-    }
-
-    /// The inquiry of a peer at the front of the buffer.
-    fn inquiry(&self, peer: Node, count: usize) -> Result<Option<Arrival>, PortFault> {
-        let Some(message) = self.buffer.get(..count) else {
-            return Ok(None);
-        };
-        match Items::copy_of(self.alloc, message) {
-            Ok(bytes) => Ok(Some(Arrival::Inquiry { peer, bytes })),
-            Err(OutOfMemory) => Err(PortFault::Memory),
         }
     }
 

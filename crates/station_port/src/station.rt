@@ -51,7 +51,7 @@ impl<R: System + Net + Drop> StationPort<R> {
     {
         let listener = listen(&rt, address_of(place.address, place.tcp))?;
         let udp = datagrams(&rt, address_of(place.address, place.udp))?;
-        let finder = Finder::new(&rt, place)?;
+        let finder = Finder::new(alloc, &rt, place)?;
         let streams = KeptStreams::new(alloc, place.inactivity_s)?;
         let targets = Targets::new(alloc, place.address, &[], 0)?;
         let items = ItemPorts::new(alloc, place.target_use(), place.peer_udp)?;
@@ -111,6 +111,13 @@ impl<R: System + Net + Drop> StationPort<R> {
             multicast,
             failures: 0,
         })
+    }
+
+    /// From now on this seed draws how long the answers to broadcasts wait. Before it the port's address does.
+    pub fn draw_delays_by(&mut self, seed: u64)
+        ensures { self.new.failures ≡ self.old.failures }
+    {
+        self.sockets.draw_delays_by(seed);
     }
 
     /// Ends a wait of this port from another thread.
@@ -186,7 +193,8 @@ impl<R: System + Drop> StationPort<R> {
         }
     }
 
-    /// The length of a wait of at most so long, which begins now: a shorter one if a stream is to be opened or ended before.
+    /// The length of a wait of at most so long, which begins now: a shorter one if an inquiry is due or a stream is to be
+    /// opened or ended before.
     fn length_of(&mut self, most: Duration) -> Duration
         ensures { self.new.failures ≡ self.old.failures }
     {

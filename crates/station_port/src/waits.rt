@@ -6,11 +6,12 @@ ghost use Rattle.station_port.specs.Waits.{whole_ms};
 
 use std::time::Duration;
 
-/// The length of a wait of at most so long, if a stream is to be opened or ended after so many milliseconds.
-pub(crate) fn wait_length(most: Duration, streams_ms: u64) -> Duration
-    ensures { as_nanos result ≡ min (as_nanos most) (streams_ms * 1000000) }
+/// The length of a wait of at most so long, if a stream is to be opened or ended, or an inquiry is due, after so many
+/// milliseconds.
+pub(crate) fn wait_length(most: Duration, due_ms: u64) -> Duration
+    ensures { as_nanos result ≡ min (as_nanos most) (due_ms * 1000000) }
 {
-    shorter(most, Duration::from_millis(streams_ms))
+    shorter(most, Duration::from_millis(due_ms))
 }
 
 /// The shorter of two durations.

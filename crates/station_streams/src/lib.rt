@@ -3,6 +3,7 @@
 #![tactic(auto)]
 
 mod address;
+mod broadcasts;
 mod causes;
 mod dial;
 mod kept_streams;
@@ -14,6 +15,7 @@ mod stream_options;
 mod targets;
 
 pub use address::address_of;
+pub use broadcasts::broadcast_socket;
 pub use kept_streams::{KeptStreams, Welcome, wait_for_streams};
 pub use nop::NopTimer;
 pub use ready::{DATAGRAMS, FINDER, LISTENER, OPENINGS, Ready, STREAMS, WAKER};

@@ -16,9 +16,9 @@ const MOST_PROBES: u32 = 3;
 const UNTAKEN_MS: u32 = 10_000;
 
 /// The bytes of C's `int`, and those of its `sockaddr_in`.
-const INT_BYTES: u32 = 4;
+pub(crate) const INT_BYTES: u32 = 4;
 
-const ADDRESS_BYTES: u32 = 16;
+pub(crate) const ADDRESS_BYTES: u32 = 16;
 
 /// Has the system cut the stream of a peer that is gone: one that takes no bytes, or does not answer at all.
 pub fn watch_peer(socket: &TcpStream) {
@@ -69,7 +69,7 @@ pub fn abort(socket: &TcpStream) {
 }
 
 /// C's `int` of a number, in the machine's order.
-fn int(number: u32) -> [u8; 16] {
+pub(crate) fn int(number: u32) -> [u8; 16] {
     let mut raw = [0u8; 16];
     raw[..4].copy_from_slice(&number.to_ne_bytes());
     raw

@@ -1,8 +1,17 @@
 -- Inquiries over UDP: which of them a device is given, and where its reply goes. Times are in milliseconds.
-use Rattle.std.specs.Prelude.{ℕ, ◌+◌, ◌/◌, ◌==◌, nat_lt, Bool, if◌then◌else◌, Option, Some, None}
+use Rattle.std.specs.Prelude.{ℕ, ◌+◌, ◌/◌, ◌==◌, nat_lt, Bool, true, false, if◌then◌else◌, Option, Some, None}
 use Rattle.cip_types.specs.declared.names.Node.{Node}
-use Rattle.station_port.specs.declared.budget.InquiryBudget.{InquiryBudget}
-use Rattle.station_port.specs.declared.finder.Asker.{Asker}
+use Rattle.inquiry_rules.specs.declared.asking.Asker.{Asker}
+use Rattle.inquiry_rules.specs.declared.asking.InquirySocket.{InquirySocket}
+use Rattle.inquiry_rules.specs.declared.asking.InquirySocket.TheVariants.{Own, Everybody, Network}
+use Rattle.inquiry_rules.specs.declared.budget.InquiryBudget.{InquiryBudget}
+
+-- what came by a socket of a broadcast address came by broadcast. A socket of the station's own address receives no broadcast,
+-- unless that is 0.0.0.0: then nothing tells its broadcasts apart
+abbrev pub is_broadcast : InquirySocket → Bool
+is_broadcast Own = false
+is_broadcast Everybody = true
+is_broadcast Network = true
 
 -- the bytes of an encapsulation header, which an inquiry is alone
 abbrev pub has_length : ℕ → Bool

@@ -1,7 +1,7 @@
 //! How many inquiries a device is given.
 
 ghost use Rattle.std.specs.Prelude.{◌≡◌};
-ghost use Rattle.station_port.specs.Asking.{admits, budget_after, given_in};
+ghost use Rattle.inquiry_rules.specs.Asking.{admits, budget_after, given_in};
 
 /// The milliseconds of a second.
 const SECOND_MS: u64 = 1_000;
@@ -11,14 +11,14 @@ pub const MOST_IN_A_SECOND: u32 = 32;
 
 /// The inquiries that a device was given in a second.
 #[derive(Clone, Copy)]
-pub(crate) struct InquiryBudget {
+pub struct InquiryBudget {
     second: u64,
     given: u32,
 }
 
 impl InquiryBudget {
     /// None was given.
-    pub(crate) fn begin() -> InquiryBudget
+    pub fn begin() -> InquiryBudget
         ensures { result ≡ record { second = 0; given = 0 } }
     {
         InquiryBudget {
@@ -28,7 +28,7 @@ impl InquiryBudget {
     }
 
     /// Whether the device may be given another inquiry at this time, which is counted then.
-    pub(crate) fn admits(&mut self, now_ms: u64) -> bool
+    pub fn admits(&mut self, now_ms: u64) -> bool
         ensures answer { result ≡ admits self.old now_ms }
         ensures counted { self.new ≡ budget_after self.old now_ms }
     {

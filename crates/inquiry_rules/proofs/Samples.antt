@@ -1,0 +1,138 @@
+-- Delays, words and inquiries that wait, worked outside this code. The words of seed 1234567 are those that the authors' program
+-- prints: 6457827717110365317, then 3203168211198807973.
+use Rattle.std.proofs.Common.{◌≡◌, ℕ, ◌≤◌, ◌++◌, List, [], ◌∷◌, replicate, Some, None, refl, arith}
+use Rattle.std.proofs.Math.Nat.{mod-eq_of_lt}
+use Rattle.std.specs.Prelude.{length, position}
+use Rattle.cip_types.specs.declared.names.Node.{Node}
+use Rattle.inquiry_rules.specs.declared.asking.Asker.{Asker}
+use Rattle.inquiry_rules.specs.declared.asking.InquirySocket.TheVariants.{Own, Everybody, Network}
+use Rattle.inquiry_rules.specs.declared.budget.InquiryBudget.{InquiryBudget}
+use Rattle.inquiry_rules.specs.declared.hold.HeldInquiry.{HeldInquiry}
+use Rattle.inquiry_rules.specs.Delays.{drawn_delay, longest_delay}
+use Rattle.inquiry_rules.specs.Gates.{budget_of, given_at_once, held_of}
+use Rattle.inquiry_rules.specs.Holds.{InquiriesHeld, held_after, inquiry_wait, is_inquiry_due}
+
+-- THE LONGEST DELAY, by the first two bytes of the sender context
+
+-- a ListIdentity request with these two bytes
+abbrev request : ℕ → ℕ → List ℕ
+request low high = 0x63 ∷ replicate 11 0 ++ low ∷ high ∷ replicate 10 7
+
+its_length : length (request 0 0) ≡ 24
+its_length = refl
+
+none_is_2000 : longest_delay (request 0 0) ≡ 2000
+none_is_2000 = refl
+
+one_is_500 : longest_delay (request 1 0) ≡ 500
+one_is_500 = refl
+
+below_500_is_500 : longest_delay (request 0xF3 1) ≡ 500
+below_500_is_500 = refl
+
+from_500_on_itself : longest_delay (request 0xF4 1) ≡ 500
+from_500_on_itself = refl
+
+little_endian : longest_delay (request 0xF5 1) ≡ 501
+little_endian = refl
+
+the_high_byte_alone : longest_delay (request 0 8) ≡ 2048
+the_high_byte_alone = refl
+
+at_most_16_bits : longest_delay (request 0xFF 0xFF) ≡ 65535
+at_most_16_bits = refl
+
+-- one that ends before them names none
+too_short : longest_delay (replicate 13 9) ≡ 2000
+too_short = refl
+
+long_enough : longest_delay (replicate 14 9) ≡ 2313
+long_enough = refl
+
+-- THE DRAWN DELAY
+
+no_delay : drawn_delay 501 500 ≡ 0
+no_delay = refl
+
+the_longest : drawn_delay 1001 500 ≡ 500
+the_longest = refl
+
+of_the_first_word : drawn_delay 6457827717110365317 500 ≡ 297
+of_the_first_word = refl
+
+of_the_second_word : drawn_delay 3203168211198807973 2000 ≡ 1441
+of_the_second_word = refl
+
+-- each delay up to the longest is drawn: by the word of its number
+each_is_drawn : (delay longest : ℕ) → delay ≤ longest → drawn_delay delay longest ≡ delay
+each_is_drawn delay longest fits = mod-eq_of_lt (omega arith)
+
+-- INQUIRIES THAT WAIT
+
+abbrev node : Node
+node = record { 0 = 2130706452 }
+
+abbrev first_hold : InquiriesHeld
+first_hold = record { words = 1234567; waiting = [] }
+
+-- one within 500 ms and one within 2,000 ms
+abbrev both : Asker → InquiriesHeld
+both asker = held_after (held_after first_hold 1000 asker (request 1 0)) 1010 asker (request 0 0)
+
+both_wait : (asker : Asker) → (both asker).waiting ≡
+    record { asker = asker; bytes = request 1 0; due_ms = 1297 } ∷ record { asker = asker; bytes = request 0 0; due_ms = 2451 } ∷ []
+both_wait asker = refl
+
+not_due_before : (asker : Asker) → position (is_inquiry_due 1296) (both asker).waiting ≡ None
+not_due_before asker = refl
+
+due_at_its_time : (asker : Asker) → position (is_inquiry_due 1297) (both asker).waiting ≡ Some 0
+due_at_its_time asker = refl
+
+the_wait_ends_with_the_first : (asker : Asker) → inquiry_wait 1010 5000 (both asker).waiting ≡ 287
+the_wait_ends_with_the_first asker = refl
+
+at_most_the_length_given : (asker : Asker) → inquiry_wait 1010 286 (both asker).waiting ≡ 286
+at_most_the_length_given asker = refl
+
+no_wait_when_due : (asker : Asker) → inquiry_wait 1298 5000 (both asker).waiting ≡ 0
+no_wait_when_due asker = refl
+
+-- a 65th is lost, and draws nothing
+abbrev full : HeldInquiry → InquiriesHeld
+full held = record { words = 1234567; waiting = replicate 64 held }
+
+one_too_many : (held : HeldInquiry) (asker : Asker) → held_after (full held) 1000 asker (request 0 0) ≡ full held
+one_too_many held asker = refl
+
+-- AT ONCE, OR LATER
+
+abbrev unused : InquiryBudget
+unused = record { second = 0; given = 0 }
+
+abbrev spent : InquiryBudget
+spent = record { second = 1; given = 32 }
+
+to_its_own_address : given_at_once Own unused 1000 (request 0 0) ≡ Some (request 0 0)
+to_its_own_address = refl
+
+it_does_not_wait : (asker : Asker) → held_of Own first_hold 1000 asker (request 0 0) ≡ first_hold
+it_does_not_wait asker = refl
+
+to_everybody : given_at_once Everybody unused 1000 (request 0 0) ≡ None
+to_everybody = refl
+
+to_the_network : given_at_once Network unused 1000 (request 0 0) ≡ None
+to_the_network = refl
+
+they_wait : (asker : Asker) → held_of Network first_hold 1000 asker (request 1 0) ≡ held_after first_hold 1000 asker (request 1 0)
+they_wait asker = refl
+
+they_are_not_counted_yet : budget_of Everybody spent 1000 ≡ spent
+they_are_not_counted_yet = refl
+
+one_too_many_in_a_second : given_at_once Own spent 1999 (request 0 0) ≡ None
+one_too_many_in_a_second = refl
+
+the_next_second : budget_of Own spent 2000 ≡ record { second = 2; given = 1 }
+the_next_second = refl

@@ -1,0 +1,4 @@
+pub mod Asking
+pub mod Delays
+pub mod Gates
+pub mod Holds
