@@ -42,6 +42,15 @@ impl Event {
             Event::Mode { run } => Event::Mode { run: *run },
             Event::Start { slot } => Event::Start { slot: *slot },
             Event::Stop { slot } => Event::Stop { slot: *slot },
+            Event::Explicit {
+                target,
+                number,
+                bytes,
+            } => Event::Explicit {
+                target: *target,
+                number: *number,
+                bytes: Items::copy_of(alloc, bytes.as_slice())?,
+            },
         })
     }
     /// Whether the other event is the same. Takes no memory.
