@@ -1,6 +1,6 @@
 -- The profile of an adapter, and its first fault
 -- (Volume 1, chapter 3, connection points; Volume 2, chapter 3, multicast addresses need a host id).
-use Rattle.std.specs.Prelude.{ℕ, ◌-◌, ◌%◌, ◌^◌, ◌==◌, ◌&&◌, not, nat_le, Bool, true, List, [], ◌∷◌, ◌++◌, length, map, Option, Some, None, option_to_list}
+use Rattle.std.specs.Prelude.{ℕ, ◌-◌, ◌%◌, ◌^◌, ◌==◌, ◌&&◌, not, nat_le, Bool, true, false, List, [], ◌∷◌, ◌++◌, length, map, Option, Some, None, option_to_list}
 use Rattle.std.specs.Int.{is_power_of_two}
 use Rattle.std.specs.List.{list_any, list_all}
 use Rattle.cip_types.specs.Cases.{Case, first_case}
@@ -8,6 +8,7 @@ use Rattle.cip_types.specs.declared.names.Identity.{Identity}
 use Rattle.adapter_table.specs.declared.profile.OutputPoint.{OutputPoint}
 use Rattle.adapter_table.specs.declared.profile.InputPoint.{InputPoint}
 use Rattle.adapter_table.specs.declared.profile.Description.{Description}
+use Rattle.adapter_table.specs.declared.maker_limits.MakerLimits.{MakerLimits}
 use Rattle.adapter_table.specs.declared.profile.Profile.{Profile}
 use Rattle.cip_events.specs.declared.profile_fault.ProfileFault.{ProfileFault}
 use Rattle.cip_events.specs.declared.profile_fault.ProfileFault.TheVariants.{Incarnation, Address, Points, SameInstance, Length, Identity as IdentityFault, Description as DescriptionFault}
@@ -90,6 +91,12 @@ is_revision identity = nat_le 1 identity.major && (nat_le identity.major 127 && 
 abbrev pub is_described : Option Description → Bool
 is_described None = true
 is_described (Some d) = nat_le (length d.name) 32 && (length d.mac == 6 && nat_le d.inactivity 3600)
+
+-- LIMITS OF THE MAKER'S
+
+-- no limits
+abbrev pub no_limits : MakerLimits
+no_limits = record { least_rpi = None; places = None; node_connections = None; own_closers = false; newer = None }
 
 -- THE FIRST FAULT
 

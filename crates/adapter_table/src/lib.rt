@@ -7,6 +7,7 @@ mod admission;
 mod copy;
 mod expiry;
 pub mod laws;
+mod maker_limits;
 mod objects;
 mod producing;
 mod profile;
@@ -19,6 +20,7 @@ mod table;
 pub use acceptance::{Judgement, accept_if_for, is_for, judge};
 pub use admission::{Admission, ConsumedPoint};
 pub use expiry::{by_deadline, expired_row, has_expired};
+pub use maker_limits::{MakerLimits, Places};
 pub use objects::IoState;
 pub use producing::{
     changed_row, has_node, is_due, is_produced_by, produced_row, producer_in, producer_number,
