@@ -27,10 +27,11 @@ pub use producing::{
     produces_on_change, written_row,
 };
 pub use profile::{Action, Description, InputPoint, OutputPoint, Profile};
-pub use profile_check::{LONGEST_INACTIVITY, PHYSICAL_ADDRESS};
+pub use profile_check::{FARTHEST_NUMBER, LONGEST_INACTIVITY, PHYSICAL_ADDRESS};
 pub use report::{ConnectionReport, ConsumerCounts, consumes, report_of};
 pub use row::{Connection, Mode, Row, State};
 pub use rows::{
-    drives, has_triad, holds_triad, is_established, is_member, is_supported, is_timed_out, supports,
+    drives, has_triad, holds_triad, is_established, is_member, is_of_kind, is_of_node,
+    is_supported, is_timed_out, supports,
 };
 pub use table::{AdapterTable, PointValue, Stream};
