@@ -70,9 +70,10 @@ has_explicit_length bytes = nat_le 2 (length bytes) && nat_le (length bytes) 504
 abbrev pub service_of : List ℕ → ℕ
 service_of bytes = get_or bytes 0 0
 
--- the service opens or closes a connection: only a slot sends it
+-- the service opens or closes a connection, which only a slot does, or it has the reply bit: a message with it could be taken
+-- for the reply to a slot's opening
 abbrev pub is_for_slots : ℕ → Bool
-is_for_slots service = service == forward_open || (service == large_forward_open || service == forward_close)
+is_for_slots service = service == forward_open || (service == large_forward_open || (service == forward_close || nat_le 0x80 service))
 
 -- the service is for slots, 16 requests are pending, one of them has the number, or no request number is left
 abbrev pub is_barred : ScannerTable → ℕ → List ℕ → Bool
