@@ -14,3 +14,4 @@ mod CounterSteps
 mod OwnSteps
 mod ProducerSteps
 mod ExplicitSteps
+mod ExplicitReplySteps

@@ -20,6 +20,7 @@ pub mod Drawn
 pub mod Producers
 pub mod Waiting
 pub mod Pending
+pub mod ExplicitReplies
 pub mod Whole
 pub mod States
 pub mod Lemmas

@@ -1,5 +1,6 @@
 //! Explicit requests of the application to the targets of a scanner.
 
+ghost use Rattle.scanner_table.specs.ExplicitReplies.{RepliesAreToPending};
 ghost use Rattle.scanner_table.specs.Pending.{ExplicitArePending};
 ghost use Rattle.scanner_table.specs.Runs.{IsLaw};
 
@@ -38,4 +39,11 @@ pub struct PendingExplicit {
 /// A fresh table has the property, and each step and each list of events keeps it.
 pub fn explicit_requests_are_pending()
     ensures { IsLaw ExplicitArePending }
+{}
+
+/// A reply that a scanner tells its application came as a frame over the stream of a pending request, with the number of
+/// that request as its sender context. The verdict has the number that the application gave that request, and what the
+/// message replies to its service; the request is pending no more.
+pub fn replies_are_to_pending_requests()
+    ensures { RepliesAreToPending }
 {}

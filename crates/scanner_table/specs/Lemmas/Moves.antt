@@ -451,12 +451,12 @@ reported_leads R C t either stream m (Up handle) = replied_to_leads R C t either
 reported_leads R C t either stream m Unused = stays_leads R C t either
 
 -- a pending request is pending no more
-gone_leads : (R C : ScannerTable → ScannerTable → Type 0) (t : ScannerTable) → OrEstablished R C t → (pending : PendingExplicit) → C t (without_explicit t pending)
-gone_leads R C t either pending = either.weaker (without_explicit t pending) (either.kept.explicit t (others (is_request pending.request) t.explicit) t.next_request (omega arith))
+removed_leads : (R C : ScannerTable → ScannerTable → Type 0) (t : ScannerTable) → OrEstablished R C t → (pending : PendingExplicit) → C t (without_explicit t pending)
+removed_leads R C t either pending = either.weaker (without_explicit t pending) (either.kept.explicit t (others (is_request pending.request) t.explicit) t.next_request (omega arith))
 
 explicit_answered_leads : (R C : ScannerTable → ScannerTable → Type 0) (t : ScannerTable) → OrEstablished R C t → (pending : PendingExplicit) (reply : Result RouterReplyFields Unanswered) → C t (explicit_answered t pending reply).1
-explicit_answered_leads R C t either pending (Ok reply) = gone_leads R C t either pending
-explicit_answered_leads R C t either pending (Err why) = gone_leads R C t either pending
+explicit_answered_leads R C t either pending (Ok reply) = removed_leads R C t either pending
+explicit_answered_leads R C t either pending (Err why) = removed_leads R C t either pending
 
 message_leads : (R C : ScannerTable → ScannerTable → Type 0) (t : ScannerTable) → OrEstablished R C t → (stream : TargetStream) (m : MessageFields) (found : Option PendingExplicit) → C t (message_answer t stream m found).1
 message_leads R C t either stream m None = reported_leads R C t either stream m stream.stage
