@@ -1,5 +1,12 @@
 //! The limits that the maker of an adapter states.
 
+ghost use Rattle.std.specs.Prelude.{◌≡◌};
+ghost use Rattle.adapter_table.specs.StatedLimits.{places_of, is_wrong_closer};
+
+use crate::row::Row;
+use cip_productions::Kind;
+use cip_types::Node;
+
 /// How many connections of each application type can be established at one time: exclusive owners, input-only and
 /// listen-only ones. Each is at most 64, and their sum is 1 to 64.
 ///
@@ -9,6 +16,19 @@ pub struct Places {
     pub owners: u8,
     pub readers: u8,
     pub listeners: u8,
+}
+
+impl Places {
+    /// The places of an application type. Takes no memory.
+    pub fn of(&self, kind: Kind) -> u8
+        ensures { result ≡ places_of self.now kind }
+    {
+        match kind {
+            Kind::ExclusiveOwner => self.owners,
+            Kind::InputOnly => self.readers,
+            Kind::ListenOnly => self.listeners,
+        }
+    }
 }
 
 /// The limits that the maker of an adapter states beside those of every adapter. An absent one limits nothing.
@@ -37,4 +57,13 @@ impl MakerLimits {
         own_closers: false,
         newer: None,
     };
+
+    /// Whether only the node that opened a connection closes it, and this is another node. Takes no memory.
+    ///
+    /// Volume 1, chapter 3, Forward_Close service.
+    pub fn is_wrong_closer(&self, peer: Node, row: &Row) -> bool
+        ensures { result ≡ is_wrong_closer self.now peer row.now }
+    {
+        self.own_closers && row.peer.0 != peer.0
+    }
 }

@@ -1,7 +1,7 @@
 use Rattle.std.proofs.Common.{rules}
 use Rattle.adapter_table.specs.Checks.{verdict}
 use Rattle.app_rules.proofs.Order.{all_passed}
-use Rattle.app_rules.proofs.checks.admit.Goals as goal
+use Rattle.app_rules.proofs.checks.judge.Goals as goal
 
 pub returns-clause-verdict : goal.returns-clause-verdict
 unfolding verdict
