@@ -1,5 +1,5 @@
 -- Each reply that a scanner tells its application is to a pending request.
-use Rattle.std.proofs.Common.{◌≡◌, ℕ, ◌+◌, ◌==◌, nat_lt, Bool, true, false, cond, List, length, find, Option, Some, None, Result, Ok, Err, IfOk, refl, sym, ◌∙◌, ap, subst, eqb-true}
+use Rattle.std.proofs.Common.{◌≡◌, ℕ, ◌+◌, ◌==◌, nat_lt, Bool, true, false, cond, List, length, find, Option, Some, None, Result, Ok, Err, IfOk, refl, subst, eqb-true}
 use Rattle.std.specs.List.{list_any}
 use Rattle.base_lemmas.specs.Booleans.{either}
 use Rattle.base_lemmas.specs.Lists.{found_passes}
@@ -12,7 +12,7 @@ use Rattle.cip_encap.specs.Message.{MessageFields}
 use Rattle.cip_encap.specs.Reading.{message_reading}
 use Rattle.cip_events.specs.declared.event.Delivery.TheVariants.{Applied, Duplicate, Old, WrongSize}
 use Rattle.cip_events.specs.declared.event.Event.{Event}
-use Rattle.cip_events.specs.declared.event.Event.TheVariants.{Request, StreamOpened, Frame, StreamCut, Datagram, Inquiry, Write, Read, Tick, Mode, Start, Stop, Explicit}
+use Rattle.cip_events.specs.declared.event.Event.TheVariants.{StreamOpened, Frame, StreamCut, Datagram, Write, Read, Tick, Mode, Start, Stop, Explicit}
 use Rattle.cip_events.specs.declared.event.StepFault.{StepFault}
 use Rattle.cip_events.specs.declared.event.StepFault.TheVariants as fault
 use Rattle.cip_events.specs.declared.event.Unanswered.{Unanswered}
@@ -32,7 +32,7 @@ use Rattle.scanner_table.specs.declared.table.TargetStream.{TargetStream}
 use Rattle.scanner_table.specs.Slots.{IndexedSlot, indexed_slots, slot_at}
 use Rattle.scanner_table.specs.Sessions.{is_stream, is_taken, session_with}
 use Rattle.scanner_table.specs.Effects.{Next, Effect, done}
-use Rattle.scanner_table.specs.Closing.{slot_resigned, stopped, stopped_at}
+use Rattle.scanner_table.specs.Closing.{stopped_at}
 use Rattle.scanner_table.specs.Datagrams.{is_for, delivered, accepted_table, accepted, sized, connected, state_received, received_at, received_as, received}
 use Rattle.scanner_table.specs.Points.{output_written, write_length, write_at, write, read_at, read, mode, desired_slot, started, start_state, start_at, start, stop_of, stop}
 use Rattle.scanner_table.specs.Ticks.{clocked_table, moved_on, ticked, tick}
@@ -215,12 +215,10 @@ none_replies t event (Ok next) none = λ reply. both (is_reply next.0.verdict) n
 none_replies t event (Err why) none = tt
 
 step_replies : (t : ScannerTable) (event : Event) → IfOk (scanner_step t event) (StepReplies t event)
-step_replies t (Request peer bytes) = tt
 step_replies t (StreamOpened stream peer) = none_replies t (StreamOpened stream peer) (scanner_step t (StreamOpened stream peer)) (opened_none t stream peer)
 step_replies t (Frame stream bytes) = frame_replies t stream bytes
 step_replies t (StreamCut stream) = none_replies t (StreamCut stream) (scanner_step t (StreamCut stream)) (cut_none t stream)
 step_replies t (Datagram peer bytes) = none_replies t (Datagram peer bytes) (scanner_step t (Datagram peer bytes)) (received_none t peer bytes)
-step_replies t (Inquiry peer bytes) = tt
 step_replies t (Write point bytes) = none_replies t (Write point bytes) (scanner_step t (Write point bytes)) (write_none t point bytes)
 step_replies t (Read point) = none_replies t (Read point) (scanner_step t (Read point)) (read_none t point)
 step_replies t (Tick ms) = none_replies t (Tick ms) (scanner_step t (Tick ms)) (tick_none t ms)
@@ -228,6 +226,7 @@ step_replies t (Mode run) = none_replies t (Mode run) (scanner_step t (Mode run)
 step_replies t (Start slot) = none_replies t (Start slot) (scanner_step t (Start slot)) (start_none t slot)
 step_replies t (Stop slot) = none_replies t (Stop slot) (scanner_step t (Stop slot)) (stop_none t slot)
 step_replies t (Explicit target number bytes) = none_replies t (Explicit target number bytes) (scanner_step t (Explicit target number bytes)) (explicit_none t target number bytes)
+step_replies t other = tt
 
 pub replies_pending : RepliesAreToPending
 replies_pending t event next is = subst (λ (said : Result Next StepFault). IfOk said (StepReplies t event)) is (step_replies t event)

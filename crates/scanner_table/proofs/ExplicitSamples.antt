@@ -15,7 +15,6 @@ use Rattle.cip_encap.specs.Reading as messages
 use Rattle.cip_encap.specs.PacketReading as packets
 use Rattle.cip_fwdopen.specs.Open as opens
 use Rattle.cip_router.specs.RouterReplies.{router_reply_reading}
-use Rattle.scanner_table.specs.declared.explicit.PendingExplicit.{PendingExplicit}
 use Rattle.scanner_table.specs.declared.table.ScannerTable.{ScannerTable}
 use Rattle.scanner_table.specs.Opening.{opened, ready_opened, target_opened}
 use Rattle.scanner_table.specs.Closing.{target_lost}
@@ -156,8 +155,8 @@ no_session : reported (scanner_table (profile (owner ∷ []))) (vendor_request �
 unfolding messages.message_reading packets.packet_reading packets.behind_socket packets.are_sockets router_reply_reading opens.open_text opened ready_opened target_opened target_lost stream_opened stream_cut frame explicit_request explicit_reply produced_table all_expired all_given_up explicit_timed_out explicit_lost tick start
 no_session = refl
 
--- Forward_Open, Large_Forward_Open and Forward_Close are for slots
-services_of_slots : reported connected (Explicit target 7 (0x54 ∷ 0x00 ∷ []) ∷ Explicit target 7 (0x5B ∷ 0x00 ∷ []) ∷ Explicit target 7 (0x4E ∷ 0x00 ∷ []) ∷ []) ≡ not_now ∷ not_now ∷ not_now ∷ []
+-- Forward_Open, Large_Forward_Open and Forward_Close are for slots, and no request has the reply bit
+services_of_slots : reported connected (Explicit target 7 (0x54 ∷ 0x00 ∷ []) ∷ Explicit target 7 (0x5B ∷ 0x00 ∷ []) ∷ Explicit target 7 (0x4E ∷ 0x00 ∷ []) ∷ Explicit target 7 (0x80 ∷ 0x00 ∷ []) ∷ Explicit target 7 (0xD4 ∷ 0x00 ∷ []) ∷ Explicit target 7 (0x7F ∷ 0x00 ∷ []) ∷ []) ≡ not_now ∷ not_now ∷ not_now ∷ not_now ∷ not_now ∷ sends_frame (items 1 2 (0x7F ∷ 0x00 ∷ [])) ∷ []
 unfolding messages.message_reading packets.packet_reading packets.behind_socket packets.are_sockets router_reply_reading opens.open_text opened ready_opened target_opened target_lost stream_opened stream_cut frame explicit_request explicit_reply produced_table all_expired all_given_up explicit_timed_out explicit_lost tick start
 services_of_slots = refl
 

@@ -1,7 +1,7 @@
 -- Each step keeps the explicit requests few, distinct, over open streams and in time.
-use Rattle.std.proofs.Common.{◌≡◌, ◌≤◌, ◌<◌, ℕ, ◌+◌, Bool, true, false, cond, not, ◌||◌, ◌==◌, nat_le, nat_lt, List, [], ◌∷◌, ◌++◌, length, map, filter, find, option_and_then, Option, Some, None, Result, Ok, Err, IfOk, refl, sym, ◌∙◌, ap, subst, arith, length-append, eqb-true}
+use Rattle.std.proofs.Common.{◌≡◌, ◌≤◌, ℕ, ◌+◌, Bool, true, false, cond, not, ◌||◌, ◌==◌, nat_le, nat_lt, List, [], ◌∷◌, ◌++◌, length, filter, find, option_and_then, Option, Some, None, Result, Ok, Err, IfOk, refl, sym, ◌∙◌, ap, subst, arith, length-append}
 use Rattle.std.specs.List.{list_any, AllByRecursion}
-use Rattle.std.proofs.lemmas.Bool.{and_parts, or_parts}
+use Rattle.std.proofs.lemmas.Bool.{or_parts}
 use Rattle.std.proofs.lemmas.Bool.Decides.{nat_tests}
 use Rattle.std.proofs.lemmas.List.Folds.{list_any-append}
 use Rattle.std.proofs.lemmas.Option.{same_Some}
@@ -36,14 +36,14 @@ use Rattle.scanner_table.specs.declared.table.Stage.{Stage}
 use Rattle.scanner_table.specs.declared.table.Stage.TheVariants.{Waiting, Up, Unused}
 use Rattle.scanner_table.specs.declared.table.TargetStream.{TargetStream}
 use Rattle.scanner_table.specs.Slots.{IndexedSlot, indexed_slots}
-use Rattle.scanner_table.specs.Sessions.{is_stream, is_other_stream, is_to, is_taken, with_stream, without_stream, with_stage, staged_stream, session_at, session_on, session_with}
+use Rattle.scanner_table.specs.Sessions.{is_stream, is_other_stream, is_to, is_taken, with_stream, without_stream, with_stage, session_at, session_on, session_with}
 use Rattle.scanner_table.specs.Requests.{is_large}
 use Rattle.scanner_table.specs.Effects.{Next, done}
 use Rattle.scanner_table.specs.Opening.{has_request, target_opened}
 use Rattle.scanner_table.specs.Replies.{open_answer, is_id_free, judged_success, answered}
 use Rattle.scanner_table.specs.Closing.{target_lost}
 use Rattle.scanner_table.specs.Explicit.{has_number, is_request, is_over, awaits, others, with_explicit, connects_to, has_explicit_length, service_of, is_for_slots, is_barred, pending_explicit, explicit_sent, explicit_within, explicit_request, explicit_reply, explicit_answered, is_late, explicit_timed_out, explicit_lost}
-use Rattle.scanner_table.specs.Encapsulation.{registering_on, ignored, stream_opened, stream_lost, cut_of, stream_cut, is_registered, session_begun, session_failed, registered, is_awaiting, replied, replied_to, reported, message_answer, frame_answer, frame_of, frame}
+use Rattle.scanner_table.specs.Encapsulation.{registering_on, ignored, stream_opened, cut_of, stream_cut, is_registered, session_begun, session_failed, registered, is_awaiting, replied, replied_to, reported, message_answer, frame_answer, frame_of, frame}
 use Rattle.scanner_table.specs.Productions.{produced_table}
 use Rattle.scanner_table.specs.Ticks.{clocked_table, advanced, moved_on, ticked, tick}
 use Rattle.scanner_table.specs.Step.{scanner_step, scanner_table}

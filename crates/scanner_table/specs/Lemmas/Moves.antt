@@ -50,7 +50,7 @@ use Rattle.scanner_table.specs.Effects.{Next, Effect, nothing, on_each, counted,
 use Rattle.scanner_table.specs.Opening.{has_request, can_open, drawn, opening_slot, resigned, exhausted, open_requested, opened_within, opened, is_ready_slot, ready_slots, ready_opened, target_opened}
 use Rattle.scanner_table.specs.Replies.{open_answer, is_id_free, new_connection, established_slot, failed_slot, judged_success, answered}
 use Rattle.scanner_table.specs.Closing.{idle_slot, given_up_state, given_up, target_lost, closing_slot, close_requested, slot_resigned, closed_within, stopped, stopped_at}
-use Rattle.scanner_table.specs.Explicit.{is_request, is_over, is_late, others, awaits, has_explicit_length, is_barred, connects_to, explicit_sent, explicit_within, explicit_sized, explicit_request, explicit_reply, explicit_ended, explicit_answered, without_explicit, explicit_timed_out, explicit_lost}
+use Rattle.scanner_table.specs.Explicit.{is_request, is_over, is_late, others, awaits, has_explicit_length, is_barred, connects_to, explicit_sent, explicit_within, explicit_request, explicit_reply, explicit_ended, explicit_answered, without_explicit, explicit_timed_out, explicit_lost}
 use Rattle.scanner_table.specs.Encapsulation.{registering_on, ignored, stream_opened, message_answer, cut_of, stream_cut, is_registered, session_begun, session_failed, registered, is_awaiting, replied, replied_to, reported, frame_answer, frame_of, frame}
 use Rattle.scanner_table.specs.Datagrams.{is_for, accepted_table, accepted, sized, delivered, state_received, received_at, received_as, received}
 use Rattle.scanner_table.specs.Points.{output_slot, output_written, write_at, write, same_mode, moded_table, mode, desired_slot, started, start_state, start_at, start, stop_of, stop}

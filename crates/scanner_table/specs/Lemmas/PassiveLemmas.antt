@@ -46,4 +46,4 @@ passive_holds Q t refused answered (Mode run) passive = absurd (let e = passive 
 passive_holds Q t refused answered (Start slot) passive = absurd (let e = passive in cc)
 passive_holds Q t refused answered (Stop slot) passive = absurd (let e = passive in cc)
 passive_holds Q t refused answered (Explicit target number bytes) passive = absurd (let e = passive in cc)
-passive_holds Q t refused answered other passive = search (refused, answered)
+passive_holds Q t refused answered other passive = search refused
