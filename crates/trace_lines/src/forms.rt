@@ -4,7 +4,7 @@ ghost use Rattle.std.specs.Prelude.{◌≡◌};
 ghost use Rattle.trace_lines.specs.Profiles.{profile_with};
 ghost use Rattle.trace_lines.specs.Slots.{scanner_with};
 
-use adapter_table::{Description, InputPoint, OutputPoint, Profile};
+use adapter_table::{Description, InputPoint, MakerLimits, OutputPoint, Profile};
 use cip_netparams::Trigger;
 use cip_types::{Identity, Items, Node};
 use scanner_table::{ScannerProfile, SlotConfig};
@@ -65,6 +65,7 @@ pub fn profile_with(
         input_only: heartbeat.input_only,
         listen_only: heartbeat.listen_only,
         description,
+        limits: MakerLimits::NONE,
     }
 }
 

@@ -5,7 +5,7 @@ use Rattle.std.specs.Prelude.{Result}
 use Rattle.std.specs.Net.Reader.{read_ipv4, read_octet, read_number}
 use Rattle.hex.specs.Hex.{decode_pairs}
 use Rattle.cip_events.specs.declared.event.Event.TheVariants.{Inquiry}
-use Rattle.adapter_table.specs.Profiles.{profile_fault}
+use Rattle.adapter_table.specs.Profiles.{no_limits, profile_fault}
 use Rattle.adapter_table.specs.declared.profile.Description.{Description}
 use Rattle.adapter_table.specs.declared.profile.Profile.{Profile}
 use Rattle.cip_tables.specs.declared.table.Config.TheVariants.{Adapter}
@@ -31,6 +31,7 @@ profile = record {
   input_only = 152;
   listen_only = 153;
   description = Some rack;
+  limits = no_limits;
 }
 
 abbrev front : List ℕ
