@@ -126,5 +126,5 @@ close_short session number config triad few =
     requested_short (numbered session number (closing (close_fields config triad)))
     (omega (arith, items_length (manager_text 0x4E body) None, manager_few 0x4E body (close_few config triad few)))
 
-pub requesting_short : (session : Session) (number : ℕ) (bytes : List ℕ) → length bytes ≤ 504 → IsShortRequest (numbered session number (requesting bytes))
-requesting_short session number bytes few = requested_short (numbered session number (requesting bytes)) (omega (arith, items_length bytes None, few))
+pub requesting_short : (session : Session) (number : ℕ) (body : List ℕ) → length body ≤ 504 → IsShortRequest (numbered session number (requesting body))
+requesting_short session number body few = requested_short (numbered session number (requesting body)) (omega (arith, items_length body None, few))
