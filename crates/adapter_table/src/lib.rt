@@ -9,7 +9,6 @@ mod expiry;
 pub mod laws;
 mod maker_limits;
 mod objects;
-mod producing;
 mod profile;
 mod profile_check;
 mod report;
@@ -22,10 +21,6 @@ pub use admission::{Admission, ConsumedPoint};
 pub use expiry::{by_deadline, expired_row, has_expired};
 pub use maker_limits::{MakerLimits, Places};
 pub use objects::IoState;
-pub use producing::{
-    changed_row, has_node, is_due, is_produced_by, produced_row, producer_in, producer_number,
-    produces_on_change, written_row,
-};
 pub use profile::{Action, Description, InputPoint, OutputPoint, Profile};
 pub use profile_check::{FARTHEST_NUMBER, LONGEST_INACTIVITY, PHYSICAL_ADDRESS};
 pub use report::{ConnectionReport, ConsumerCounts, consumes, report_of};

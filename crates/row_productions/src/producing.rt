@@ -5,7 +5,7 @@ ghost use Rattle.std.specs.List.{list_any};
 ghost use Rattle.adapter_table.specs.Rows.{written_row, written_state};
 ghost use Rattle.adapter_table.specs.Productions.{producer_in, producer_number, is_produced_by, same_node, due_of, is_due, produced_state, produced_row, produces_on_change, changed_state, changed_row};
 
-use crate::row::{Row, State};
+use adapter_table::{Row, State};
 use cip_productions::{
     Producer, Production, changed, is_produced_on_change, is_production_due, produced,
 };
