@@ -23,7 +23,7 @@ reports_applied Done = false
 reports_applied BadFrame = false
 reports_applied Ignored = false
 reports_applied (Value bytes) = false
-reports_applied (Replied asked status additional content) = false
+reports_applied (Replied number status additional content) = false
 reports_applied (Delivered delivery) = is_applied delivery
 
 -- the answer reports that a datagram was accepted
@@ -32,7 +32,7 @@ reports_accepted Done = false
 reports_accepted BadFrame = false
 reports_accepted Ignored = false
 reports_accepted (Value bytes) = false
-reports_accepted (Replied asked status additional content) = false
+reports_accepted (Replied number status additional content) = false
 reports_accepted (Delivered delivery) = is_accepted delivery
 
 -- the slot that the lookup found, if any, has this number

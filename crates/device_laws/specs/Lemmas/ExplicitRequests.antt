@@ -83,27 +83,27 @@ pub record GoesOut (t : ScannerTable) (target : Node) (bytes : List ℕ) (sessio
   pub session_is : session_with t target ≡ Some session
   pub explicit : IsExplicit bytes
 
-abbrev Sending : (Result Next StepFault → Type 0) → ScannerTable → Node → ℕ → List ℕ → Type 0
-Sending Q t target number bytes = (session : Session) → GoesOut t target bytes session → Q (Ok (done (explicit_sent t session number bytes)))
+abbrev WhenSent : (Result Next StepFault → Type 0) → ScannerTable → Node → ℕ → List ℕ → Type 0
+WhenSent Q t target number bytes = (session : Session) → GoesOut t target bytes session → Q (Ok (done (explicit_sent t session number bytes)))
 
-barred_step : (Q : Result Next StepFault → Type 0) (t : ScannerTable) (target : Node) (number : ℕ) (bytes : List ℕ) (session : Session) (b : Bool) → ((why : StepFault) → Q (Err why)) → Sending Q t target number bytes → session_with t target ≡ Some session → has_explicit_length bytes ≡ true → is_barred t number bytes ≡ b → Q (cond b (Err fault.NotAllowedNow) (Ok (done (explicit_sent t session number bytes))))
+barred_step : (Q : Result Next StepFault → Type 0) (t : ScannerTable) (target : Node) (number : ℕ) (bytes : List ℕ) (session : Session) (b : Bool) → ((why : StepFault) → Q (Err why)) → WhenSent Q t target number bytes → session_with t target ≡ Some session → has_explicit_length bytes ≡ true → is_barred t number bytes ≡ b → Q (cond b (Err fault.NotAllowedNow) (Ok (done (explicit_sent t session number bytes))))
 barred_step Q t target number bytes session true refused sends is long free = refused fault.NotAllowedNow
 barred_step Q t target number bytes session false refused sends is long free = sends session (record { session_is = is; explicit = explicit_by t number bytes long free })
 
-within_step : (Q : Result Next StepFault → Type 0) (t : ScannerTable) (target : Node) (number : ℕ) (bytes : List ℕ) (session : Option Session) → ((why : StepFault) → Q (Err why)) → Sending Q t target number bytes → session_with t target ≡ session → has_explicit_length bytes ≡ true → Q (explicit_within t number bytes session)
+within_step : (Q : Result Next StepFault → Type 0) (t : ScannerTable) (target : Node) (number : ℕ) (bytes : List ℕ) (session : Option Session) → ((why : StepFault) → Q (Err why)) → WhenSent Q t target number bytes → session_with t target ≡ session → has_explicit_length bytes ≡ true → Q (explicit_within t number bytes session)
 within_step Q t target number bytes None refused sends is long = refused fault.NotAllowedNow
 within_step Q t target number bytes (Some session) refused sends is long = barred_step Q t target number bytes session (is_barred t number bytes) refused sends is long refl
 
-sized_step : (Q : Result Next StepFault → Type 0) (t : ScannerTable) (target : Node) (number : ℕ) (bytes : List ℕ) (b : Bool) → ((why : StepFault) → Q (Err why)) → Sending Q t target number bytes → has_explicit_length bytes ≡ b → Q (cond b (explicit_within t number bytes (session_with t target)) (Err fault.WrongLength))
+sized_step : (Q : Result Next StepFault → Type 0) (t : ScannerTable) (target : Node) (number : ℕ) (bytes : List ℕ) (b : Bool) → ((why : StepFault) → Q (Err why)) → WhenSent Q t target number bytes → has_explicit_length bytes ≡ b → Q (cond b (explicit_within t number bytes (session_with t target)) (Err fault.WrongLength))
 sized_step Q t target number bytes true refused sends long = within_step Q t target number bytes (session_with t target) refused sends refl long
 sized_step Q t target number bytes false refused sends long = refused fault.WrongLength
 
-known_step : (Q : Result Next StepFault → Type 0) (t : ScannerTable) (target : Node) (number : ℕ) (bytes : List ℕ) (b : Bool) → ((why : StepFault) → Q (Err why)) → Sending Q t target number bytes → Q (cond b (explicit_sized t target number bytes) (Err fault.NoSuchSlot))
+known_step : (Q : Result Next StepFault → Type 0) (t : ScannerTable) (target : Node) (number : ℕ) (bytes : List ℕ) (b : Bool) → ((why : StepFault) → Q (Err why)) → WhenSent Q t target number bytes → Q (cond b (explicit_sized t target number bytes) (Err fault.NoSuchSlot))
 known_step Q t target number bytes true refused sends = sized_step Q t target number bytes (has_explicit_length bytes) refused sends refl
 known_step Q t target number bytes false refused sends = refused fault.NoSuchSlot
 
 -- what holds of a refusal, and of a request that is sent, holds of the event
-pub explicit_holds : (Q : Result Next StepFault → Type 0) (t : ScannerTable) (target : Node) (number : ℕ) (bytes : List ℕ) → ((why : StepFault) → Q (Err why)) → Sending Q t target number bytes → Q (explicit_request t target number bytes)
+pub explicit_holds : (Q : Result Next StepFault → Type 0) (t : ScannerTable) (target : Node) (number : ℕ) (bytes : List ℕ) → ((why : StepFault) → Q (Err why)) → WhenSent Q t target number bytes → Q (explicit_request t target number bytes)
 unfolding explicit_request
 explicit_holds Q t target number bytes refused sends = known_step Q t target number bytes (list_any (connects_to target) t.profile.slots) refused sends
 
