@@ -46,6 +46,14 @@ impl ConnectionsView for ConnectionList {
         ListView(&self.0).is_supported(point)
     }
 
+    fn kind_count(&self, kind: Kind) -> usize {
+        ListView(&self.0).kind_count(kind)
+    }
+
+    fn node_count(&self, node: Node) -> usize {
+        ListView(&self.0).node_count(node)
+    }
+
     fn is_full(&self) -> bool {
         ListView(&self.0).is_full()
     }
