@@ -1,5 +1,5 @@
 -- A close of another node is refused, and a number that is far ahead is not accepted.
-use Rattle.std.proofs.Common.{◌≡◌, ◌≢◌, ◌≤◌, ◌⊎◌, inl, inr, ℕ, ◌==◌, ◌&&◌, not, nat_lt, Bool, true, false, cond, List, [], length, find, Option, Some, None, Result, Ok, Err, refl, sym, ◌∙◌, ap, subst, arith}
+use Rattle.std.proofs.Common.{◌≡◌, ◌≢◌, ◌≤◌, inl, inr, ℕ, ◌==◌, nat_lt, Bool, true, false, cond, List, [], length, find, Option, Some, None, Result, Ok, refl, sym, ◌∙◌, ap, subst, arith}
 use Rattle.std.proofs.lemmas.Bool.{le-ltb}
 use Rattle.std.proofs.lemmas.Bool.Decides.{nat_tests}
 use Rattle.base_lemmas.specs.Booleans.{and_none, either}
@@ -8,7 +8,6 @@ use Rattle.cip_types.specs.Circle.{distance}
 use Rattle.cip_types.specs.Fields.{fields_at}
 use Rattle.cip_datagram.specs.declared.datagram.DatagramFault.{DatagramFault}
 use Rattle.cip_datagram.specs.Datagram.{DatagramFields}
-use Rattle.cip_datagram.specs.Reading.{datagram_reading}
 use Rattle.cip_encap.specs.declared.message.EncapFault.{EncapFault}
 use Rattle.cip_encap.specs.declared.packet.ItemFault.{ItemFault}
 use Rattle.cip_encap.specs.Message.{MessageFields, header_widths}
@@ -18,7 +17,6 @@ use Rattle.cip_events.specs.declared.event.Delivery.TheVariants.{Old, WrongSize}
 use Rattle.cip_events.specs.declared.event.Event.{Event}
 use Rattle.cip_events.specs.declared.event.Event.TheVariants as event
 use Rattle.cip_events.specs.declared.event.Notice.{Notice}
-use Rattle.cip_events.specs.Answers.{is_accepted}
 use Rattle.cip_fwdopen.specs.Close.{CloseFields}
 use Rattle.cip_productions.specs.declared.acceptance.Accepted.{Accepted}
 use Rattle.cip_productions.specs.Acceptance.{accepts_sequence}
@@ -26,12 +24,12 @@ use Rattle.cip_router.specs.declared.refusal.Status.TheVariants as status
 use Rattle.cip_router.specs.Commands.{command_of}
 use Rattle.cip_router.specs.Frames.{request_header_of, frame_fields, frame_reading}
 use Rattle.cip_router.specs.Refusals.{status_fault}
-use Rattle.cip_router.specs.Requests.{RouterRequestFields, closing, router_request_reading}
+use Rattle.cip_router.specs.Requests.{closing, router_request_reading}
 use Rattle.adapter_table.specs.declared.maker_limits.MakerLimits.{MakerLimits}
 use Rattle.adapter_table.specs.Connections.{Row}
 use Rattle.adapter_table.specs.declared.table.AdapterTable.{AdapterTable}
 use Rattle.adapter_table.specs.declared.table.Stream.{Stream}
-use Rattle.adapter_table.specs.Datagrams.{is_for, expected_len, accepted_delivery, row_delivery, judged_datagram, found_datagram, datagram_of, received}
+use Rattle.adapter_table.specs.Datagrams.{expected_len, accepted_delivery, judged_datagram, found_datagram, datagram_of, received}
 use Rattle.adapter_table.specs.Encapsulation.{Handled, request_replied, packet_replied, handled, frame_answer, stream_answer, frame_of, frame}
 use Rattle.adapter_table.specs.Inquiries.{inquiry_reply}
 use Rattle.adapter_table.specs.Lemmas.RequestLemmas.{next_is}
@@ -39,8 +37,8 @@ use Rattle.adapter_table.specs.Requests.{Next, Served, refused_close, close_of, 
 use Rattle.adapter_table.specs.Rows.{has_triad}
 use Rattle.adapter_table.specs.StatedLimits.{is_wrong_closer, accepts_number}
 use Rattle.adapter_table.specs.Step.{adapter_step}
-use Rattle.adapter_table.specs.Streams.{is_stream, has_session}
-use Rattle.device_laws.specs.StatedLimits.{IsCloseFrame, IsStreamOf, BringsClose, LeavesAll, AnotherNodeClosesNothing, IsFarAhead, IsNotAccepted, FarNumbersChangeNothing}
+use Rattle.adapter_table.specs.Streams.{has_session}
+use Rattle.device_laws.specs.StatedLimits.{IsCloseFrame, IsStreamOf, BringsClose, AnotherNodeClosesNothing, IsFarAhead, IsNotAccepted, FarNumbersChangeNothing}
 
 -- ---- a close that is refused
 
