@@ -50,9 +50,10 @@ pub fn profile_with(
     inputs: Items<InputPoint>,
     config: Option<InputPoint>,
     description: Option<Description>,
+    limits: MakerLimits,
     heartbeat: HeartbeatLine,
 ) -> Profile
-    ensures { result ≡ profile_with adapter outputs inputs config description heartbeat }
+    ensures { result ≡ profile_with adapter outputs inputs config description limits heartbeat }
 {
     Profile {
         incarnation: adapter.incarnation,
@@ -65,7 +66,7 @@ pub fn profile_with(
         input_only: heartbeat.input_only,
         listen_only: heartbeat.listen_only,
         description,
-        limits: MakerLimits::NONE,
+        limits,
     }
 }
 
