@@ -166,7 +166,7 @@ was_accepted device p n Done so = absurd (let e = so in cc)
 was_accepted device p n BadFrame so = absurd (let e = so in cc)
 was_accepted device p n Ignored so = absurd (let e = so in cc)
 was_accepted device p n (Value bytes) so = absurd (let e = so in cc)
-was_accepted device p n (Replied asked status additional content) so = absurd (let e = so in cc)
+was_accepted device p n (Replied pending status additional content) so = absurd (let e = so in cc)
 was_accepted device p n (Delivered delivery) so = record { delivery = delivery; is = accepted_one device p n delivery so }
 
 pub noted_produced : (device : ℕ) (p : Production) (number : Option ℕ) (verdict : Verdict) (produced : List Production) → Has p produced → AllByRecursion (λ (a : Acceptance). Has a.production produced) (accepted_by_verdict device p number verdict)

@@ -174,7 +174,7 @@ accepted_by_verdict device p number Done = []
 accepted_by_verdict device p number BadFrame = []
 accepted_by_verdict device p number Ignored = []
 accepted_by_verdict device p number (Value bytes) = []
-accepted_by_verdict device p number (Replied asked status additional content) = []
+accepted_by_verdict device p number (Replied pending status additional content) = []
 accepted_by_verdict device p number (Delivered delivery) = accepted_as device p number delivery
 
 abbrev pub accepted_sent : ℕ → Option DeviceTable → Option Sent → Option Production → Verdict → List Acceptance

@@ -146,7 +146,7 @@ verdict_noted device p number Done = inl refl
 verdict_noted device p number BadFrame = inl refl
 verdict_noted device p number Ignored = inl refl
 verdict_noted device p number (Value bytes) = inl refl
-verdict_noted device p number (Replied asked status additional content) = inl refl
+verdict_noted device p number (Replied pending status additional content) = inl refl
 verdict_noted device p None (Delivered delivery) = inl refl
 verdict_noted device p (Some m) (Delivered delivery) = as_noted (is_accepted delivery) device p m delivery refl
 

@@ -1,7 +1,6 @@
 use Rattle.std.proofs.Common.{List, ℕ, ◌++◌, subst}
-use Rattle.flat_answers.specs.Flat.{head, item}
+use Rattle.flat_answers.specs.Flat.{item}
 use Rattle.flat_answers.specs.Places.{Puts}
-use Rattle.flat_answers.specs.declared.head.ItemHeader.{ItemHeader}
 use Rattle.flat_answers.proofs.Pieces.{two}
 use Rattle.flat_answers.proofs.answer.put_reply.Goals as goal
 
