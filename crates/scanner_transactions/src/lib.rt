@@ -13,6 +13,7 @@
 mod beginning;
 mod changes;
 mod closing;
+mod ended;
 mod expiries;
 mod expiring;
 mod finishing;
@@ -27,8 +28,8 @@ mod streams;
 mod transaction;
 mod undo;
 
-pub use expiries::{advance, expire_all};
-pub use messages::{FrameOutcome, receive_frame};
+pub use expiries::{expire_all, move_on};
+pub use messages::{MessageOutcome, receive_message};
 pub use running::{give_up_overdue, lose_target, open_ready, open_target};
 pub use sessions::{cut_stream, register};
 pub use transaction::Transaction;

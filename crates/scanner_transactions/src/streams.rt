@@ -4,7 +4,7 @@ ghost use Rattle.scanner_transactions.specs.Transactions.{with_staged, without_c
 ghost use Rattle.scanner_transactions.specs.Undoing.{Performs};
 
 use crate::transaction::Transaction;
-use crate::undo::keep_streams;
+use crate::undo::keep_list;
 use cip_types::OutOfMemory;
 use open_streams::drop_stream;
 use scanner_slots::stage_streams;
@@ -15,7 +15,7 @@ impl Transaction<'_> {
     pub fn set_stage(&mut self, number: u16, stage: Stage) -> Result<(), OutOfMemory>
         ensures { Performs (with_staged number stage) self.old result self.new }
     {
-        keep_streams(self.alloc, &mut self.undo.streams, &self.scanner.streams)?;
+        keep_list(self.alloc, &mut self.undo.streams, &self.scanner.streams)?;
         stage_streams(&mut self.scanner.streams, number, stage);
         Ok(())
     }
@@ -24,7 +24,7 @@ impl Transaction<'_> {
     pub fn cut_stream(&mut self, number: u16) -> Result<(), OutOfMemory>
         ensures { Performs (without_cut number) self.old result self.new }
     {
-        keep_streams(self.alloc, &mut self.undo.streams, &self.scanner.streams)?;
+        keep_list(self.alloc, &mut self.undo.streams, &self.scanner.streams)?;
         drop_stream(&mut self.scanner.streams, number);
         Ok(())
     }
