@@ -16,7 +16,7 @@ use Rattle.trace_text.specs.declared.trace.TraceFault.TheVariants.{BadLine, BadP
 use Rattle.trace_text.specs.Forms.{line_of, event_of}
 use Rattle.trace_text.specs.Reading.{builder_after, trace_reading}
 
-abbrev rack : Description
+abbrev pub rack : Description
 rack = record { serial = 7; name = 82 ∷ 55 ∷ []; port = 44818; speed = 100; flags = 15; mac = 2 ∷ 0 ∷ 94 ∷ 16 ∷ 0 ∷ 7 ∷ []; inactivity = 120 }
 
 abbrev profile : Profile
