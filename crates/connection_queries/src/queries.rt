@@ -1,17 +1,20 @@
-//! Searches through connections, one after another. No call takes memory.
+//! Walks over connections, one after another. No call takes memory.
 
 ghost use Rattle.std.specs.Prelude.{◌≡◌, ◌≤◌, find, length, slice_get};
 ghost use Rattle.std.specs.List.{list_any};
-ghost use Rattle.adapter_table.specs.Rows.{is_established, is_timed_out, drives, is_member};
+ghost use Rattle.adapter_table.specs.Rows.{is_established, is_timed_out, drives, is_member, kind_count, node_count};
 ghost use Rattle.adapter_table.specs.States.{count_consuming};
 ghost use Rattle.adapter_table.specs.Objects.{is_owning, is_running};
 ghost use Rattle.cip_tables.specs.Wakes.{connections_due};
 ghost use Rattle.cip_productions.specs.Productions.{is_on_change};
 ghost use Rattle.conn_slab.specs.Connections.{is_listening, is_changing};
 
-use adapter_table::{Row, State, consumes, drives, is_established, is_member, is_timed_out};
+use adapter_table::{
+    Row, State, consumes, drives, is_established, is_member, is_of_kind, is_of_node, is_timed_out,
+};
 use cip_netparams::Trigger;
 use cip_productions::Kind;
+use cip_types::Node;
 use conn_slab::Rows;
 use connection_list::{connection_due, is_owning, is_running};
 
@@ -115,6 +118,34 @@ pub fn count_consuming(rows: Rows<'_>, kind: Kind, point: u32) -> usize
     count
 }
 
+/// How many established connections of an application type there are.
+pub fn kind_count(rows: Rows<'_>, kind: Kind) -> usize
+    requires { length rows ≤ 64 }
+    ensures { result ≡ kind_count rows.entry kind }
+{
+    let mut count = 0;
+    for row in rows {
+        if is_of_kind(&row, kind) {
+            count += 1;
+        }
+    }
+    count
+}
+
+/// How many established connections of a node there are.
+pub fn node_count(rows: Rows<'_>, node: Node) -> usize
+    requires { length rows ≤ 64 }
+    ensures { result ≡ node_count rows.entry node }
+{
+    let mut count = 0;
+    for row in rows {
+        if is_of_node(&row, node) {
+            count += 1;
+        }
+    }
+    count
+}
+
 /// The first connection that has timed out.
 pub fn first_timed_out(rows: Rows<'_>) -> Option<Row>
     ensures { result ≡ find is_timed_out rows.entry }
@@ -129,7 +160,7 @@ pub fn first_timed_out(rows: Rows<'_>) -> Option<Row>
 
 /// When the first deadline of an established connection is reached or the first producer is due; `u64::MAX` if there
 /// is neither.
-#[tactic(auto, using(crate::proofs::Times::min_never, crate::proofs::Times::min_due))]
+#[tactic(auto, using(crate::proofs::DueTimes::min_never, crate::proofs::DueTimes::min_due))]
 pub fn first_due(rows: Rows<'_>) -> u64
     ensures { result ≡ connections_due rows.entry }
 {

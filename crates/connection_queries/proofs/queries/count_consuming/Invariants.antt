@@ -1,6 +1,6 @@
 use Rattle.std.proofs.Common.{◌≡◌, ◌≤◌, ◌+◌, length}
 use Rattle.adapter_table.specs.States.{count_consuming}
-use Rattle.indexed_connections.proofs.queries.count_consuming.Given as goal
+use Rattle.connection_queries.proofs.queries.count_consuming.Given as goal
 
 abbrev pub invariant-loop-row : goal.invariant-loop-row
 invariant-loop-row l = record {

@@ -1,6 +1,6 @@
 use Rattle.std.proofs.Common.{◌≡◌, ◌≤◌, min}
 use Rattle.cip_tables.specs.Wakes.{never, connections_due}
-use Rattle.indexed_connections.proofs.queries.first_due.Given as goal
+use Rattle.connection_queries.proofs.queries.first_due.Given as goal
 
 abbrev pub invariant-loop-row : goal.invariant-loop-row
 invariant-loop-row l = record {
