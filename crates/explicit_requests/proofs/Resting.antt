@@ -1,5 +1,5 @@
 -- Explicit requests of which none ends.
-use Rattle.std.proofs.Common.{◌≡◌, ◌<◌, Bool, false, not, List, [], ◌∷◌, filter, refl, ap, ◌∙◌, arith}
+use Rattle.std.proofs.Common.{◌≡◌, ◌<◌, Bool, false, List, [], ◌∷◌, filter, refl, ap, ◌∙◌, arith}
 use Rattle.std.specs.Prelude.{nat_le}
 use Rattle.std.specs.List.{list_any}
 use Rattle.std.proofs.lemmas.Bool.{or_parts}

@@ -1,5 +1,5 @@
 -- How explicit requests end without a reply (Volume 1, chapter 3, unconnected messaging).
-use Rattle.std.specs.Prelude.{ℕ, Bool}
+use Rattle.std.specs.Prelude.{Bool}
 use Rattle.cip_events.specs.declared.event.Unanswered.{Unanswered}
 use Rattle.cip_events.specs.declared.event.Unanswered.TheVariants as unanswered
 use Rattle.scanner_table.specs.declared.explicit.PendingExplicit.{PendingExplicit}
