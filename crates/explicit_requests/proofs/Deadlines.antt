@@ -10,12 +10,10 @@ due_within (explicit ∷ rest) = let le = due_within rest in omega (arith, le)
 pub due_of_none : (pending : List PendingExplicit) → min never (explicit_due pending) ≡ explicit_due pending
 due_of_none pending = let le = due_within pending in omega (arith, le)
 
-moved : (first next one here rest all : ℕ) → next ≡ min first one → here ≡ min one rest → min first here ≡ all → min next rest ≡ all
-moved first next one here rest all is begins so_far = omega (arith, is, begins, so_far)
-
 pub due_more : (first next index : ℕ) (pending : List PendingExplicit) (d : PendingExplicit) → index < length pending → next ≡ min first (get_or pending index d).deadline.0 → min first (explicit_due (drop index pending)) ≡ explicit_due pending → (more : ℕ) → more ≡ suc index → min next (explicit_due (drop more pending)) ≡ explicit_due pending
 due_more first next index pending d within is so_far more same =
-    rw same (moved first next (get_or pending index d).deadline.0 (explicit_due (drop index pending)) (explicit_due (drop (suc index) pending)) (explicit_due pending) is (ap explicit_due (drop-cons pending index d within)) so_far)
+    let begins : explicit_due (drop index pending) ≡ min (get_or pending index d).deadline.0 (explicit_due (drop (suc index) pending)) = ap explicit_due (drop-cons pending index d within) in
+    rw same (omega (arith, is, begins, so_far))
 
 no_more : (index : ℕ) (pending : List PendingExplicit) → length pending ≤ index → drop index pending ≡ []
 no_more zero [] le = refl

@@ -6,7 +6,7 @@ use Rattle.cip_types.specs.Cases.{Case, first_case}
 use Rattle.cip_events.specs.declared.profile_fault.ProfileFault.TheVariants.{Incarnation, Points, SameInstance, Length, Timing}
 use Rattle.scanner_table.specs.declared.profile.ScannerProfile.{ScannerProfile}
 use Rattle.scanner_table.specs.declared.profile.SlotConfig.{SlotConfig}
-use Rattle.scanner_table.specs.Profiles.{profile_fault, are_served, are_apart, has_lengths, has_times, keeps_time, is_wait, are_few, listens_to_group, is_inhibit}
+use Rattle.scanner_table.specs.Profiles.{profile_fault, are_served, are_apart, has_lengths, has_times, keeps_time, are_few, listens_to_group, is_inhibit}
 use Rattle.cip_types.specs.declared.names.Mismatch.{Mismatch}
 use Rattle.cip_netparams.specs.Rate.{is_interval, interval_ms}
 use Rattle.cip_fwdopen.specs.declared.reply.Opened as made

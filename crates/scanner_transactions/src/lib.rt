@@ -13,13 +13,10 @@
 mod beginning;
 mod changes;
 mod closing;
-mod ended;
 mod expiries;
-mod expiring;
 mod finishing;
 mod messages;
 mod narrowing;
-mod new_request;
 mod opening;
 mod replies;
 mod running;
