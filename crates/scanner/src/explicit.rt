@@ -1,6 +1,6 @@
 //! Explicit requests of the application, and the replies to them.
 
-ghost use Rattle.std.specs.Prelude.{◌≡◌, Ok};
+ghost use Rattle.std.specs.Prelude.{Ok};
 ghost use Rattle.cip_encap.specs.Message.{view_message};
 ghost use Rattle.cip_events.specs.Outcomes.{Follows};
 ghost use Rattle.scanner_table.specs.Explicit.{explicit_request, explicit_answered, explicit_reply};
