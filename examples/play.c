@@ -83,6 +83,10 @@ static void print_notice(const eip_item *item)
     case EIP_ITEM_OTHER_API: printf("refused %u mismatch Api\n", item->a); break;
     case EIP_ITEM_REFUSED:
     case EIP_ITEM_MISMATCH: print_refusal(item); break;
+    case EIP_ITEM_NO_REPLY_TIMED_OUT: printf("unanswered %u timed-out\n", item->a); break;
+    case EIP_ITEM_NO_REPLY_LOST: printf("unanswered %u lost\n", item->a); break;
+    case EIP_ITEM_NO_REPLY_ENCAP: printf("unanswered %u encap %u\n", item->a, item->b); break;
+    case EIP_ITEM_NO_REPLY_UNREADABLE: printf("unanswered %u unreadable\n", item->a); break;
     default: puts(""); break;
     }
 }
@@ -223,6 +227,14 @@ static void bytes_event(const char *word, const char *one, char *two)
         print_answer(eip_write(&device, n, bytes, len, answer, room, &size));
 }
 
+/* The application has a scanner send a request to a target. */
+static void explicit_event(const char *target, const char *asked, char *request)
+{
+    size_t len = bytes_of(request);
+    uint32_t n = (uint32_t)strtoul(asked, NULL, 10);
+    print_answer(eip_explicit(&device, node_of(target), n, (const uint8_t *)request, len, answer, room, &size));
+}
+
 /* Time passes. A tick that comes before the device needs one answers nothing. */
 static uint32_t passed(uint32_t ms)
 {
@@ -268,6 +280,12 @@ static void event(char *line)
         print_value((uint32_t)strtoul(one, NULL, 10));
         return;
     }
+    if (!strcmp(word, "explicit")) {
+        char *request = strtok(NULL, " \n");
+        if (two && request)
+            explicit_event(one, two, request);
+        return;
+    }
     for (i = 0; two && i < 5; i++)
         if (!strcmp(word, with_bytes[i])) {
             bytes_event(word, one, two);
@@ -278,9 +296,11 @@ static void event(char *line)
 
 static bool is_profile(const char *line)
 {
-    static const char *const words[] = {"adapter ", "output ", "input ", "config ", "describe ", "heartbeat ", "scanner ", "slot "};
+    static const char *const words[] = {"adapter ",   "output ", "input ",            "config ",  "describe ",
+                                        "least-rpi ", "places ", "node-connections ", "closers ", "newer ",
+                                        "heartbeat ", "scanner ", "slot "};
     size_t i;
-    for (i = 0; i < 8; i++)
+    for (i = 0; i < sizeof words / sizeof *words; i++)
         if (!strncmp(line, words[i], strlen(words[i])))
             return true;
     return *line == '#' || *line == '\n';

@@ -55,7 +55,7 @@ enum eip_status {
     EIP_BAD_LINE = 11,         /* *number is that of the first bad line, from 1 */
     EIP_BAD_PROFILE = 12,      /* no line is bad, and *number is that of the first fault of the profile: 1 incarnation,
                                   2 address, 3 points, 4 the same instance twice, 5 length, 6 timing, 7 identity,
-                                  8 description */
+                                  8 description, 9 limits */
     /* eip_inquiry */
     EIP_NO_INQUIRY = 13,       /* the message is no inquiry: nothing is to be sent, and *size is 0 */
     EIP_LONG_NAME = 14,        /* the name has more than 32 bytes: nothing is written */
@@ -154,6 +154,8 @@ uint32_t eip_c_inquire(eip_device *device, uint32_t peer, const uint8_t *bytes, 
                        size_t *size);
 uint32_t eip_c_inquiry(const eip_identity *identity, const uint8_t *name, size_t name_len, const uint8_t *message,
                        size_t len, uint8_t *out, size_t room, size_t *size);
+uint32_t eip_c_explicit(eip_device *device, uint32_t target, uint32_t number, const uint8_t *bytes, size_t len, uint8_t *out,
+                        size_t room, size_t *size);
 uint32_t eip_c_write(eip_device *device, uint32_t point, const uint8_t *bytes, size_t len, uint8_t *out, size_t room,
                      size_t *size);
 uint32_t eip_c_read(eip_device *device, uint32_t point, uint8_t *out, size_t room, size_t *size);
@@ -356,6 +358,18 @@ static inline uint32_t eip_stop(eip_device *device, uint32_t slot, uint8_t *out,
     EIP_CALL(out, room, eip_c_stop(device, slot, out, room, size));
 }
 
+/* The application of a scanner sends a message router request to a target: service, path words, path, data. The number is
+ * the application's own, and is not that of another request that waits. The answer has the frame to send. Later an answer has
+ * EIP_ITEM_REPLIED and EIP_ITEM_ADDITIONAL_STATUS, or one of EIP_ITEM_NO_REPLY_TIMED_OUT to EIP_ITEM_NO_REPLY_UNREADABLE, once.
+ * EIP_NO_SUCH_SLOT if no slot has this target; EIP_WRONG_LENGTH if there are fewer than 2 or more than 504 bytes;
+ * EIP_NOT_ALLOWED_NOW if no session with the target is registered, the request opens or closes a connection, 16 requests
+ * wait, or one that waits has this number. */
+static inline uint32_t eip_explicit(eip_device *device, uint32_t target, uint32_t number, const uint8_t *bytes, size_t len,
+                                    uint8_t *out, size_t room, size_t *size)
+{
+    EIP_CALL(bytes, len, eip_c_explicit(device, target, number, eip_bytes(bytes), len, out, room, size));
+}
+
 /* INQUIRIES
  *
  * A device whose profile has a line describe answers them itself: eip_inquire. For any other one this call answers them, of
@@ -393,6 +407,8 @@ enum eip_kind {
     EIP_ITEM_IGNORED = 3,           /* a message that the scanner does not expect */
     EIP_ITEM_VALUE = 4,             /* data: the value of a point */
     EIP_ITEM_DELIVERED = 5,         /* a: enum eip_delivery */
+    EIP_ITEM_REPLIED = 6,           /* the reply to explicit request a: general status b; data: those of the reply */
+    EIP_ITEM_ADDITIONAL_STATUS = 7, /* behind EIP_ITEM_REPLIED; data: its additional status, two bytes a word */
     /* to send */
     EIP_ITEM_FRAME = 16,            /* data: bytes for stream a */
     EIP_ITEM_REPLY = 17,            /* data: the reply to the request or inquiry of node a */
@@ -415,7 +431,12 @@ enum eip_kind {
     EIP_ITEM_OTHER_TRIAD = 67,      /* a reply for another connection */
     EIP_ITEM_OTHER_ID = 68,         /* another T->O id, or one in use */
     EIP_ITEM_OTHER_API = 69,        /* an actual packet interval out of range */
-    EIP_ITEM_MISMATCH = 70          /* as EIP_ITEM_REFUSED */
+    EIP_ITEM_MISMATCH = 70,         /* as EIP_ITEM_REFUSED */
+    /* explicit request a has no reply, and will have none */
+    EIP_ITEM_NO_REPLY_TIMED_OUT = 72,
+    EIP_ITEM_NO_REPLY_LOST = 73,    /* its stream ended */
+    EIP_ITEM_NO_REPLY_ENCAP = 74,   /* encapsulation status b */
+    EIP_ITEM_NO_REPLY_UNREADABLE = 75
 };
 
 /* An item of an answer. Its data stays where the answer lies. */

@@ -24,7 +24,7 @@ import pathlib
 import struct
 import threading
 import weakref
-from dataclasses import dataclass
+from dataclasses import dataclass, replace
 from typing import Any, Callable, Optional, TypeVar, Union
 
 Address = Union[str, int]
@@ -106,6 +106,8 @@ class Verdict(enum.IntEnum):
     """Too few bytes to be answered, or a wrong length where there is no reply."""
     IGNORED = 3
     """A message that the scanner does not expect."""
+    REPLIED = 6
+    """The reply of a target to an explicit request: `Answer.reply`."""
 
 
 class NoticeKind(enum.IntEnum):
@@ -140,6 +142,14 @@ class NoticeKind(enum.IntEnum):
     """An actual packet interval out of range."""
     MISMATCH = 70
     """A status that another field of the reply contradicts."""
+    NO_REPLY_TIMED_OUT = 72
+    """An explicit request was not answered in time."""
+    NO_REPLY_LOST = 73
+    """The stream of an explicit request ended."""
+    NO_REPLY_ENCAP = 74
+    """The answer to an explicit request has an encapsulation status."""
+    NO_REPLY_UNREADABLE = 75
+    """The answer to an explicit request holds no readable reply."""
 
 
 class SlotState(enum.IntEnum):
@@ -183,6 +193,7 @@ class ProfileFault(enum.IntEnum):
     TIMING = 6
     IDENTITY = 7
     DESCRIPTION = 8
+    LIMITS = 9
 
 
 # ERRORS
@@ -327,7 +338,31 @@ class RefusalNotice:
     """The extended status of REFUSED and MISMATCH, if the reply has one."""
 
 
-Notice = Union[ConnectionNotice, StreamNotice, SlotNotice, ResetNotice, RefusalNotice]
+@dataclass(frozen=True)
+class UnansweredNotice:
+    """An explicit request has no reply, and will have none: NO_REPLY_TIMED_OUT to NO_REPLY_UNREADABLE."""
+
+    kind: NoticeKind
+    number: int
+    """The number that you gave the request."""
+    status: Optional[int] = None
+    """The encapsulation status of NO_REPLY_ENCAP."""
+
+
+Notice = Union[ConnectionNotice, StreamNotice, SlotNotice, ResetNotice, RefusalNotice, UnansweredNotice]
+
+
+@dataclass(frozen=True)
+class ExplicitReply:
+    """The reply of a target to an explicit request, a refusal too."""
+
+    number: int
+    """The number that you gave the request."""
+    status: int
+    """The general status; 0 is a success."""
+    additional: bytes
+    """The additional status, two bytes a word."""
+    data: bytes
 
 
 @dataclass(frozen=True)
@@ -339,11 +374,13 @@ class Answer:
     replies: tuple[Reply, ...] = ()
     datagrams: tuple[Datagram, ...] = ()
     notices: tuple[Notice, ...] = ()
+    reply: Optional[ExplicitReply] = None
+    """The reply of a target, if the verdict is REPLIED."""
 
     @property
     def is_plain(self) -> bool:
         """Whether it has a verdict alone."""
-        return not (self.frames or self.replies or self.datagrams or self.notices)
+        return not (self.frames or self.replies or self.datagrams or self.notices or self.reply)
 
 
 @dataclass(frozen=True)
@@ -398,7 +435,7 @@ class Slot:
 
 
 _HEAD = struct.Struct("<IIIIIQ")
-_FRAME, _REPLY, _DATAGRAM, _CONSUMER = 16, 17, 32, 33
+_REPLIED, _ADDITIONAL, _FRAME, _REPLY, _DATAGRAM, _CONSUMER = 6, 7, 16, 17, 32, 33
 _VERDICTS = {int(verdict): verdict for verdict in Verdict}
 _NOTICES = {int(kind): kind for kind in NoticeKind}
 _DELIVERIES = tuple(Delivery)
@@ -422,12 +459,17 @@ def _notice(kind: NoticeKind, a: int, b: int, c: int, d: int) -> Notice:
         return RefusalNotice(kind, a, b)
     if kind in (NoticeKind.REFUSED, NoticeKind.MISMATCH):
         return RefusalNotice(kind, a, b, d if c else None)
+    if kind == NoticeKind.NO_REPLY_ENCAP:
+        return UnansweredNotice(kind, a, b)
+    if kind >= NoticeKind.NO_REPLY_TIMED_OUT:
+        return UnansweredNotice(kind, a)
     return RefusalNotice(kind, a)
 
 
 def read_answer(raw: bytes) -> Answer:
     """Reads the bytes of an answer: the items that include/eip.h describes."""
     verdict = Verdict.DONE
+    reply: Optional[ExplicitReply] = None
     frames: list[Frame] = []
     replies: list[Reply] = []
     datagrams: list[tuple[str, list[str], bytes]] = []
@@ -446,12 +488,16 @@ def read_answer(raw: bytes) -> Answer:
             frames.append(Frame(a, data))
         elif kind == _REPLY:
             replies.append(Reply(node_text(a), data))
+        elif kind == _ADDITIONAL and reply:
+            reply = replace(reply, additional=data)
         elif kind in _VERDICTS:
             verdict = _VERDICTS[kind]
+            if kind == _REPLIED:
+                reply = ExplicitReply(a, b, b"", data)
         else:
             notices.append(_notice(_NOTICES[kind], a, b, c, d))
     sent = tuple(Datagram(address, tuple(nodes), data) for address, nodes, data in datagrams)
-    return Answer(verdict, tuple(frames), tuple(replies), sent, tuple(notices))
+    return Answer(verdict, tuple(frames), tuple(replies), sent, tuple(notices), reply)
 
 
 # ADDRESSES
@@ -532,6 +578,7 @@ _FUNCTIONS: dict[str, list[Any]] = {
     "cut": [_AT, _U16, *_OUT],
     "datagram": [_AT, _U32, *_BYTES],
     "inquire": [_AT, _U32, *_BYTES, *_OUT],
+    "explicit": [_AT, _U32, _U32, *_BYTES, *_OUT],
     "write": [_AT, _U32, *_BYTES, *_OUT],
     "read": [_AT, _U32, *_OUT],
     "tick": [_AT, _U32, *_OUT],
@@ -687,6 +734,15 @@ class Device:
         If the profile has a line describe, the reply to ListServices, ListIdentity or ListInterfaces is in `replies`.
         """
         return self._event(self._calls.eip_c_inquire, node_number(peer), data, len(data))
+
+    def explicit(self, target: Address, number: int, data: bytes) -> Answer:
+        """Has a scanner send a message router request to a target: service, path words, path, data.
+
+        The number is your own. `reply` of a later answer has it, or an UnansweredNotice. Refused without a registered session
+        with the target, while 16 requests wait, and if one that waits has the number.
+        """
+        number = _number(number, 0xFFFFFFFF, "number")
+        return self._event(self._calls.eip_c_explicit, node_number(target), number, data, len(data))
 
     # Points
 

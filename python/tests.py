@@ -19,7 +19,7 @@ import trace_lines
 from eip import (
     Answer, AnswerKept, BadLine, BadProfile, Connection, ConnectionKind, ConnectionNotice, Datagram, Delivery, Device,
     DeviceClosed, Frame, Identity, Mode, NoAnswer, NoticeKind, ProfileFault, RefusalNotice, Refused, Reply, ResetNotice, Slot,
-    SlotNotice, SlotState, Status,
+    SlotNotice, SlotState, Status, ExplicitReply, UnansweredNotice,
     StreamNotice, Verdict, inquiry, node_number, node_text, read_answer,
 )
 from plant import Faults, Plant
@@ -235,6 +235,10 @@ class Devices(unittest.TestCase):
             (68, (4, 0, 0, 0), RefusalNotice(NoticeKind.OTHER_ID, 4), "refused 4 mismatch Id"),
             (69, (4, 0, 0, 0), RefusalNotice(NoticeKind.OTHER_API, 4), "refused 4 mismatch Api"),
             (70, (4, 1, 1, 0x0113), RefusalNotice(NoticeKind.MISMATCH, 4, 1, 0x0113), "refused 4 cip 01 0113"),
+            (72, (4, 0, 0, 0), UnansweredNotice(NoticeKind.NO_REPLY_TIMED_OUT, 4), "unanswered 4 timed-out"),
+            (73, (4, 0, 0, 0), UnansweredNotice(NoticeKind.NO_REPLY_LOST, 4), "unanswered 4 lost"),
+            (74, (4, 100, 0, 0), UnansweredNotice(NoticeKind.NO_REPLY_ENCAP, 4, 100), "unanswered 4 encap 100"),
+            (75, (4, 0, 0, 0), UnansweredNotice(NoticeKind.NO_REPLY_UNREADABLE, 4), "unanswered 4 unreadable"),
         ]:
             items = [(1, 0, 0, 0, 0), (kind, *numbers)]
             raw = b"".join(b"".join(n.to_bytes(4, "little") for n in item) + bytes(8) for item in items)
@@ -310,6 +314,35 @@ class Inquiries(unittest.TestCase):
             answer = device.request(OWNER, bytes.fromhex("05022001240100"))
             self.assertEqual(answer.notices, (ResetNotice(NoticeKind.RESET, 0),))
             self.assertEqual(answer.replies, (Reply(OWNER, bytes.fromhex("85000000")),))
+
+
+    def test_a_target_is_asked(self):
+        """An application of a scanner asks a target for its product code; the target answers, and then refuses."""
+        get = bytes.fromhex("0e03200124013003")
+        head = "00000000" "0000" "0200" "00000000" "b200"
+
+        def message(context, request):
+            data = bytes.fromhex(head) + len(request).to_bytes(2, "little") + request
+            return (
+                bytes.fromhex("6f00") + len(data).to_bytes(2, "little") + bytes.fromhex("01000000" "00000000")
+                + context.to_bytes(8, "little") + bytes(4) + data
+            )  # fmt: skip
+
+        with Device(SCANNER) as scanner:
+            with self.assertRaises(Refused) as refused:
+                scanner.explicit("192.168.1.10", 5, get)
+            self.assertEqual(refused.exception.status, Status.NOT_ALLOWED_NOW)
+            scanner.stream(0, "192.168.1.10")
+            scanner.frame(0, REGISTERED)
+            self.assertEqual(scanner.explicit("192.168.1.10", 5, get).frames, (Frame(0, message(1, get)),))
+            answer = scanner.frame(0, message(1, bytes.fromhex("8e0000000700")))
+            self.assertEqual(answer, Answer(Verdict.REPLIED, reply=ExplicitReply(5, 0, b"", bytes.fromhex("0700"))))
+            scanner.explicit("192.168.1.10", 6, get)
+            answer = scanner.frame(0, message(2, bytes.fromhex("8e000901ffff")))
+            self.assertEqual(answer.reply, ExplicitReply(6, 9, bytes.fromhex("ffff"), b""))
+            scanner.explicit("192.168.1.10", 7, get)
+            (lost,) = scanner.cut(0).notices
+            self.assertEqual(lost, UnansweredNotice(NoticeKind.NO_REPLY_LOST, 7))
 
 
 class Plants(unittest.TestCase):

@@ -13,7 +13,7 @@ from typing import Callable, Optional, TypeVar, Union
 
 from eip import (
     Address, Answer, AnswerKept, ConnectionNotice, Delivery, Device, Notice, NoticeKind, RefusalNotice, Refused,
-    ResetNotice, SlotNotice, Status, StreamNotice, Verdict, node_number, node_text,
+    ResetNotice, SlotNotice, Status, StreamNotice, UnansweredNotice, Verdict, node_number, node_text,
 )  # fmt: skip
 
 Outcome = Union[Answer, Delivery, bytes, Refused]
@@ -36,7 +36,13 @@ CONNECTIONS = {
     NoticeKind.DROPPED: "dropped", NoticeKind.REPLACED: "replaced",
 }  # fmt: skip
 MISMATCHES = {NoticeKind.OTHER_TRIAD: "Triad", NoticeKind.OTHER_ID: "Id", NoticeKind.OTHER_API: "Api"}
-PROFILE_WORDS = {"adapter", "output", "input", "config", "describe", "heartbeat", "scanner", "slot"}
+UNANSWERED = {
+    NoticeKind.NO_REPLY_TIMED_OUT: "timed-out", NoticeKind.NO_REPLY_LOST: "lost", NoticeKind.NO_REPLY_UNREADABLE: "unreadable",
+}  # fmt: skip
+PROFILE_WORDS = {
+    "adapter", "output", "input", "config", "describe", "least-rpi", "places", "node-connections", "closers", "newer",
+    "heartbeat", "scanner", "slot",
+}  # fmt: skip
 
 
 def hex_of(data: bytes) -> str:
@@ -74,6 +80,9 @@ def notice_words(notice: Notice) -> str:
         return f"no-ids {notice.slot}" if notice.state is None else f"slot {notice.slot} {notice.state.value}"
     if isinstance(notice, ResetNotice):
         return f"reset {notice.type}"
+    if isinstance(notice, UnansweredNotice):
+        why = UNANSWERED.get(notice.kind, f"encap {notice.status}")
+        return f"unanswered {notice.number} {why}"
     return f"refused {notice.slot} {_refusal(notice)}"
 
 
@@ -85,7 +94,12 @@ def outcome_lines(number: int, outcome: Outcome) -> list[str]:
         return [f"{number} {DELIVERIES[outcome]}"]
     if isinstance(outcome, bytes):
         return [f"{number} value {hex_of(outcome)}"]
-    lines = [f"{number} {VERDICTS[outcome.verdict]}"]
+    reply = outcome.reply
+    if reply:
+        words = f"replied {reply.number} {reply.status:02x} {hex_of(reply.additional)} {hex_of(reply.data)}"
+    else:
+        words = VERDICTS[outcome.verdict]
+    lines = [f"{number} {words}"]
     lines += [f"{number} reply {reply.node} {hex_of(reply.data)}" for reply in outcome.replies]
     lines += [f"{number} frame {frame.stream} {hex_of(frame.data)}" for frame in outcome.frames]
     for sent in outcome.datagrams:
@@ -103,6 +117,7 @@ CALLS: dict[str, Callable[[Device, list[str]], Union[Answer, Delivery, bytes]]] 
     "cut": lambda device, words: device.cut(int(words[0])),
     "datagram": lambda device, words: device.datagram(words[0], bytes_of(words[1])),
     "inquiry": lambda device, words: device.inquire(words[0], bytes_of(words[1])),
+    "explicit": lambda device, words: device.explicit(words[0], int(words[1]), bytes_of(words[2])),
     "write": lambda device, words: device.write(int(words[0]), bytes_of(words[1])),
     "read": lambda device, words: device.read(int(words[0])),
     "tick": lambda device, words: device.tick(int(words[0])),
@@ -183,6 +198,10 @@ class RecordedDevice(Device):
     def inquire(self, peer: Address, data: bytes) -> Answer:
         event = f"inquiry {_node(peer)} {hex_of(data)}"
         return self._recorded(event, lambda: super(RecordedDevice, self).inquire(peer, data))
+
+    def explicit(self, target: Address, number: int, data: bytes) -> Answer:
+        event = f"explicit {_node(target)} {number} {hex_of(data)}"
+        return self._recorded(event, lambda: super(RecordedDevice, self).explicit(target, number, data))
 
     def write(self, point: int, data: bytes) -> Answer:
         return self._recorded(f"write {point} {hex_of(data)}", lambda: super(RecordedDevice, self).write(point, data))

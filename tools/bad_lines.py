@@ -18,12 +18,15 @@ BAD_EVENTS = [
     ("read 150\n2 done\n", "bad line 6: it is not allowed at this place"),
     ("read 150\n1 done\n1 done\n", "bad line 7: it is not allowed at this place"),
     ("input 101 4\n", "bad line 5: it is not allowed at this place"),
+    ("closers own\n", "bad line 5: it is not allowed at this place"),
+    ("read 150\n1 note unanswered 7 late\n", "bad line 6: no part of an outcome follows the event's number"),
 ]
 
 NAME = [("none", "is none of the names that are allowed there")]
 ADDRESS = [("10.0.0.256", "is no address of four numbers below 256"), ("10.0.1", "is no address of four numbers below 256")]
 ADDRESSES = [("10.0.0.1,10.0.0.256", "is no address of four numbers below 256")]
 HEX = [("0g", "has a character that is no hexadecimal digit"), ("012", "has an odd number of hexadecimal digits")]
+STATUS = [(word, "is no status of two hexadecimal digits") for word in ("0", "000", "0g")]
 KEY = [*HEX, ("0102", "is a key that has not eight bytes"), ("01" * 9, "is a key that has not eight bytes")]
 
 
@@ -42,12 +45,18 @@ FORMS = [
     ("output 150 4 zero hold", [U32, U64, NAME, NAME]),
     ("input 100 4", [U32, U64]),
     ("config 151 0", [U32, U64]),
+    ("least-rpi 1000", [U32]),
+    ("places 1 2 0", [U8, U8, U8]),
+    ("node-connections 4", [U8]),
+    ("closers own", [NAME]),
+    ("newer 1000", [U32]),
     ("heartbeat 152 153", [U32, U32]),
     ("scanner 9 10.0.0.2 1 77 1000 500", [U8, ADDRESS, U16, U32, U64, U64]),
     ("slot 10.0.0.1 exclusive 151 150 100 4 4 10000 10000 2 p2p 0100020003008104 0102",
      [ADDRESS, NAME, U32, U32, U32, U64, U64, U32, U32, U8, NAME, KEY, HEX]),
     ("slot 10.0.0.1 listen - 153 100 0 4 10000 10000 2 multicast - - change 5", [NAME, U8]),
     ("request 10.0.0.1 0e", [ADDRESS, HEX]),
+    ("explicit 10.0.0.1 7 0e", [ADDRESS, U32, HEX]),
     ("stream 1 10.0.0.1", [U16, ADDRESS]),
     ("frame 1 0e", [U16, HEX]),
     ("cut 1", [U16]),
@@ -62,6 +71,7 @@ FORMS = [
     ("1 frame 1 0e", [U16, HEX]),
     ("1 send 10.0.0.1 10.0.0.1,10.0.0.2 0e", [ADDRESS, ADDRESSES, HEX]),
     ("1 value 0e", [HEX]),
+    ("1 replied 7 00 0106 0e", [U32, STATUS, HEX, HEX]),
 ]
 
 

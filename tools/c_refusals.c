@@ -42,12 +42,15 @@ static void check_numbers(void)
                                  EIP_NO_CONNECTION};
     static const int deliveries[] = {EIP_APPLIED, EIP_IDLE,       EIP_HEARTBEAT,  EIP_DUPLICATE,
                                      EIP_OLD,     EIP_UNKNOWN_ID, EIP_WRONG_SIZE, EIP_MALFORMED};
-    static const int verdicts[] = {EIP_ITEM_DONE, EIP_ITEM_BAD_FRAME, EIP_ITEM_IGNORED, EIP_ITEM_VALUE, EIP_ITEM_DELIVERED};
+    static const int verdicts[] = {EIP_ITEM_DONE,      EIP_ITEM_BAD_FRAME, EIP_ITEM_IGNORED,          EIP_ITEM_VALUE,
+                                   EIP_ITEM_DELIVERED, EIP_ITEM_REPLIED,   EIP_ITEM_ADDITIONAL_STATUS};
     static const int sent[] = {EIP_ITEM_FRAME, EIP_ITEM_REPLY};
     static const int datagrams[] = {EIP_ITEM_DATAGRAM, EIP_ITEM_CONSUMER};
     static const int notices[] = {EIP_ITEM_OPENED,   EIP_ITEM_CLOSED,        EIP_ITEM_EXPIRED, EIP_ITEM_DROPPED,
                                   EIP_ITEM_REPLACED, EIP_ITEM_STREAM_CLOSED, EIP_ITEM_SLOT,    EIP_ITEM_NO_IDS,
                                   EIP_ITEM_RESET};
+    static const int unanswered[] = {EIP_ITEM_NO_REPLY_TIMED_OUT, EIP_ITEM_NO_REPLY_LOST, EIP_ITEM_NO_REPLY_ENCAP,
+                                     EIP_ITEM_NO_REPLY_UNREADABLE};
     static const int reasons[] = {EIP_ITEM_REFUSED_ENCAP, EIP_ITEM_UNREADABLE, EIP_ITEM_REFUSED, EIP_ITEM_OTHER_TRIAD,
                                   EIP_ITEM_OTHER_ID,      EIP_ITEM_OTHER_API,  EIP_ITEM_MISMATCH};
     check(counts_from(0, events, sizeof events / sizeof *events), "the numbers of the statuses of events");
@@ -57,6 +60,7 @@ static void check_numbers(void)
     check(counts_from(1, verdicts, sizeof verdicts / sizeof *verdicts), "the numbers of the verdicts");
     check(counts_from(16, sent, sizeof sent / sizeof *sent), "the numbers of frames and replies");
     check(counts_from(32, datagrams, sizeof datagrams / sizeof *datagrams), "the numbers of datagrams and consumers");
+    check(counts_from(72, unanswered, sizeof unanswered / sizeof *unanswered), "the numbers of requests without a reply");
     check(counts_from(48, notices, sizeof notices / sizeof *notices), "the numbers of the notices");
     check(counts_from(64, reasons, sizeof reasons / sizeof *reasons), "the numbers of the refusals of a slot");
 }
@@ -117,6 +121,7 @@ static void check_null(eip_device *device)
         check(eip_request(device, 1, NULL, len, out, sizeof out, &size) == EIP_NULL, "a request NULL");
         check(eip_frame(device, 0, NULL, len, out, sizeof out, &size) == EIP_NULL, "a frame NULL");
         check(eip_inquire(device, 1, NULL, len, out, sizeof out, &size) == EIP_NULL, "an inquiry NULL of a device");
+        check(eip_explicit(device, 1, 1, NULL, len, out, sizeof out, &size) == EIP_NULL, "an explicit request NULL");
         check(eip_datagram(device, 1, NULL, len, &delivery) == EIP_NULL && delivery == EIP_IDLE, "a datagram NULL");
         check(eip_write(device, 100, NULL, len, out, sizeof out, &size) == EIP_NULL, "a value NULL");
         check(eip_tick(device, 1, NULL, len, &size) == EIP_NULL, "room NULL of any length");

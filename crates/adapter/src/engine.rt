@@ -9,10 +9,11 @@ ghost use Rattle.cip_fwdopen.specs.Open.{view_open};
 ghost use Rattle.cip_fwdopen.specs.Close.{view_close};
 ghost use Rattle.cip_fwdopen.specs.Services.{is_large_open};
 ghost use Rattle.cip_router.specs.Replies.{view_reply};
-ghost use Rattle.adapter_table.specs.Checks.{Gives, config_bytes, admission, view_admission, drawn_ids};
+ghost use Rattle.adapter_table.specs.Checks.{Gives, config_bytes, view_admission, drawn_ids};
+ghost use Rattle.adapter_table.specs.StatedLimits.{limited_admission};
 ghost use Rattle.adapter_table.specs.Opening.{opened_row, opened_production, opened_state, opened_t_o_id, configured};
 ghost use Rattle.cip_router.specs.Requests.{router_request_reading};
-ghost use Rattle.adapter_table.specs.Requests.{requested, served, admitted_open, served_open, router_refusal, known_close, served_close};
+ghost use Rattle.adapter_table.specs.Requests.{requested, served, admitted_open, served_open, router_refusal, known_close, refused_close, found_close, served_close};
 ghost use Rattle.adapter_replies.specs.Routes.{peer_of, routed, routed_answer, IsWritable};
 ghost use Rattle.adapter_table.specs.Closing.{closed_values};
 ghost use Rattle.cip_datagram.specs.Datagram.{DatagramFields, view_datagram};
@@ -49,7 +50,7 @@ use cip_tables::{
     read_router_request,
 };
 use cip_types::limits::{CLOCK_END_MS, IDS_PER_INCARNATION, LONGEST_TICK_MS};
-use cip_types::{ConnId, Items, Ms, Node, OutOfMemory, connection_id};
+use cip_types::{ConnId, Fault, Items, Ms, Node, OutOfMemory, connection_id};
 use connection_list::{ConnectionTable, TickPlan};
 use open_streams::copied_streams;
 use std::alloc::Global;
@@ -93,9 +94,13 @@ impl<T: ConnectionTable> Adapter<T> {
         }
     }
 
-    /// The connection that an open request is admitted as, or why it is refused. Takes no memory.
-    fn judge<'a>(&self, request: &OpenRequest<&'a [u8]>) -> Result<Admission<'a>, Refusal>
-        ensures admission { Gives view_admission result (admission self.now (view_open request.now)) }
+    /// The connection that an open request of a peer is admitted as, or why it is refused. Takes no memory.
+    fn judge<'a>(
+        &self,
+        peer: Node,
+        request: &OpenRequest<&'a [u8]>,
+    ) -> Result<Admission<'a>, Refusal>
+        ensures admission { Gives view_admission result (limited_admission self.now peer (view_open request.now)) }
         ensures drawn { IfOk result (λ a. a.drawn ≡ drawn_ids a.multicast a.group) }
     {
         let view = View {
@@ -104,7 +109,7 @@ impl<T: ConnectionTable> Adapter<T> {
             connections: &self.table,
             next_id: self.next_id,
         };
-        admit(&view, request)
+        admit(&view, peer, request)
     }
 
     /// The production that a new connection starts.
@@ -183,7 +188,8 @@ impl<T: ConnectionTable> Adapter<T> {
         request: &OpenRequest<&[u8]>,
         admitted: &Admission<'_>,
     ) -> Outcome
-        requires admitted { admission self.old (view_open request.now) ≡ Ok (view_admission admitted.now) }
+        requires admitted { limited_admission self.old (peer_of route) (view_open request.now)
+            ≡ Ok (view_admission admitted.now) }
         requires drawn { admitted.now.drawn ≡ drawn_ids admitted.now.multicast admitted.now.group }
         ensures { Follows (Ok
             (routed self.old route (Some (admitted_open self.old (peer_of route) (is_large_open service)
@@ -215,7 +221,7 @@ impl<T: ConnectionTable> Adapter<T> {
             (Some (served_open self.old (peer_of route) (is_large_open service)
             (view_open request.now))))) self.old result self.new }
     {
-        match self.judge(request) {
+        match self.judge(route.peer(), request) {
             Ok(admitted) => self.open(route, service, request, &admitted),
             Err(why) => {
                 let reply = Reply::Refused(service.code(), why.fault(), Some(request.triad));
@@ -259,19 +265,39 @@ impl<T: ConnectionTable> Adapter<T> {
         Ok(answer)
     }
 
+    /// A close that is refused, with its triad.
+    fn refuse_close(&mut self, route: Route, request: &CloseRequest<&[u8]>, fault: Fault) -> Outcome
+        requires { fault.general ≢ 0 }
+        ensures { Follows (Ok (routed self.old route (Some (refused_close self.old (view_close request.now) fault))))
+            self.old result self.new }
+    {
+        let reply = Reply::Refused(FORWARD_CLOSE, fault, Some(request.triad));
+        Ok(self.reply(route, reply)?)
+    }
+
+    /// The close of a connection that is found: another node than the one that opened it is refused, if the maker
+    /// says so.
+    fn close_found(&mut self, route: Route, request: &CloseRequest<&[u8]>, row: &Row) -> Outcome
+        ensures { Follows (Ok (routed self.old route (Some (found_close self.old (peer_of route)
+            (view_close request.now) row.now)))) self.old result self.new }
+    {
+        let limits = self.assemblies.profile().limits;
+        if limits.is_wrong_closer(route.peer(), row) {
+            let fault = Status::PrivilegeViolation.fault();
+            return self.refuse_close(route, request, fault);
+        }
+        self.close(route, row)
+    }
+
     /// A Forward_Close.
     #[tactic(auto, unfolding(adapter_table::specs::Requests::served_close))]
     fn forward_close(&mut self, route: Route, request: &CloseRequest<&[u8]>) -> Outcome
-        ensures { Follows (Ok (routed self.old route (Some (served_close self.old (view_close request.now)))))
-            self.old result self.new }
+        ensures { Follows (Ok (routed self.old route (Some (served_close self.old (peer_of route)
+            (view_close request.now))))) self.old result self.new }
     {
         match self.table.find(request.triad) {
-            Some(row) => self.close(route, &row),
-            None => {
-                let fault = Refusal::NotFound.fault();
-                let reply = Reply::Refused(FORWARD_CLOSE, fault, Some(request.triad));
-                Ok(self.reply(route, reply)?)
-            }
+            Some(row) => self.close_found(route, request, &row),
+            None => self.refuse_close(route, request, Refusal::NotFound.fault()),
         }
     }
 
@@ -600,9 +626,10 @@ impl<T: ConnectionTable> Adapter<T> {
             Event::Write { point, bytes } => self.write(*point, bytes.as_slice()),
             Event::Read { point } => self.read(*point),
             Event::Tick { ms } => self.tick(*ms),
-            Event::Mode { .. } | Event::Start { .. } | Event::Stop { .. } => {
-                Err(StepFault::NotAllowedNow)
-            }
+            Event::Mode { .. }
+            | Event::Start { .. }
+            | Event::Stop { .. }
+            | Event::Explicit { .. } => Err(StepFault::NotAllowedNow),
         }
     }
 }

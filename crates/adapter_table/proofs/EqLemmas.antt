@@ -1,5 +1,5 @@
 -- Tables that pass the derived test for equal values are equal, and equal ones pass it.
-use Rattle.std.proofs.Common.{◌≡◌, Option, rules}
+use Rattle.std.proofs.Common.{◌≡◌, ℕ, ◌==◌, Option, rules}
 use mir.Syntax.{Dict}
 use denote.RattleType.{RattleType}
 use Rattle.std.specs.declared.cmp.PartialEq.{Ghosts}
@@ -12,6 +12,8 @@ use Rattle.cip_types.specs.declared.names.Identity.{Identity}
 use Rattle.adapter_table.specs.declared.row.State.{State}
 use Rattle.adapter_table.specs.declared.row.Connection.{Connection}
 use Rattle.adapter_table.specs.declared.row.Mode.{Mode}
+use Rattle.adapter_table.specs.declared.maker_limits.Places.{Places}
+use Rattle.adapter_table.specs.declared.maker_limits.MakerLimits.{MakerLimits}
 use Rattle.adapter_table.specs.declared.profile.Action.{Action}
 use Rattle.adapter_table.specs.declared.profile.OutputPoint.{OutputPoint}
 use Rattle.adapter_table.specs.declared.profile.InputPoint.{InputPoint}
@@ -21,6 +23,8 @@ use Rattle.adapter_table.specs.declared.table.PointValue.{PointValue}
 use Rattle.adapter_table.specs.declared.table.Stream.{Stream}
 use Rattle.adapter_table.specs.declared.table.AdapterTable.{AdapterTable}
 use Rattle.cip_types.specs.contracts.names.IdentityPartialEq.TheImpl as identity
+use Rattle.adapter_table.specs.contracts.maker_limits.PlacesPartialEq.TheImpl as places
+use Rattle.adapter_table.specs.contracts.maker_limits.MakerLimitsPartialEq.TheImpl as limits
 use Rattle.adapter_table.specs.contracts.profile.ActionPartialEq.TheImpl as action
 use Rattle.adapter_table.specs.contracts.profile.OutputPointPartialEq.TheImpl as output
 use Rattle.adapter_table.specs.contracts.profile.InputPointPartialEq.TheImpl as input
@@ -103,6 +107,21 @@ description_decides a b =
 described_decides : (a b : Option Description) → Decides (option_eq (description.ghosts).eq a b) (a ≡ b)
 described_decides a b = search (rules, description_decides)
 
+numbers_decide : (a b : Option ℕ) → Decides (option_eq ◌==◌ a b) (a ≡ b)
+numbers_decide a b = search (rules, Decides-eqb)
+
+places_decide : (a b : Option Places) → Decides (option_eq (places.ghosts).eq a b) (a ≡ b)
+places_decide a b = search rules
+
+limits_decide : (a b : MakerLimits) → Decides ((limits.ghosts).eq a b) (a ≡ b)
+limits_decide a b =
+    Decides-like ((limits.ghosts).eq a b) (λ p. search rules) (λ e. search rules)
+    (Decides-and _ _ (numbers_decide a.least_rpi b.least_rpi)
+    (Decides-and _ _ (places_decide a.places b.places)
+    (Decides-and _ _ (numbers_decide a.node_connections b.node_connections)
+    (Decides-and _ _ (booleans_Decides a.own_closers b.own_closers)
+    (numbers_decide a.newer b.newer)))))
+
 profile_decides : (a b : Profile) → Decides ((profile.ghosts).eq a b) (a ≡ b)
 profile_decides a b =
     Decides-like ((profile.ghosts).eq a b) (λ p. search rules) (λ e. search rules)
@@ -115,7 +134,8 @@ profile_decides a b =
     (Decides-and _ _ (config_decides a.config b.config)
     (Decides-and _ _ (Decides-eqb a.input_only b.input_only)
     (Decides-and _ _ (Decides-eqb a.listen_only b.listen_only)
-    (described_decides a.description b.description))))))))))
+    (Decides-and _ _ (described_decides a.description b.description)
+    (limits_decide a.limits b.limits)))))))))))
 
 stream_decides : (a b : Stream) → Decides ((stream.ghosts).eq a b) (a ≡ b)
 stream_decides a b = search rules

@@ -19,6 +19,7 @@ use Rattle.cip_events.specs.declared.event.StepFault.TheVariants.{NotAllowedNow}
 use Rattle.cip_events.specs.declared.event.Verdict.TheVariants.{Done, BadFrame}
 use Rattle.adapter_table.specs.declared.profile.Action.TheVariants.{Zero}
 use Rattle.adapter_table.specs.declared.profile.Profile.{Profile}
+use Rattle.adapter_table.specs.Profiles.{no_limits}
 use Rattle.adapter_table.specs.declared.table.Stream.{Stream}
 use Rattle.adapter_table.specs.declared.table.AdapterTable.{AdapterTable}
 use Rattle.cip_router.specs.Requests.{router_request_reading}
@@ -46,6 +47,7 @@ profile = record {
   input_only = 152;
   listen_only = 153;
   description = None;
+  limits = no_limits;
 }
 
 -- its peer, at 192.168.1.20

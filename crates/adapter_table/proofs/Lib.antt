@@ -13,4 +13,6 @@ pub mod ExpiryLemmas
 pub mod ScratchSteps
 pub mod EqLemmas
 pub mod NewestSteps
+pub mod LimitSteps
 mod NewestSamples
+mod LimitSamples

@@ -5,6 +5,7 @@ use Rattle.cip_productions.specs.declared.kind.Kind.{Kind}
 use Rattle.cip_productions.specs.declared.kind.Kind.TheVariants.{ExclusiveOwner, InputOnly}
 use Rattle.adapter_table.specs.declared.profile.Action.TheVariants.{Zero}
 use Rattle.adapter_table.specs.declared.profile.Profile.{Profile}
+use Rattle.adapter_table.specs.Profiles.{no_limits}
 use Rattle.adapter_table.specs.Connections.{Row}
 use Rattle.adapter_table.specs.declared.row.State.TheVariants.{TimedOut}
 use Rattle.adapter_table.specs.Newest.{accepted_found}
@@ -22,6 +23,7 @@ profile = record {
   input_only = 152;
   listen_only = 153;
   description = None;
+  limits = no_limits;
 }
 
 -- a connection of the fifth opening that accepted number 7 with count 3; its state is not looked at here

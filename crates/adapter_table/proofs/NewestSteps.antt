@@ -30,6 +30,7 @@ use Rattle.cip_types.specs.Ids.{connection_id}
 use Rattle.adapter_table.specs.Opening.{opened_row, opened_table, is_replaced}
 use Rattle.adapter_table.specs.Closing.{without_triad, stays, closed_table}
 use Rattle.adapter_table.specs.Streams.{with_stream, without_stream, registered_table}
+use Rattle.adapter_table.specs.StatedLimits.{is_near, accepts_number}
 use Rattle.adapter_table.specs.Datagrams.{is_for, expected_len, run_bit, moded, accepted_delivery, row_delivery, accepted_row, accepted_if_for, accepted_table, delivered, found_datagram, datagram_of, received}
 use Rattle.adapter_table.specs.Productions.{produced_row, changed_state, changed_row}
 use Rattle.adapter_table.specs.Requests.{Next}
@@ -85,7 +86,7 @@ other_count (Some last) next duplicate = λ same. differ next.datagram.count las
 
 applied_new : (profile : Profile) (row : Row) (d : DatagramFields) → IsAppliedNew row.last (acceptance_of d (row_delivery profile row d))
 applied_new profile row d = λ applied.
-    let parts = applied_parts (length d.payload == expected_len profile row) (accepts_sequence row.last d.sequence) (is_owner row.kind) (is_duplicate row.last d.count) (moded (header_at d.payload)) applied in
+    let parts = applied_parts (length d.payload == expected_len profile row) (accepts_number profile.limits.newer row.last d.sequence) (is_owner row.kind) (is_duplicate row.last d.count) (moded (header_at d.payload)) applied in
     (applied_mode (header_at d.payload) parts.1, other_count row.last (acceptance_of d (row_delivery profile row d)) parts.0)
 
 not_again : (last : Option Accepted) (next : Acceptance) → IsAppliedNew last next → IsNotAgain last next
@@ -295,7 +296,9 @@ steps_accept R holds opening last t (Tick ms) next is sound remembers = (tt, rem
 steps_accept R holds opening last t other next is sound remembers = (tt, control_does (λ t next. TableRemembers opening last t → TableRemembers opening last next) (requests_remember opening last) (λ t number peer free. remembers_with opening last t number peer) t other next refl is remembers)
 
 pub steps_accept_newer : StepsAcceptAfter HasNewerNumber
-steps_accept_newer = steps_accept HasNewerNumber (λ profile row d is. newer_than row.last (acceptance_of d (row_delivery profile row d)) (accepted_newer (length d.payload == expected_len profile row) (accepts_sequence row.last d.sequence) (accepted_delivery row d) is))
+steps_accept_newer = steps_accept HasNewerNumber (λ profile row d is. newer_than row.last (acceptance_of d (row_delivery profile row d))
+    (and_parts (accepts_sequence row.last d.sequence) (is_near profile.limits.newer row.last d.sequence)
+    (accepted_newer (length d.payload == expected_len profile row) (accepts_number profile.limits.newer row.last d.sequence) (accepted_delivery row d) is)).0)
 
 pub steps_apply_new : StepsAcceptAfter IsAppliedNew
 steps_apply_new = steps_accept IsAppliedNew (λ profile row d is. applied_new profile row d)

@@ -158,6 +158,11 @@ is_unserved request = nat_lt 7 request.multiplier || (request.o_t_params.redunda
 abbrev pub are_intervals : OpenFields → Bool
 are_intervals request = is_interval request.o_t_rpi && is_interval request.t_o_rpi
 
+-- a packet interval is below the least that the maker states
+abbrev pub is_below_least : Option ℕ → OpenFields → Bool
+is_below_least None request = false
+is_below_least (Some least) request = nat_lt request.o_t_rpi least || nat_lt request.t_o_rpi least
+
 abbrev pub is_change_of_state : Option Trigger → Bool
 is_change_of_state None = false
 is_change_of_state (Some Cyclic) = false
@@ -380,8 +385,10 @@ checks view request path points =
     ∷ check (is_none (trigger_of request.trigger)) refusal.Trigger
     -- 7: the multiplier is above 7, or a redundant owner is requested (0x0108)
     ∷ check (is_unserved request) refusal.Parameter
-    -- 8: a packet interval is 0 or above 10 seconds (0x0111), the inhibit time is longer than it (0x011B)
+    -- 8: a packet interval is 0 or above 10 seconds, or below the maker's least (0x0111), the inhibit time is longer
+    --    than it (0x011B)
     ∷ check (not (are_intervals request)) refusal.PacketInterval
+    ∷ check (is_below_least view.profile.limits.least_rpi request) refusal.PacketInterval
     ∷ check (has_inhibit_fault request (result_ok path)) refusal.InhibitTime
     -- 9: the path does not read, or is not of the Assembly class (0x0117); it names another configuration
     --    (0x0129), an unknown consumed (0x012A), an unknown produced point (0x012B)

@@ -23,9 +23,10 @@ use Rattle.adapter_table.specs.Profiles.{is_output_at}
 use Rattle.adapter_table.specs.Points.{put_value, idle_values}
 use Rattle.cip_productions.specs.Kinds.{is_owner}
 use Rattle.adapter_table.specs.Rows.{is_established}
+use Rattle.adapter_table.specs.StatedLimits.{accepts_number}
 use Rattle.adapter_table.specs.Requests.{Next}
 use Rattle.cip_events.specs.Answers.{plain_answer, is_accepted}
-use Rattle.cip_productions.specs.Acceptance.{accepts_sequence, is_duplicate}
+use Rattle.cip_productions.specs.Acceptance.{is_duplicate}
 
 -- WHICH CONNECTION IT IS FOR, AND WHETHER IT IS ACCEPTED
 
@@ -59,11 +60,11 @@ abbrev pub accepted_delivery : {P : Type 0} → Connection P → DatagramFields 
 accepted_delivery row d = if is_owner row.kind then owned_delivery row d else Heartbeat
 
 -- the delivery of a datagram that has the connection's size
-abbrev pub sized_delivery : {P : Type 0} → Connection P → DatagramFields → Delivery
-sized_delivery row d = if accepts_sequence row.last d.sequence then accepted_delivery row d else Old
+abbrev pub sized_delivery : {P : Type 0} → Option ℕ → Connection P → DatagramFields → Delivery
+sized_delivery within row d = if accepts_number within row.last d.sequence then accepted_delivery row d else Old
 
 abbrev pub row_delivery : {P : Type 0} → Profile → Connection P → DatagramFields → Delivery
-row_delivery profile row d = if length d.payload == expected_len profile row then sized_delivery row d else WrongSize
+row_delivery profile row d = if length d.payload == expected_len profile row then sized_delivery profile.limits.newer row d else WrongSize
 
 -- WHAT IT CHANGES
 

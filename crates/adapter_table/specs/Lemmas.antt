@@ -4,6 +4,7 @@ pub mod SoundLemmas
 pub mod GroupLemmas
 pub mod SupportLemmas
 pub mod LikeLemmas
+pub mod LimitLemmas
 pub mod RequestLemmas
 pub mod PassiveLemmas
 pub mod PlainLemmas

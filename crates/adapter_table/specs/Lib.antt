@@ -14,6 +14,7 @@ pub mod Requests
 pub mod Rows
 pub mod States
 pub mod Shapes
+pub mod StatedLimits
 pub mod Streams
 pub mod Ticks
 pub mod Sound

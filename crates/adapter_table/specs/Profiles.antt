@@ -1,6 +1,6 @@
 -- The profile of an adapter, and its first fault
 -- (Volume 1, chapter 3, connection points; Volume 2, chapter 3, multicast addresses need a host id).
-use Rattle.std.specs.Prelude.{ℕ, ◌-◌, ◌%◌, ◌^◌, ◌==◌, ◌&&◌, not, nat_le, Bool, true, List, [], ◌∷◌, ◌++◌, length, map, Option, Some, None, option_to_list}
+use Rattle.std.specs.Prelude.{ℕ, ◌+◌, ◌-◌, ◌%◌, ◌^◌, ◌==◌, ◌&&◌, not, nat_le, Bool, true, false, List, [], ◌∷◌, ◌++◌, length, map, Option, Some, None, option_to_list}
 use Rattle.std.specs.Int.{is_power_of_two}
 use Rattle.std.specs.List.{list_any, list_all}
 use Rattle.cip_types.specs.Cases.{Case, first_case}
@@ -8,9 +8,11 @@ use Rattle.cip_types.specs.declared.names.Identity.{Identity}
 use Rattle.adapter_table.specs.declared.profile.OutputPoint.{OutputPoint}
 use Rattle.adapter_table.specs.declared.profile.InputPoint.{InputPoint}
 use Rattle.adapter_table.specs.declared.profile.Description.{Description}
+use Rattle.adapter_table.specs.declared.maker_limits.Places.{Places}
+use Rattle.adapter_table.specs.declared.maker_limits.MakerLimits.{MakerLimits}
 use Rattle.adapter_table.specs.declared.profile.Profile.{Profile}
 use Rattle.cip_events.specs.declared.profile_fault.ProfileFault.{ProfileFault}
-use Rattle.cip_events.specs.declared.profile_fault.ProfileFault.TheVariants.{Incarnation, Address, Points, SameInstance, Length, Identity as IdentityFault, Description as DescriptionFault}
+use Rattle.cip_events.specs.declared.profile_fault.ProfileFault.TheVariants.{Incarnation, Address, Points, SameInstance, Length, Identity as IdentityFault, Description as DescriptionFault, Limits}
 
 -- ADDRESSES
 
@@ -91,6 +93,32 @@ abbrev pub is_described : Option Description → Bool
 is_described None = true
 is_described (Some d) = nat_le (length d.name) 32 && (length d.mac == 6 && nat_le d.inactivity 3600)
 
+-- LIMITS THAT THE MAKER STATES
+
+-- no limits
+abbrev pub no_limits : MakerLimits
+no_limits = record { least_rpi = None; places = None; node_connections = None; own_closers = false; newer = None }
+
+-- it is absent, or from the least to the most
+abbrev pub is_from : ℕ → ℕ → Option ℕ → Bool
+is_from least most None = true
+is_from least most (Some value) = nat_le least value && nat_le value most
+
+-- the places of all application types
+abbrev pub all_places : Places → ℕ
+all_places places = places.owners + (places.readers + places.listeners)
+
+-- they are absent, or 1 to 64 in all
+abbrev pub are_few_places : Option Places → Bool
+are_few_places None = true
+are_few_places (Some places) = nat_le 1 (all_places places) && nat_le (all_places places) 64
+
+-- a packet interval of at most 10 seconds, 1 to 64 places, 1 to 64 connections of a node, and numbers that are ahead
+-- by less than 2 to 2^31
+abbrev pub are_limits : MakerLimits → Bool
+are_limits limits =
+    is_from 1 10000000 limits.least_rpi && (are_few_places limits.places && (is_from 1 64 limits.node_connections && is_from 2 (2 ^ 31) limits.newer))
+
 -- THE FIRST FAULT
 
 -- the faults of a profile, in the order in which they are looked for
@@ -103,6 +131,7 @@ profile_tests profile =
     ∷ (not (are_long_enough profile), Length)
     ∷ (not (is_revision profile.identity), IdentityFault)
     ∷ (not (is_described profile.description), DescriptionFault)
+    ∷ (not (are_limits profile.limits), Limits)
     ∷ []
 
 -- the first fault

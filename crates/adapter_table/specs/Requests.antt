@@ -1,6 +1,7 @@
 -- Requests to the message router: the replies, and the table after each
 -- (Volume 1, chapter 2, message router request and reply formats, and chapter 3, Connection Manager).
-use Rattle.std.specs.Prelude.{ℕ, find, Bool, true, false, List, [], ◌∷◌, Option, Some, None, Result, Ok, Err}
+use Rattle.std.specs.Prelude.{ℕ, find, Bool, true, false, if◌then◌else◌, List, [], ◌∷◌, Option, Some, None, Result, Ok, Err}
+use Rattle.cip_types.specs.declared.names.Fault.{Fault}
 use Rattle.cip_types.specs.declared.names.Node.{Node}
 use Rattle.cip_fwdopen.specs.Open.{OpenFields}
 use Rattle.cip_events.specs.declared.event.Notice.{Notice}
@@ -22,8 +23,10 @@ use Rattle.cip_router.specs.Replies.{ReplyFields, opened, closed, object_reply, 
 use Rattle.cip_router.specs.Replies as replies
 use Rattle.cip_router.specs.declared.refusal.Refusal.{Refusal}
 use Rattle.cip_router.specs.declared.refusal.Status.{Status}
+use Rattle.cip_router.specs.declared.refusal.Status.TheVariants as status
 use Rattle.cip_router.specs.Refusals.{refusal_fault, status_fault}
-use Rattle.adapter_table.specs.Checks.{Admitted, admission}
+use Rattle.adapter_table.specs.Checks.{Admitted}
+use Rattle.adapter_table.specs.StatedLimits.{limited_admission, is_wrong_closer}
 use Rattle.adapter_table.specs.Opening.{opened_row, opened_table, opened_reply, opened_address, opened_notices}
 use Rattle.cip_events.specs.Answers.{plain_answer}
 
@@ -67,16 +70,20 @@ judged_open t peer large request (Ok admitted) = admitted_open t peer large requ
 
 -- a Forward_Open
 unfoldable pub served_open : AdapterTable → Node → Bool → OpenFields → Served
-served_open t peer large request = judged_open t peer large request (admission t request)
+served_open t peer large request = judged_open t peer large request (limited_admission t peer request)
 
--- a close of no connection
-abbrev pub unknown_close : AdapterTable → CloseFields → Served
-unknown_close t request = record {
-  reply = replies.refused 0x4E (refusal_fault refusal.NotFound) (Some request.triad);
+-- a close that is refused, with its triad
+abbrev pub refused_close : AdapterTable → CloseFields → Fault → Served
+refused_close t request fault = record {
+  reply = replies.refused 0x4E fault (Some request.triad);
   address = None;
   notices = [];
   table = t;
 }
+
+-- a close of no connection
+abbrev pub unknown_close : AdapterTable → CloseFields → Served
+unknown_close t request = refused_close t request (refusal_fault refusal.NotFound)
 
 abbrev pub known_close : AdapterTable → Row → Served
 known_close t row = record {
@@ -86,13 +93,18 @@ known_close t row = record {
   table = closed_table t row;
 }
 
-abbrev pub close_of : AdapterTable → CloseFields → Option Row → Served
-close_of t request None = unknown_close t request
-close_of t request (Some row) = known_close t row
+-- a close of a connection: only its own node may close it, if the maker says so
+abbrev pub found_close : AdapterTable → Node → CloseFields → Row → Served
+found_close t peer request row =
+    if is_wrong_closer t.profile.limits peer row then refused_close t request (status_fault status.PrivilegeViolation) else known_close t row
+
+abbrev pub close_of : AdapterTable → Node → CloseFields → Option Row → Served
+close_of t peer request None = unknown_close t request
+close_of t peer request (Some row) = found_close t peer request row
 
 -- a Forward_Close, of a connection in any state
-unfoldable pub served_close : AdapterTable → CloseFields → Served
-served_close t request = close_of t request (find (has_triad request.triad) t.rows)
+unfoldable pub served_close : AdapterTable → Node → CloseFields → Served
+served_close t peer request = close_of t peer request (find (has_triad request.triad) t.rows)
 
 abbrev pub router_refusal : AdapterTable → ℕ → Status → Served
 router_refusal t service why = record { reply = replies.refused service (status_fault why) None; address = None; notices = []; table = t }
@@ -111,7 +123,7 @@ served_object t service class instance attribute body = object_served t service 
 abbrev pub served : AdapterTable → Node → RouterRequestFields → Option Served
 served t peer nothing = None
 served t peer (refused service why) = Some (router_refusal t service why)
-served t peer (closing request) = Some (served_close t request)
+served t peer (closing request) = Some (served_close t peer request)
 served t peer (object service class instance attribute body) = Some (served_object t service class instance attribute body)
 served t peer (opening large request) = Some (served_open t peer large request)
 

@@ -1,7 +1,8 @@
 -- Connections and lists of them: which connection drives an output, and which has a triad
 -- (Volume 1, chapter 3, application connection types and connection triads).
-use Rattle.std.specs.Prelude.{ℕ, ◌==◌, ◌&&◌, not, Bool, true, false, if◌then◌else◌, List, [], ◌∷◌, filter}
+use Rattle.std.specs.Prelude.{ℕ, ◌==◌, ◌&&◌, not, Bool, true, false, if◌then◌else◌, List, [], ◌∷◌, length, filter}
 use Rattle.std.specs.List.{list_any}
+use Rattle.cip_types.specs.declared.names.Node.{Node}
 use Rattle.cip_types.specs.declared.names.Triad.{Triad}
 use Rattle.adapter_table.specs.Connections.{Row}
 use Rattle.cip_productions.specs.declared.kind.Kind.{Kind}
@@ -56,6 +57,22 @@ is_supported rows kind point = list_any (supports kind point) rows
 -- the connection is an established listen-only one without support
 abbrev pub is_unsupported : List Row → Row → Bool
 is_unsupported rows row = is_established row && (is_listener row.kind && not (is_supported rows row.kind row.produced))
+
+-- the connection is established, and of this application type
+abbrev pub is_of_kind : Kind → Row → Bool
+is_of_kind kind row = is_established row && same_kind row.kind kind
+
+-- how many established connections of an application type there are
+abbrev pub kind_count : List Row → Kind → ℕ
+kind_count rows kind = length (filter (is_of_kind kind) rows)
+
+-- the connection is established, and this node opened it
+abbrev pub is_of_node : Node → Row → Bool
+is_of_node node row = is_established row && row.peer.0 == node.0
+
+-- how many established connections of a node there are
+abbrev pub node_count : List Row → Node → ℕ
+node_count rows node = length (filter (is_of_node node) rows)
 
 -- the connections that fail a test
 abbrev pub others : (Row → Bool) → List Row → List Row

@@ -1,7 +1,7 @@
 -- One event at a device's table.
 use Rattle.std.specs.Prelude.{ℕ, ◌==◌, length, map, find, if◌then◌else◌, List, [], Option, Some, None, Result, Ok, Err}
 use Rattle.cip_events.specs.declared.event.Event.{Event}
-use Rattle.cip_events.specs.declared.event.Event.TheVariants.{Request, StreamOpened, Frame, StreamCut, Datagram, Inquiry, Write, Read, Tick, Mode, Start, Stop}
+use Rattle.cip_events.specs.declared.event.Event.TheVariants.{Request, StreamOpened, Frame, StreamCut, Datagram, Inquiry, Write, Read, Tick, Mode, Start, Stop, Explicit}
 use Rattle.cip_events.specs.declared.event.Answer.{Answer}
 use Rattle.cip_events.specs.declared.event.StepFault.{StepFault}
 use Rattle.cip_events.specs.declared.event.StepFault.TheVariants as fault
@@ -71,6 +71,7 @@ adapter_step t (Tick ms) = tick t ms
 adapter_step t (Mode run) = Err fault.NotAllowedNow
 adapter_step t (Start slot) = Err fault.NotAllowedNow
 adapter_step t (Stop slot) = Err fault.NotAllowedNow
+adapter_step t (Explicit target number bytes) = Err fault.NotAllowedNow
 
 -- the table of a fresh adapter: no connections, zeros at all points, clock 0, the first id, no streams
 abbrev pub adapter_table : Profile → AdapterTable

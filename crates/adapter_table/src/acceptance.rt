@@ -5,6 +5,7 @@ ghost use Rattle.cip_datagram.specs.Datagram.{view_datagram};
 ghost use Rattle.cip_datagram.specs.Header.{header_at};
 ghost use Rattle.adapter_table.specs.Datagrams.{is_for, expected_len, run_data, owned_delivery, accepted_delivery, row_delivery, mode_after, accepted_row, accepted_if_for};
 ghost use Rattle.adapter_table.specs.Judging.{IsJudged, judged_delivery};
+ghost use Rattle.adapter_table.specs.StatedLimits.{is_near, accepts_number};
 
 use crate::profile::Profile;
 use crate::row::{Connection, Mode, Row};
@@ -72,6 +73,23 @@ fn has_expected_len<P>(profile: &Profile, row: &Connection<P>, len: u64) -> bool
     }
 }
 
+/// Whether a number is ahead of the last accepted one by less than the limit, if there are both.
+fn is_near(within: Option<u32>, last: Option<Accepted>, number: u32) -> bool
+    ensures { result ≡ is_near within last number }
+{
+    match (within, last) {
+        (Some(within), Some(last)) => number.wrapping_sub(last.number) < within,
+        (None, _) | (Some(_), None) => true,
+    }
+}
+
+/// Whether a number is newer than the last accepted one, and near it.
+fn accepts_number(within: Option<u32>, last: Option<Accepted>, number: u32) -> bool
+    ensures { result ≡ accepts_number within last number }
+{
+    accepts_sequence(last, number) && is_near(within, last, number)
+}
+
 /// The judgement of an owner's datagram that is newer than the last accepted one.
 fn judge_owned<'a, P>(row: &Connection<P>, datagram: &Datagram<'a>) -> Judgement<'a>
     ensures { IsJudged (owned_delivery row.now (view_datagram datagram.now))
@@ -98,8 +116,8 @@ fn judge_accepted<'a, P>(row: &Connection<P>, datagram: &Datagram<'a>) -> Judgem
 }
 
 /// The judgement of a datagram that is for a connection. It is refused if it has another size than the connection's
-/// (`WrongSize`), then if its number is not newer than the last accepted one (`Old`); otherwise it is accepted. Takes
-/// no memory.
+/// (`WrongSize`), then if its number is not newer than the last accepted one, or farther ahead of it than the maker
+/// states (`Old`); otherwise it is accepted. Takes no memory.
 ///
 /// Volume 1, chapter 3, class 1 transport and run/idle.
 pub fn judge<'a, P>(
@@ -113,7 +131,7 @@ pub fn judge<'a, P>(
     if !has_expected_len(profile, row, datagram.data.len() as u64) {
         return Judgement::WrongSize;
     }
-    if !accepts_sequence(row.last, datagram.sequence) {
+    if !accepts_number(profile.limits.newer, row.last, datagram.sequence) {
         return Judgement::Old;
     }
     judge_accepted(row, datagram)

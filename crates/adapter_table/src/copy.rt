@@ -59,6 +59,7 @@ impl Profile {
             input_only: self.input_only,
             listen_only: self.listen_only,
             description,
+            limits: self.limits,
         })
     }
 }

@@ -7,6 +7,7 @@ ghost use Rattle.adapter_table.specs.Profiles.{profile_fault};
 ghost use Rattle.adapter_table.specs.Step.{adapter_table};
 ghost use Rattle.adapter_table.specs.Sound.{IsSound};
 ghost use Rattle.adapter_table.specs.Whole.{IsWhole};
+ghost use Rattle.adapter_table.specs.StatedLimits.{IsWithinLimits, PlacesAreKept};
 ghost use Rattle.adapter_table.specs.Newest.{HasNewerNumber, IsAppliedNew, IsNotAgain};
 ghost use Rattle.adapter_table.specs.Laws.{EffectsKeep, AdmittedAreTimed, StoredSegmentsFit, AppliedDataHaveOutputs, AppliedDataFit, StepsKeep, StepsLeave, RefusalsTouchNothing, FreshOutputsAreZeros, StepsAcceptAfter, RefusalsAcceptNothing};
 
@@ -62,4 +63,13 @@ pub fn accepted_datagrams_are_newer()
     ensures applied { StepsAcceptAfter IsAppliedNew }
     ensures once { StepsAcceptAfter IsNotAgain }
     ensures refusals { RefusalsAcceptNothing }
+{}
+
+/// No more connections are established than the maker states: not of an application type, and not of a node. While
+/// fewer of an application type are established than it has places, another of this type is not refused for want of a
+/// place, however many connections of other types there are.
+pub fn places_are_kept()
+    ensures fresh { (profile : Profile) → IsWithinLimits (adapter_table profile) }
+    ensures steps { StepsKeep IsWithinLimits }
+    ensures places { PlacesAreKept }
 {}

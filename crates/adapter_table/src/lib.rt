@@ -7,8 +7,8 @@ mod admission;
 mod copy;
 mod expiry;
 pub mod laws;
+mod maker_limits;
 mod objects;
-mod producing;
 mod profile;
 mod profile_check;
 mod report;
@@ -19,16 +19,14 @@ mod table;
 pub use acceptance::{Judgement, accept_if_for, is_for, judge};
 pub use admission::{Admission, ConsumedPoint};
 pub use expiry::{by_deadline, expired_row, has_expired};
+pub use maker_limits::{MakerLimits, Places};
 pub use objects::IoState;
-pub use producing::{
-    changed_row, has_node, is_due, is_produced_by, produced_row, producer_in, producer_number,
-    produces_on_change, written_row,
-};
 pub use profile::{Action, Description, InputPoint, OutputPoint, Profile};
-pub use profile_check::{LONGEST_INACTIVITY, PHYSICAL_ADDRESS};
+pub use profile_check::{FARTHEST_NUMBER, LONGEST_INACTIVITY, PHYSICAL_ADDRESS};
 pub use report::{ConnectionReport, ConsumerCounts, consumes, report_of};
 pub use row::{Connection, Mode, Row, State};
 pub use rows::{
-    drives, has_triad, holds_triad, is_established, is_member, is_supported, is_timed_out, supports,
+    drives, has_triad, holds_triad, is_established, is_member, is_of_kind, is_of_node,
+    is_supported, is_timed_out, supports,
 };
 pub use table::{AdapterTable, PointValue, Stream};

@@ -3,6 +3,7 @@
 ghost use Rattle.std.specs.Prelude.{◌≡◌, find};
 ghost use Rattle.adapter_table.specs.Profiles.{is_at, is_output_at};
 
+use crate::maker_limits::MakerLimits;
 use cip_types::{Identity, Items, Node};
 
 /// The action at an output when its owner goes idle or is lost.
@@ -50,9 +51,9 @@ pub struct Description {
 }
 
 /// An adapter: the byte that begins its connection ids (its incarnation), its address and network mask, its
-/// identity, its points, the two points without data that input-only and listen-only connections consume, and its
-/// description. A device without one is found by no inquiry, and has no objects but its Connection Manager and its
-/// assemblies.
+/// identity, its points, the two points without data that input-only and listen-only connections consume, its
+/// description, and the limits that its maker states. A device without a description is found by no inquiry, and has
+/// no objects but its Connection Manager and its assemblies.
 #[derive(PartialEq, Drop)]
 pub struct Profile {
     pub incarnation: u8,
@@ -65,6 +66,7 @@ pub struct Profile {
     pub input_only: u32,
     pub listen_only: u32,
     pub description: Option<Description>,
+    pub limits: MakerLimits,
 }
 
 impl Profile {

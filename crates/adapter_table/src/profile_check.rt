@@ -2,11 +2,12 @@
 
 ghost use Rattle.std.specs.Prelude.{◌≡◌, ◌↔◌, ◌++◌, Some, None, IsOk, IfErr, map};
 ghost use Rattle.std.specs.List.{list_any, list_all};
-ghost use Rattle.adapter_table.specs.Profiles.{is_address, is_at, is_output_at, as_point, points_beside, are_distinct, are_few, has_output_len, has_input_len, has_config_len, are_long_enough, is_revision, is_described, is_point_len, profile_fault};
+ghost use Rattle.adapter_table.specs.Profiles.{is_address, is_at, is_output_at, as_point, points_beside, are_distinct, are_few, has_output_len, has_input_len, has_config_len, are_long_enough, is_revision, is_described, is_point_len, is_from, are_few_places, are_limits, profile_fault};
 
+use crate::maker_limits::{MakerLimits, Places};
 use crate::profile::{Description, InputPoint, OutputPoint, Profile};
 use cip_events::ProfileFault;
-use cip_types::limits::{LONGEST_CONFIG, LONGEST_POINT, MOST_POINTS};
+use cip_types::limits::{LONGEST_CONFIG, LONGEST_POINT, LONGEST_RPI_US, MOST_POINTS};
 use cip_types::{Identity, Node};
 use list_identity::LONGEST_NAME;
 
@@ -17,6 +18,11 @@ pub const PHYSICAL_ADDRESS: usize = 6;
 ///
 /// Volume 2, chapter 5, TCP/IP Interface object, attribute 13.
 pub const LONGEST_INACTIVITY: u16 = 3600;
+
+/// The largest limit on how far ahead an accepted sequence number is: all that are newer are ahead by less.
+///
+/// Volume 2, chapter 2, sequenced address item.
+pub const FARTHEST_NUMBER: u32 = 1 << 31;
 
 fn is_address(node: Node, mask: u32) -> bool
     ensures { result ≡ is_address node.0 mask }
@@ -159,6 +165,45 @@ fn is_described(description: &Option<Description>) -> bool
     }
 }
 
+fn is_from(least: u32, most: u32, value: Option<u32>) -> bool
+    ensures { result ≡ is_from least most value }
+{
+    match value {
+        Some(value) => least <= value && value <= most,
+        None => true,
+    }
+}
+
+fn is_connection_number(number: Option<u8>) -> bool
+    ensures { result ≡ is_from 1 64 number }
+{
+    match number {
+        Some(number) => 1 <= number && number <= 64,
+        None => true,
+    }
+}
+
+fn are_few_places(places: Option<Places>) -> bool
+    ensures { result ≡ are_few_places places }
+{
+    match places {
+        Some(places) => {
+            let others = u16::from(places.readers) + u16::from(places.listeners);
+            (1..=64).contains(&(u16::from(places.owners) + others))
+        }
+        None => true,
+    }
+}
+
+fn are_limits(limits: &MakerLimits) -> bool
+    ensures { result ≡ are_limits limits.now }
+{
+    is_from(1, LONGEST_RPI_US, limits.least_rpi)
+        && are_few_places(limits.places)
+        && is_connection_number(limits.node_connections)
+        && is_from(2, FARTHEST_NUMBER, limits.newer)
+}
+
 /// The first fault of a profile.
 #[tactic(auto, unfolding(crate::specs::Profiles::profile_fault))]
 fn fault_of(profile: &Profile) -> Option<ProfileFault>
@@ -185,12 +230,16 @@ fn fault_of(profile: &Profile) -> Option<ProfileFault>
     if !is_described(&profile.description) {
         return Some(ProfileFault::Description);
     }
+    if !are_limits(&profile.limits) {
+        return Some(ProfileFault::Limits);
+    }
     None
 }
 
 impl Profile {
     /// Checks the profile: its incarnation, its address, how many points it has, that their instances
-    /// differ, their lengths, its revision, and its description, in this order. Takes no memory.
+    /// differ, their lengths, its revision, its description, and the limits that its maker states, in this order. Takes
+    /// no memory.
     ///
     /// Answers the first fault.
     pub fn check(&self) -> Result<(), ProfileFault>

@@ -1,11 +1,11 @@
 //! Tests of one connection, and whether a list of them supports one.
 
 ghost use Rattle.std.specs.Prelude.{◌≡◌};
-ghost use Rattle.adapter_table.specs.Rows.{is_established, is_timed_out, has_triad, holds_triad, drives, is_member, supports, is_supported};
+ghost use Rattle.adapter_table.specs.Rows.{is_established, is_timed_out, has_triad, holds_triad, drives, is_member, supports, is_supported, is_of_kind, is_of_node};
 
 use crate::row::{Row, State};
 use cip_productions::Kind;
-use cip_types::Triad;
+use cip_types::{Node, Triad};
 
 /// Whether a connection is established: its deadline has not passed.
 ///
@@ -81,4 +81,22 @@ pub fn is_supported(rows: &[Row], kind: Kind, point: u32) -> bool
     ensures { result ≡ is_supported rows.now kind point }
 {
     rows.iter().any(|row| supports(row, kind, point))
+}
+
+/// Whether a connection is established, and of this application type.
+///
+/// Volume 1, chapter 3, application connection types.
+pub fn is_of_kind(row: &Row, kind: Kind) -> bool
+    ensures { result ≡ is_of_kind kind row.now }
+{
+    is_established(row) && row.kind == kind
+}
+
+/// Whether a connection is established, and this node opened it.
+///
+/// Volume 1, chapter 3, connection triad.
+pub fn is_of_node(row: &Row, node: Node) -> bool
+    ensures { result ≡ is_of_node node row.now }
+{
+    is_established(row) && row.peer.0 == node.0
 }

@@ -24,7 +24,8 @@ use Rattle.cip_router.specs.ReplyLaws.{items_length, reply_is_short}
 use Rattle.adapter_table.specs.Connections.{Row}
 use Rattle.adapter_table.specs.declared.table.Stream.{Stream}
 use Rattle.adapter_table.specs.declared.table.AdapterTable.{AdapterTable}
-use Rattle.adapter_table.specs.Checks.{Admitted, admission}
+use Rattle.adapter_table.specs.Checks.{Admitted}
+use Rattle.adapter_table.specs.StatedLimits.{limited_admission, is_wrong_closer}
 use Rattle.adapter_table.specs.Encapsulation.{Handled, refusal, session_begun, register_session, request_replied, packet_replied, handled, framed, frame_answer, stream_answer, frame_of, frame}
 use Rattle.adapter_table.specs.Inquiries.{inquiry_reply, inquired_by, inquired}
 use Rattle.adapter_table.specs.Objects.{ObjectAnswer, said, denied, resetting, object_answer}
@@ -50,9 +51,9 @@ unfolding admitted_open
 opened_few t peer large request (Err why) = tt
 opened_few t peer large request (Ok admitted) = tt
 
-closed_few : (t : AdapterTable) (request : CloseFields) (found : Option Row) → GetsFew (close_of t request found).reply
-closed_few t request None = tt
-closed_few t request (Some row) = tt
+closed_few : (t : AdapterTable) (peer : Node) (request : CloseFields) (found : Option Row) → GetsFew (close_of t peer request found).reply
+closed_few t peer request None = tt
+closed_few t peer request (Some row) = either (λ (s : Served). GetsFew s.reply) (is_wrong_closer t.profile.limits peer row) _ _ tt tt
 
 object_few : (t : AdapterTable) (service : ℕ) (answer : ObjectAnswer) → SaysShort answer → GetsFew (object_served t service answer).reply
 object_few t service (said by value) short = short
@@ -68,9 +69,9 @@ serves_few : (t : AdapterTable) (peer : Node) (request : RouterRequestFields) �
 unfolding served_open served_close served_object
 serves_few t peer nothing shaped = tt
 serves_few t peer (refused service why) shaped = tt
-serves_few t peer (closing request) shaped = closed_few t request (find (has_triad request.triad) t.rows)
+serves_few t peer (closing request) shaped = closed_few t peer request (find (has_triad request.triad) t.rows)
 serves_few t peer (object service class instance attribute body) shaped = object_few t service (object_answer t service class instance attribute body) (object_short t service class instance attribute body shaped)
-serves_few t peer (opening large request) shaped = opened_few t peer large request (admission t request)
+serves_few t peer (opening large request) shaped = opened_few t peer large request (limited_admission t peer request)
 
 -- ---- requests
 

@@ -1,6 +1,8 @@
 -- A scanner's answers are small.
-use Rattle.std.proofs.Common.{◌≡◌, ◌≤◌, ℕ, ◌+◌, ◌^◌, ◌==◌, nat_lt, Bool, true, false, cond, List, [], map, find, Option, Some, None, Result, Ok, Err, refl, sym, subst, arith}
+use Rattle.std.proofs.Common.{◌≡◌, ◌≤◌, ℕ, ◌+◌, ◌^◌, ◌==◌, nat_lt, nat_le, Bool, true, false, cond, List, [], ◌∷◌, length, map, find, Option, Some, None, Result, Ok, Err, refl, sym, subst, arith, append-nil, leb-true}
 use Rattle.std.proofs.lemmas.Bool.Decides.{nat_tests}
+use Rattle.std.proofs.lemmas.Bool.{and_parts}
+use Rattle.std.specs.List.{list_any}
 use Rattle.std.specs.Option.{IfSome}
 use Rattle.cip_types.specs.declared.names.Node.{Node}
 use Rattle.cip_encap.specs.declared.message.EncapFault.{EncapFault}
@@ -10,19 +12,24 @@ use Rattle.cip_events.specs.declared.event.Event.{Event}
 use Rattle.cip_events.specs.declared.event.Event.TheVariants as event
 use Rattle.cip_events.specs.declared.event.OutgoingDatagram.{OutgoingDatagram}
 use Rattle.cip_events.specs.declared.event.StepFault.TheVariants as fault
+use Rattle.cip_events.specs.declared.event.Unanswered.{Unanswered}
+use Rattle.cip_router.specs.RouterReplies.{RouterReplyFields}
 use Rattle.cip_events.specs.declared.event.Verdict.TheVariants.{Done, BadFrame, Ignored}
 use Rattle.cip_events.specs.Clock.{longest_tick, clock_end}
 use Rattle.cip_productions.specs.Productions.{sent}
+use Rattle.scanner_table.specs.declared.explicit.PendingExplicit.{PendingExplicit}
 use Rattle.scanner_table.specs.declared.slot.SlotState.{SlotState}
 use Rattle.scanner_table.specs.declared.slot.SlotState.TheVariants.{Idle, Opening, Established, Closing}
 use Rattle.scanner_table.specs.declared.table.ScannerTable.{ScannerTable}
+use Rattle.scanner_table.specs.declared.table.Session.{Session}
 use Rattle.scanner_table.specs.declared.table.Stage.{Stage}
 use Rattle.scanner_table.specs.declared.table.Stage.TheVariants.{Waiting, Up, Unused}
 use Rattle.scanner_table.specs.declared.table.TargetStream.{TargetStream}
 use Rattle.scanner_table.specs.Requests.{is_large, sent_frame}
 use Rattle.scanner_table.specs.Closing.{idle_slot, target_lost, slot_resigned, closed_within, stopped, stopped_at}
-use Rattle.scanner_table.specs.Effects.{Next, Effect, changed, sent_answer, done}
-use Rattle.scanner_table.specs.Encapsulation.{registering_on, stream_opened, cut_of, stream_cut, is_registered, session_begun, session_failed, registered, ignored, is_awaiting, replied, replied_to, reported, frame_answer, frame_of, frame}
+use Rattle.scanner_table.specs.Effects.{Next, Effect, and_then, changed, sent_answer, done}
+use Rattle.scanner_table.specs.Explicit.{awaits, connects_to, has_explicit_length, is_barred, explicit_sent, explicit_within, explicit_sized, explicit_request, explicit_reply, unanswered_notice, replied_verdict, without_explicit, explicit_answered, explicit_timed_out, explicit_lost}
+use Rattle.scanner_table.specs.Encapsulation.{registering_on, stream_opened, stream_lost, message_answer, cut_of, stream_cut, is_registered, session_begun, session_failed, registered, ignored, is_awaiting, replied, replied_to, reported, frame_answer, frame_of, frame}
 use Rattle.scanner_table.specs.Points.{desired_slot, started, start_state, start_at, start, stop_of, stop}
 use Rattle.scanner_table.specs.Productions.{due_productions}
 use Rattle.scanner_table.specs.Profiles.{profile_fault}
@@ -30,14 +37,14 @@ use Rattle.scanner_table.specs.Replies.{open_answer, answered}
 use Rattle.scanner_table.specs.Sessions.{is_stream, is_taken, without_stream, with_stage, session_with}
 use Rattle.scanner_table.specs.Slots.{IndexedSlot, indexed_slots, slot_at, is_numbered, with_slot}
 use Rattle.scanner_table.specs.Step.{scanner_step}
-use Rattle.scanner_table.specs.Ticks.{clocked_table, advanced, ticked, tick}
+use Rattle.scanner_table.specs.Ticks.{clocked_table, advanced, moved_on, ticked, tick}
 use Rattle.scanner_table.specs.WellFormed.{IsWellFormed}
 use Rattle.answer_sizes.specs.Sizes.{IsShortFrame, IsShortDatagram, IsSmall}
 use Rattle.answer_sizes.proofs.Answers.{both_small, plain_small, AnswersSmall}
 use Rattle.answer_sizes.proofs.Few.{Few, few_none, few_one, few_most, few_mapped, each_found, either}
 use Rattle.answer_sizes.proofs.ScannerDatagrams.{due_few}
 use Rattle.answer_sizes.proofs.ScannerFrames.{HasShortRequests, SendsRequests, few_slots, opened_sends, target_sends, closed_sends, IsQuiet, lost_quiet, answered_quiet, advanced_sends}
-use Rattle.answer_sizes.proofs.ScannerRequests.{IsShortRequest, registration_short}
+use Rattle.answer_sizes.proofs.ScannerRequests.{IsShortRequest, registration_short, requesting_short}
 use Rattle.scanner_table.specs.Lemmas.SlotEventLemmas.{slots_hold}
 
 -- ---- answers of effects
@@ -65,9 +72,21 @@ unfolding stream_opened
 opened_small t number target =
     either (AnswersSmall {T = ScannerTable}) (is_taken t.streams number target) (Err fault.NotAllowedNow) (Ok (done (registering_on t number target))) tt (once_small (registering_on t number target) (few_one 1 IsShortRequest _ (omega arith) (registration_short number)))
 
+-- explicit requests that end send nothing
+lost_sends : (stream : ℕ) (effect : Effect) → SendsRequests 64 effect → SendsRequests 64 (and_then effect (explicit_lost stream))
+unfolding explicit_lost
+lost_sends stream effect few = subst (Few 64 IsShortRequest) (sym (append-nil effect.sent)) few
+
+timed_out_sends : (effect : Effect) → SendsRequests 64 effect → SendsRequests 64 (and_then effect explicit_timed_out)
+unfolding explicit_timed_out
+timed_out_sends effect few = subst (Few 64 IsShortRequest) (sym (append-nil effect.sent)) few
+
 cuts_small : (t : ScannerTable) (found : Option TargetStream) → AnswersSmall (cut_of t found)
 cuts_small t None = tt
-cuts_small t (Some stream) = quiet_small (without_stream t stream.number) (target_lost stream.peer (without_stream t stream.number)) (lost_quiet stream.peer (without_stream t stream.number))
+cuts_small t (Some stream) =
+    let now = without_stream t stream.number in
+    let quiet = lost_quiet stream.peer now in
+    done_small (stream_lost t stream) (lost_sends stream.number (target_lost stream.peer now) (subst (Few 64 IsShortRequest) (sym quiet.silent) (few_none 64 IsShortRequest)))
 
 cut_small : (t : ScannerTable) (number : ℕ) → AnswersSmall (stream_cut t number)
 unfolding stream_cut
@@ -91,9 +110,18 @@ reported_small t stream m Waiting none = either NextSmall (m.context == 0) (done
 reported_small t stream m (Up handle) none = awaited_small t m (find (is_awaiting stream.peer m.context) (indexed_slots t))
 reported_small t stream m Unused none = plain_small Ignored
 
+explicit_answered_small : (t : ScannerTable) (pending : PendingExplicit) (reply : Result RouterReplyFields Unanswered) → IsSmall (explicit_answered t pending reply).0
+explicit_answered_small t pending (Ok reply) = plain_small (replied_verdict pending reply)
+explicit_answered_small t pending (Err why) =
+    done_small (record { sent = []; notices = unanswered_notice why pending ∷ []; table = without_explicit t pending }) (few_none 64 IsShortRequest)
+
+judged_small : (t : ScannerTable) (stream : TargetStream) (m : MessageFields) (found : Option PendingExplicit) → profile_fault t.profile ≡ None → IsSmall (message_answer t stream m found).0
+judged_small t stream m None none = reported_small t stream m stream.stage none
+judged_small t stream m (Some pending) none = explicit_answered_small t pending (explicit_reply pending.service m)
+
 message_small : (t : ScannerTable) (stream : TargetStream) (reading : Result MessageFields EncapFault) → profile_fault t.profile ≡ None → IsSmall (frame_answer t stream reading).0
 message_small t stream (Err why) none = plain_small BadFrame
-message_small t stream (Ok m) none = reported_small t stream m stream.stage none
+message_small t stream (Ok m) none = judged_small t stream m (find (awaits stream.number m.context) t.explicit) none
 
 found_small : (t : ScannerTable) (bytes : List ℕ) (found : Option TargetStream) → profile_fault t.profile ≡ None → AnswersSmall (frame_of t bytes found)
 found_small t bytes None none = tt
@@ -103,9 +131,26 @@ frame_small : (t : ScannerTable) (number : ℕ) (bytes : List ℕ) → profile_f
 unfolding frame
 frame_small t number bytes none = found_small t bytes (find (is_stream number) t.streams) none
 
--- ---- datagrams
+-- ---- explicit requests
 
--- ---- the application
+sized_short : (bytes : List ℕ) → has_explicit_length bytes ≡ true → length bytes ≤ 504
+sized_short bytes is = leb-true (length bytes) 504 (and_parts (nat_le 2 (length bytes)) (nat_le (length bytes) 504) is).1
+
+within_small : (t : ScannerTable) (number : ℕ) (bytes : List ℕ) (session : Option Session) → length bytes ≤ 504 → AnswersSmall (explicit_within t number bytes session)
+within_small t number bytes None few = tt
+within_small t number bytes (Some session) few =
+    either (AnswersSmall {T = ScannerTable}) (is_barred t number bytes) (Err fault.NotAllowedNow) (Ok (done (explicit_sent t session number bytes))) tt
+    (once_small (explicit_sent t session number bytes) (few_one 1 IsShortRequest _ (omega arith) (requesting_short session t.next_request bytes few)))
+
+sized_step : (b : Bool) (t : ScannerTable) (target : Node) (number : ℕ) (bytes : List ℕ) → has_explicit_length bytes ≡ b → AnswersSmall (cond b (explicit_within t number bytes (session_with t target)) (Err fault.WrongLength))
+sized_step true t target number bytes is = within_small t number bytes (session_with t target) (sized_short bytes is)
+sized_step false t target number bytes is = tt
+
+explicit_small : (t : ScannerTable) (target : Node) (number : ℕ) (bytes : List ℕ) → AnswersSmall (explicit_request t target number bytes)
+unfolding explicit_request
+explicit_small t target number bytes =
+    either (AnswersSmall {T = ScannerTable}) (list_any (connects_to target) t.profile.slots) (explicit_sized t target number bytes) (Err fault.NoSuchSlot)
+    (sized_step (has_explicit_length bytes) t target number bytes refl) tt
 
 -- ---- starts and stops
 
@@ -150,12 +195,19 @@ AdvancesWhole = (t : ScannerTable) (ms : ℕ) → t.clock.0 + ms ≤ 2 ^ 48 → 
 within : (n : ℕ) → nat_lt clock_end n ≡ false → n ≤ 2 ^ 48
 within n is = grind (arith, nat_tests)
 
-tick_step : (a b : Bool) → AdvancesWhole → (t : ScannerTable) (ms : ℕ) → nat_lt clock_end (t.clock.0 + ms) ≡ b → IsWellFormed t → AnswersSmall (cond a (Err fault.TickTooLong) (cond b (Err fault.ClockEnd) (Ok (ticked (advanced (clocked_table t ms))))))
+-- the same productions are due
+timed_out_due : (t : ScannerTable) → Few 64 IsShortDatagram (map sent (due_productions t)) → Few 64 IsShortDatagram (map sent (due_productions (explicit_timed_out t).table))
+unfolding explicit_timed_out
+timed_out_due t few = few
+
+tick_step : (a b : Bool) → AdvancesWhole → (t : ScannerTable) (ms : ℕ) → nat_lt clock_end (t.clock.0 + ms) ≡ b → IsWellFormed t → AnswersSmall (cond a (Err fault.TickTooLong) (cond b (Err fault.ClockEnd) (Ok (ticked (moved_on (clocked_table t ms))))))
 tick_step true b advance t ms is whole = tt
 tick_step false true advance t ms is whole = tt
 tick_step false false advance t ms is whole =
     let effect = advanced (clocked_table t ms) in
-    effect_small effect (map sent (due_productions effect.table)) (advanced_sends (clocked_table t ms) whole.faultless) (due_few effect.table (advance t ms (within (t.clock.0 + ms) is) whole))
+    let moved = moved_on (clocked_table t ms) in
+    effect_small moved (map sent (due_productions moved.table)) (timed_out_sends effect (advanced_sends (clocked_table t ms) whole.faultless))
+    (timed_out_due effect.table (due_few effect.table (advance t ms (within (t.clock.0 + ms) is) whole)))
 
 tick_small : AdvancesWhole → (t : ScannerTable) (ms : ℕ) → IsWellFormed t → AnswersSmall (tick t ms)
 unfolding tick
@@ -170,4 +222,5 @@ scanner_small advance t (event.StreamCut stream) whole = cut_small t stream
 scanner_small advance t (event.Tick ms) whole = tick_small advance t ms whole
 scanner_small advance t (event.Start slot) whole = start_small t slot whole.faultless
 scanner_small advance t (event.Stop slot) whole = stop_small t slot whole.faultless
+scanner_small advance t (event.Explicit target number bytes) whole = explicit_small t target number bytes
 scanner_small advance t other whole = slots_hold (λ said. AnswersSmall said) t (λ why. tt) (λ verdict u of. plain_small verdict) other refl

@@ -17,7 +17,7 @@ use Rattle.conn_state.specs.declared.names.Requested.{Requested}
 use Rattle.scanner_table.specs.declared.profile.SlotConfig.{SlotConfig}
 use Rattle.scanner_table.specs.declared.table.Session.{Session}
 use Rattle.cip_fwdopen.specs.Services.{open_service}
-use Rattle.scanner_table.specs.Requests.{segment_of, slot_path, open_fields, close_fields, opening, closing, Sent, manager, manager_text, request_data, sent_message, sent_frame, registration, numbered}
+use Rattle.scanner_table.specs.Requests.{segment_of, slot_path, open_fields, close_fields, opening, closing, requesting, Sent, manager, manager_text, request_data, sent_message, sent_frame, registration, numbered}
 use Rattle.answer_sizes.specs.Sizes.{IsShortFrame}
 use Rattle.answer_sizes.proofs.Answers.{message_short}
 use Rattle.answer_sizes.proofs.Few.{either}
@@ -125,3 +125,6 @@ close_short session number config triad few =
     let body = close_text (close_fields config triad) in
     requested_short (numbered session number (closing (close_fields config triad)))
     (omega (arith, items_length (manager_text 0x4E body) None, manager_few 0x4E body (close_few config triad few)))
+
+pub requesting_short : (session : Session) (number : ℕ) (body : List ℕ) → length body ≤ 504 → IsShortRequest (numbered session number (requesting body))
+requesting_short session number body few = requested_short (numbered session number (requesting body)) (omega (arith, items_length body None, few))

@@ -21,7 +21,7 @@ points_staged request points None = refl
 points_staged request points (Some why) = refl
 
 -- checks 9 to 15
-found_staged : (view : View) (request : OpenFields) (path : Option PathFields) (points : Result Points Refusal) → judged request points (first_of (drop 9 (checks view request (path_read path) points))) ≡ and_then points (staged_points view request)
+found_staged : (view : View) (request : OpenFields) (path : Option PathFields) (points : Result Points Refusal) → judged request points (first_of (drop 10 (checks view request (path_read path) points))) ≡ and_then points (staged_points view request)
 unfolding points_check
 found_staged view request path (Ok points) = points_staged request points (points_check view request points)
 found_staged view request path (Err why) = refl
@@ -30,7 +30,7 @@ found_staged view request path (Err why) = refl
 path_staged : (view : View) (request : OpenFields) (path : Option PathFields) → judged request (points_of view request path) (first_of (drop 1 (checks view request (path_read path) (points_of view request path)))) ≡ staged_path view request path
 unfolding request_check
 path_staged view request path =
-    judged_front 8 request (points_of view request path) (drop 1 (checks view request (path_read path) (points_of view request path)))
+    judged_front 9 request (points_of view request path) (drop 1 (checks view request (path_read path) (points_of view request path)))
     ∙ ap (after (request_check view request path)) (found_staged view request path (points_of view request path))
 
 pub verdict_is_staged : (view : View) (request : OpenFields) (path : Result PathFields PathFault) → judged_path view request path ≡ staged view request path

@@ -38,11 +38,11 @@ readable path = after (segment_check path) (Ok (result_ok path))
 
 -- checks 3 to 8, of a path that reads or whose segments are in a wrong order
 unfoldable pub request_check : View → OpenFields → Option PathFields → Check
-request_check view request path = first_of (take 8 (drop 1 (checks view request (path_read path) (Err refusal.Path))))
+request_check view request path = first_of (take 9 (drop 1 (checks view request (path_read path) (Err refusal.Path))))
 
 -- checks 10 to 15, of points that exist
 unfoldable pub points_check : View → OpenFields → Points → Check
-points_check view request points = first_of (drop 10 (checks view request (path_read None) (Ok points)))
+points_check view request points = first_of (drop 11 (checks view request (path_read None) (Ok points)))
 
 -- the production inhibit time that a path asks for, if it names one
 abbrev pub path_inhibit : Option PathFields → Option ℕ

@@ -1,19 +1,20 @@
-//! The checks of a request, from the top: 2; 3 to 8; 9; 10 to 15. `admit` lists them.
+//! The checks of a request, from the top: 2; 3 to 8; 9; 10 to 15; 16. `admit` lists them.
 
 ghost use Rattle.std.specs.Prelude.{◌≡◌, IfOk};
 ghost use Rattle.std.specs.Option.{option_map};
 ghost use Rattle.cip_epath.specs.Path.{view_path};
 ghost use Rattle.cip_fwdopen.specs.Open.{view_open};
 ghost use Rattle.adapter_table.specs.Checks.{Gives, view_admission, verdict, points_of, admitted_at, drawn_ids, is_multicast};
+ghost use Rattle.adapter_table.specs.StatedLimits.{limited};
 ghost use Rattle.app_rules.specs.Views.{seen, view_named_points};
 ghost use Rattle.app_rules.specs.Stages.{request_check, points_check, transport_of, IsPassed};
 
 use crate::connections::ConnectionsView;
 use crate::questions::{
-    NamedPoints, Transport, admission_at, changes_config, consumed_point_of, has_other_o_t_size,
-    has_other_t_o_size, is_known_config, is_owned, is_unserved, is_unsupported, joined,
-    joins_other_api, joins_other_inhibit, joins_other_trigger, key_check, lacks_capacity,
-    lacks_ids, listens_alone, misfits_config, readable, refuse_if, served_inhibit,
+    NamedPoints, Transport, admission_at, changes_config, consumed_point_of, exceeds,
+    has_other_o_t_size, has_other_t_o_size, is_below_least, is_known_config, is_owned, is_unserved,
+    is_unsupported, joined, joins_other_api, joins_other_inhibit, joins_other_trigger, key_check,
+    lacks_capacity, lacks_ids, listens_alone, misfits_config, readable, refuse_if, served_inhibit,
 };
 use crate::view::View;
 use adapter_table::Admission;
@@ -22,6 +23,7 @@ use cip_fwdopen::OpenRequest;
 use cip_netparams::ConnectionType::{Multicast, PointToPoint};
 use cip_netparams::{Trigger, api_of, timeout_of};
 use cip_router::Refusal;
+use cip_types::Node;
 
 /// The connection that a request is admitted as, or the refusal of the first check that fails. Takes no memory.
 ///
@@ -33,8 +35,8 @@ use cip_router::Refusal;
 /// 5. The O->T type is point to point (0x0123), the T->O type that or multicast (0x0124).
 /// 6. The transport class is 1, and the trigger cyclic or change of state (0x0103).
 /// 7. The multiplier is at most 7, and no redundant owner is requested (0x0108).
-/// 8. Each packet interval is 1 microsecond to 10 seconds (0x0111), and the inhibit time is no longer than the T->O
-///    one (0x011B).
+/// 8. Each packet interval is 1 microsecond to 10 seconds, and no shorter than the least that the maker states
+///    (0x0111), and the inhibit time is no longer than the T->O one (0x011B).
 /// 9. The path is of the Assembly class (0x0117), and names the configuration (0x0129), a consumed (0x012A) and a
 ///    produced (0x012B) point.
 /// 10. The data segment has the length of the configuration (0x0126), and does not change it while a connection is
@@ -45,10 +47,32 @@ use cip_router::Refusal;
 /// 14. A joining connection has the T->O packet interval (0x0111), trigger (0x0103) and inhibit time (0x0111) of its
 ///     group.
 /// 15. Ids are left, and there are fewer than 64 connections or one has timed out (0x0113).
+/// 16. Fewer connections of the application type are established than the maker states places for, and fewer of the
+///     peer's than the maker states for one node (0x0113).
 ///
 /// Volume 1, chapter 3, Forward_Open service and Connection Manager extended status codes.
-#[tactic(auto, unfolding(adapter_table::specs::Checks::verdict), using(crate::proofs::Order::verdict_is_staged))]
 pub fn admit<'a, C: ConnectionsView>(
+    view: &View<'_, C>,
+    peer: Node,
+    request: &OpenRequest<&'a [u8]>,
+) -> Result<Admission<'a>, Refusal>
+    ensures limited { Gives view_admission result
+        (limited view.now.profile.now.limits (C.rows view.now.connections.now) peer
+        (verdict (seen C.rows view.now request.now.triad) (view_open request.now))) }
+    ensures drawn { IfOk result (λ a. a.drawn ≡ drawn_ids a.multicast a.group) }
+{
+    let admission = judge(view, request)?;
+    // 16
+    refuse_if(
+        exceeds(view, peer, admission.kind),
+        Refusal::OutOfConnections,
+    )?;
+    Ok(admission)
+}
+
+/// The connection that a request is admitted as, or the refusal of the first of the checks 2 to 15 that fails.
+#[tactic(auto, unfolding(adapter_table::specs::Checks::verdict), using(crate::proofs::Order::verdict_is_staged))]
+fn judge<'a, C: ConnectionsView>(
     view: &View<'_, C>,
     request: &OpenRequest<&'a [u8]>,
 ) -> Result<Admission<'a>, Refusal>
@@ -96,6 +120,8 @@ fn transport_of<C: ConnectionsView>(
     // 8
     let o_t_api_ms = api_of(request.o_t_rpi).ok_or(Refusal::PacketInterval)?;
     let t_o_api_ms = api_of(request.t_o_rpi).ok_or(Refusal::PacketInterval)?;
+    let least = view.profile.limits.least_rpi;
+    refuse_if(is_below_least(least, request), Refusal::PacketInterval)?;
     let inhibit = served_inhibit(trigger, path);
     refuse_if(t_o_api_ms < u32::from(inhibit), Refusal::InhibitTime)?;
     Ok(Transport {

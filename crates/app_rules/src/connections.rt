@@ -4,15 +4,16 @@ ghost use Rattle.std.specs.Prelude.{◌≡◌, List, length, nat_le};
 ghost use Rattle.std.specs.List.{list_any};
 ghost use Rattle.adapter_table.specs.Connections.{Row};
 ghost use Rattle.cip_productions.specs.declared.kind.Kind.{Kind};
-ghost use Rattle.adapter_table.specs.Rows.{most_rows, holds_triad, is_established, is_timed_out, drives, is_supported};
+ghost use Rattle.adapter_table.specs.Rows.{most_rows, holds_triad, is_established, is_timed_out, drives, is_supported, kind_count, node_count};
 ghost use Rattle.adapter_table.specs.Checks.{group_of};
 
 use adapter_table::{
-    Row, drives, holds_triad, is_established, is_member, is_supported, is_timed_out,
+    Row, drives, holds_triad, is_established, is_member, is_of_kind, is_of_node, is_supported,
+    is_timed_out,
 };
 use cip_productions::Kind;
-use cip_types::Triad;
 use cip_types::limits::MOST_CONNECTIONS;
+use cip_types::{Node, Triad};
 
 /// The connections of an adapter, as the checks read them; contracts see their list in opening order. No call takes
 /// memory.
@@ -38,6 +39,14 @@ pub trait ConnectionsView {
     /// Whether a listen-only connection is supported on the input.
     fn is_supported(&self, point: u32) -> bool
         ensures { result ≡ is_supported (rows self.now) Kind.ListenOnly point };
+
+    /// How many established connections of an application type there are.
+    fn kind_count(&self, kind: Kind) -> usize
+        ensures { result ≡ kind_count (rows self.now) kind };
+
+    /// How many established connections of a node there are.
+    fn node_count(&self, node: Node) -> usize
+        ensures { result ≡ node_count (rows self.now) node };
 
     /// Whether there are 64 connections, timed-out ones among them.
     fn is_full(&self) -> bool
@@ -73,6 +82,14 @@ impl ConnectionsView for ListView<'_> {
 
     fn is_supported(&self, point: u32) -> bool {
         is_supported(self.0, Kind::ListenOnly, point)
+    }
+
+    fn kind_count(&self, kind: Kind) -> usize {
+        self.0.iter().filter(|row| is_of_kind(row, kind)).count()
+    }
+
+    fn node_count(&self, node: Node) -> usize {
+        self.0.iter().filter(|row| is_of_node(row, node)).count()
     }
 
     fn is_full(&self) -> bool {

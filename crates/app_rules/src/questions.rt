@@ -9,20 +9,21 @@ ghost use Rattle.cip_epath.specs.Reading.{path_reading};
 ghost use Rattle.cip_productions.specs.declared.kind.Kind.{Kind};
 ghost use Rattle.cip_productions.specs.Kinds.{is_owner, is_listener};
 ghost use Rattle.adapter_table.specs.Rows.{most_rows, is_established, is_timed_out, drives, is_supported};
-ghost use Rattle.adapter_table.specs.Checks.{Gives, view_admission, check, key_of, key_check, is_unserved, served_inhibit, is_known_config, consumed_point_of, group_of, joined, named_len, has_other_length, has_other_bytes, has_other_o_t_size, has_other_t_o_size, joins, has_other_trigger, has_other_inhibit, drawn_ids};
+ghost use Rattle.adapter_table.specs.Checks.{Gives, view_admission, check, key_of, key_check, is_unserved, is_below_least, served_inhibit, is_known_config, consumed_point_of, group_of, joined, named_len, has_other_length, has_other_bytes, has_other_o_t_size, has_other_t_o_size, joins, has_other_trigger, has_other_inhibit, drawn_ids};
+ghost use Rattle.adapter_table.specs.StatedLimits.{has_no_place, has_node_enough, exceeds};
 ghost use Rattle.app_rules.specs.Views.{view_named_points};
 ghost use Rattle.app_rules.specs.Stages.{IsPassed, readable, path_inhibit, admission_at};
 
 use crate::connections::ConnectionsView;
 use crate::view::View;
-use adapter_table::{Admission, ConsumedPoint, InputPoint, Profile, Row, State};
+use adapter_table::{Admission, ConsumedPoint, InputPoint, Places, Profile, Row, State};
 use cip_epath::{ConnPath, KeyFault, PathFault, check_key, read_path};
 use cip_fwdopen::OpenRequest;
 use cip_netparams::Trigger;
 use cip_productions::Kind;
 use cip_router::Refusal;
 use cip_types::limits::IDS_PER_INCARNATION;
-use cip_types::{Identity, Ms};
+use cip_types::{Identity, Ms, Node};
 
 /// The transport that a request asks for: whether its producer sends to a group, its trigger and production inhibit
 /// time, its actual packet intervals, both in milliseconds, and the time-out of its watchdog.
@@ -83,6 +84,16 @@ pub fn is_unserved(request: &OpenRequest<&[u8]>) -> bool
     ensures { result ≡ is_unserved (view_open request.now) }
 {
     request.multiplier > 7 || request.o_t_params.redundant || request.t_o_params.redundant
+}
+
+/// Whether a packet interval is below the least that the maker states.
+pub fn is_below_least(least: Option<u32>, request: &OpenRequest<&[u8]>) -> bool
+    ensures { result ≡ is_below_least least (view_open request.now) }
+{
+    match least {
+        Some(least) => request.o_t_rpi < least || request.t_o_rpi < least,
+        None => false,
+    }
 }
 
 /// The production inhibit time that applies, in milliseconds: a cyclic producer has none.
@@ -291,4 +302,33 @@ pub fn lacks_capacity<C: ConnectionsView>(view: &View<'_, C>) -> bool
         && not (list_any is_timed_out (C.rows view.now.connections.now))) }
 {
     view.connections.is_full() && !view.connections.has_timed_out()
+}
+
+/// Whether established connections of the application type have all its places.
+fn has_no_place<C: ConnectionsView>(connections: &C, places: Option<Places>, kind: Kind) -> bool
+    ensures { result ≡ has_no_place places (C.rows connections.now) kind }
+{
+    match places {
+        Some(places) => connections.kind_count(kind) >= usize::from(places.of(kind)),
+        None => false,
+    }
+}
+
+/// Whether the node has as many established connections as one node can have.
+fn has_node_enough<C: ConnectionsView>(connections: &C, most: Option<u8>, peer: Node) -> bool
+    ensures { result ≡ has_node_enough most (C.rows connections.now) peer }
+{
+    match most {
+        Some(most) => connections.node_count(peer) >= usize::from(most),
+        None => false,
+    }
+}
+
+/// Whether a connection of this application type, opened by this node, is more than the maker states.
+pub fn exceeds<C: ConnectionsView>(view: &View<'_, C>, peer: Node, kind: Kind) -> bool
+    ensures { result ≡ exceeds view.now.profile.now.limits (C.rows view.now.connections.now) peer kind }
+{
+    let limits = view.profile.limits;
+    has_no_place(view.connections, limits.places, kind)
+        || has_node_enough(view.connections, limits.node_connections, peer)
 }

@@ -1,10 +1,27 @@
 //! Copies of events, and whether two events are the same.
 
 ghost use Rattle.std.specs.Prelude.{◌≡◌, ◌↔◌, IsTrue, IfOk};
+ghost use Rattle.cip_events.specs.declared.event.Event.TheVariants as event;
 
 use crate::event::Event;
-use cip_types::{Items, OutOfMemory};
+use cip_types::{Items, Node, OutOfMemory};
 use std::alloc::Global;
+
+/// An explicit request with a copy of its bytes.
+fn explicit_copy(
+    alloc: Global,
+    target: Node,
+    number: u32,
+    bytes: &[u8],
+) -> Result<Event, OutOfMemory>
+    ensures { IfOk result (λ copy. copy ≡ event.Explicit target number bytes.now) }
+{
+    Ok(Event::Explicit {
+        target,
+        number,
+        bytes: Items::copy_of(alloc, bytes)?,
+    })
+}
 
 impl Event {
     /// A copy of the event.
@@ -42,6 +59,11 @@ impl Event {
             Event::Mode { run } => Event::Mode { run: *run },
             Event::Start { slot } => Event::Start { slot: *slot },
             Event::Stop { slot } => Event::Stop { slot: *slot },
+            Event::Explicit {
+                target,
+                number,
+                bytes,
+            } => explicit_copy(alloc, *target, *number, bytes.as_slice())?,
         })
     }
     /// Whether the other event is the same. Takes no memory.

@@ -12,29 +12,65 @@ use thiserror::Error;
 #[derive(PartialEq, Drop)]
 pub enum Event {
     /// A peer sends a request to the message router.
-    Request { peer: Node, bytes: Items<u8> },
+    Request {
+        peer: Node,
+        bytes: Items<u8>,
+    },
     /// A peer opens a stream. The event gives it this number.
-    StreamOpened { stream: u16, peer: Node },
+    StreamOpened {
+        stream: u16,
+        peer: Node,
+    },
     /// A stream brings the bytes of one encapsulation message.
-    Frame { stream: u16, bytes: Items<u8> },
+    Frame {
+        stream: u16,
+        bytes: Items<u8>,
+    },
     /// A stream breaks, or its peer closes it.
-    StreamCut { stream: u16 },
+    StreamCut {
+        stream: u16,
+    },
     /// A peer sends a class 1 datagram.
-    Datagram { peer: Node, bytes: Items<u8> },
+    Datagram {
+        peer: Node,
+        bytes: Items<u8>,
+    },
     /// A peer sends an encapsulation message over no stream, to inquire which device this is.
-    Inquiry { peer: Node, bytes: Items<u8> },
+    Inquiry {
+        peer: Node,
+        bytes: Items<u8>,
+    },
     /// The application sets the value of an input.
-    Write { point: u32, bytes: Items<u8> },
+    Write {
+        point: u32,
+        bytes: Items<u8>,
+    },
     /// The application reads the value of a point.
-    Read { point: u32 },
+    Read {
+        point: u32,
+    },
     /// Milliseconds pass, at most 60,000.
-    Tick { ms: u32 },
+    Tick {
+        ms: u32,
+    },
     /// The application of a scanner starts to run or becomes idle.
-    Mode { run: bool },
+    Mode {
+        run: bool,
+    },
     /// The application has a scanner open the connection of a slot, and keep it open.
-    Start { slot: u32 },
+    Start {
+        slot: u32,
+    },
     /// The application has a scanner close the connection of a slot.
-    Stop { slot: u32 },
+    Stop {
+        slot: u32,
+    },
+    /// The application has a scanner send a request to the message router of a target. The request gets this number.
+    Explicit {
+        target: Node,
+        number: u32,
+        bytes: Items<u8>,
+    },
 }
 
 /// The recipient of a frame.
@@ -98,6 +134,16 @@ pub enum Verdict {
     Value(Items<u8>),
     /// The result of a datagram.
     Delivered(Delivery),
+    /// The reply of a target's message router to the explicit request of this number: its general status, the bytes
+    /// of its additional status, and its data.
+    ///
+    /// Volume 1, chapter 2, message router response.
+    Replied {
+        number: u32,
+        status: u8,
+        additional: Items<u8>,
+        data: Items<u8>,
+    },
 }
 
 /// Why a reply does not open the connection of a scanner's slot: the first that holds.
@@ -117,7 +163,24 @@ pub enum Reason {
     Mismatch(Mismatch),
 }
 
-/// A change of a connection, a stream or a slot.
+/// Why an explicit request has no reply, and will have none.
+#[derive(Clone, Copy, Debug, PartialEq, Eq, Error)]
+pub enum Unanswered {
+    /// No reply arrived within the open time-out.
+    #[error("timed out")]
+    TimedOut,
+    /// Its stream ended before the reply.
+    #[error("its stream ended")]
+    Lost,
+    /// The encapsulation message has this status, which is not 0.
+    #[error("encapsulation status {0}")]
+    Encap(u32),
+    /// The message has another command, or holds no readable reply to the request.
+    #[error("no readable reply")]
+    Unreadable,
+}
+
+/// A change of a connection, a stream, a slot or an explicit request.
 #[derive(Clone, Copy, PartialEq, Eq)]
 pub enum Notice {
     /// A connection was opened, with this O->T id.
@@ -140,6 +203,8 @@ pub enum Notice {
     NoIds(u32),
     /// A peer requests a reset of this type: 0 is as a power cycle, 1 also restores the settings of the factory.
     Reset(u8),
+    /// The explicit request of this number has no reply, and will have none.
+    Unanswered(u32, Unanswered),
 }
 
 /// The answer of a device to an event: frames, datagrams and notices, each in order, and the verdict.

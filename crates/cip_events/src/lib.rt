@@ -17,7 +17,7 @@ pub use arrival::Arrival;
 pub use consumers::Consumers;
 pub use event::{
     Answer, Delivery, Event, Frame, NewFault, Notice, Outcome, OutgoingDatagram, Reason, Recipient,
-    StepFault, Verdict,
+    StepFault, Unanswered, Verdict,
 };
 pub use outlet::Outlet;
 pub use profile_fault::ProfileFault;

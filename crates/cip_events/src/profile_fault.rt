@@ -32,6 +32,9 @@ pub enum ProfileFault {
     /// The name has more than 32 bytes, the physical address not six, or the inactivity time-out is above 3,600 s.
     #[error("the description is out of range")]
     Description,
+    /// A limit that the maker states is out of range.
+    #[error("a limit of the maker's is out of range")]
+    Limits,
 }
 
 impl ProfileFault {
@@ -48,6 +51,7 @@ impl ProfileFault {
             ProfileFault::Timing => 6,
             ProfileFault::Identity => 7,
             ProfileFault::Description => 8,
+            ProfileFault::Limits => 9,
         }
     }
 }

@@ -15,6 +15,7 @@ status_code status.NotEnoughData = 0x13
 status_code status.Attribute = 0x14
 status_code status.TooMuchData = 0x15
 status_code status.NotSettable = 0x0E
+status_code status.PrivilegeViolation = 0x0F
 status_code status.StateConflict = 0x10
 status_code status.InvalidParameter = 0x20
 

@@ -6,10 +6,12 @@ mod command;
 mod object_service;
 mod refusal;
 mod reply;
+mod router_reply;
 mod router_request;
 
 pub use command::{Command, EncapStatus};
 pub use object_service::ObjectService;
 pub use refusal::{Refusal, Status};
 pub use reply::Reply;
+pub use router_reply::{RouterReply, read_router_reply};
 pub use router_request::{RouterRequest, read_router_request};

@@ -118,6 +118,8 @@ pub enum Status {
     TooMuchData,
     /// The attribute can only be read.
     NotSettable,
+    /// The requester has no permission for the service: the connection is another node's.
+    PrivilegeViolation,
     /// The device is in a state that forbids the service.
     StateConflict,
     /// A parameter of the service has no such value.
@@ -137,6 +139,7 @@ impl Status {
             Status::Attribute => 0x14,
             Status::TooMuchData => 0x15,
             Status::NotSettable => 0x0E,
+            Status::PrivilegeViolation => 0x0F,
             Status::StateConflict => 0x10,
             Status::InvalidParameter => 0x20,
         }

@@ -12,6 +12,7 @@ use Rattle.adapter_table.specs.Step.{adapter_step, adapter_table}
 use Rattle.adapter_table.specs.Sound.{IsSound}
 use Rattle.adapter_table.specs.Whole.{IsWhole}
 use Rattle.adapter_table.specs.Laws.{StepsKeep}
+use Rattle.adapter_table.specs.StatedLimits.{IsWithinLimits, PlacesAreKept}
 use Rattle.scanner_table.specs.declared.profile.ScannerProfile.{ScannerProfile}
 use Rattle.scanner_table.specs.declared.table.ScannerTable.{ScannerTable}
 use Rattle.scanner_table.specs.Effects.{Next as ScannerNext}
@@ -27,6 +28,7 @@ use Rattle.cip_tables.specs.declared.table.DeviceTable.TheVariants.{Adapter, Sca
 use Rattle.cip_tables.specs.Step.{DeviceNext, as_adapter, as_scanner, step, opening_table}
 use Rattle.cip_tables.specs.Run.{Runs}
 use Rattle.cip_tables.specs.Sound.{IsSoundDevice, OverEveryRun, StepsCountOn, RunsCountOn}
+use Rattle.cip_tables.specs.StatedLimits.{RunsStayWithin, FreshDevicesStayWithin, TypesHavePlaces}
 use Rattle.cip_tables.specs.Whole.{IsWholeDevice, next_id_of, RunsKeepWhole, FreshDevicesAreWhole, TablesAreWhole}
 
 -- one thing holds of an adapter, another of a scanner
@@ -172,3 +174,22 @@ LaterScanners = (t : ScannerTable) (counter : ℕ) → t.next_id ≤ counter →
 pub later_scanner : LaterScanners → (d : DeviceTable) (t : ScannerTable) (counter : ℕ) → d ≡ Scanner t → next_id_of d ≤ counter → counter ≤ 16777216 → IsWholeDevice d → IsWholeScanner (record t { next_id = counter })
 later_scanner law d t counter is later last whole =
     law t counter (subst (λ d. next_id_of d ≤ counter) is later) last (subst IsWholeDevice is whole)
+
+-- ---- limits that a maker states
+
+abbrev pub FreshWithin : Type 0
+FreshWithin = (profile : Profile) → IsWithinLimits (adapter_table profile)
+
+pub run_within : StepsKeep IsWithinLimits → RunsStayWithin
+run_within steps old t events outcomes within ran = run_keeps IsWithinLimits (λ t. Unit {0}) steps all_keep (Adapter old) events outcomes (Adapter t) ran within
+
+fresh_within : FreshWithin → (made : Config) → IfAdapter IsWithinLimits (opening_table made)
+fresh_within fresh (config.Adapter profile) = fresh profile
+fresh_within fresh (config.Scanner profile) = tt
+
+pub reached_within : StepsKeep IsWithinLimits → FreshWithin → FreshDevicesStayWithin
+reached_within steps fresh made events outcomes t ran = run_keeps IsWithinLimits (λ t. Unit {0}) steps all_keep (opening_table made) events outcomes (Adapter t) ran (fresh_within fresh made)
+
+pub types_have_places : StepsKeep IsWithinLimits → FreshWithin → PlacesAreKept → TablesAreWhole → TypesHavePlaces
+types_have_places steps fresh kept wholes made events outcomes t places kind triad none ran stated free =
+    kept t places kind triad (wholes made events outcomes t none ran).shaped.faultless stated (reached_within steps fresh made events outcomes t ran) free

@@ -9,3 +9,4 @@ pub mod Newest
 pub mod FollowLaws
 pub mod RunLaws
 pub mod States
+pub mod StatedLimits

@@ -11,6 +11,7 @@ use Rattle.adapter_table.specs.Connections.{Row}
 use Rattle.adapter_table.specs.declared.row.State.{State}
 use Rattle.adapter_table.specs.declared.row.State.TheVariants as row_state
 use Rattle.adapter_table.specs.Ticks.{clocked_table}
+use Rattle.scanner_table.specs.declared.explicit.PendingExplicit.{PendingExplicit}
 use Rattle.scanner_table.specs.declared.slot.SlotState.{SlotState}
 use Rattle.scanner_table.specs.declared.slot.SlotState.TheVariants as slot_state
 use Rattle.scanner_table.specs.declared.table.TargetStream.{TargetStream}
@@ -75,10 +76,15 @@ abbrev pub slots_due : List TargetStream → List IndexedSlot → ℕ
 slots_due streams [] = never
 slots_due streams (indexed ∷ rest) = min (slot_due streams indexed) (slots_due streams rest)
 
+-- when the first of a scanner's explicit requests is given up
+abbrev pub explicit_due : List PendingExplicit → ℕ
+explicit_due [] = never
+explicit_due (pending ∷ rest) = min pending.deadline.0 (explicit_due rest)
+
 -- the time at which something is due at a device, if only time passes
 abbrev pub due_at : DeviceTable → ℕ
 due_at (Adapter t) = connections_due t.rows
-due_at (Scanner t) = slots_due t.streams (indexed_slots t)
+due_at (Scanner t) = min (slots_due t.streams (indexed_slots t)) (explicit_due t.explicit)
 
 -- in how many milliseconds something is due at a device, at most the longest tick; 0 if it is due now
 abbrev pub due_in : DeviceTable → ℕ

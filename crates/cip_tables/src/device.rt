@@ -104,7 +104,8 @@ pub trait Device {
         ensures { result ≡ totals_of (table self.now) };
 
     /// Returns in how many milliseconds something is due, if only time passes: a connection times out, a production
-    /// is due, a slot opens or gives up a request. 0 if it is due now; at most the longest tick, 60,000 milliseconds.
+    /// is due, a slot opens or gives up a request, an explicit request is given up. 0 if it is due now; at most the
+    /// longest tick, 60,000 milliseconds.
     /// Each tick of fewer milliseconds answers nothing, and moves the clock alone. Takes no memory.
     ///
     /// A caller that sleeps so long misses no time-out and no production, and wakes in vain only after the longest tick.

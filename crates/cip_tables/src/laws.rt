@@ -7,6 +7,7 @@
 ghost use Rattle.std.specs.Prelude.{◌≤◌, length};
 ghost use Rattle.cip_tables.specs.Newest.{OverEveryConnection};
 ghost use Rattle.cip_tables.specs.Scratch.{OutputsAreFromScratch, FreshOutputsAreFromScratch};
+ghost use Rattle.cip_tables.specs.StatedLimits.{RunsStayWithin, FreshDevicesStayWithin, TypesHavePlaces};
 ghost use Rattle.cip_tables.specs.Whole.{TablesAreWhole, RunsKeepWhole, FreshDevicesAreWhole};
 ghost use Rattle.cip_tables.specs.Sound.{OverEveryRun, StepsCountOn, RunsCountOn};
 ghost use Rattle.adapter_table.specs.Newest.{HasNewerNumber, IsAppliedNew, IsNotAgain};
@@ -198,4 +199,20 @@ pub fn the_last_datagram_is_not_applied_again()
 {
     laws::accepted_datagrams_are_newer();
     laws::tables_are_sound();
+}
+
+/// No more connections are established than the maker of an adapter states.
+///
+/// - `run`: a run from a table that is within the limits stays within them.
+/// - `fresh`: a run of a fresh device of any configuration does too.
+/// - `places`: in a run of a fresh device without a fault, while fewer connections of an application type are
+///   established than it has places, another of this type is not refused for want of a place, however many
+///   connections of other types there are.
+pub fn places_are_kept()
+    ensures run { RunsStayWithin }
+    ensures fresh { FreshDevicesStayWithin }
+    ensures places { TypesHavePlaces }
+{
+    laws::places_are_kept();
+    tables_are_whole();
 }

@@ -29,7 +29,7 @@ use Rattle.adapter_table.specs.declared.acceptance.Judgement.TheVariants as judg
 use Rattle.adapter_table.specs.Judging.{IsJudged, judged_delivery}
 use Rattle.cip_events.specs.declared.event.Delivery.{Delivery}
 use Rattle.cip_events.specs.declared.event.Delivery.TheVariants.{Old, WrongSize}
-use Rattle.cip_productions.specs.Acceptance.{accepts_sequence}
+use Rattle.adapter_table.specs.StatedLimits.{accepts_number}
 use Rattle.conn_slab.proofs.Running.{runs, by_source, nobody, somebody, target_is, rows_changed, filed_changed, items_changed}
 use Rattle.conn_slab.proofs.RowLemmas.{find_rows}
 
@@ -132,7 +132,7 @@ judged_says said bytes judged.WrongSize is = sym is
 
 -- an accepted datagram has the connection's size and is newer than the last one
 pub accepted_is : {P : Type 0} (profile : Profile) (row : Connection P) (d : DatagramFields) → is_accepted (row_delivery profile row d) ≡ true → row_delivery profile row d ≡ accepted_delivery row d
-accepted_is profile row d = split (length d.payload == expected_len profile row) (accepts_sequence row.last d.sequence)
+accepted_is profile row d = split (length d.payload == expected_len profile row) (accepts_number profile.limits.newer row.last d.sequence)
   where
     split : (size newer : Bool) → is_accepted (cond size (cond newer (accepted_delivery row d) Old) WrongSize) ≡ true → cond size (cond newer (accepted_delivery row d) Old) WrongSize ≡ accepted_delivery row d
     split true true is = refl

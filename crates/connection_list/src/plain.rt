@@ -9,13 +9,14 @@ use crate::productions::{produce_rows, sent_when_due};
 use crate::rows::{append_row, copied, find_row, remove_triad, replaced};
 use crate::support::{dropped_with, remove_each};
 use crate::table::{ConnectionTable, ReceivedDatagram, TickPlan};
-use adapter_table::{IoState, Profile, Row, consumes, drives, has_expired, is_due, judge};
+use adapter_table::{IoState, Profile, Row, consumes, drives, has_expired, judge};
 use app_rules::{ConnectionsView, ListView};
 use assembly_set::AssemblySet;
 use cip_datagram::Datagram;
 use cip_events::OutgoingDatagram;
 use cip_productions::Kind;
 use cip_types::{Ms, Node, OutOfMemory, Triad};
+use row_productions::is_due;
 use std::alloc::Global;
 
 /// Connections in a list, in opening order, which each call searches.
@@ -43,6 +44,14 @@ impl ConnectionsView for ConnectionList {
 
     fn is_supported(&self, point: u32) -> bool {
         ListView(&self.0).is_supported(point)
+    }
+
+    fn kind_count(&self, kind: Kind) -> usize {
+        ListView(&self.0).kind_count(kind)
+    }
+
+    fn node_count(&self, node: Node) -> usize {
+        ListView(&self.0).node_count(node)
     }
 
     fn is_full(&self) -> bool {

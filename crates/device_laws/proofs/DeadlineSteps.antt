@@ -28,7 +28,8 @@ use Rattle.scanner_table.specs.Opening.{ready_opened}
 use Rattle.scanner_table.specs.Replies.{failed_slot}
 use Rattle.scanner_table.specs.Closing.{idle_slot, given_up_state, given_up}
 use Rattle.scanner_table.specs.Productions.{written_state, state_is_due, produced_state, produced_table}
-use Rattle.scanner_table.specs.Ticks.{state_has_expired, has_expired, by_deadline, expired_slots, expired_state, expired, all_expired, state_is_overdue, is_overdue, all_given_up, clocked_table, advanced, ticked, tick}
+use Rattle.scanner_table.specs.Ticks.{state_has_expired, has_expired, by_deadline, expired_slots, expired_state, expired, all_expired, state_is_overdue, is_overdue, all_given_up, clocked_table, advanced, moved_on, ticked, tick}
+use Rattle.scanner_table.specs.Explicit.{explicit_timed_out}
 use Rattle.device_laws.specs.ScannerDeadlines.{StateIsAhead, DeadlinesAreAhead, TicksLeaveNoneLate}
 use Rattle.scanner_table.specs.Lemmas.SlotLookups.{get_same, Stands, indexed_at, Each, EachTwo, Apart, each_filter, two_filter, each_in_order, two_in_order, each_stands, slots_apart, slot_is, slot_stands}
 use Rattle.scanner_table.specs.Lemmas.Moves.{Kept, Local, given_does, expired_does, expired_leads, overdue_leads, ready_leads, stand_on}
@@ -320,15 +321,21 @@ ticks_ahead k u ticks = λ number indexed is.
     let stands = (slot_is u number indexed is).stands in
     subst (λ (m : Ms). StateIsAhead m.0 indexed.slot.state) (sym ticks.clock) (ahead_is k indexed.slot.state (ticks.expired indexed stands) (ticks.overdue indexed stands))
 
+-- the explicit requests that end have no slots
+ended_ahead : (u : ScannerTable) → DeadlinesAreAhead (produced_table u) → DeadlinesAreAhead (produced_table (explicit_timed_out u).table)
+unfolding produced_table explicit_timed_out
+ended_ahead u ahead = ahead
+
 next_is : (x y : Next) → ◌≡◌ {A = Result Next StepFault} (Ok x) (Ok y) → x ≡ y
 next_is x y is = cc
 
-tick_step : (a b : Bool) (t : ScannerTable) (ms : ℕ) (next : Next) → 1 ≤ t.profile.open_timeout → cond a (Err fault.TickTooLong) (cond b (Err fault.ClockEnd) (Ok (ticked (advanced (clocked_table t ms))))) ≡ Ok next → DeadlinesAreAhead next.1
+tick_step : (a b : Bool) (t : ScannerTable) (ms : ℕ) (next : Next) → 1 ≤ t.profile.open_timeout → cond a (Err fault.TickTooLong) (cond b (Err fault.ClockEnd) (Ok (ticked (moved_on (clocked_table t ms))))) ≡ Ok next → DeadlinesAreAhead next.1
 tick_step true b t ms next wait is = absurd cc
 tick_step false true t ms next wait is = absurd cc
 tick_step false false t ms next wait is =
     let now = clocked_table t ms in
-    subst (λ (n : Next). DeadlinesAreAhead n.1) (next_is (ticked (advanced now)) next is) (ticks_ahead now.clock (produced_table (advanced now).table) (tick_ends now wait))
+    subst (λ (n : Next). DeadlinesAreAhead n.1) (next_is (ticked (moved_on now)) next is)
+    (ended_ahead (advanced now).table (ticks_ahead now.clock (produced_table (advanced now).table) (tick_ends now wait)))
 
 -- ---- the time that a target has, in a profile without fault
 

@@ -9,6 +9,7 @@ use Rattle.scanner_table.specs.declared.table.ScannerTable.{ScannerTable}
 use Rattle.scanner_table.specs.Opening.{opened, ready_opened}
 use Rattle.scanner_table.specs.Datagrams.{received}
 use Rattle.scanner_table.specs.Productions.{produced_table}
+use Rattle.scanner_table.specs.Explicit.{explicit_timed_out}
 use Rattle.scanner_table.specs.Ticks.{all_expired, all_given_up, tick}
 use Rattle.scanner_table.specs.Points.{write, start, stop}
 use Rattle.scanner_table.specs.Runs.{table_after}
@@ -29,7 +30,7 @@ unfolding start
 refused_stays = refl
 
 two_ticks : (table_after (table Idle) (Tick 1 ∷ Tick 60001 ∷ Tick 9 ∷ [])).clock ≡ record { 0 = 610 }
-unfolding tick all_expired all_given_up ready_opened produced_table opened
+unfolding tick all_expired all_given_up explicit_timed_out ready_opened produced_table opened
 two_ticks = refl
 
 -- ---- allocated numbers
@@ -70,11 +71,11 @@ abbrev ticked : ScannerTable
 ticked = table_after (table Idle) (Tick 400 ∷ [])
 
 tick_begins : Began (table Idle) ticked owner (record { request = 8; requested = record { triad = record triad { serial = 6 }; t_o_id = Some (record { 0 = 0x20000007 }) }; deadline = record { 0 = 3000 } })
-unfolding tick all_expired all_given_up ready_opened produced_table opened
+unfolding tick all_expired all_given_up explicit_timed_out ready_opened produced_table opened
 tick_begins = record { begins = omega arith; ends = omega arith; id = record { counter = 7; is = refl; begins = omega arith; ends = omega arith } }
 
 tick_counts : CountsOn (table Idle) ticked
-unfolding tick all_expired all_given_up ready_opened produced_table opened
+unfolding tick all_expired all_given_up explicit_timed_out ready_opened produced_table opened
 tick_counts = record { profile = refl; slots = λ full. refl; ids = omega arith; requests = omega arith }
 
 -- ---- producers and deadlines
@@ -113,11 +114,11 @@ zeros : zeros_left (indexed (Opening opening)) (indexed (Established connection)
 zeros = refl
 
 images : last_image 0 open_table (arrives 8 4 9 ∷ arrives 9 5 6 ∷ arrives 10 5 7 ∷ Tick 1 ∷ Stop 0 ∷ []) ≡ Some (two 6)
-unfolding received datagrams.datagram_reading tick all_expired all_given_up ready_opened produced_table opened stop
+unfolding received datagrams.datagram_reading tick all_expired all_given_up explicit_timed_out ready_opened produced_table opened stop
 images = refl
 
 no_images : last_image 0 open_table (arrives 6 4 9 ∷ Write 0 (two 8) ∷ Tick 60 ∷ []) ≡ None
-unfolding received datagrams.datagram_reading write tick all_expired all_given_up ready_opened produced_table opened
+unfolding received datagrams.datagram_reading write tick all_expired all_given_up explicit_timed_out ready_opened produced_table opened
 no_images = refl
 
 outputs : output_left 0 open_table (Write 0 (two 5)) ∷ output_left 0 open_table (Write 0 (5 ∷ [])) ∷ output_left 0 open_table (Write 1 []) ∷ output_left 0 open_table (arrives 8 4 9) ∷ [] ≡ Some (two 5) ∷ None ∷ None ∷ None ∷ []

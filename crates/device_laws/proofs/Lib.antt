@@ -28,3 +28,4 @@ mod LawSamples
 mod OwnerReports
 mod OwnerDataSteps
 mod OwnerDataRuns
+mod StatedLimits

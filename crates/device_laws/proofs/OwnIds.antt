@@ -36,7 +36,8 @@ use Rattle.scanner_table.specs.declared.table.TargetStream.{TargetStream}
 use Rattle.scanner_table.specs.Requests.{o_t_size, t_o_size, is_large, next_requested, open_fields}
 use Rattle.scanner_table.specs.Closing.{idle_slot, given_up_state, given_up, target_lost, close_requested, closed_within, stopped, stopped_at, slot_resigned}
 use Rattle.scanner_table.specs.Effects.{Next, Effect, and_then, on_each, changed, done}
-use Rattle.scanner_table.specs.Encapsulation.{registering_on, stream_opened, cut_of, stream_cut, is_registered, session_begun, session_failed, registered, ignored, is_awaiting, replied, replied_to, reported, frame_answer, frame_of, frame}
+use Rattle.scanner_table.specs.Explicit.{awaits, without_explicit, explicit_sent, explicit_request, explicit_timed_out, explicit_lost}
+use Rattle.scanner_table.specs.Encapsulation.{registering_on, stream_opened, stream_lost, cut_of, stream_cut, is_registered, session_begun, session_failed, registered, ignored, is_awaiting, replied, replied_to, reported, frame_answer, frame_of, frame}
 use Rattle.scanner_table.specs.Opening.{has_request, has_id, can_open, open_requested, exhausted, opened_within, opened, is_ready_slot, ready_slots, ready_opened, target_opened}
 use Rattle.scanner_table.specs.Points.{desired_slot, started, start_state, start_at, start, stop_of, stop}
 use Rattle.scanner_table.specs.Productions.{produced_table}
@@ -45,11 +46,12 @@ use Rattle.scanner_table.specs.Replies.{is_id_free, judged_success, open_answer,
 use Rattle.scanner_table.specs.Sessions.{is_stream, is_other_stream, is_taken, with_stream, without_stream, staged_stream, with_stage, session_with}
 use Rattle.scanner_table.specs.Slots.{IndexedSlot, indexed_from, indexed_slots, slot_at, is_numbered, is_with, with_slot}
 use Rattle.scanner_table.specs.Step.{scanner_step}
-use Rattle.scanner_table.specs.Ticks.{clocked_table, expired_state, expired, expired_slots, all_expired, is_overdue, all_given_up, advanced, ticked, tick}
+use Rattle.scanner_table.specs.Ticks.{clocked_table, expired_state, expired, expired_slots, all_expired, is_overdue, all_given_up, advanced, moved_on, ticked, tick}
 use Rattle.cip_tables.specs.declared.table.DeviceTable.TheVariants.{Scanner}
 use Rattle.cip_tables.specs.Step.{as_scanner, step}
 use Rattle.answer_sizes.specs.Sizes.{IsSmall, AnswersAreSmall}
 use Rattle.device_laws.specs.Lemmas.Lists.{all_both, all_filtered, all_mapped, all_more, all_found}
+use Rattle.device_laws.specs.Lemmas.ExplicitRequests.{explicit_holds, message_ends}
 use Rattle.device_laws.specs.Lemmas.Texts.{either}
 use Rattle.std.specs.Option.{IfSome}
 use Rattle.device_laws.specs.OwnIds.{IsDrawnId, FrameAsks, ScannersAskOwnIds}
@@ -262,21 +264,33 @@ message_asks back t happens stream m Unused none = quiet_next t happens (ignored
 
 answer_asks : ItemsReadBack → (t : ScannerTable) (happens : Event) (stream : TargetStream) (reading : Result MessageFields EncapFault) → profile_fault t.profile ≡ None → NextAsks t happens (frame_answer t stream reading)
 answer_asks back t happens stream (Err why) none = quiet_next t happens (frame_answer t stream (Err why)) refl refl
-answer_asks back t happens stream (Ok m) none = message_asks back t happens stream m stream.stage none
+answer_asks back t happens stream (Ok m) none =
+    message_ends (NextAsks t happens) t stream m (message_asks back t happens stream m stream.stage none)
+    (λ pending answer silent quiet. quiet_next t happens (answer, without_explicit t pending) silent refl) (find (awaits stream.number m.context) t.explicit)
 
 frame_of_asks : ItemsReadBack → (t : ScannerTable) (happens : Event) (bytes : List ℕ) (found : Option TargetStream) → profile_fault t.profile ≡ None → OkAsks t happens (frame_of t bytes found)
 frame_of_asks back t happens bytes None none = tt
 frame_of_asks back t happens bytes (Some stream) none = answer_asks back t happens stream (message_reading bytes) none
 
+ended_asks : (profile : ScannerProfile) (stream : ℕ) (now : ScannerTable) → now.profile ≡ profile → Asks profile now.streams (explicit_lost stream now)
+unfolding explicit_lost
+ended_asks profile stream now same = record { sent = tt; profile_is = same; streams_are = refl }
+
 cut_asks : ItemsReadBack → (t : ScannerTable) (happens : Event) (found : Option TargetStream) → OkAsks t happens (cut_of t found)
 cut_asks back t happens None = tt
 cut_asks back t happens (Some stream) =
-    done_asks back t happens (without_stream t stream.number).streams (target_lost stream.peer (without_stream t stream.number))
-    (lost_asks t.profile stream.peer (without_stream t stream.number) refl) (were_left t happens stream.number)
-
--- ---- datagrams
+    let now = without_stream t stream.number in
+    let lost = lost_asks t.profile stream.peer (without_stream t stream.number) refl in
+    done_asks back t happens (without_stream t stream.number).streams (stream_lost t stream)
+    (asks_then t.profile now.streams (target_lost stream.peer now) (explicit_lost stream.number) lost (ended_asks t.profile stream.number (target_lost stream.peer now).table lost.profile_is))
+    (were_left t happens stream.number)
 
 -- ---- the application
+
+explicit_asks : ItemsReadBack → (t : ScannerTable) (happens : Event) (target : Node) (number : ℕ) (bytes : List ℕ) → OkAsks t happens (explicit_request t target number bytes)
+explicit_asks back t happens target number bytes =
+    explicit_holds (OkAsks t happens) t target number bytes (λ why. tt)
+    (λ session goes. own_asks back t happens (explicit_sent t session number bytes) (record { sent = (goes.explicit, tt); profile_is = refl; streams_are = refl }))
 
 started_asks : ItemsReadBack → (t : ScannerTable) (happens : Event) (indexed : IndexedSlot) (state : SlotState) → IsShort indexed → OkAsks t happens (start_state t indexed state)
 started_asks back t happens indexed Idle short =
@@ -309,6 +323,15 @@ stop_asks back t happens (Some indexed) = stopped_asks back t happens indexed in
 
 -- ---- a tick
 
+timed_out_asks : (profile : ScannerProfile) (now : ScannerTable) → now.profile ≡ profile → Asks profile now.streams (explicit_timed_out now)
+unfolding explicit_timed_out
+timed_out_asks profile now same = record { sent = tt; profile_is = same; streams_are = refl }
+
+moved_asks : (profile : ScannerProfile) (now : ScannerTable) → profile_fault profile ≡ None → now.profile ≡ profile → Asks profile now.streams (moved_on now)
+moved_asks profile now none same =
+    let first = advanced_asks profile now none same in
+    asks_then profile now.streams (advanced now) explicit_timed_out first (timed_out_asks profile (advanced now).table first.profile_is)
+
 ticked_asks : ItemsReadBack → (t : ScannerTable) (happens : Event) (effect : Effect) → Asks t.profile t.streams effect → NextAsks t happens (ticked effect)
 unfolding produced_table
 ticked_asks back t happens effect asks = record {
@@ -320,8 +343,8 @@ tick_asks : ItemsReadBack → (t : ScannerTable) (happens : Event) (ms : ℕ) �
 unfolding tick
 tick_asks back t happens ms none =
     either (OkAsks t happens) (nat_lt longest_tick ms) (Err fault.TickTooLong) _ tt
-    (either (OkAsks t happens) (nat_lt clock_end (t.clock.0 + ms)) (Err fault.ClockEnd) (Ok (ticked (advanced (clocked_table t ms)))) tt
-    (ticked_asks back t happens (advanced (clocked_table t ms)) (advanced_asks t.profile (clocked_table t ms) none refl)))
+    (either (OkAsks t happens) (nat_lt clock_end (t.clock.0 + ms)) (Err fault.ClockEnd) (Ok (ticked (moved_on (clocked_table t ms)))) tt
+    (ticked_asks back t happens (moved_on (clocked_table t ms)) (moved_asks t.profile (clocked_table t ms) none refl)))
 
 -- ---- the step
 
@@ -344,6 +367,7 @@ step_asks back t (event.StreamCut number) none = cut_asks back t (event.StreamCu
 step_asks back t (event.Tick ms) none = tick_asks back t (event.Tick ms) ms none
 step_asks back t (event.Start number) none = start_asks back t (event.Start number) (slot_at t number) (found_short t number none)
 step_asks back t (event.Stop number) none = stop_asks back t (event.Stop number) (slot_at t number)
+step_asks back t (event.Explicit target number bytes) none = explicit_asks back t (event.Explicit target number bytes) target number bytes
 step_asks back t other none = slots_hold (OkAsks t other) t (λ why. tt) (λ verdict u of. quiet_next t other (plain_answer verdict, u) refl of.streams) other refl
 
 pub scanners_ask : ItemsReadBack → AnswersAreSmall → ScannersAskOwnIds

@@ -22,7 +22,8 @@ use Rattle.cip_events.specs.declared.event.Event.TheVariants.{Datagram, Write, T
 use Rattle.cip_events.specs.Answers.{is_accepted}
 use Rattle.cip_fwdopen.specs.Open.{OpenFields}
 use Rattle.cip_productions.specs.declared.acceptance.Accepted.{Accepted}
-use Rattle.cip_productions.specs.Acceptance.{accepts_sequence, is_duplicate}
+use Rattle.adapter_table.specs.StatedLimits.{accepts_number}
+use Rattle.cip_productions.specs.Acceptance.{is_duplicate}
 use Rattle.cip_productions.specs.Kinds.{is_owner}
 use Rattle.adapter_table.specs.declared.profile.Profile.{Profile}
 use Rattle.adapter_table.specs.declared.row.Mode.{Mode}
@@ -256,7 +257,7 @@ accepted_same false newer what is = absurd (let e = is in cc)
 
 delivers : (profile : Profile) (row : Row) (d : DatagramFields) (delivery : Delivery) → row_delivery profile row d ≡ delivery → is_accepted delivery ≡ true → accepted_delivery row d ≡ delivery
 delivers profile row d delivery is accepted =
-    accepted_same (length d.payload == expected_len profile row) (accepts_sequence row.last d.sequence) (accepted_delivery row d) (ap is_accepted is ∙ accepted) ∙ is
+    accepted_same (length d.payload == expected_len profile row) (accepts_number profile.limits.newer row.last d.sequence) (accepted_delivery row d) (ap is_accepted is ∙ accepted) ∙ is
 
 abbrev by_parts : Bool → Bool → Bool → Delivery
 by_parts owner duplicate run = cond owner (cond duplicate Duplicate (cond run Applied Idle)) Heartbeat

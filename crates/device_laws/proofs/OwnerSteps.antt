@@ -38,6 +38,7 @@ use Rattle.adapter_table.specs.Objects.{ObjectAnswer, said, denied, resetting, o
 use Rattle.adapter_table.specs.Inquiries.{inquiry_reply, inquired_by, inquired}
 use Rattle.adapter_table.specs.Rows.{has_triad, holds_triad}
 use Rattle.adapter_table.specs.Checks.{Check, check, first_of, segment_check, points_of, Points, judged, view_of, verdict, Admitted, admission}
+use Rattle.adapter_table.specs.StatedLimits.{limited_admission, is_wrong_closer}
 use Rattle.adapter_table.specs.Opening.{opened_row, opened_table, opened_notices}
 use Rattle.adapter_table.specs.Requests.{Next, Served, judged_open, admitted_open, served_open, close_of, served_close, object_served, served_object, served, answered, requested}
 use Rattle.adapter_table.specs.Streams.{is_stream, is_taken, with_stream, without_stream, has_session, registered_table, stream_opened, cut_of, stream_cut}
@@ -48,6 +49,7 @@ use Rattle.adapter_table.specs.Step.{adapter_step, write, write_of, written, wri
 use Rattle.adapter_table.specs.Whole.{IsWhole}
 use Rattle.adapter_table.specs.Laws.{EffectsKeep}
 use Rattle.device_laws.proofs.OwnerEffects.{KeepsOwner, unchanged, keeps_fed, keeps_written, keeps_closed, keeps_opened, keeps_advanced}
+use Rattle.adapter_table.specs.Lemmas.LimitLemmas.{limited_is}
 use Rattle.adapter_table.specs.Lemmas.PassiveLemmas.{passive_holds}
 use Rattle.base_lemmas.specs.Booleans.{either}
 
@@ -85,14 +87,14 @@ openings_keep effects point t holds = λ peer request admitted is.
 abbrev ServedKeeps : ℕ → AdapterTable → Served → Type 0
 ServedKeeps point t s = KeepsOwner point t s.notices s.table
 
-keeps_judged : (point : ℕ) (t : AdapterTable) → OpeningsKeep point t → (peer : Node) (large : Bool) (request : OpenFields) (said : Result Admitted Refusal) → admission t request ≡ said → ServedKeeps point t (judged_open t peer large request said)
+keeps_judged : (point : ℕ) (t : AdapterTable) → OpeningsKeep point t → (peer : Node) (large : Bool) (request : OpenFields) (said : Result Admitted Refusal) → limited_admission t peer request ≡ said → ServedKeeps point t (judged_open t peer large request said)
 unfolding admitted_open
 keeps_judged point t opens peer large request (Err why) is = unchanged point t []
-keeps_judged point t opens peer large request (Ok admitted) is = opens peer request admitted is
+keeps_judged point t opens peer large request (Ok admitted) is = opens peer request admitted (limited_is t peer request admitted is).admitted
 
-keeps_close : (point : ℕ) (t : AdapterTable) (request : CloseFields) (found : Option Row) → ServedKeeps point t (close_of t request found)
-keeps_close point t request None = unchanged point t []
-keeps_close point t request (Some row) = keeps_closed point t row
+keeps_close : (point : ℕ) (t : AdapterTable) (peer : Node) (request : CloseFields) (found : Option Row) → ServedKeeps point t (close_of t peer request found)
+keeps_close point t peer request None = unchanged point t []
+keeps_close point t peer request (Some row) = either (ServedKeeps point t) (is_wrong_closer t.profile.limits peer row) _ _ (unchanged point t []) (keeps_closed point t row)
 
 keeps_object : (point : ℕ) (t : AdapterTable) (service : ℕ) (answer : ObjectAnswer) → ServedKeeps point t (object_served t service answer)
 keeps_object point t service (said by value) = unchanged point t []
@@ -108,9 +110,9 @@ keeps_served : (point : ℕ) (t : AdapterTable) → OpeningsKeep point t → (pe
 unfolding served_open served_close served_object
 keeps_served point t opens peer nothing = tt
 keeps_served point t opens peer (refused service why) = unchanged point t []
-keeps_served point t opens peer (closing request) = keeps_close point t request (find (has_triad request.triad) t.rows)
+keeps_served point t opens peer (closing request) = keeps_close point t peer request (find (has_triad request.triad) t.rows)
 keeps_served point t opens peer (object service class instance attribute body) = keeps_object point t service (object_answer t service class instance attribute body)
-keeps_served point t opens peer (opening large request) = keeps_judged point t opens peer large request (admission t request) refl
+keeps_served point t opens peer (opening large request) = keeps_judged point t opens peer large request (limited_admission t peer request) refl
 
 -- an answer and the next table keep the owner
 abbrev NextKeeps : ℕ → AdapterTable → Next → Type 0

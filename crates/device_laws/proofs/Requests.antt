@@ -14,7 +14,7 @@ use Rattle.cip_fwdopen.specs.Close.{close_text}
 use Rattle.cip_fwdopen.specs.Reply.{open_reply_reading}
 use Rattle.scanner_table.specs.declared.table.ScannerTable.{ScannerTable}
 use Rattle.cip_fwdopen.specs.Services.{open_service}
-use Rattle.scanner_table.specs.Requests.{Request, registering, opening, closing, Sent, manager_text, sent_message, sent_frame}
+use Rattle.scanner_table.specs.Requests.{Request, registering, opening, closing, requesting, Sent, manager_text, sent_message, sent_frame}
 use Rattle.scanner_table.specs.Effects.{Next}
 use Rattle.scanner_table.specs.Replies.{reply_answer, packet_answer}
 use Rattle.scanner_table.specs.Step.{scanner_step}
@@ -22,6 +22,7 @@ use Rattle.cip_tables.specs.declared.table.DeviceTable.TheVariants.{Scanner}
 use Rattle.cip_tables.specs.Step.{as_scanner, step}
 use Rattle.answer_sizes.specs.Sizes.{IsShortFrame, IsSmall, AnswersAreSmall}
 use Rattle.device_laws.specs.Lemmas.AdapterIds.{plain_protocol, few_bytes}
+use Rattle.device_laws.specs.Lemmas.ExplicitRequests.{IsExplicit, explicit_ids, explicit_some, IfExplicit, SendsIfExplicit}
 use Rattle.device_laws.specs.Lemmas.Payloads.{AnswersNone, reports_none}
 use Rattle.device_laws.specs.Frames.{SuccessIs, SuccessesAre}
 use Rattle.device_laws.specs.Replies.{IsNoSuccess, ScannersSendNoSuccess}
@@ -44,23 +45,29 @@ open_answers_none : (large : Bool) → AnswersNone (open_service large)
 open_answers_none true = record { small = refl; large = refl }
 open_answers_none false = record { small = refl; large = refl }
 
-request_none : ItemsReadBack → (sent : Sent) (request : Request) → sent.request ≡ request → length (message_text (sent_message sent)) ≤ 2048 → PacketNone (packet_reading (sent_message sent).payload)
-request_none back sent registering is short = rw is (subst PacketNone (sym plain_protocol) (λ large. tt))
-request_none back sent (opening large fields) is short =
+explicit_none : (bytes : List ℕ) → IsExplicit bytes → (large : Bool) → SuccessIs Nothing (reply_answer large (open_reply_reading bytes))
+explicit_none bytes explicit large = success_none Nothing (reply_answer large (open_reply_reading bytes)) ((explicit_ids (λ id. ⊥) bytes explicit).replied large)
+
+request_none : ItemsReadBack → (sent : Sent) (request : Request) → sent.request ≡ request → IfExplicit request → length (message_text (sent_message sent)) ≤ 2048 → PacketNone (packet_reading (sent_message sent).payload)
+request_none back sent registering is explicit short = rw is (subst PacketNone (sym plain_protocol) (λ large. tt))
+request_none back sent (opening large fields) is explicit short =
     let body = manager_text (open_service large) (open_text large fields) in
     rw is (subst PacketNone (sym (back body None (omega arith) (few_bytes (sent_message sent) body None (rw is refl) short))) (manager_none (open_service large) (open_text large fields) (open_answers_none large)))
-request_none back sent (closing fields) is short =
+request_none back sent (closing fields) is explicit short =
     let body = manager_text 0x4E (close_text fields) in
     rw is (subst PacketNone (sym (back body None (omega arith) (few_bytes (sent_message sent) body None (rw is refl) short))) (manager_none 0x4E (close_text fields) (record { small = refl; large = refl })))
+request_none back sent (requesting bytes) is explicit short =
+    rw is (subst PacketNone (sym (back bytes None (explicit_some bytes explicit) (few_bytes (sent_message sent) bytes None (rw is refl) short))) (explicit_none bytes explicit))
 
-frame_none : ItemsReadBack → (sent : Sent) → length (message_text (sent_message sent)) ≤ 2048 → SuccessesAre (λ context opened. ⊥) (message_text (sent_message sent))
-frame_none back sent short m is large =
+frame_none : ItemsReadBack → (sent : Sent) → SendsIfExplicit sent → length (message_text (sent_message sent)) ≤ 2048 → SuccessesAre (λ context opened. ⊥) (message_text (sent_message sent))
+frame_none back sent explicit short m is large =
     let same : MessageBack (sent_message sent) m = message_back (sent_message sent) m is in
-    message_success Nothing m large (subst (λ (payload : List ℕ). PacketNone (packet_reading payload)) (sym same.payload) (request_none back sent sent.request refl short) large)
+    message_success Nothing m large (subst (λ (payload : List ℕ). PacketNone (packet_reading payload)) (sym same.payload) (request_none back sent sent.request refl explicit short) large)
 
-requests_none : ItemsReadBack → (requests : List Sent) → AllByRecursion IsShortFrame (map sent_frame requests) → AllByRecursion IsNoSuccess (map sent_frame requests)
-requests_none back [] short = tt
-requests_none back (request ∷ requests) short = (record { successes = frame_none back request short.0; context = context_fits (sent_message request) }, requests_none back requests short.1)
+requests_none : ItemsReadBack → (requests : List Sent) → AllByRecursion SendsIfExplicit requests → AllByRecursion IsShortFrame (map sent_frame requests) → AllByRecursion IsNoSuccess (map sent_frame requests)
+requests_none back [] explicit short = tt
+requests_none back (request ∷ requests) explicit short =
+    (record { successes = frame_none back request explicit.0 short.0; context = context_fits (sent_message request) }, requests_none back requests explicit.1 short.1)
 
 -- ---- a step
 
@@ -74,7 +81,7 @@ said_none : ItemsReadBack → (said : Result Next StepFault) → IfOk said Sends
 said_none back (Err why) sends = tt
 said_none back (Ok next) sends = λ small.
     subst (AllByRecursion IsNoSuccess) (sym sends.frames)
-    (requests_none back sends.requests (subst (AllByRecursion IsShortFrame) sends.frames small.short_frames))
+    (requests_none back sends.requests sends.explicit (subst (AllByRecursion IsShortFrame) sends.frames small.short_frames))
 
 step_none : ItemsReadBack → (t : ScannerTable) (happens : Event) → OkNone (scanner_step t happens)
 step_none back t happens = said_none back (scanner_step t happens) (event_sends t happens)

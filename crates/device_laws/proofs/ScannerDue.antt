@@ -1,6 +1,6 @@
--- A tick of a scanner that does nothing ends before any slot is due.
-use Rattle.std.proofs.Common.{◌≡◌, ◌≤◌, ◌<◌, ◌+◌, ℕ, Bool, true, false, cond, ◌&&◌, List, [], ◌∷◌, ◌++◌, filter, Option, Some, None, Ok, refl, sym, ap, subst, ◌∙◌, arith}
-use Rattle.std.specs.Prelude.{nat_lt, nat_le}
+-- A tick of a scanner that does nothing ends before any slot is due, and before any explicit request is given up.
+use Rattle.std.proofs.Common.{◌≡◌, ◌≤◌, ◌<◌, ◌+◌, ℕ, Bool, true, false, cond, ◌&&◌, List, [], ◌∷◌, ◌++◌, filter, Option, Some, None, Result, Ok, Err, refl, sym, ap, subst, ◌∙◌, arith}
+use Rattle.std.specs.Prelude.{nat_lt, nat_le, min}
 use Rattle.std.specs.List.{AllByRecursion}
 use Rattle.std.specs.Option.{is_some}
 use Rattle.std.proofs.lemmas.Bool.Decides.{nat_tests}
@@ -20,14 +20,19 @@ use Rattle.scanner_table.specs.declared.table.TargetStream.{TargetStream}
 use Rattle.scanner_table.specs.Requests.{sent_frame}
 use Rattle.scanner_table.specs.Sessions.{session_with}
 use Rattle.scanner_table.specs.Slots.{IndexedSlot, indexed_slots, is_closed}
-use Rattle.scanner_table.specs.Effects.{Effect, nothing, on_each, after, state_notices}
+use Rattle.cip_events.specs.declared.event.StepFault.{StepFault}
+use Rattle.cip_events.specs.declared.event.StepFault.TheVariants as fault
+use Rattle.scanner_table.specs.Effects.{Next, Effect, nothing, on_each, after, state_notices}
 use Rattle.scanner_table.specs.Closing.{given_up, given_up_state}
 use Rattle.scanner_table.specs.Opening.{can_open, opened, opened_within, open_requested, exhausted, is_ready_slot, ready_slots, ready_opened}
 use Rattle.scanner_table.specs.Productions.{is_due, state_is_due, by_due, slot_production, state_production, due_productions}
-use Rattle.scanner_table.specs.Ticks.{has_expired, state_has_expired, by_deadline, expired, expired_state, expired_slots, all_expired, is_overdue, state_is_overdue, all_given_up, clocked_table, advanced, ticked, tick}
+use Rattle.cip_events.specs.declared.event.Unanswered.TheVariants as unanswered
+use Rattle.scanner_table.specs.declared.explicit.PendingExplicit.{PendingExplicit}
+use Rattle.scanner_table.specs.Explicit.{is_late, unanswered_notice, explicit_timed_out}
+use Rattle.scanner_table.specs.Ticks.{has_expired, state_has_expired, by_deadline, expired, expired_state, expired_slots, all_expired, is_overdue, state_is_overdue, all_given_up, clocked_table, advanced, moved_on, ticked, tick}
 use Rattle.cip_tables.specs.declared.table.DeviceTable.TheVariants.{Scanner}
 use Rattle.cip_tables.specs.Step.{step, as_scanner}
-use Rattle.cip_tables.specs.Wakes.{never, has_session, state_due, slot_due, slots_due, clocked}
+use Rattle.cip_tables.specs.Wakes.{never, has_session, state_due, slot_due, slots_due, explicit_due, clocked}
 use Rattle.device_laws.specs.Lemmas.Lists.{all_more, all_ordered, all_kept}
 use Rattle.device_laws.proofs.AdapterDue.{later, answer_of}
 use Rattle.device_laws.proofs.Emptied.{none_ordered, none_mapped, none_joined, none_kept, none_made}
@@ -182,11 +187,17 @@ none_due t none =
     let all = all_ordered (λ indexed. is_due t.clock indexed ≡ true) by_due due (all_kept (is_due t.clock) (indexed_slots t)) in
     none_ordered by_due due (none_made (slot_production t.run) (in_order by_due due) (all_more (λ indexed. is_due t.clock indexed ≡ true) (λ indexed. is_some (slot_production t.run indexed) ≡ true) (λ indexed late. has_production t.run indexed t.clock indexed.slot.state late) (in_order by_due due) all) none)
 
--- ---- the tick
+-- ---- a table that stays
 
--- a table at which a tick without an answer ends
-quiet_table : (t : ScannerTable) → t.clock.0 < never → (advanced t).sent ≡ [] → (advanced t).notices ≡ [] → due_productions (advanced t).table ≡ [] → t.clock.0 < slots_due t.streams (indexed_slots t)
-quiet_table t below sends notes none =
+-- nothing happens to slots where the answer says nothing, and the table stays
+record StaysQuiet (t : ScannerTable) : Type 0 where
+  unexpired : expired_slots t ≡ []
+  waiting : filter (is_overdue t.clock) (indexed_slots t) ≡ []
+  closed : StayClosed t (ready_slots t)
+  same : (advanced t).table ≡ t
+
+stays_quiet : (t : ScannerTable) → (advanced t).sent ≡ [] → (advanced t).notices ≡ [] → StaysQuiet t
+stays_quiet t sends notes =
     let ends = all_expired t in
     let pending = all_given_up ends.table in
     let opens = ready_opened pending.table in
@@ -199,22 +210,62 @@ quiet_table t below sends notes none =
     let no_give = ap (λ (e : Effect). all_given_up e.table) no_end ∙ nothing_given_up t waiting in
     let closed = none_opens t (subst (λ (e : Effect). (ready_opened e.table).sent ≡ []) no_give outer_sent.1) (subst (λ (e : Effect). (ready_opened e.table).notices ≡ []) no_give outer.1) in
     let no_open = ap (λ (e : Effect). ready_opened e.table) no_give ∙ opens_nothing t closed in
-    let resting = none_due t (subst (λ (e : Effect). due_productions e.table ≡ []) no_open none) in
-    slots_wait t.streams t.clock (indexed_slots t) below (none_ordered by_deadline (filter (has_expired t.clock) (indexed_slots t)) unexpired) waiting resting closed.none
+    record { unexpired = unexpired; waiting = waiting; closed = closed; same = ap (λ (e : Effect). e.table) no_open }
 
-all_ticked : (t : ScannerTable) (ms : ℕ) → ms ≤ longest_tick → t.clock.0 + ms ≤ clock_end → tick t ms ≡ Ok (ticked (advanced (clocked_table t ms)))
+-- a table at which a tick without an answer ends
+quiet_table : (t : ScannerTable) → t.clock.0 < never → StaysQuiet t → due_productions (advanced t).table ≡ [] → t.clock.0 < slots_due t.streams (indexed_slots t)
+quiet_table t below quiet none =
+    let resting = none_due t (subst (λ (u : ScannerTable). due_productions u ≡ []) quiet.same none) in
+    slots_wait t.streams t.clock (indexed_slots t) below (none_ordered by_deadline (filter (has_expired t.clock) (indexed_slots t)) quiet.unexpired) quiet.waiting resting quiet.closed.none
+
+-- ---- explicit requests
+
+explicit_waits : (clock : Ms) (all : List PendingExplicit) → clock.0 < never → filter (is_late clock) all ≡ [] → clock.0 < explicit_due all
+explicit_waits clock [] below none = below
+explicit_waits clock (pending ∷ all) below none =
+    let parts = none_kept (is_late clock) pending all none in
+    let here = later clock.0 pending.deadline.0 parts.0 in
+    let rest = explicit_waits clock all below parts.1 in
+    omega (arith, here, rest)
+
+none_late : (t : ScannerTable) → (explicit_timed_out t).notices ≡ [] → filter (is_late t.clock) t.explicit ≡ []
+unfolding explicit_timed_out
+none_late t none = none_mapped (unanswered_notice unanswered.TimedOut) (filter (is_late t.clock) t.explicit) none
+
+-- ---- the tick
+
+ticked_step : (a b : Bool) (next : Next) → a ≡ false → b ≡ false → ◌≡◌ {A = Result Next StepFault} (cond a (Err fault.TickTooLong) (cond b (Err fault.ClockEnd) (Ok next))) (Ok next)
+ticked_step true b next first second = absurd (let e = first in cc)
+ticked_step false true next first second = absurd (let e = second in cc)
+ticked_step false false next first second = refl
+
+all_ticked : (t : ScannerTable) (ms : ℕ) → ms ≤ longest_tick → t.clock.0 + ms ≤ clock_end → tick t ms ≡ Ok (ticked (moved_on (clocked_table t ms)))
 unfolding tick
 all_ticked t ms short inside =
     let first : nat_lt longest_tick ms ≡ false = grind (arith, nat_tests) in
     let second : nat_lt clock_end (t.clock.0 + ms) ≡ false = grind (arith, nat_tests) in
-    rw (first, second) refl
+    ticked_step (nat_lt longest_tick ms) (nat_lt clock_end (t.clock.0 + ms)) (ticked (moved_on (clocked_table t ms))) first second
 
-quiet_answer : (t : ScannerTable) → t.clock.0 < never → (ticked (advanced t)).0 ≡ plain_answer Done → t.clock.0 < slots_due t.streams (indexed_slots t)
+-- the explicit requests that end have no productions
+same_due : (t : ScannerTable) → due_productions (explicit_timed_out t).table ≡ due_productions t
+unfolding explicit_timed_out
+same_due t = refl
+
+quiet_answer : (t : ScannerTable) → t.clock.0 < never → (ticked (moved_on t)).0 ≡ plain_answer Done → t.clock.0 < min (slots_due t.streams (indexed_slots t)) (explicit_due t.explicit)
 quiet_answer t below is =
-    quiet_table t below (none_mapped sent_frame (advanced t).sent (ap (λ (a : Answer). a.frames) is)) (ap (λ (a : Answer). a.notices) is) (none_mapped sent (due_productions (advanced t).table) (ap (λ (a : Answer). a.datagrams) is))
+    let moved = advanced t in
+    let ends = explicit_timed_out moved.table in
+    let sends = none_joined moved.sent ends.sent (none_mapped sent_frame (moved.sent ++ ends.sent) (ap (λ (a : Answer). a.frames) is)) in
+    let notes = none_joined moved.notices ends.notices (ap (λ (a : Answer). a.notices) is) in
+    let quiet = stays_quiet t sends.0 notes.0 in
+    let produced = none_mapped sent (due_productions ends.table) (ap (λ (a : Answer). a.datagrams) is) in
+    let slots = quiet_table t below quiet (sym (same_due moved.table) ∙ produced) in
+    let late : filter (is_late t.clock) t.explicit ≡ [] = subst (λ (u : ScannerTable). filter (is_late u.clock) u.explicit ≡ []) quiet.same (none_late moved.table notes.1) in
+    let explicit = explicit_waits t.clock t.explicit below late in
+    omega (arith, slots, explicit)
 
-pub scanner_waits : (t : ScannerTable) (ms : ℕ) → ms ≤ longest_tick → t.clock.0 + ms ≤ clock_end → step (Scanner t) (Tick ms) ≡ Ok (plain_answer Done, clocked (Scanner t) ms) → t.clock.0 + ms < slots_due t.streams (indexed_slots t)
+pub scanner_waits : (t : ScannerTable) (ms : ℕ) → ms ≤ longest_tick → t.clock.0 + ms ≤ clock_end → step (Scanner t) (Tick ms) ≡ Ok (plain_answer Done, clocked (Scanner t) ms) → t.clock.0 + ms < min (slots_due t.streams (indexed_slots t)) (explicit_due t.explicit)
 unfolding step
 scanner_waits t ms short inside is =
-    let next = ticked (advanced (clocked_table t ms)) in
+    let next = ticked (moved_on (clocked_table t ms)) in
     quiet_answer (clocked_table t ms) (omega (arith, inside)) (answer_of next.0 (plain_answer Done) (Scanner next.1) (clocked (Scanner t) ms) (sym (ap as_scanner (all_ticked t ms short inside)) ∙ is))

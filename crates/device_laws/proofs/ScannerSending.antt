@@ -8,7 +8,7 @@ use Rattle.cip_encap.specs.Reading.{message_reading}
 use Rattle.cip_events.specs.Clock.{longest_tick, clock_end}
 use Rattle.cip_events.specs.declared.event.Answer.{Answer}
 use Rattle.cip_events.specs.declared.event.Event.{Event}
-use Rattle.cip_events.specs.declared.event.Event.TheVariants.{StreamOpened, Frame, StreamCut, Tick, Start, Stop}
+use Rattle.cip_events.specs.declared.event.Event.TheVariants.{StreamOpened, Frame, StreamCut, Tick, Start, Stop, Explicit}
 use Rattle.cip_events.specs.declared.event.StepFault.{StepFault}
 use Rattle.cip_events.specs.declared.event.StepFault.TheVariants as fault
 use Rattle.cip_productions.specs.Productions.{sent}
@@ -23,11 +23,13 @@ use Rattle.scanner_table.specs.Sessions.{is_stream, is_taken}
 use Rattle.scanner_table.specs.Effects.{Next, Effect, done}
 use Rattle.scanner_table.specs.Closing.{stopped_at}
 use Rattle.scanner_table.specs.Encapsulation.{registering_on, ignored, stream_opened, cut_of, stream_cut, registered, is_awaiting, replied, replied_to, reported, frame_answer, frame_of, frame}
+use Rattle.scanner_table.specs.Explicit.{awaits, explicit_request, explicit_timed_out}
 use Rattle.scanner_table.specs.Points.{desired_slot, started, start_state, start_at, start, stop_of, stop}
 use Rattle.scanner_table.specs.Productions.{slot_production, due_slots}
-use Rattle.scanner_table.specs.Ticks.{clocked_table, advanced, ticked, tick}
+use Rattle.scanner_table.specs.Ticks.{clocked_table, advanced, moved_on, ticked, tick}
 use Rattle.scanner_table.specs.Step.{scanner_step}
 use Rattle.device_laws.specs.Made.{Made, slot_made, places_made, bytes_sent, made_text, scanner_makes}
+use Rattle.device_laws.specs.Lemmas.ExplicitRequests.{explicit_holds, message_ends}
 use Rattle.scanner_table.specs.Lemmas.SlotEventLemmas.{slots_hold}
 
 -- ---- what slots produce
@@ -89,7 +91,7 @@ reported_quiet t stream m Unused = refl
 
 frame_answer_quiet : (t : ScannerTable) (stream : TargetStream) (reading : Result MessageFields EncapFault) → QuietNext (frame_answer t stream reading)
 frame_answer_quiet t stream (Err why) = refl
-frame_answer_quiet t stream (Ok m) = reported_quiet t stream m stream.stage
+frame_answer_quiet t stream (Ok m) = message_ends QuietNext t stream m (reported_quiet t stream m stream.stage) (λ pending answer none quiet. quiet) (find (awaits stream.number m.context) t.explicit)
 
 frame_of_quiet : (t : ScannerTable) (bytes : List ℕ) (found : Option TargetStream) → AllQuiet (frame_of t bytes found)
 frame_of_quiet t bytes None = tt
@@ -144,8 +146,8 @@ tick_step false true effect = tt
 tick_step false false effect = slot_texts effect.table.run (due_slots effect.table)
 
 tick_sends : (t : ScannerTable) (ms : ℕ) → IfOk (tick t ms) (NextSends (places_made (advanced (clocked_table t ms)).table))
-unfolding tick
-tick_sends t ms = tick_step (nat_lt longest_tick ms) (nat_lt clock_end (t.clock.0 + ms)) (advanced (clocked_table t ms))
+unfolding tick explicit_timed_out
+tick_sends t ms = tick_step (nat_lt longest_tick ms) (nat_lt clock_end (t.clock.0 + ms)) (moved_on (clocked_table t ms))
 
 pub scanner_sends : (t : ScannerTable) (event : Event) → IfOk (scanner_step t event) (NextSends (scanner_makes t event))
 scanner_sends t (StreamOpened stream peer) = quietly (stream_opened t stream peer) (streamed_quiet t stream peer)
@@ -154,4 +156,5 @@ scanner_sends t (StreamCut stream) = quietly (stream_cut t stream) (cut_quiet t 
 scanner_sends t (Tick ms) = tick_sends t ms
 scanner_sends t (Start slot) = quietly (start t slot) (start_quiet t slot)
 scanner_sends t (Stop slot) = quietly (stop t slot) (stop_quiet t slot)
+scanner_sends t (Explicit target number bytes) = quietly (explicit_request t target number bytes) (explicit_holds AllQuiet t target number bytes (λ why. tt) (λ session goes. refl))
 scanner_sends t other = slots_hold (λ said. IfOk said (NextSends [])) t (λ why. tt) (λ verdict u of. refl) other refl

@@ -82,6 +82,7 @@ effects_send = record {
   next = then_sends;
   opens = λ t place session is. record { streams = λ n. refl; sent = (session_over t place.config.target session is, tt) };
   closes = λ t place c session is. record { streams = λ n. refl; sent = (session_over t place.config.target session is, tt) };
+  requests = λ t target session number bytes goes. record { streams = λ n. refl; sent = (session_over t target session goes.session_is, tt) };
 }
 
 same_number : (a b : ℕ) → recipient.Stream a ≡ recipient.Stream b → a ≡ b

@@ -121,6 +121,7 @@ table state = record {
   next_serial = 6;
   next_request = 8;
   streams = record { number = 0; peer = target; stage = Up 1 } ∷ [];
+  explicit = [];
 }
 
 abbrev pub open_table : ScannerTable

@@ -14,7 +14,7 @@ use Rattle.cip_events.specs.declared.event.Event.{Event}
 use Rattle.cip_events.specs.declared.event.Event.TheVariants.{Datagram}
 use Rattle.cip_events.specs.declared.event.Notice.{Notice}
 use Rattle.cip_events.specs.declared.event.StepFault.{StepFault}
-use Rattle.cip_productions.specs.Acceptance.{accepts_sequence}
+use Rattle.adapter_table.specs.StatedLimits.{accepts_number}
 use Rattle.cip_productions.specs.Kinds.{is_owner}
 use Rattle.adapter_table.specs.declared.profile.Profile.{Profile}
 use Rattle.adapter_table.specs.Connections.{Row}
@@ -78,7 +78,7 @@ all_three false b c x y z = absurd cc
 applied_drives : (point : ℕ) (profile : Profile) (peer : Node) (d : DatagramFields) (row : Row) → is_for peer d.connection row ≡ true → (row.consumed == point && is_applied (row_delivery profile row d)) ≡ true → drives point row ≡ true
 applied_drives point profile peer d row to is =
     let parts = and_parts (row.consumed == point) (is_applied (row_delivery profile row d)) is in
-    let owns = owned_parts (length d.payload == expected_len profile row) (accepts_sequence row.last d.sequence) (is_owner row.kind) (owned_delivery row d) parts.1 in
+    let owns = owned_parts (length d.payload == expected_len profile row) (accepts_number profile.limits.newer row.last d.sequence) (is_owner row.kind) (owned_delivery row d) parts.1 in
     all_three (is_established row) (is_owner row.kind) (row.consumed == point) (and_parts (is_established row) _ to).0 owns parts.0
 
 first_same : (a b : ℕ) (xs : List ℕ) → xs ≡ a ∷ [] → xs ≡ b ∷ [] → a ≡ b

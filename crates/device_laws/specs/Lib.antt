@@ -25,3 +25,4 @@ pub mod ScannerRuns
 pub mod Scanners
 pub mod States
 pub mod OwnerData
+pub mod StatedLimits

@@ -1,6 +1,6 @@
 //! Laws of one device, adapter or scanner: the owners of an output, the origin of connection ids, what
-//! requests and replies say of them, what a device produces and in which order, and that what is due happens. A law call does
-//! nothing; its contract states the law.
+//! requests and replies say of them, what a device produces and in which order, that what is due happens, and what the limits of
+//! an adapter's maker keep from its connections. A law call does nothing; its contract states the law.
 //!
 //! The laws of a scanner at the root speak of its table: in each step, and over every list of events. `scanner_runs` has the
 //! laws of every run of a device that is a scanner. The laws by which a table stays whole are those of `scanner_table`, on which
@@ -19,6 +19,7 @@ mod scanner_openings;
 pub mod scanner_runs;
 mod scanner_ticks;
 mod sending;
+mod stated_limits;
 mod states;
 
 pub use asking::{new_connections_are_requested, scanners_ask_once};
@@ -50,4 +51,5 @@ pub use scanner_table::{
 };
 pub use scanner_ticks::ticks_leave_none_late;
 pub use sending::devices_send_over_their_streams;
+pub use stated_limits::{another_node_closes_nothing, numbers_far_ahead_change_nothing};
 pub use states::{outputs_hold_newest_data, owners_are_said};

@@ -10,9 +10,9 @@ pub use cip_events::Arrival;
 pub use cip_netparams::Trigger;
 pub use cip_tables::{
     Action, Age, Answer, AnyDevice, Config, ConnectionReport, ConsumerCounts, Delivery, Device,
-    DeviceTotals, Event, Frame, InputPoint, Kind, Mode, NewFault, Notice, Outcome,
-    OutgoingDatagram, OutputPoint, Profile, ProfileFault, Reason, Recipient, ScannerProfile,
-    SlotConfig, SlotReport, StepFault, TableCopy, TargetReport, Verdict, run,
+    DeviceTotals, Event, Frame, InputPoint, Kind, MakerLimits, Mode, NewFault, Notice, Outcome,
+    OutgoingDatagram, OutputPoint, Places, Profile, ProfileFault, Reason, Recipient,
+    ScannerProfile, SlotConfig, SlotReport, StepFault, TableCopy, TargetReport, Verdict, run,
 };
 pub use cip_types::{ConnId, Fault, Identity, Items, Mismatch, Ms, Node, OutOfMemory, Triad};
 pub use device_lock::{Book, BookFault, History, LockedDevice, Receipt, Segment};

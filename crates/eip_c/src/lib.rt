@@ -5,7 +5,7 @@
 #![tactic(auto)]
 
 ghost use Rattle.std.specs.Prelude.{◌≡◌, ◌<◌, ◌≤◌, Ok};
-ghost use Rattle.cip_events.specs.declared.event.Event.TheVariants.{Request, StreamOpened, Frame, StreamCut, Datagram, Inquiry, Write, Tick, Mode, Start, Stop};
+ghost use Rattle.cip_events.specs.declared.event.Event.TheVariants.{Request, StreamOpened, Frame, StreamCut, Datagram, Inquiry, Write, Tick, Mode, Start, Stop, Explicit};
 ghost use Rattle.cip_events.specs.declared.event.Verdict.TheVariants.{Delivered};
 ghost use Rattle.cip_events.specs.Answers.{plain_answer};
 ghost use Rattle.cip_events.specs.Clock.{longest_tick};
@@ -219,6 +219,33 @@ pub extern "C" fn eip_c_inquiry(
         (status_of result) (out.old, size.old) (out.new, size.new) }
 {
     report_inquiry(alloc, message, identity, name, out, size)
+}
+
+// EXPLICIT REQUESTS
+
+/// The application of a scanner sends a message router request to a target. It gives the request its number.
+#[unsafe(no_mangle)]
+pub extern "C" fn eip_c_explicit(
+    alloc: Global,
+    device: &mut Handle,
+    target: u32,
+    number: u32,
+    bytes: &[u8],
+    out: &mut [u8],
+    size: &mut usize,
+) -> u32
+    ensures { Answers (Explicit (node target) number bytes.now)
+        device.old.value result device.new.value (out.old, size.old) (out.new, size.new) }
+{
+    let Ok(bytes) = Items::copy_of(alloc, bytes) else {
+        return OUT_OF_MEMORY;
+    };
+    let event = Event::Explicit {
+        target: Node(target),
+        number,
+        bytes,
+    };
+    device.answered(&event, out, size)
 }
 
 // POINTS AND TIME

@@ -5,6 +5,7 @@ use Rattle.cip_netparams.specs.declared.Trigger.TheVariants.{Cyclic}
 use Rattle.cip_productions.specs.declared.kind.Kind.TheVariants.{ExclusiveOwner}
 use Rattle.adapter_table.specs.declared.profile.Action.TheVariants.{Zero}
 use Rattle.adapter_table.specs.declared.profile.Profile.{Profile}
+use Rattle.adapter_table.specs.Profiles.{no_limits}
 use Rattle.scanner_table.specs.declared.profile.ScannerProfile.{ScannerProfile}
 use Rattle.scanner_table.specs.declared.profile.SlotConfig.{SlotConfig}
 
@@ -21,6 +22,7 @@ adapter_profile incarnation node mask = record {
   input_only = 152;
   listen_only = 153;
   description = None;
+  limits = no_limits;
 }
 
 -- a slot that owns output 150 of its target and gathers input 100, each every 10 ms

@@ -6,7 +6,9 @@ ghost use Rattle.std.specs.Prelude.{◌≡◌, IfOk};
 ghost use Rattle.example_profiles.specs.Profiles.{adapter_profile, scanner_profile, slot_config};
 
 use cip_netparams::Trigger;
-use cip_tables::{Action, InputPoint, Kind, OutputPoint, Profile, ScannerProfile, SlotConfig};
+use cip_tables::{
+    Action, InputPoint, Kind, MakerLimits, OutputPoint, Profile, ScannerProfile, SlotConfig,
+};
 use cip_types::{Identity, Items, Node, OutOfMemory};
 use std::alloc::Global;
 
@@ -85,6 +87,7 @@ pub fn adapter(
         input_only: 152,
         listen_only: 153,
         description: None,
+        limits: MakerLimits::NONE,
     })
 }
 

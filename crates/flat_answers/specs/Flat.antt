@@ -16,6 +16,8 @@
 --      3  verdict: ignored
 --      4  verdict: value                                                          bytes of the point
 --      5  verdict: delivered             delivery
+--      6  verdict: reply of a target     number    status                         data of the reply
+--      7  additional status of it        number                                   bytes of the additional status
 --     16  frame over a stream            stream                                   bytes
 --     17  reply to a peer                node                                     bytes
 --     32  datagram                       address                                  bytes
@@ -36,6 +38,10 @@
 --     68  refused: id                    slot
 --     69  refused: api                   slot
 --     70  refused: mismatch, by target   slot      general  1 or 0      extended
+--     72  no reply: timed out            number
+--     73  no reply: stream lost          number
+--     74  no reply: encapsulation        number    status
+--     75  no reply: unreadable           number
 --
 -- A number without a meaning is 0. A 1 in c says that there is an extended status.
 use Rattle.std.specs.Prelude.{ℕ, ◌==◌, if◌then◌else◌, List, [], ◌++◌, length, flat_map, Option, Some, None}
@@ -50,14 +56,16 @@ use Rattle.cip_events.specs.declared.event.Delivery.{Delivery}
 use Rattle.cip_events.specs.declared.event.Delivery.TheVariants.{Applied, Idle, Heartbeat, Duplicate, Old, UnknownId, WrongSize, Malformed}
 use Rattle.cip_events.specs.declared.event.Frame.{Frame}
 use Rattle.cip_events.specs.declared.event.Notice.{Notice}
-use Rattle.cip_events.specs.declared.event.Notice.TheVariants.{Opened, Closed, Expired, Dropped, Replaced, StreamClosed, Slot, Refused, NoIds, Reset}
+use Rattle.cip_events.specs.declared.event.Notice.TheVariants.{Opened, Closed, Expired, Dropped, Replaced, StreamClosed, Slot, Refused, NoIds, Reset, Unanswered as UnansweredNotice}
 use Rattle.cip_events.specs.declared.event.OutgoingDatagram.{OutgoingDatagram}
 use Rattle.cip_events.specs.declared.event.Reason.{Reason}
 use Rattle.cip_events.specs.declared.event.Reason.TheVariants as reason
 use Rattle.cip_events.specs.declared.event.Recipient.{Recipient}
 use Rattle.cip_events.specs.declared.event.Recipient.TheVariants.{Stream, Peer}
+use Rattle.cip_events.specs.declared.event.Unanswered.{Unanswered}
+use Rattle.cip_events.specs.declared.event.Unanswered.TheVariants as unanswered
 use Rattle.cip_events.specs.declared.event.Verdict.{Verdict}
-use Rattle.cip_events.specs.declared.event.Verdict.TheVariants.{Done, BadFrame, Ignored, Value, Delivered}
+use Rattle.cip_events.specs.declared.event.Verdict.TheVariants.{Done, BadFrame, Ignored, Value, Delivered, Replied}
 use Rattle.flat_answers.specs.declared.head.ItemHeader.{ItemHeader}
 
 -- ITEMS
@@ -94,12 +102,17 @@ delivery_of n =
     else if n == 6 then WrongSize
     else Malformed
 
+-- a reply to an explicit request: its number, the general status and the data; then the additional status
+abbrev pub reply_items : ℕ → ℕ → List ℕ → List ℕ → List ℕ
+reply_items number status additional content = item (head 6 number status 0 0) content ++ item (head 7 number 0 0 0) additional
+
 abbrev pub verdict_item : Verdict → List ℕ
 verdict_item Done = item (head 1 0 0 0 0) []
 verdict_item BadFrame = item (head 2 0 0 0 0) []
 verdict_item Ignored = item (head 3 0 0 0 0) []
 verdict_item (Value bytes) = item (head 4 0 0 0 0) bytes
 verdict_item (Delivered delivery) = item (head 5 (delivery_number delivery) 0 0 0) []
+verdict_item (Replied number status additional content) = reply_items number status additional content
 
 -- FRAMES AND DATAGRAMS
 
@@ -139,6 +152,12 @@ reason_head slot reason.Unreadable = head 65 slot 0 0 0
 reason_head slot (reason.Cip fault) = fault_head 66 slot fault fault.extended
 reason_head slot (reason.Mismatch why) = mismatch_head slot why
 
+abbrev pub unanswered_head : ℕ → Unanswered → ItemHeader
+unanswered_head number unanswered.TimedOut = head 72 number 0 0 0
+unanswered_head number unanswered.Lost = head 73 number 0 0 0
+unanswered_head number (unanswered.Encap status) = head 74 number status 0 0
+unanswered_head number unanswered.Unreadable = head 75 number 0 0 0
+
 abbrev pub notice_head : Notice → ItemHeader
 notice_head (Opened triad id) = head 48 triad.serial triad.vendor triad.originator id.0
 notice_head (Closed triad) = triad_head 49 triad
@@ -150,6 +169,7 @@ notice_head (Slot slot state) = head 54 slot state 0 0
 notice_head (NoIds slot) = head 55 slot 0 0 0
 notice_head (Reset type) = head 56 type 0 0 0
 notice_head (Refused slot why) = reason_head slot why
+notice_head (UnansweredNotice number why) = unanswered_head number why
 
 abbrev pub notice_item : Notice → List ℕ
 notice_item notice = item (notice_head notice) []

@@ -1,7 +1,7 @@
 //! Answers as items.
 
 ghost use Rattle.std.specs.Prelude.{◌≡◌, ◌+◌, ◌≤◌, ◌++◌, length, drop, flat_map};
-ghost use Rattle.flat_answers.specs.Flat.{delivery_number, delivery_of, verdict_item, recipient_head, frame_item, consumer_item, datagram_items, notice_item, answer_bytes};
+ghost use Rattle.flat_answers.specs.Flat.{delivery_number, delivery_of, reply_items, verdict_item, recipient_head, frame_item, consumer_item, datagram_items, notice_item, answer_bytes};
 ghost use Rattle.flat_answers.specs.Places.{Puts};
 
 use crate::head::{ItemHeader, one_number, put_item};
@@ -49,7 +49,40 @@ fn put_verdict(out: &mut [u8], at: usize, verdict: &Verdict) -> usize
         Verdict::Delivered(delivery) => {
             put_item(out, at, one_number(5, delivery_number(*delivery)), &[])
         }
+        Verdict::Replied {
+            number,
+            status,
+            additional,
+            data,
+        } => put_reply(
+            out,
+            at,
+            *number,
+            *status,
+            additional.as_slice(),
+            data.as_slice(),
+        ),
     }
+}
+
+/// Writes the items of a reply to the explicit request of this number.
+fn put_reply(
+    out: &mut [u8],
+    at: usize,
+    number: u32,
+    status: u8,
+    additional: &[u8],
+    content: &[u8],
+) -> usize
+    requires { at + length (reply_items number status additional.now content.now) ≤ length out.old }
+    ensures { Puts (reply_items number status additional.now content.now) at out.old result out.new }
+{
+    let head = ItemHeader {
+        b: status as u32,
+        ..one_number(6, number)
+    };
+    let at = put_item(out, at, head, content);
+    put_item(out, at, one_number(7, number), additional)
 }
 
 fn put_frames(out: &mut [u8], at: usize, frames: &[Frame]) -> usize

@@ -2,8 +2,8 @@
 //!
 //! A sum that 64 bits do not count is the greatest `usize`, which no room has.
 
-ghost use Rattle.std.specs.Prelude.{◌≡◌, ◌+◌, ◌*◌, length, flat_map};
-ghost use Rattle.flat_answers.specs.Flat.{item, verdict_item, frame_item, datagram_items, answer_bytes};
+ghost use Rattle.std.specs.Prelude.{ℕ, ◌≡◌, ◌+◌, ◌*◌, length, flat_map};
+ghost use Rattle.flat_answers.specs.Flat.{item, reply_items, verdict_item, frame_item, datagram_items, answer_bytes};
 ghost use Rattle.flat_answers.specs.declared.head.ItemHeader.{ItemHeader};
 ghost use Rattle.flat_answers.specs.Places.{counted};
 
@@ -40,12 +40,22 @@ fn heads_len(count: usize) -> usize
 
 #[tactic(auto, using(crate::proofs::Pieces::bare))]
 fn verdict_len(verdict: &Verdict) -> usize
-    ensures { result ≡ length (verdict_item verdict.now) }
+    ensures { result ≡ counted (length (verdict_item verdict.now)) }
 {
     match verdict {
+        Verdict::Replied {
+            additional, data, ..
+        } => reply_len(additional.as_slice(), data.as_slice()),
         Verdict::Value(bytes) => item_len(bytes.as_slice()),
         Verdict::Done | Verdict::BadFrame | Verdict::Ignored | Verdict::Delivered(_) => HEAD_LEN,
     }
+}
+
+/// The number of bytes of the items of a reply with this additional status and these data.
+fn reply_len(additional: &[u8], content: &[u8]) -> usize
+    ensures { (number status : ℕ) → result ≡ counted (length (reply_items number status additional.now content.now)) }
+{
+    item_len(content).saturating_add(item_len(additional))
 }
 
 fn frames_len(frames: &[Frame]) -> usize

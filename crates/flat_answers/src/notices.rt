@@ -1,10 +1,10 @@
 //! Notices as items.
 
 ghost use Rattle.std.specs.Prelude.{◌≡◌};
-ghost use Rattle.flat_answers.specs.Flat.{triad_head, fault_head, mismatch_head, reason_head, notice_head};
+ghost use Rattle.flat_answers.specs.Flat.{triad_head, fault_head, mismatch_head, reason_head, unanswered_head, notice_head};
 
 use crate::head::{ItemHeader, one_number};
-use cip_events::{Notice, Reason};
+use cip_events::{Notice, Reason, Unanswered};
 use cip_types::{Fault, Mismatch, Triad};
 
 /// The kind and the numbers of a notice.
@@ -28,6 +28,21 @@ pub fn notice_head(notice: Notice) -> ItemHeader
         Notice::NoIds(slot) => one_number(55, slot),
         Notice::Reset(kind) => one_number(56, kind as u32),
         Notice::Refused(slot, why) => reason_head(slot, why),
+        Notice::Unanswered(number, why) => unanswered_head(number, why),
+    }
+}
+
+fn unanswered_head(number: u32, why: Unanswered) -> ItemHeader
+    ensures { result ≡ unanswered_head number why }
+{
+    match why {
+        Unanswered::TimedOut => one_number(72, number),
+        Unanswered::Lost => one_number(73, number),
+        Unanswered::Encap(status) => ItemHeader {
+            b: status,
+            ..one_number(74, number)
+        },
+        Unanswered::Unreadable => one_number(75, number),
     }
 }
 

@@ -1,5 +1,5 @@
 -- Bounds on the times of connections, as these change.
-use Rattle.std.proofs.Common.{◌≡◌, ◌≤◌, ◌<◌, ℕ, min, ◌==◌, ◌&&◌, Bool, true, false, cond, List, [], ◌∷◌, ◌++◌, map, filter, not, find, Option, Some, None, refl, sym, ap, subst, ◌∙◌, true≢false, arith}
+use Rattle.std.proofs.Common.{◌≡◌, ◌≤◌, ◌<◌, ℕ, ◌==◌, ◌&&◌, Bool, true, false, cond, List, [], ◌∷◌, ◌++◌, map, filter, not, find, Option, Some, None, refl, sym, ap, subst, ◌∙◌, true≢false, arith}
 use Rattle.std.specs.Prelude.{nat_le}
 use Rattle.std.specs.List.{list_any}
 use Rattle.std.proofs.lemmas.Bool.Decides.{nat_tests}
@@ -19,7 +19,6 @@ use Rattle.adapter_table.specs.Datagrams.{later_deadline, is_for, row_delivery, 
 use Rattle.adapter_table.specs.Productions.{is_due, state_is_due, produced_row, produced_state, changed_state, changed_row}
 use Rattle.adapter_table.specs.Sound.{IdsDiffer}
 use Rattle.adapter_table.specs.Ticks.{has_expired}
-use Rattle.cip_tables.specs.Wakes.{connections_due}
 use Rattle.conn_slab.specs.declared.reception.Received.{Received}
 use Rattle.conn_slab.specs.Bounds.{never, end_of, next_watchdog, StateNotDueBefore, NotDueBefore, AllNotDueBefore}
 use Rattle.conn_slab.specs.Reception.{IsReceived, reception}
@@ -46,18 +45,6 @@ state_early bound clock TimedOut early rests = refl
 pub none_due : (bound : ℕ) (clock : Ms) (rows : List Row) → clock.0 < bound → AllNotDueBefore bound rows → list_any (is_due clock) rows ≡ false
 none_due bound clock [] early all = refl
 none_due bound clock (row ∷ rows) early all = rw (state_early bound clock row.state early all.0) (none_due bound clock rows early all.1)
-
--- ---- nothing is due after the end of time
-
-due_within : (rows : List Row) → connections_due rows ≤ never
-due_within [] = omega arith
-due_within (row ∷ rows) = let rest = due_within rows in omega arith
-
-pub min_never : (rows : List Row) → min never (connections_due rows) ≡ connections_due rows
-min_never rows = let all = due_within rows in omega arith
-
-pub min_due : (n : ℕ) → n ≤ never → min n never ≡ n
-min_due n le = omega arith
 
 -- ---- changes that keep deadlines and states
 

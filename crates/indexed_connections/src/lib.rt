@@ -14,7 +14,6 @@ mod expiries;
 mod from_list;
 mod keys;
 mod occasion;
-mod queries;
 mod table;
 
 pub use consumer_table::ConsumerTable;

@@ -10,10 +10,6 @@ ghost use Rattle.indexed_connections.specs.ConsumerTables.{consumers_by_producer
 use crate::counts::{close, close_each, counted, expire, open};
 use crate::expiries::{expired, has_any_run_out, has_any_timed_out, is_any_left};
 use crate::from_list::{from_rows, replaced};
-use crate::queries::{
-    count_consuming, first_due, first_member, first_owner, is_any_established, is_any_owning,
-    is_any_running, is_any_timed_out, is_changing, is_listening, nth,
-};
 use crate::{ConsumerTable, changed_datagrams, due_datagrams, remaining_datagrams};
 use adapter_table::{IoState, Profile, Row, State};
 use app_rules::{ConnectionsView, Rules};
@@ -26,6 +22,10 @@ use cip_types::{Ms, Node, OutOfMemory, Triad};
 use connection_list::{
     ConnectionTable, ReceivedDatagram, TickPlan, dropped_with, sent_on_change, sent_when_due,
     tick_plan, written_rows,
+};
+use connection_queries::{
+    count_consuming, first_due, first_member, first_owner, is_any_established, is_any_owning,
+    is_any_running, is_any_timed_out, is_changing, is_listening, kind_count, node_count, nth,
 };
 use std::alloc::Global;
 use std::marker::Model;
@@ -174,6 +174,14 @@ impl ConnectionsView for IndexedConnections {
 
     fn is_supported(&self, point: u32) -> bool {
         self.rules.supporters(point) != 0
+    }
+
+    fn kind_count(&self, kind: Kind) -> usize {
+        kind_count(self.connections.rows(), kind)
+    }
+
+    fn node_count(&self, node: Node) -> usize {
+        node_count(self.connections.rows(), node)
     }
 
     fn is_full(&self) -> bool {

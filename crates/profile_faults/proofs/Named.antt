@@ -1,5 +1,5 @@
 -- From a word of a line's item to the same word of the profile's line.
-use Rattle.std.proofs.Common.{ℕ, ◌≡◌, ◌<◌, false, List, length, get_or, codes, refl, sym, ◌∙◌, ap, Some}
+use Rattle.std.proofs.Common.{ℕ, ◌≡◌, ◌<◌, false, List, length, get_or, codes, option_map, refl, sym, ◌∙◌, ap, Some}
 use Rattle.std.proofs.lemmas.Bool.{or_parts}
 use Rattle.std.proofs.lemmas.List.Folds.{list_all_at}
 use Rattle.std.proofs.lemmas.Option.{slice_get_read}
@@ -8,11 +8,12 @@ use Rattle.scanner_table.specs.declared.profile.SlotConfig.{SlotConfig}
 use Rattle.scanner_table.specs.declared.profile.ScannerProfile.{ScannerProfile}
 use Rattle.scanner_table.specs.Profiles.{listens_to_group}
 use Rattle.trace_lines.specs.WrittenProfiles.{output_words, point_words}
+use Rattle.trace_lines.specs.declared.limit_lines.LimitLine.TheVariants as limit
 use Rattle.trace_lines.specs.Kinds.{multicast_word}
 use Rattle.profile_faults.specs.declared.defects.LineName.TheVariants as name
 use Rattle.profile_faults.specs.declared.defects.ProfileReason.{ProfileReason}
 use Rattle.profile_faults.specs.Defects.{IsFailing}
-use Rattle.profile_faults.specs.Named.{NamesItemWord, NamesConfigWord, NamesDescribedWord, NamesSlotWord, NamesWordOfSlots, NamesWord, NamesWordOfScanner}
+use Rattle.profile_faults.specs.Named.{NamesItemWord, NamesConfigWord, NamesDescribedWord, NamesLimitWord, NamesSlotWord, NamesWordOfSlots, NamesWord, NamesWordOfScanner}
 
 pub named_output : (profile : Profile) (reason : ProfileReason) → NamesItemWord name.Output output_words profile.outputs reason → NamesWord profile reason
 named_output profile reason is = rw is.0 is.1
@@ -25,6 +26,18 @@ named_config profile reason is = rw is.0 is.1
 
 pub named_described : (profile : Profile) (reason : ProfileReason) → NamesDescribedWord profile.description reason → NamesWord profile reason
 named_described profile reason is = rw is.0 is.1
+
+pub named_least_rpi : (profile : Profile) (reason : ProfileReason) → NamesLimitWord name.LeastRpi (option_map limit.LeastRpi profile.limits.least_rpi) reason → NamesWord profile reason
+named_least_rpi profile reason is = rw is.0 is.1
+
+pub named_places : (profile : Profile) (reason : ProfileReason) → NamesLimitWord name.Places (option_map limit.Places profile.limits.places) reason → NamesWord profile reason
+named_places profile reason is = rw is.0 is.1
+
+pub named_node_connections : (profile : Profile) (reason : ProfileReason) → NamesLimitWord name.NodeConnections (option_map limit.NodeConnections profile.limits.node_connections) reason → NamesWord profile reason
+named_node_connections profile reason is = rw is.0 is.1
+
+pub named_newer : (profile : Profile) (reason : ProfileReason) → NamesLimitWord name.Newer (option_map limit.Newer profile.limits.newer) reason → NamesWord profile reason
+named_newer profile reason is = rw is.0 is.1
 
 pub named_slot : (profile : ScannerProfile) (reason : ProfileReason) → NamesWordOfSlots profile.slots reason → NamesWordOfScanner profile reason
 named_slot profile reason is = (rw is.0 is.1.0, is.1.1)

@@ -30,6 +30,10 @@ defect_fault (defect.Minor minor) = fault.Identity
 defect_fault (defect.NameLen len) = fault.Description
 defect_fault (defect.AddressLen len) = fault.Description
 defect_fault (defect.Inactivity seconds) = fault.Description
+defect_fault (defect.LeastRpi us) = fault.Limits
+defect_fault (defect.AllPlaces places) = fault.Limits
+defect_fault (defect.NodeConnections most) = fault.Limits
+defect_fault (defect.Newer within) = fault.Limits
 defect_fault other = fault.Length
 
 -- the fault of the reason that was found

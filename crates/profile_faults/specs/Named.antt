@@ -1,5 +1,5 @@
 -- The word that a reason names: that word of the line, as a trace writes it, has the value that the reason has.
-use Rattle.std.specs.Prelude.{ℕ, ◌≡◌, ◌-◌, List, [], length, get_or, codes, decimal, Option, Some, None}
+use Rattle.std.specs.Prelude.{ℕ, ◌≡◌, ◌-◌, List, [], length, get_or, codes, decimal, option_map, Option, Some, None}
 use Rattle.std.specs.List.{slice_get}
 use Rattle.adapter_table.specs.declared.profile.Description.{Description}
 use Rattle.adapter_table.specs.declared.profile.InputPoint.{InputPoint}
@@ -10,6 +10,9 @@ use Rattle.cip_tables.specs.declared.table.Config.{Config}
 use Rattle.cip_tables.specs.declared.table.Config.TheVariants as config
 use Rattle.trace_words.specs.Words.{node_word, bytes_word}
 use Rattle.trace_lines.specs.WrittenProfiles.{adapter_words, output_words, point_words, description_words, heartbeat_words}
+use Rattle.trace_lines.specs.declared.limit_lines.LimitLine.{LimitLine}
+use Rattle.trace_lines.specs.declared.limit_lines.LimitLine.TheVariants as limit
+use Rattle.trace_lines.specs.Limits.{closers_line, limit_words}
 use Rattle.trace_lines.specs.Slots.{scanner_words, slot_words}
 use Rattle.profile_faults.specs.declared.defects.LineName.{LineName}
 use Rattle.profile_faults.specs.declared.defects.LineName.TheVariants as name
@@ -31,6 +34,11 @@ adapter_line profile name.Output index = line_of output_words (slice_get profile
 adapter_line profile name.Input index = line_of (point_words (codes "input")) (slice_get profile.inputs index)
 adapter_line profile name.Config index = line_of (point_words (codes "config")) profile.config
 adapter_line profile name.Describe index = line_of description_words profile.description
+adapter_line profile name.LeastRpi index = line_of limit_words (option_map limit.LeastRpi profile.limits.least_rpi)
+adapter_line profile name.Places index = line_of limit_words (option_map limit.Places profile.limits.places)
+adapter_line profile name.NodeConnections index = line_of limit_words (option_map limit.NodeConnections profile.limits.node_connections)
+adapter_line profile name.Closers index = line_of limit_words (closers_line profile.limits.own_closers)
+adapter_line profile name.Newer index = line_of limit_words (option_map limit.Newer profile.limits.newer)
 adapter_line profile name.Heartbeat index = heartbeat_words profile
 adapter_line profile name.Scanner index = []
 adapter_line profile name.Slot index = []
@@ -83,6 +91,10 @@ IsWordOf (defect.Minor minor) word = word ≡ decimal minor
 IsWordOf (defect.NameLen len) word = AreBytes word len
 IsWordOf (defect.AddressLen len) word = AreBytes word len
 IsWordOf (defect.Inactivity seconds) word = word ≡ decimal seconds
+IsWordOf (defect.LeastRpi us) word = word ≡ decimal us
+IsWordOf (defect.AllPlaces places) word = word ≡ codes "places"
+IsWordOf (defect.NodeConnections most) word = word ≡ decimal most
+IsWordOf (defect.Newer within) word = word ≡ decimal within
 
 -- the slot of the defect, if it is one of a slot, has this number
 abbrev pub IsOfSlot : ℕ → Defect → Type 0
@@ -124,6 +136,11 @@ NamesConfigWord point reason =
 abbrev pub NamesDescribedWord : Option Description → ProfileReason → Type 0
 NamesDescribedWord described reason =
     (reason.place.line ≡ name.Describe) × IsWordOf reason.defect (word_at (line_of description_words described) reason.place.word)
+
+-- the reason names a word of this line of a limit
+abbrev pub NamesLimitWord : LineName → Option LimitLine → ProfileReason → Type 0
+NamesLimitWord line stated reason =
+    (reason.place.line ≡ line) × IsWordOf reason.defect (word_at (line_of limit_words stated) reason.place.word)
 
 -- the defect is in this word of the slot of this number
 abbrev pub IsInSlot : ℕ → SlotConfig → ℕ → Defect → Type 0

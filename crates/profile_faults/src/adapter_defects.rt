@@ -10,6 +10,7 @@ ghost use Rattle.trace_lines.specs.WrittenProfiles.{output_words, point_words};
 
 use crate::defects::{Defect, LineName, ProfileReason};
 use crate::instances::instance_reason;
+use crate::limit_defects::limit_reason;
 use adapter_table::{
     Description, InputPoint, LONGEST_INACTIVITY, OutputPoint, PHYSICAL_ADDRESS, Profile,
 };
@@ -47,7 +48,10 @@ pub fn adapter_reason(
     if let Some(reason) = revision_reason(profile) {
         return Ok(Some(reason));
     }
-    Ok(described_reason(profile))
+    if let Some(reason) = described_reason(profile) {
+        return Ok(Some(reason));
+    }
+    Ok(limit_reason(profile))
 }
 
 /// A defect at a word of the profile's first line.

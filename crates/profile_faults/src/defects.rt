@@ -15,6 +15,11 @@ pub enum LineName {
     Input,
     Config,
     Describe,
+    LeastRpi,
+    Places,
+    NodeConnections,
+    Closers,
+    Newer,
     Heartbeat,
     Scanner,
     Slot,
@@ -111,6 +116,14 @@ pub enum Defect {
     AddressLen(usize),
     /// The inactivity time-out of a description, in seconds.
     Inactivity(u16),
+    /// The least packet interval that is admitted, in microseconds.
+    LeastRpi(u32),
+    /// The places of all application types.
+    AllPlaces(u16),
+    /// The most connections of one node.
+    NodeConnections(u8),
+    /// The limit of how far ahead an accepted sequence number is.
+    Newer(u32),
 }
 
 /// Why a profile is bad.
@@ -164,6 +177,10 @@ impl Defect {
             Defect::NameLen(_) | Defect::AddressLen(_) | Defect::Inactivity(_) => {
                 ProfileFault::Description
             }
+            Defect::LeastRpi(_)
+            | Defect::AllPlaces(_)
+            | Defect::NodeConnections(_)
+            | Defect::Newer(_) => ProfileFault::Limits,
         }
     }
 }

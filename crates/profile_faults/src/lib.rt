@@ -5,6 +5,7 @@ mod adapter_defects;
 mod defects;
 mod faults;
 mod instances;
+mod limit_defects;
 mod scanner_defects;
 
 pub use adapter_defects::adapter_reason;

@@ -92,10 +92,12 @@ fn call_kind(call: &LocalCall) -> u8 {
         LocalCall::Stop { .. } => 4,
         LocalCall::Tick { .. } => 5,
         LocalCall::Inquiry { .. } => 10,
+        LocalCall::Explicit { .. } => 11,
     }
 }
 
-/// The number of the point or slot of a call, the number of milliseconds, or the address of the peer.
+/// The number of the point or slot of a call, the number of milliseconds, the address of the peer, or the number of an
+/// explicit request.
 fn call_number(call: &LocalCall) -> u64 {
     match call {
         LocalCall::Write { point, .. } | LocalCall::Read { point } => u64::from(*point),
@@ -103,6 +105,7 @@ fn call_number(call: &LocalCall) -> u64 {
         LocalCall::Start { slot } | LocalCall::Stop { slot } => u64::from(*slot),
         LocalCall::Tick { ms } => u64::from(*ms),
         LocalCall::Inquiry { peer, .. } => u64::from(peer.0),
+        LocalCall::Explicit { number, .. } => u64::from(*number),
     }
 }
 

@@ -2,6 +2,7 @@ pub mod Opens
 pub mod Checks
 pub mod Groups
 pub mod Capacity
+mod LimitSamples
 pub mod Deliveries
 pub mod AdapterStates
 mod OwnerData
@@ -22,6 +23,7 @@ pub mod WorldPlaying
 pub mod Streams
 pub mod Datagrams
 pub mod Faults
+mod ExplicitActs
 pub mod Turns
 pub mod Ids
 pub mod Schedules

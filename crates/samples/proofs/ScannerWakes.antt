@@ -1,13 +1,14 @@
 -- Wakes of a scanner: in how many milliseconds a slot is due, and that it acts then and not before.
 use Rattle.std.proofs.Common.{◌≡◌, refl, ℕ, List, [], ◌∷◌}
 use Rattle.cip_events.specs.declared.event.Event.{Event}
-use Rattle.cip_events.specs.declared.event.Event.TheVariants.{StreamCut, Frame, Tick, Start, Stop}
+use Rattle.cip_events.specs.declared.event.Event.TheVariants.{StreamCut, Frame, Tick, Start, Stop, Explicit}
+use Rattle.cip_router.specs.RouterReplies.{router_reply_reading}
 use Rattle.scanner_table.specs.declared.slot.Slot.{Slot}
 use Rattle.scanner_table.specs.declared.table.ScannerTable.{ScannerTable}
 use Rattle.scanner_table.specs.Step.{scanner_table}
 use Rattle.cip_tables.specs.declared.table.DeviceTable.TheVariants.{Scanner}
 use Rattle.cip_tables.specs.Wakes.{due_in}
-use Rattle.samples.proofs.SmallScanner.{owner, profile, reported, after, quiet, becomes, sends_request, items, opening_frame, opened_frame, ownership, registers, connected}
+use Rattle.samples.proofs.SmallScanner.{target, owner, profile, reported, after, quiet, becomes, sends_request, items, opening_frame, opened_frame, ownership, registers, connected}
 use Rattle.samples.proofs.Scanners.{computing, open_slot}
 
 -- in how many milliseconds a slot of the table is due
@@ -123,3 +124,27 @@ nearly_the_longest = refl
 a_closing : wake (after (after connected opened_events) (Stop 0 ∷ [])) ≡ 2000
 unfolding computing
 a_closing = refl
+
+-- ---- explicit requests
+
+-- Get_Attributes_All, as request 7 of the application
+abbrev asks : Event
+asks = Explicit target 7 (0x01 ∷ 0x00 ∷ [])
+
+-- a target has 2 seconds to reply to one too
+an_explicit_request : wake_after (asks ∷ []) ≡ 2000
+unfolding computing
+an_explicit_request = refl
+
+before_an_opening : wake_after (asks ∷ Tick 300 ∷ Start 0 ∷ []) ≡ 1700
+unfolding computing
+before_an_opening = refl
+
+behind_an_opening : wake_after (Start 0 ∷ Tick 300 ∷ asks ∷ []) ≡ 1700
+unfolding computing
+behind_an_opening = refl
+
+-- once it is given up, or its reply has come, it waits for nothing
+without_a_reply : wake_after (asks ∷ Tick 2000 ∷ []) ∷ wake_after (asks ∷ Frame 0 (items 1 4 (0x81 ∷ 0x00 ∷ 0x08 ∷ 0x00 ∷ [])) ∷ []) ∷ [] ≡ 60000 ∷ 60000 ∷ []
+unfolding computing router_reply_reading
+without_a_reply = refl

@@ -25,6 +25,7 @@ use Rattle.scanner_table.specs.Opening.{opened, ready_opened, target_opened}
 use Rattle.scanner_table.specs.Replies.{open_answer, answered}
 use Rattle.scanner_table.specs.Closing.{target_lost}
 use Rattle.scanner_table.specs.Encapsulation.{stream_opened, stream_cut, frame}
+use Rattle.scanner_table.specs.Explicit.{explicit_request, explicit_reply, explicit_timed_out, explicit_lost}
 use Rattle.scanner_table.specs.Datagrams.{received}
 use Rattle.scanner_table.specs.Productions.{produced_table}
 use Rattle.scanner_table.specs.Profiles.{profile_fault}
@@ -35,7 +36,7 @@ use Rattle.samples.proofs.SmallScanner.{target, other_target, owner, gatherer, p
 
 -- `unfolding computing` lets `refl` compute a step on events that are written out
 unfoldable pub computing : Unit {0}
-unfolding messages.message_reading packets.packet_reading packets.behind_socket packets.are_sockets replies.open_reply_reading replies.unread_reading opens.open_text closes.close_text datagrams.datagram_reading opened ready_opened target_opened open_answer answered target_lost stream_opened stream_cut frame received produced_table all_expired all_given_up tick write read mode start stop
+unfolding messages.message_reading packets.packet_reading packets.behind_socket packets.are_sockets replies.open_reply_reading replies.unread_reading opens.open_text closes.close_text datagrams.datagram_reading opened ready_opened target_opened open_answer answered target_lost stream_opened stream_cut frame received produced_table all_expired all_given_up explicit_request explicit_reply explicit_timed_out explicit_lost tick write read mode start stop
 computing = tt
 
 -- ---- two targets

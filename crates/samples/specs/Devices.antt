@@ -7,6 +7,7 @@ use Rattle.adapter_table.specs.declared.profile.Action.TheVariants.{Zero}
 use Rattle.adapter_table.specs.declared.profile.OutputPoint.{OutputPoint}
 use Rattle.adapter_table.specs.declared.profile.InputPoint.{InputPoint}
 use Rattle.adapter_table.specs.declared.profile.Profile.{Profile}
+use Rattle.adapter_table.specs.Profiles.{no_limits}
 use Rattle.cip_tables.specs.declared.table.DeviceTable.{DeviceTable}
 use Rattle.cip_tables.specs.declared.table.DeviceTable.TheVariants.{Adapter}
 use Rattle.adapter_table.specs.Step.{adapter_table}
@@ -32,6 +33,7 @@ common = record {
   input_only = 152;
   listen_only = 153;
   description = None;
+  limits = no_limits;
 }
 
 -- the same with two bytes of configuration

@@ -4,26 +4,35 @@ use Rattle.std.specs.Prelude.{if◌then◌else◌, not, length, ◌==◌}
 use Rattle.cip_events.specs.declared.event.Answer.{Answer}
 use Rattle.cip_events.specs.declared.event.StepFault.{StepFault}
 use Rattle.cip_events.specs.declared.event.StepFault.TheVariants.{OutOfMemory, TickTooLong, ClockEnd, NoSuchPoint, WrongLength, NoSuchSlot, NotAllowedNow}
+use Rattle.cip_events.specs.declared.event.Verdict.TheVariants.{BadFrame}
+use Rattle.cip_events.specs.Answers.{plain_answer}
 use Rattle.cip_events.specs.Outcomes.{Follows}
 use Rattle.cip_productions.specs.Kinds.{is_owner}
 use Rattle.scanner_table.specs.declared.slot.SlotState.{SlotState}
 use Rattle.scanner_table.specs.declared.slot.SlotState.TheVariants.{Idle, Opening, Established, TimedOut, Closing}
 use Rattle.scanner_table.specs.declared.table.ScannerTable.{ScannerTable}
+use Rattle.std.specs.List.{list_any}
+use Rattle.cip_types.specs.declared.names.Node.{Node}
+use Rattle.cip_encap.specs.declared.message.EncapFault.{EncapFault}
+use Rattle.cip_encap.specs.Message.{MessageFields}
 use Rattle.cip_encap.specs.Reading.{message_reading}
+use Rattle.scanner_table.specs.declared.explicit.PendingExplicit.{PendingExplicit}
+use Rattle.scanner_table.specs.declared.table.Session.{Session}
+use Rattle.scanner_table.specs.Explicit.{awaits, connects_to, explicit_request, explicit_sent, explicit_sized, explicit_within, has_explicit_length, is_barred}
 use Rattle.scanner_table.specs.declared.table.TargetStream.{TargetStream}
-use Rattle.scanner_table.specs.Closing.{stopped, stopped_at, slot_resigned, closed_within, target_lost}
-use Rattle.scanner_table.specs.Encapsulation.{stream_cut, cut_of, frame, frame_of, frame_answer}
+use Rattle.scanner_table.specs.Closing.{stopped, stopped_at, slot_resigned, closed_within}
+use Rattle.scanner_table.specs.Encapsulation.{stream_cut, stream_lost, cut_of, frame, frame_of, frame_answer, message_answer}
 use Rattle.scanner_table.specs.Effects.{Next, Effect, done}
 use Rattle.scanner_table.specs.Points.{start, start_at, start_state, stop, stop_of, write, write_at, write_length, output_written}
-use Rattle.scanner_table.specs.Sessions.{session_with, is_stream, without_stream}
+use Rattle.scanner_table.specs.Sessions.{session_with, is_stream}
 use Rattle.scanner_table.specs.Slots.{IndexedSlot, slot_at}
 use Rattle.scanner_transactions.specs.Transactions.{Progress, begun, followed, at_number, at_found, after_at, freshly_started, progress_answer, Adds}
 use Rattle.scanner.specs.Allowed.{can_start}
 
-abbrev Said : Type 0
+abbrev pub Said : Type 0
 Said = Result Next StepFault
 
-abbrev as_ok : Next → Said
+abbrev pub as_ok : Next → Said
 as_ok next = Ok next
 
 -- ---- transactions
@@ -109,18 +118,22 @@ stop_refused t number first last why result new begins adds is same =
 
 -- ---- streams
 
-pub cut_taken : (t : ScannerTable) (number : ℕ) (stream : TargetStream) (first last : Progress) (answer : Answer) (new : ScannerTable) → find (is_stream number) t.streams ≡ Some stream → first ≡ begun t → last ≡ followed first (target_lost stream.peer (without_stream first.table stream.number)) → answer ≡ progress_answer last [] → new ≡ last.table → stream_cut t number ≡ Ok (answer, new)
+pub cut_taken : (t : ScannerTable) (number : ℕ) (stream : TargetStream) (first last : Progress) (answer : Answer) (new : ScannerTable) → find (is_stream number) t.streams ≡ Some stream → first ≡ begun t → last ≡ followed first (stream_lost first.table stream) → answer ≡ progress_answer last [] → new ≡ last.table → stream_cut t number ≡ Ok (answer, new)
 unfolding stream_cut
 cut_taken t number stream first last answer new found begins ends reported left =
-    let is : last ≡ followed (begun t) (target_lost stream.peer (without_stream t stream.number)) = ends ∙ ap (λ (d : Progress). followed d (target_lost stream.peer (without_stream d.table stream.number))) begins in
-    ap (cut_of t) found ∙ ap as_ok (transaction_done t (target_lost stream.peer (without_stream t stream.number)) last answer new is reported left)
+    let is : last ≡ followed (begun t) (stream_lost t stream) = ends ∙ ap (λ (d : Progress). followed d (stream_lost d.table stream)) begins in
+    ap (cut_of t) found ∙ ap as_ok (transaction_done t (stream_lost t stream) last answer new is reported left)
 
-pub frame_taken : (t : ScannerTable) (number : ℕ) (bytes : List ℕ) (stream : TargetStream) (next : Next) → find (is_stream number) t.streams ≡ Some stream → next ≡ frame_answer t stream (message_reading bytes) → frame t number bytes ≡ Ok next
+-- a frame that is no whole message
+pub frame_bad : (t : ScannerTable) (number : ℕ) (bytes : List ℕ) (stream : TargetStream) (fault : EncapFault) → find (is_stream number) t.streams ≡ Some stream → message_reading bytes ≡ Err fault → frame t number bytes ≡ Ok (plain_answer BadFrame, t)
 unfolding frame
-frame_taken t number bytes stream next found said = ap (frame_of t bytes) found ∙ ap as_ok (sym said)
+frame_bad t number bytes stream fault found read = ap (frame_of t bytes) found ∙ ap (λ (r : Result MessageFields EncapFault). as_ok (frame_answer t stream r)) read
 
-pub frame_ok : (t : ScannerTable) (number : ℕ) (bytes : List ℕ) (stream : TargetStream) → find (is_stream number) t.streams ≡ Some stream → IsOk (frame t number bytes)
-frame_ok t number bytes stream found = rw (frame_taken t number bytes stream (frame_answer t stream (message_reading bytes)) found refl) refl
+-- a message, by the explicit request that waits for it
+pub frame_read : (t : ScannerTable) (number : ℕ) (bytes : List ℕ) (stream : TargetStream) (m : MessageFields) (pending : Option PendingExplicit) → find (is_stream number) t.streams ≡ Some stream → message_reading bytes ≡ Ok m → find (awaits stream.number m.context) t.explicit ≡ pending → frame t number bytes ≡ Ok (message_answer t stream m pending)
+unfolding frame
+frame_read t number bytes stream m pending found read waits =
+    ap (frame_of t bytes) found ∙ ap (λ (r : Result MessageFields EncapFault). as_ok (frame_answer t stream r)) read ∙ ap (λ (o : Option PendingExplicit). as_ok (message_answer t stream m o)) waits
 
 pub cut_ok : (t : ScannerTable) (number : ℕ) (stream : TargetStream) → find (is_stream number) t.streams ≡ Some stream → IsOk (stream_cut t number)
 unfolding stream_cut
@@ -156,3 +169,25 @@ pub write_refused_so : (t : ScannerTable) (number : ℕ) (bytes : List ℕ) (why
 write_refused_so t number bytes why is wants =
     let same : why ≡ OutOfMemory = cc in
     write_wants_none t number bytes (sym is ∙ ap (λ (w : StepFault). let said : Said = Err w in said) same)
+
+-- ---- explicit requests
+
+within_wants_none : (t : ScannerTable) (number : ℕ) (bytes : List ℕ) (session : Option Session) → explicit_within t number bytes session ≡ Err OutOfMemory → ⊥
+within_wants_none t number bytes None is = absurd cc
+within_wants_none t number bytes (Some session) is = either (is_barred t number bytes) (Err NotAllowedNow) (Ok (done (explicit_sent t session number bytes))) OutOfMemory (λ no. absurd cc) (λ no. absurd cc) is
+
+sized_wants_none : (t : ScannerTable) (target : Node) (number : ℕ) (bytes : List ℕ) → explicit_sized t target number bytes ≡ Err OutOfMemory → ⊥
+sized_wants_none t target number bytes is = either (has_explicit_length bytes) (explicit_within t number bytes (session_with t target)) (Err WrongLength) OutOfMemory (within_wants_none t number bytes (session_with t target)) (λ no. absurd cc) is
+
+explicit_wants_none : (t : ScannerTable) (target : Node) (number : ℕ) (bytes : List ℕ) → explicit_request t target number bytes ≡ Err OutOfMemory → ⊥
+unfolding explicit_request
+explicit_wants_none t target number bytes is = either (list_any (connects_to target) t.profile.slots) (explicit_sized t target number bytes) (Err NoSuchSlot) OutOfMemory (sized_wants_none t target number bytes) (λ no. absurd cc) is
+
+pub explicit_refused : (t : ScannerTable) (target : Node) (number : ℕ) (bytes : List ℕ) (why : StepFault) → explicit_request t target number bytes ≡ Err why → Follows (explicit_request t target number bytes) t (Err why) t
+explicit_refused t target number bytes OutOfMemory is = absurd (explicit_wants_none t target number bytes is)
+explicit_refused t target number bytes TickTooLong is = (is, refl)
+explicit_refused t target number bytes ClockEnd is = (is, refl)
+explicit_refused t target number bytes NoSuchPoint is = (is, refl)
+explicit_refused t target number bytes WrongLength is = (is, refl)
+explicit_refused t target number bytes NoSuchSlot is = (is, refl)
+explicit_refused t target number bytes NotAllowedNow is = (is, refl)

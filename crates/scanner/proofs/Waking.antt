@@ -11,13 +11,13 @@ use Rattle.cip_tables.specs.Step.{step, as_scanner}
 use Rattle.cip_tables.specs.Wakes.{IsQuietFor}
 use Rattle.scanner_table.specs.declared.table.ScannerTable.{ScannerTable}
 use Rattle.scanner_table.specs.Effects.{Next}
-use Rattle.scanner_table.specs.Ticks.{clocked_table, advanced, ticked, tick}
+use Rattle.scanner_table.specs.Ticks.{clocked_table, moved_on, ticked, tick}
 
 abbrev Said : Type 0
 Said = Result Next StepFault
 
 -- a tick within its limits, by which nothing happens
-pub tick_rests : (t : ScannerTable) (ms : ℕ) → ms ≤ longest_tick → t.clock.0 + ms ≤ clock_end → ◌≡◌ {A = Said} (Ok (ticked (advanced (clocked_table t ms)))) (Ok (plain_answer Done, clocked_table t ms)) → tick t ms ≡ Ok (plain_answer Done, clocked_table t ms)
+pub tick_rests : (t : ScannerTable) (ms : ℕ) → ms ≤ longest_tick → t.clock.0 + ms ≤ clock_end → ◌≡◌ {A = Said} (Ok (ticked (moved_on (clocked_table t ms)))) (Ok (plain_answer Done, clocked_table t ms)) → tick t ms ≡ Ok (plain_answer Done, clocked_table t ms)
 unfolding tick
 tick_rests t ms short before rests =
     let within : nat_lt longest_tick ms ≡ false = grind (arith, nat_tests) in

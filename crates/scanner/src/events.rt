@@ -102,6 +102,11 @@ impl ScannerSlots {
             Event::Mode { run } => self.set_mode(*run),
             Event::Start { slot } => self.start(hints, *slot),
             Event::Stop { slot } => self.stop(hints, *slot),
+            Event::Explicit {
+                target,
+                number,
+                bytes,
+            } => self.request_explicit(*target, *number, bytes.as_slice()),
         }
     }
 }

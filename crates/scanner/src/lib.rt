@@ -5,6 +5,7 @@
 mod answers;
 mod engine;
 mod events;
+mod explicit;
 mod made;
 mod slots;
 mod states;

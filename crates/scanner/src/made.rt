@@ -49,6 +49,7 @@ impl ScannerSlots {
             next_serial: 1,
             next_request: 1,
             streams: Vec::new(alloc),
+            explicit: Vec::new(alloc),
         };
         Ok(ScannerSlots {
             alloc,
@@ -70,6 +71,7 @@ impl ScannerSlots {
             next_serial: table.next_serial,
             next_request: table.next_request,
             streams: Vec::from_slice(alloc, table.streams.as_slice())?,
+            explicit: Vec::from_slice(alloc, table.explicit.as_slice())?,
         };
         Ok(ScannerSlots {
             alloc,
@@ -91,6 +93,7 @@ impl ScannerSlots {
             next_serial: self.state.next_serial,
             next_request: self.state.next_request,
             streams: Items::copy_of(self.alloc, &self.state.streams)?,
+            explicit: Items::copy_of(self.alloc, &self.state.explicit)?,
         })
     }
 }

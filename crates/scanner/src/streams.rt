@@ -1,28 +1,31 @@
 //! Streams to targets, and the frames that the scanner receives over them.
 
-ghost use Rattle.std.specs.Prelude.{◌≡◌};
+ghost use Rattle.std.specs.Prelude.{◌≡◌, Ok};
 ghost use Rattle.std.specs.List.{list_any};
+ghost use Rattle.cip_encap.specs.Message.{view_message};
 ghost use Rattle.cip_events.specs.Outcomes.{Follows};
-ghost use Rattle.scanner_table.specs.Encapsulation.{stream_opened, stream_cut, frame};
+ghost use Rattle.scanner_table.specs.Encapsulation.{stream_opened, stream_cut, frame, reported};
 ghost use Rattle.scanner_table.specs.Sessions.{is_to, is_taken};
 ghost use Rattle.scanner_table.specs.WellFormed.{IsWellFormed};
 ghost use Rattle.scanner_slots.specs.Bounding.{IsHinted};
 ghost use Rattle.scanner_slots.specs.Views.{table_of};
-ghost use Rattle.scanner_transactions.specs.FrameOutcomes.{frame_next};
+ghost use Rattle.scanner_transactions.specs.MessageOutcomes.{message_next};
 ghost use Rattle.scanner_transactions.specs.Transactions.{view_transaction};
 ghost use Rattle.scanner_transactions.specs.Undoing.{state_before, table_with};
 ghost use Rattle.scanner.specs.Tables.{table_in};
 
 use crate::answers::{commit_bounded, end_unchanged, roll_back};
 use crate::slots::ScannerSlots;
+use cip_encap::{MessageView, read_message};
 use cip_events::{Answer, Outcome, StepFault, Verdict};
 use cip_types::limits::MOST_STREAMS;
 use cip_types::{Items, Node, OutOfMemory};
+use explicit_requests::find_pending;
 use open_streams::{add_stream, find_stream, has_stream};
 use scanner_requests::registration_frame;
 use scanner_slots::{Hints, ScannerState};
 use scanner_table::{Stage, TargetStream};
-use scanner_transactions::{FrameOutcome, Transaction, cut_stream, receive_frame};
+use scanner_transactions::{MessageOutcome, Transaction, cut_stream, receive_message};
 use std::alloc::Global;
 
 fn goes_to(streams: &[TargetStream], target: Node) -> bool
@@ -38,25 +41,24 @@ fn is_taken(streams: &[TargetStream], number: u16, target: Node) -> bool
     has_stream(streams, number) || goes_to(streams, target) || streams.len() >= MOST_STREAMS
 }
 
-/// Ends the transaction of a frame with this outcome. Returns the answer. Takes no memory.
+/// Ends the transaction of a message with this outcome. Returns the answer. Takes no memory.
 fn answer_of<H: Hints>(
     alloc: Global,
     transaction: Transaction<'_>,
     scanner: &mut ScannerState,
     hints: &mut H,
-    outcome: FrameOutcome,
+    outcome: MessageOutcome,
 ) -> Answer
     ensures hints { let profile = transaction.entry.profile.now in
         IsHinted (H.bounds hints.old) (table_with profile (state_before transaction.entry))
         → IsHinted (H.bounds hints.new) (table_of profile scanner.new) }
     ensures next { let profile = transaction.entry.profile.now in (result, table_of profile scanner.new)
-        ≡ frame_next (table_with profile (state_before transaction.entry)) outcome
+        ≡ message_next (table_with profile (state_before transaction.entry)) outcome
         (view_transaction transaction.entry) }
 {
     match outcome {
-        FrameOutcome::Answered => { commit_bounded(transaction, scanner, hints, Vec::new(alloc)) }
-        FrameOutcome::Ignored => end_unchanged(alloc, transaction, scanner, Verdict::Ignored),
-        FrameOutcome::BadFrame => end_unchanged(alloc, transaction, scanner, Verdict::BadFrame),
+        MessageOutcome::Answered => { commit_bounded(transaction, scanner, hints, Vec::new(alloc)) }
+        MessageOutcome::Ignored => end_unchanged(alloc, transaction, scanner, Verdict::Ignored),
     }
 }
 
@@ -106,7 +108,27 @@ impl ScannerSlots {
         }
     }
 
-    /// Takes a frame of a stream.
+    /// Takes a message of a stream's target that no explicit request waits for.
+    fn take_message<H: Hints>(
+        &mut self,
+        hints: &mut H,
+        stream: TargetStream,
+        message: &MessageView<'_>,
+    ) -> Outcome
+        requires { IsWellFormed (table_in self.old) }
+        ensures step { Follows (Ok (reported (table_in self.old) stream (view_message message.now) stream.stage))
+            (table_in self.old) result (table_in self.new) }
+        ensures hints { IsHinted (H.bounds hints.old) (table_in self.old)
+            → IsHinted (H.bounds hints.new) (table_in self.new) }
+    {
+        let mut transaction = Transaction::begin(self.alloc, &self.profile, &mut self.state);
+        match receive_message(&mut transaction, stream, message) {
+            Ok(outcome) => Ok(answer_of(self.alloc, transaction, &mut self.state, hints, outcome)),
+            Err(_) => Err(roll_back(transaction, &mut self.state, StepFault::OutOfMemory)),
+        }
+    }
+
+    /// Takes a frame of a stream: a message to an explicit request ends it, and the session judges any other.
     #[tactic(auto, unfolding(scanner_table::specs::Encapsulation::frame))]
     pub fn frame<H: Hints>(&mut self, hints: &mut H, number: u16, bytes: &[u8]) -> Outcome
         requires { IsWellFormed (table_in self.old) }
@@ -118,10 +140,12 @@ impl ScannerSlots {
         let Some(stream) = find_stream(&self.state.streams, number) else {
             return Err(StepFault::NotAllowedNow);
         };
-        let mut transaction = Transaction::begin(self.alloc, &self.profile, &mut self.state);
-        match receive_frame(&mut transaction, stream, bytes) {
-            Ok(outcome) => Ok(answer_of(self.alloc, transaction, &mut self.state, hints, outcome)),
-            Err(_) => Err(roll_back(transaction, &mut self.state, StepFault::OutOfMemory)),
+        let Ok(message) = read_message(bytes) else {
+            return Ok(Answer::plain(self.alloc, Verdict::BadFrame));
+        };
+        match find_pending(&self.state.explicit, stream.number, message.context) {
+            Some(pending) => self.take_reply(pending, &message),
+            None => self.take_message(hints, stream, &message),
         }
     }
 }

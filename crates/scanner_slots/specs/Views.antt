@@ -30,6 +30,7 @@ table_of profile scanner = record {
   next_serial = scanner.next_serial;
   next_request = scanner.next_request;
   streams = scanner.streams.items;
+  explicit = scanner.explicit.items;
 }
 
 -- the slot passes the test

@@ -4,11 +4,12 @@ ghost use Rattle.std.specs.Prelude.{◌≡◌, find, map, option_and_then};
 ghost use Rattle.scanner_table.specs.Sessions.{is_to, session_on, staged_stream};
 
 use cip_types::{Ms, Node};
-use scanner_table::{Session, Slot, Stage, TargetStream};
+use scanner_table::{PendingExplicit, Session, Slot, Stage, TargetStream};
 
 /// A scanner's table without its profile: its slots in the profile's order, whether its application runs, its
 /// clock, the counter part of the next connection id, the serial number of the next opening, the number of the
-/// next request, and the streams that are open, in the order in which they were opened.
+/// next request, the streams that are open, in the order in which they were opened, and the explicit requests without a
+/// reply yet, in the order in which they were sent.
 #[derive(Drop)]
 pub struct ScannerState {
     pub slots: Vec<Slot>,
@@ -18,6 +19,7 @@ pub struct ScannerState {
     pub next_serial: u16,
     pub next_request: u64,
     pub streams: Vec<TargetStream>,
+    pub explicit: Vec<PendingExplicit>,
 }
 
 fn session_on(stream: TargetStream) -> Option<Session>

@@ -66,6 +66,7 @@ counts_always = record {
     clocked = λ t ms. record { profile = refl; slots = λ full. refl; ids = omega arith; requests = omega arith };
     producing = produced_counts;
     moding = moded_counts;
+    explicit = λ t pending request later. record { profile = refl; slots = λ full. refl; ids = omega arith; requests = later };
   };
   establishing = λ t indexed o success stands is requested. set_counts t indexed.number (established_slot indexed (new_connection t indexed o success));
   writing = λ t indexed bytes stands. set_counts t indexed.number (output_slot bytes indexed.slot);

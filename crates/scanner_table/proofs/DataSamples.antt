@@ -14,6 +14,7 @@ use Rattle.scanner_table.specs.declared.table.ScannerTable.{ScannerTable}
 use Rattle.scanner_table.specs.Opening.{opened, ready_opened, target_opened}
 use Rattle.scanner_table.specs.Replies.{open_answer, answered}
 use Rattle.scanner_table.specs.Closing.{target_lost}
+use Rattle.scanner_table.specs.Explicit.{explicit_timed_out, explicit_lost}
 use Rattle.scanner_table.specs.Encapsulation.{stream_opened, stream_cut, frame}
 use Rattle.scanner_table.specs.Datagrams.{received}
 use Rattle.scanner_table.specs.Productions.{produced_table}
@@ -39,12 +40,12 @@ four byte = byte ∷ byte ∷ byte ∷ byte ∷ []
 -- The first production is due at once, and the next ones each 10 ms: the mode goes before the output in idle mode too.
 -- The count rises with new data and at a change of mode, and stays without; a write changes no due time.
 productions : reported open_table (Tick 1 ∷ Mode true ∷ Write 0 (four 0x11) ∷ Tick 8 ∷ Tick 1 ∷ Tick 10 ∷ Mode true ∷ Tick 10 ∷ Write 0 (four 0x11) ∷ Tick 25 ∷ Tick 4 ∷ Tick 1 ∷ []) ≡ sends (sent_data 1 1 0 0) ∷ quiet ∷ quiet ∷ quiet ∷ sends (sent_data 2 2 1 0x11) ∷ sends (sent_data 3 2 1 0x11) ∷ quiet ∷ sends (sent_data 4 2 1 0x11) ∷ quiet ∷ sends (sent_data 5 3 1 0x11) ∷ quiet ∷ quiet ∷ []
-unfolding messages.message_reading packets.packet_reading packets.behind_socket packets.are_sockets replies.open_reply_reading replies.unread_reading opens.open_text closes.close_text datagrams.datagram_reading opened ready_opened target_opened open_answer answered target_lost stream_opened stream_cut frame received produced_table all_expired all_given_up tick write read mode start stop
+unfolding messages.message_reading packets.packet_reading packets.behind_socket packets.are_sockets replies.open_reply_reading replies.unread_reading opens.open_text closes.close_text datagrams.datagram_reading opened ready_opened target_opened open_answer answered target_lost stream_opened stream_cut frame received produced_table all_expired all_given_up explicit_timed_out explicit_lost tick write read mode start stop
 productions = refl
 
 -- a change of mode is new data by itself
 mode_alone : reported open_table (Tick 1 ∷ Mode true ∷ Tick 9 ∷ Mode false ∷ Tick 10 ∷ []) ≡ sends (sent_data 1 1 0 0) ∷ quiet ∷ sends (sent_data 2 2 1 0) ∷ quiet ∷ sends (sent_data 3 3 0 0) ∷ []
-unfolding messages.message_reading packets.packet_reading packets.behind_socket packets.are_sockets replies.open_reply_reading replies.unread_reading opens.open_text closes.close_text datagrams.datagram_reading opened ready_opened target_opened open_answer answered target_lost stream_opened stream_cut frame received produced_table all_expired all_given_up tick write read mode start stop
+unfolding messages.message_reading packets.packet_reading packets.behind_socket packets.are_sockets replies.open_reply_reading replies.unread_reading opens.open_text closes.close_text datagrams.datagram_reading opened ready_opened target_opened open_answer answered target_lost stream_opened stream_cut frame received produced_table all_expired all_given_up explicit_timed_out explicit_lost tick write read mode start stop
 mode_alone = refl
 
 -- an input-only connection of a group is open, with the T->O id 0x10000002
@@ -57,7 +58,7 @@ heartbeat number = 0x02 ∷ 0x00 ∷ 0x02 ∷ 0x80 ∷ 0x08 ∷ 0x00 ∷ 0x01 �
 
 -- it has no output to write, and no mode
 heartbeats_sent : reported heartbeats (Tick 1 ∷ Mode true ∷ Write 0 [] ∷ Tick 9 ∷ Tick 10 ∷ []) ≡ sends (heartbeat 1) ∷ quiet ∷ not_now ∷ sends (heartbeat 2) ∷ sends (heartbeat 3) ∷ []
-unfolding messages.message_reading packets.packet_reading packets.behind_socket packets.are_sockets replies.open_reply_reading replies.unread_reading opens.open_text closes.close_text datagrams.datagram_reading opened ready_opened target_opened open_answer answered target_lost stream_opened stream_cut frame received produced_table all_expired all_given_up tick write read mode start stop
+unfolding messages.message_reading packets.packet_reading packets.behind_socket packets.are_sockets replies.open_reply_reading replies.unread_reading opens.open_text closes.close_text datagrams.datagram_reading opened ready_opened target_opened open_answer answered target_lost stream_opened stream_cut frame received produced_table all_expired all_given_up explicit_timed_out explicit_lost tick write read mode start stop
 heartbeats_sent = refl
 
 -- ---- datagrams
@@ -69,39 +70,39 @@ short = 0x02 ∷ 0x00 ∷ 0x02 ∷ 0x80 ∷ 0x08 ∷ 0x00 ∷ 0x01 ∷ 0x00 ∷ 
 -- data are applied to the image; an older number, another sender, another id, another length and other bytes are
 -- not; the same count brings no new data
 gathered : reported open_table (Datagram target (got_data 5 1 0xAA) ∷ Datagram target (got_data 5 2 0xBB) ∷ Datagram target (got_data 4 2 0xBB) ∷ Datagram other_target (got_data 6 2 0xBB) ∷ Datagram target short ∷ Datagram target (0 ∷ []) ∷ Read 0 ∷ Datagram target (got_data 6 1 0xBB) ∷ Read 0 ∷ Datagram target (got_data 6 2 0xBB) ∷ Datagram target (got_data 7 2 0xBB) ∷ Datagram target (got_data 8 3 0xBB) ∷ Read 0 ∷ []) ≡ delivered Applied ∷ delivered Old ∷ delivered Old ∷ delivered UnknownId ∷ delivered WrongSize ∷ delivered Malformed ∷ reads_bytes (four 0xAA) ∷ delivered Duplicate ∷ reads_bytes (four 0xAA) ∷ delivered Old ∷ delivered Applied ∷ delivered Applied ∷ reads_bytes (four 0xBB) ∷ []
-unfolding messages.message_reading packets.packet_reading packets.behind_socket packets.are_sockets replies.open_reply_reading replies.unread_reading opens.open_text closes.close_text datagrams.datagram_reading opened ready_opened target_opened open_answer answered target_lost stream_opened stream_cut frame received produced_table all_expired all_given_up tick write read mode start stop
+unfolding messages.message_reading packets.packet_reading packets.behind_socket packets.are_sockets replies.open_reply_reading replies.unread_reading opens.open_text closes.close_text datagrams.datagram_reading opened ready_opened target_opened open_answer answered target_lost stream_opened stream_cut frame received produced_table all_expired all_given_up explicit_timed_out explicit_lost tick write read mode start stop
 gathered = refl
 
 -- The first watchdog runs for 10 seconds, and each later one for 160 ms after the last accepted datagram. The image stays
 -- when the connection times out and while the slot opens it again; a new connection begins with an image of zeros.
 -- What times out in a tick sends nothing in it.
 expires : reported (after open_table (Mode true ∷ Tick 9998 ∷ [])) (Tick 1 ∷ Datagram target (got_data 1 1 0xAA) ∷ Tick 159 ∷ Tick 1 ∷ Read 0 ∷ Datagram target (got_data 2 2 0xBB) ∷ Start 0 ∷ Tick 2999 ∷ Tick 1 ∷ Read 0 ∷ Frame 0 (items 2 30 (success 2 2 2)) ∷ Read 0 ∷ []) ≡ quiet ∷ delivered Applied ∷ sends (sent_data 2 1 1 0) ∷ becomes 4 ∷ reads_bytes (four 0xAA) ∷ delivered UnknownId ∷ not_now ∷ quiet ∷ sends_request (opening_frame 2) 2 ∷ reads_bytes (four 0xAA) ∷ becomes 3 ∷ reads_bytes (four 0) ∷ []
-unfolding messages.message_reading packets.packet_reading packets.behind_socket packets.are_sockets replies.open_reply_reading replies.unread_reading opens.open_text closes.close_text datagrams.datagram_reading opened ready_opened target_opened open_answer answered target_lost stream_opened stream_cut frame received produced_table all_expired all_given_up tick write read mode start stop
+unfolding messages.message_reading packets.packet_reading packets.behind_socket packets.are_sockets replies.open_reply_reading replies.unread_reading opens.open_text closes.close_text datagrams.datagram_reading opened ready_opened target_opened open_answer answered target_lost stream_opened stream_cut frame received produced_table all_expired all_given_up explicit_timed_out explicit_lost tick write read mode start stop
 expires = refl
 
 -- without a datagram it times out after 10 seconds and no sooner
 never_received : reported (after open_table (Tick 9999 ∷ [])) (Tick 1 ∷ []) ≡ becomes 4 ∷ []
-unfolding messages.message_reading packets.packet_reading packets.behind_socket packets.are_sockets replies.open_reply_reading replies.unread_reading opens.open_text closes.close_text datagrams.datagram_reading opened ready_opened target_opened open_answer answered target_lost stream_opened stream_cut frame received produced_table all_expired all_given_up tick write read mode start stop
+unfolding messages.message_reading packets.packet_reading packets.behind_socket packets.are_sockets replies.open_reply_reading replies.unread_reading opens.open_text closes.close_text datagrams.datagram_reading opened ready_opened target_opened open_answer answered target_lost stream_opened stream_cut frame received produced_table all_expired all_given_up explicit_timed_out explicit_lost tick write read mode start stop
 never_received = refl
 
 -- an image is kept when the connection is stopped
 image_kept : reported open_table (Datagram target (got_data 1 1 0xAA) ∷ StreamCut 0 ∷ Stop 0 ∷ Read 0 ∷ Datagram target (got_data 2 2 0xBB) ∷ []) ≡ delivered Applied ∷ quiet ∷ becomes 0 ∷ reads_bytes (four 0xAA) ∷ delivered UnknownId ∷ []
-unfolding messages.message_reading packets.packet_reading packets.behind_socket packets.are_sockets replies.open_reply_reading replies.unread_reading opens.open_text closes.close_text datagrams.datagram_reading opened ready_opened target_opened open_answer answered target_lost stream_opened stream_cut frame received produced_table all_expired all_given_up tick write read mode start stop
+unfolding messages.message_reading packets.packet_reading packets.behind_socket packets.are_sockets replies.open_reply_reading replies.unread_reading opens.open_text closes.close_text datagrams.datagram_reading opened ready_opened target_opened open_answer answered target_lost stream_opened stream_cut frame received produced_table all_expired all_given_up explicit_timed_out explicit_lost tick write read mode start stop
 image_kept = refl
 
 -- ---- faults
 
 -- an unknown slot goes before what the slot does not take, and that before a wrong length
 faults : reported open_table (Write 1 [] ∷ Read 1 ∷ Start 1 ∷ Stop 1 ∷ Write 0 [] ∷ Tick 60001 ∷ []) ≡ Err fault.NoSuchSlot ∷ Err fault.NoSuchSlot ∷ Err fault.NoSuchSlot ∷ Err fault.NoSuchSlot ∷ Err fault.WrongLength ∷ Err fault.TickTooLong ∷ []
-unfolding messages.message_reading packets.packet_reading packets.behind_socket packets.are_sockets replies.open_reply_reading replies.unread_reading opens.open_text closes.close_text datagrams.datagram_reading opened ready_opened target_opened open_answer answered target_lost stream_opened stream_cut frame received produced_table all_expired all_given_up tick write read mode start stop
+unfolding messages.message_reading packets.packet_reading packets.behind_socket packets.are_sockets replies.open_reply_reading replies.unread_reading opens.open_text closes.close_text datagrams.datagram_reading opened ready_opened target_opened open_answer answered target_lost stream_opened stream_cut frame received produced_table all_expired all_given_up explicit_timed_out explicit_lost tick write read mode start stop
 faults = refl
 
 -- a connection of another kind than an owner's takes no output, however long
 heartbeat_faults : reported heartbeats (Write 0 (0 ∷ []) ∷ Write 1 (0 ∷ []) ∷ []) ≡ not_now ∷ Err fault.NoSuchSlot ∷ []
-unfolding messages.message_reading packets.packet_reading packets.behind_socket packets.are_sockets replies.open_reply_reading replies.unread_reading opens.open_text closes.close_text datagrams.datagram_reading opened ready_opened target_opened open_answer answered target_lost stream_opened stream_cut frame received produced_table all_expired all_given_up tick write read mode start stop
+unfolding messages.message_reading packets.packet_reading packets.behind_socket packets.are_sockets replies.open_reply_reading replies.unread_reading opens.open_text closes.close_text datagrams.datagram_reading opened ready_opened target_opened open_answer answered target_lost stream_opened stream_cut frame received produced_table all_expired all_given_up explicit_timed_out explicit_lost tick write read mode start stop
 heartbeat_faults = refl
 
 -- the clock ends at 2^48
 clock_ends : reported (record (scanner_table (profile (owner ∷ []))) { clock = record { 0 = 281474976710655 } }) (Tick 2 ∷ Tick 1 ∷ Tick 1 ∷ Tick 0 ∷ []) ≡ Err fault.ClockEnd ∷ quiet ∷ Err fault.ClockEnd ∷ quiet ∷ []
-unfolding messages.message_reading packets.packet_reading packets.behind_socket packets.are_sockets replies.open_reply_reading replies.unread_reading opens.open_text closes.close_text datagrams.datagram_reading opened ready_opened target_opened open_answer answered target_lost stream_opened stream_cut frame received produced_table all_expired all_given_up tick write read mode start stop
+unfolding messages.message_reading packets.packet_reading packets.behind_socket packets.are_sockets replies.open_reply_reading replies.unread_reading opens.open_text closes.close_text datagrams.datagram_reading opened ready_opened target_opened open_answer answered target_lost stream_opened stream_cut frame received produced_table all_expired all_given_up explicit_timed_out explicit_lost tick write read mode start stop
 clock_ends = refl

@@ -12,6 +12,7 @@ use Rattle.conn_state.specs.declared.names.Link.{Link}
 use Rattle.conn_state.specs.declared.names.Requested.{Requested}
 use Rattle.scanner_table.specs.declared.profile.SlotConfig.{SlotConfig}
 use Rattle.scanner_table.specs.declared.profile.ScannerProfile.{ScannerProfile}
+use Rattle.scanner_table.specs.declared.explicit.PendingExplicit.{PendingExplicit}
 use Rattle.scanner_table.specs.declared.slot.PendingOpen.{PendingOpen}
 use Rattle.scanner_table.specs.declared.slot.SlotConnection.{SlotConnection}
 use Rattle.scanner_table.specs.declared.slot.PendingClose.{PendingClose}
@@ -25,6 +26,7 @@ use Rattle.conn_state.specs.contracts.names.LinkPartialEq.TheImpl as link
 use Rattle.conn_state.specs.contracts.names.RequestedPartialEq.TheImpl as desired_up
 use Rattle.scanner_table.specs.contracts.profile.SlotConfigPartialEq.TheImpl as config
 use Rattle.scanner_table.specs.contracts.profile.ScannerProfilePartialEq.TheImpl as profile
+use Rattle.scanner_table.specs.contracts.explicit.PendingExplicitPartialEq.TheImpl as explicit
 use Rattle.scanner_table.specs.contracts.slot.PendingOpenPartialEq.TheImpl as opening
 use Rattle.scanner_table.specs.contracts.slot.SlotConnectionPartialEq.TheImpl as connection
 use Rattle.scanner_table.specs.contracts.slot.PendingClosePartialEq.TheImpl as closing
@@ -163,6 +165,15 @@ stream_decides a b =
     Decides-like ((stream.ghosts).eq a b) (λ p. search rules) (λ e. search rules)
     (Decides-and _ _ (Decides-eqb a.number b.number) (Decides-and _ _ (node_decides a.peer b.peer) (stage_decides a.stage b.stage)))
 
+explicit_decides : (a b : PendingExplicit) → Decides ((explicit.ghosts).eq a b) (a ≡ b)
+explicit_decides a b =
+    Decides-like ((explicit.ghosts).eq a b) (λ p. search rules) (λ e. search rules)
+    (Decides-and _ _ (Decides-eqb a.number b.number)
+    (Decides-and _ _ (Decides-eqb a.request b.request)
+    (Decides-and _ _ (Decides-eqb a.stream b.stream)
+    (Decides-and _ _ (ms_decides a.deadline b.deadline)
+    (Decides-eqb a.service b.service)))))
+
 -- two tables that pass the test are equal, and equal tables pass it
 pub scanner_decides : (a b : ScannerTable) → Decides ((table.ghosts).eq a b) (a ≡ b)
 scanner_decides a b =
@@ -174,4 +185,5 @@ scanner_decides a b =
     (Decides-and _ _ (Decides-eqb a.next_id b.next_id)
     (Decides-and _ _ (Decides-eqb a.next_serial b.next_serial)
     (Decides-and _ _ (Decides-eqb a.next_request b.next_request)
-    (pointwise_decides stream_decides a.streams b.streams))))))))
+    (Decides-and _ _ (pointwise_decides stream_decides a.streams b.streams)
+    (pointwise_decides explicit_decides a.explicit b.explicit)))))))))

@@ -6,9 +6,12 @@ mod OpeningSamples
 mod ReplySamples
 mod DataSamples
 mod CheckSamples
+mod ExplicitSamples
 mod WholeLemmas
 mod WholeSteps
 mod WholeTicks
 mod CounterSteps
 mod OwnSteps
 mod ProducerSteps
+mod ExplicitSteps
+mod ExplicitReplySteps

@@ -313,6 +313,10 @@ owns_always = record {
     clocked = λ t ms. owns_by t (clocked_table t ms) (drawn_goes.widely.clocked t ms) (stays_goes IdStays id_stays t (clocked_table t ms) (drawn_goes.widely.clocked t ms).later refl);
     producing = produced_owns;
     moding = moded_owns;
+    explicit = λ t pending request later.
+        let next : ScannerTable = record t { next_request = request; explicit = pending } in
+        let goes = drawn_goes.widely.explicit t pending request later in
+        owns_by t next goes (stays_goes IdStays id_stays t next goes.later refl);
   };
   establishing = established_owns;
   writing = λ t indexed bytes stands.

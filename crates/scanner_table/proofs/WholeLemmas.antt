@@ -242,7 +242,7 @@ same_peer : (b : Bool) (stage : Stage) (stream : TargetStream) → (cond b (reco
 same_peer true stage stream = refl
 same_peer false stage stream = refl
 
-any_staged : (number other : ℕ) (stage : Stage) (streams : List TargetStream) → list_any (is_stream other) (map (staged_stream number stage) streams) ≡ list_any (is_stream other) streams
+pub any_staged : (number other : ℕ) (stage : Stage) (streams : List TargetStream) → list_any (is_stream other) (map (staged_stream number stage) streams) ≡ list_any (is_stream other) streams
 any_staged number other stage [] = refl
 any_staged number other stage (stream ∷ streams) =
     rw (same_number (is_stream number stream) stage stream) (ap (λ b. is_stream other stream || b) (any_staged number other stage streams))

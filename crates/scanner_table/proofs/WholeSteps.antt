@@ -29,6 +29,9 @@ use Rattle.cip_fwdopen.specs.declared.reply.OpenAnswer.TheVariants as answer
 use Rattle.cip_productions.specs.Acceptance.{accepts_sequence, is_duplicate}
 use Rattle.conn_state.specs.Answers.{is_requested_id, answer_tests, has_intervals}
 use Rattle.scanner_table.specs.declared.profile.SlotConfig.{SlotConfig}
+use Rattle.cip_events.specs.declared.event.Unanswered.{Unanswered}
+use Rattle.cip_router.specs.RouterReplies.{RouterReplyFields}
+use Rattle.scanner_table.specs.declared.explicit.PendingExplicit.{PendingExplicit}
 use Rattle.scanner_table.specs.declared.slot.SlotConnection.{SlotConnection}
 use Rattle.scanner_table.specs.declared.slot.PendingOpen as opening
 use Rattle.scanner_table.specs.declared.slot.Slot.{Slot}
@@ -46,7 +49,8 @@ use Rattle.scanner_table.specs.Effects.{Next, changed, counted, done}
 use Rattle.scanner_table.specs.Opening.{has_request, has_id, can_open, drawn, opening_slot, resigned, exhausted, open_requested, opened_within, opened, is_ready_slot, ready_slots, ready_opened, target_opened}
 use Rattle.scanner_table.specs.Replies.{uses_id, open_answer, is_id_free, new_connection, established_slot, failed_slot, refused, judged_success, answered}
 use Rattle.scanner_table.specs.Closing.{idle_slot, given_up_state, given_up, target_lost, closing_slot, close_requested, slot_resigned, closed_within, stopped, stopped_at}
-use Rattle.scanner_table.specs.Encapsulation.{registering_on, ignored, stream_opened, cut_of, stream_cut, is_registered, session_begun, session_failed, registered, is_awaiting, replied, replied_to, reported, frame_answer, frame_of, frame}
+use Rattle.scanner_table.specs.Explicit.{is_request, others, with_explicit, has_number, awaits, has_explicit_length, service_of, is_for_slots, is_barred, connects_to, explicit_sent, explicit_within, explicit_request, explicit_reply, explicit_answered, explicit_timed_out, explicit_lost}
+use Rattle.scanner_table.specs.Encapsulation.{registering_on, ignored, stream_opened, message_answer, cut_of, stream_cut, is_registered, session_begun, session_failed, registered, is_awaiting, replied, replied_to, reported, frame_answer, frame_of, frame}
 use Rattle.scanner_table.specs.Datagrams.{delivered, is_for, accepted_connection, accepted_table, accepted, sized, state_received, received_at, received_as, received}
 use Rattle.scanner_table.specs.Points.{stop_of, stop}
 use Rattle.scanner_table.specs.WellFormed.{RequestsDiffer, IdsDiffer, FitsState, FitsSlot, IsWellFormed, IsWatched}
@@ -341,9 +345,65 @@ whole_without t number whole = record {
   streams_differ = differ_left (is_other_stream number) t.streams whole.streams_differ;
 }
 
+-- ---- explicit requests
+
+-- other requests are pending
+whole_explicit : (t : ScannerTable) (pending : List PendingExplicit) → IsWellFormed t → IsWellFormed (with_explicit t pending)
+whole_explicit t pending whole = record {
+  ids_differ = whole.ids_differ;
+  requests_differ = whole.requests_differ;
+  faultless = whole.faultless;
+  slots = whole.slots;
+  clock = whole.clock;
+  ids = whole.ids;
+  serial_begins = whole.serial_begins;
+  serial_ends = whole.serial_ends;
+  requests = whole.requests;
+  few_streams = whole.few_streams;
+  streams_differ = whole.streams_differ;
+}
+
+pub timed_out_whole : (t : ScannerTable) → IsWellFormed t → IsWellFormed (explicit_timed_out t).table
+unfolding explicit_timed_out
+timed_out_whole t whole = whole_explicit t _ whole
+
+lost_whole : (stream : ℕ) (t : ScannerTable) → IsWellFormed t → IsWellFormed (explicit_lost stream t).table
+unfolding explicit_lost
+lost_whole stream t whole = whole_explicit t _ whole
+
+is_left : (b : Bool) → not b ≡ false → b ≡ true
+is_left true none = refl
+is_left false none = absurd cc
+
+-- a request that is not barred has a number
+unbarred_left : (t : ScannerTable) (number : ℕ) (bytes : List ℕ) → is_barred t number bytes ≡ false → has_request t ≡ true
+unbarred_left t number bytes free =
+    let first = or_parts (is_for_slots (service_of bytes)) _ free in
+    let second = or_parts (nat_le 16 (length t.explicit)) _ first.1 in
+    is_left (has_request t) (or_parts (list_any (has_number number) t.explicit) (not (has_request t)) second.1).1
+
+barred_step : (b : Bool) (t : ScannerTable) (session : Session) (number : ℕ) (bytes : List ℕ) → is_barred t number bytes ≡ b → IsWellFormed t → LeavesWhole (cond b (Err fault.NotAllowedNow) (Ok (done (explicit_sent t session number bytes))))
+barred_step true t session number bytes is whole = tt
+barred_step false t session number bytes is whole = whole_explicit (counted t) _ (whole_counted t (unbarred_left t number bytes is) whole)
+
+explicit_within_whole : (t : ScannerTable) (number : ℕ) (bytes : List ℕ) (session : Option Session) → IsWellFormed t → LeavesWhole (explicit_within t number bytes session)
+explicit_within_whole t number bytes None whole = tt
+explicit_within_whole t number bytes (Some session) whole = barred_step (is_barred t number bytes) t session number bytes refl whole
+
+explicit_step : (a b : Bool) (t : ScannerTable) (target : Node) (number : ℕ) (bytes : List ℕ) → IsWellFormed t → LeavesWhole (cond a (cond b (explicit_within t number bytes (session_with t target)) (Err fault.WrongLength)) (Err fault.NoSuchSlot))
+explicit_step true true t target number bytes whole = explicit_within_whole t number bytes (session_with t target) whole
+explicit_step true false t target number bytes whole = tt
+explicit_step false b t target number bytes whole = tt
+
+pub explicit_whole : (t : ScannerTable) (target : Node) (number : ℕ) (bytes : List ℕ) → IsWellFormed t → LeavesWhole (explicit_request t target number bytes)
+unfolding explicit_request
+explicit_whole t target number bytes whole = explicit_step (list_any (connects_to target) t.profile.slots) (has_explicit_length bytes) t target number bytes whole
+
 cut_whole_of : (t : ScannerTable) (found : Option TargetStream) → IsWellFormed t → LeavesWhole (cut_of t found)
 cut_whole_of t None whole = tt
-cut_whole_of t (Some stream) whole = (keeps_lost stream.peer (without_stream t stream.number) (whole_without t stream.number whole)).whole
+cut_whole_of t (Some stream) whole =
+    let now = without_stream t stream.number in
+    lost_whole stream.number (target_lost stream.peer now).table (keeps_lost stream.peer now (whole_without t stream.number whole)).whole
 
 pub cut_whole : (t : ScannerTable) (number : ℕ) → IsWellFormed t → LeavesWhole (stream_cut t number)
 unfolding stream_cut
@@ -393,9 +453,17 @@ reported_whole t stream m Waiting whole = first_step (m.context == 0) t stream m
 reported_whole t stream m (Up handle) whole = replied_to_whole t m (is_awaiting stream.peer m.context) (find (is_awaiting stream.peer m.context) (indexed_slots t)) refl whole
 reported_whole t stream m Unused whole = whole
 
+explicit_answered_whole : (t : ScannerTable) (pending : PendingExplicit) (reply : Result RouterReplyFields Unanswered) → IsWellFormed t → IsWellFormed (explicit_answered t pending reply).1
+explicit_answered_whole t pending (Ok reply) whole = whole_explicit t (others (is_request pending.request) t.explicit) whole
+explicit_answered_whole t pending (Err why) whole = whole_explicit t (others (is_request pending.request) t.explicit) whole
+
+message_whole : (t : ScannerTable) (stream : TargetStream) (m : MessageFields) (found : Option PendingExplicit) → IsWellFormed t → IsWellFormed (message_answer t stream m found).1
+message_whole t stream m None whole = reported_whole t stream m stream.stage whole
+message_whole t stream m (Some pending) whole = explicit_answered_whole t pending (explicit_reply pending.service m) whole
+
 frame_answer_whole : (t : ScannerTable) (stream : TargetStream) (reading : Result MessageFields EncapFault) → IsWellFormed t → IsWellFormed (frame_answer t stream reading).1
 frame_answer_whole t stream (Err why) whole = whole
-frame_answer_whole t stream (Ok m) whole = reported_whole t stream m stream.stage whole
+frame_answer_whole t stream (Ok m) whole = message_whole t stream m (find (awaits stream.number m.context) t.explicit) whole
 
 frame_of_whole : (t : ScannerTable) (bytes : List ℕ) (found : Option TargetStream) → IsWellFormed t → LeavesWhole (frame_of t bytes found)
 frame_of_whole t bytes None whole = tt

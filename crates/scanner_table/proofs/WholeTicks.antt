@@ -9,7 +9,7 @@ use Rattle.cip_types.specs.Order.{inserted, in_order}
 use Rattle.cip_netparams.specs.declared.Trigger.{Trigger}
 use Rattle.cip_netparams.specs.declared.Trigger.TheVariants.{Cyclic, ChangeOfState}
 use Rattle.cip_events.specs.declared.event.Event.{Event}
-use Rattle.cip_events.specs.declared.event.Event.TheVariants.{StreamOpened, Frame, StreamCut, Datagram, Write, Tick, Mode, Start, Stop}
+use Rattle.cip_events.specs.declared.event.Event.TheVariants.{StreamOpened, Frame, StreamCut, Datagram, Write, Tick, Mode, Start, Stop, Explicit}
 use Rattle.cip_events.specs.declared.event.StepFault.TheVariants as fault
 use Rattle.cip_events.specs.Clock.{longest_tick, clock_end}
 use Rattle.cip_productions.specs.Kinds.{is_owner}
@@ -27,15 +27,16 @@ use Rattle.scanner_table.specs.Effects.{Effect, and_then, done}
 use Rattle.scanner_table.specs.Opening.{ready_opened}
 use Rattle.scanner_table.specs.Replies.{failed_slot}
 use Rattle.scanner_table.specs.Closing.{given_up}
+use Rattle.scanner_table.specs.Explicit.{explicit_timed_out}
 use Rattle.scanner_table.specs.Productions.{written_connection, produced_connection, written_state, state_is_due, produced_state, produced_slot, produced_table}
-use Rattle.scanner_table.specs.Ticks.{by_deadline, has_expired, expired_slots, expired_state, expired, all_expired, is_overdue, all_given_up, clocked_table, advanced, ticked, tick}
+use Rattle.scanner_table.specs.Ticks.{by_deadline, has_expired, expired_slots, expired_state, expired, all_expired, is_overdue, all_given_up, clocked_table, advanced, moved_on, ticked, tick}
 use Rattle.scanner_table.specs.Points.{output_slot, output_written, write_length, write_at, write, same_mode, moded_slot, moded_table, mode, desired_slot, started, start_state, start_at, start}
 use Rattle.scanner_table.specs.Step.{scanner_step, fresh_slot, scanner_table}
 use Rattle.scanner_table.specs.WellFormed.{RequestsDiffer, shares_request, clashes, IdsDiffer, FitsState, FitsSlot, SlotsFit, IsWellFormed, IsWatched}
 use Rattle.scanner_table.proofs.IdsLemmas.{Weaker, idle_weaker, timed_out_weaker, same_weaker, linked_weaker, AllWeaker, all_set, all_map, differ_weaker}
 use Rattle.scanner_table.proofs.RequestLemmas.{Quieter, AllQuieter, idle_quieter, established_quieter, timed_out_quieter, same_quieter, set_quieter, map_quieter, differ_quieter}
 use Rattle.scanner_table.proofs.WholeLemmas.{IsNow, each_now, slots_later, later_later, IsAt, Each, each_filter, each_found, each_at, whole_with, Keeps, keeps_nothing, keeps_each, Any, each_any}
-use Rattle.scanner_table.proofs.WholeSteps.{quiet_same, differ_same, keeps_changed, keeps_opened, keeps_ready, keeps_given, LeavesWhole, state_fits, stop_whole, streamed_whole, cut_whole, frame_whole, received_whole}
+use Rattle.scanner_table.proofs.WholeSteps.{quiet_same, differ_same, keeps_changed, keeps_opened, keeps_ready, keeps_given, LeavesWhole, state_fits, stop_whole, streamed_whole, timed_out_whole, explicit_whole, cut_whole, frame_whole, received_whole}
 use Rattle.scanner_table.specs.Lemmas.PassiveLemmas.{passive_holds}
 
 -- ---- expiries and answers that do not come
@@ -193,12 +194,13 @@ clocked_whole t ms in_time whole = record {
 in_time : (now : ℕ) → nat_lt (2 ^ 48) now ≡ false → now ≤ 2 ^ 48
 in_time now is = grind (arith, nat_tests)
 
-tick_step : (a b : Bool) (t : ScannerTable) (ms : ℕ) → nat_lt clock_end (t.clock.0 + ms) ≡ b → IsWellFormed t → LeavesWhole (cond a (Err fault.TickTooLong) (cond b (Err fault.ClockEnd) (Ok (ticked (advanced (clocked_table t ms))))))
+tick_step : (a b : Bool) (t : ScannerTable) (ms : ℕ) → nat_lt clock_end (t.clock.0 + ms) ≡ b → IsWellFormed t → LeavesWhole (cond a (Err fault.TickTooLong) (cond b (Err fault.ClockEnd) (Ok (ticked (moved_on (clocked_table t ms))))))
 tick_step true b t ms ends whole = tt
 tick_step false true t ms ends whole = tt
 tick_step false false t ms ends whole =
     let clocked = clocked_whole t ms (in_time (t.clock.0 + ms) ends) whole in
-    produced_whole (advanced (clocked_table t ms)).table (keeps_advanced (clocked_table t ms) clocked).whole
+    let moved = (advanced (clocked_table t ms)).table in
+    produced_whole (explicit_timed_out moved).table (timed_out_whole moved (keeps_advanced (clocked_table t ms) clocked).whole)
 
 tick_whole : (t : ScannerTable) (ms : ℕ) → IsWellFormed t → LeavesWhole (tick t ms)
 unfolding tick
@@ -362,6 +364,7 @@ step_whole t (Tick ms) whole = tick_whole t ms whole
 step_whole t (Mode run) whole = mode_whole t run whole
 step_whole t (Start slot) whole = start_whole t slot whole
 step_whole t (Stop slot) whole = stop_whole t slot whole
+step_whole t (Explicit target number bytes) whole = explicit_whole t target number bytes whole
 step_whole t other whole = passive_holds LeavesWhole t (λ why. tt) (λ verdict. whole) other refl
 
 fresh_fit : (configs : List SlotConfig) → SlotsFit 1 0 configs (map fresh_slot configs)

@@ -9,6 +9,7 @@ use Rattle.cip_events.specs.declared.event.StepFault.{StepFault}
 use Rattle.cip_events.specs.declared.event.StepFault.TheVariants.{NotAllowedNow}
 use Rattle.cip_events.specs.declared.event.Verdict.TheVariants.{BadFrame, Ignored}
 use Rattle.cip_events.specs.Answers.{plain_answer}
+use Rattle.scanner_table.specs.declared.explicit.PendingExplicit.{PendingExplicit}
 use Rattle.scanner_table.specs.declared.slot.SlotState.{SlotState}
 use Rattle.scanner_table.specs.declared.slot.SlotState.TheVariants.{Idle, Opening, Established, TimedOut, Closing}
 use Rattle.scanner_table.specs.declared.table.ScannerTable.{ScannerTable}
@@ -18,10 +19,11 @@ use Rattle.scanner_table.specs.declared.table.TargetStream.{TargetStream}
 use Rattle.scanner_table.specs.Slots.{IndexedSlot, indexed_slots, is_with}
 use Rattle.scanner_table.specs.Sessions.{is_stream, is_taken, with_stream, without_stream, with_stage}
 use Rattle.scanner_table.specs.Requests.{is_large, registration}
-use Rattle.scanner_table.specs.Effects.{Next, Effect, nothing, changed, done}
+use Rattle.scanner_table.specs.Effects.{Next, Effect, nothing, and_then, changed, done}
 use Rattle.scanner_table.specs.Opening.{target_opened}
 use Rattle.scanner_table.specs.Replies.{open_answer, answered}
 use Rattle.scanner_table.specs.Closing.{idle_slot, target_lost}
+use Rattle.scanner_table.specs.Explicit.{awaits, explicit_reply, explicit_answered, explicit_lost}
 
 -- STREAMS OPEN AND CLOSE
 
@@ -34,10 +36,14 @@ registering_on t number target = record { sent = registration number ∷ []; not
 unfoldable pub stream_opened : ScannerTable → ℕ → Node → Result Next StepFault
 stream_opened t number target = if is_taken t.streams number target then Err NotAllowedNow else Ok (done (registering_on t number target))
 
+-- The target's slots give up the replies that they wait for, and then the explicit requests of the stream end.
+abbrev pub stream_lost : ScannerTable → TargetStream → Effect
+stream_lost t stream = and_then (target_lost stream.peer (without_stream t stream.number)) (explicit_lost stream.number)
+
 -- the cut of the stream that the lookup found, if any
 abbrev pub cut_of : ScannerTable → Option TargetStream → Result Next StepFault
 cut_of t None = Err NotAllowedNow
-cut_of t (Some stream) = Ok (done (target_lost stream.peer (without_stream t stream.number)))
+cut_of t (Some stream) = Ok (done (stream_lost t stream))
 
 -- a stream is cut, or its target closes it
 unfoldable pub stream_cut : ScannerTable → ℕ → Result Next StepFault
@@ -97,10 +103,15 @@ reported t stream m Waiting = if m.context == 0 then done (registered t stream m
 reported t stream m (Up handle) = replied_to t m (find (is_awaiting stream.peer m.context) (indexed_slots t))
 reported t stream m Unused = ignored t
 
+-- a message ends the explicit request that waits for it, if any; else the session judges it
+abbrev pub message_answer : ScannerTable → TargetStream → MessageFields → Option PendingExplicit → Next
+message_answer t stream m None = reported t stream m stream.stage
+message_answer t stream m (Some pending) = explicit_answered t pending (explicit_reply pending.service m)
+
 -- the answer to a frame of an open stream
 abbrev pub frame_answer : ScannerTable → TargetStream → Result MessageFields EncapFault → Next
 frame_answer t stream (Err fault) = (plain_answer BadFrame, t)
-frame_answer t stream (Ok m) = reported t stream m stream.stage
+frame_answer t stream (Ok m) = message_answer t stream m (find (awaits stream.number m.context) t.explicit)
 
 -- the frame at the stream that the lookup found, if any
 abbrev pub frame_of : ScannerTable → List ℕ → Option TargetStream → Result Next StepFault

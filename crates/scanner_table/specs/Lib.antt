@@ -6,6 +6,7 @@ pub mod Effects
 pub mod Opening
 pub mod Replies
 pub mod Closing
+pub mod Explicit
 pub mod Encapsulation
 pub mod Datagrams
 pub mod Productions
@@ -18,6 +19,8 @@ pub mod Counters
 pub mod Drawn
 pub mod Producers
 pub mod Waiting
+pub mod Pending
+pub mod ExplicitReplies
 pub mod Whole
 pub mod States
 pub mod Lemmas

@@ -109,11 +109,13 @@ close_fields config triad = record { priority_tick = 0x0A; ticks = 0x0E; triad =
 
 -- MESSAGES
 
--- a request: to register a session, to open a connection by a Forward_Open or a Large_Forward_Open, or to close it
+-- a request: to register a session, to open a connection by a Forward_Open or a Large_Forward_Open, to close it, or a
+-- request of the application's, of these bytes
 pub data Request : Type 0 where
   registering : Request
   opening : Bool → OpenFields → Request
   closing : CloseFields → Request
+  requesting : List ℕ → Request
 
 -- a request with the number of its stream, the handle of its session, and its own number
 pub record Sent : Type 0 where
@@ -135,12 +137,14 @@ abbrev pub request_command : Request → ℕ
 request_command registering = 0x0065
 request_command (opening large fields) = 0x006F
 request_command (closing fields) = 0x006F
+request_command (requesting bytes) = 0x006F
 
 -- the data of a request's message
 abbrev pub request_data : Request → List ℕ
 request_data registering = protocol_text
 request_data (opening large fields) = packet_text (manager_text (open_service large) (open_text large fields)) None
 request_data (closing fields) = packet_text (manager_text forward_close (close_text fields)) None
+request_data (requesting bytes) = packet_text bytes None
 
 -- the number of the request is its sender context, which the reply repeats
 abbrev pub sent_message : Sent → MessageFields

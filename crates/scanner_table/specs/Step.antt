@@ -1,7 +1,7 @@
 -- One event at a scanner's table.
 use Rattle.std.specs.Prelude.{false, [], map, replicate, Result, Ok, Err}
 use Rattle.cip_events.specs.declared.event.Event.{Event}
-use Rattle.cip_events.specs.declared.event.Event.TheVariants.{Request, StreamOpened, Frame, StreamCut, Datagram, Inquiry, Write, Read, Tick, Mode, Start, Stop}
+use Rattle.cip_events.specs.declared.event.Event.TheVariants.{Request, StreamOpened, Frame, StreamCut, Datagram, Inquiry, Write, Read, Tick, Mode, Start, Stop, Explicit}
 use Rattle.cip_events.specs.declared.event.StepFault.{StepFault}
 use Rattle.cip_events.specs.declared.event.StepFault.TheVariants.{NotAllowedNow}
 use Rattle.scanner_table.specs.declared.profile.SlotConfig.{SlotConfig}
@@ -10,6 +10,7 @@ use Rattle.scanner_table.specs.declared.slot.Slot.{Slot}
 use Rattle.scanner_table.specs.declared.slot.SlotState.TheVariants.{Idle}
 use Rattle.scanner_table.specs.declared.table.ScannerTable.{ScannerTable}
 use Rattle.scanner_table.specs.Effects.{Next}
+use Rattle.scanner_table.specs.Explicit.{explicit_request}
 use Rattle.scanner_table.specs.Encapsulation.{stream_opened, frame, stream_cut}
 use Rattle.scanner_table.specs.Datagrams.{received}
 use Rattle.scanner_table.specs.Points.{write, read, mode, start, stop}
@@ -30,6 +31,7 @@ scanner_step t (Tick ms) = tick t ms
 scanner_step t (Mode run) = Ok (mode t run)
 scanner_step t (Start slot) = start t slot
 scanner_step t (Stop slot) = stop t slot
+scanner_step t (Explicit target number bytes) = explicit_request t target number bytes
 
 -- a slot before its first start: its connection is not desired, and output and image are zeros
 abbrev pub fresh_slot : SlotConfig → Slot
@@ -41,7 +43,8 @@ fresh_slot config = record {
   image = replicate config.in_len 0;
 }
 
--- the table of a fresh scanner: idle, with clock 0, with all numbers at 1, and without streams
+-- the table of a fresh scanner: idle, with clock 0, with all numbers at 1, without streams and pending
+-- explicit requests
 abbrev pub scanner_table : ScannerProfile → ScannerTable
 scanner_table profile = record {
   profile = profile;
@@ -52,4 +55,5 @@ scanner_table profile = record {
   next_serial = 1;
   next_request = 1;
   streams = [];
+  explicit = [];
 }

@@ -1,5 +1,6 @@
 -- Time at a scanner. A tick moves the clock; then connections whose deadline has come time out; then slots give up late
--- replies; then ready slots open; then due slots produce (Volume 1, chapter 3, connection timeouts, inactivity watchdog).
+-- replies; then ready slots open; then late explicit requests end; then due slots produce (Volume 1, chapter 3, connection
+-- timeouts, inactivity watchdog).
 use Rattle.std.specs.Prelude.{ℕ, ◌+◌, ◌==◌, ◌&&◌, ◌||◌, nat_lt, nat_le, Bool, false, List, [], ◌∷◌, map, filter, Result, Ok, Err}
 use Rattle.cip_types.specs.Cases.{first_case_or}
 use Rattle.cip_types.specs.declared.names.Ms.{Ms}
@@ -16,6 +17,7 @@ use Rattle.scanner_table.specs.Effects.{Next, Effect, nothing, and_then, on_each
 use Rattle.scanner_table.specs.Opening.{ready_opened}
 use Rattle.scanner_table.specs.Replies.{failed_slot}
 use Rattle.scanner_table.specs.Closing.{given_up}
+use Rattle.scanner_table.specs.Explicit.{explicit_timed_out}
 use Rattle.scanner_table.specs.Productions.{due_productions, produced_table}
 
 -- CONNECTIONS THAT TIME OUT
@@ -81,9 +83,13 @@ all_given_up t = on_each given_up (filter (is_overdue t.clock) (indexed_slots t)
 abbrev pub clocked_table : ScannerTable → ℕ → ScannerTable
 clocked_table t ms = record t { clock = record { 0 = t.clock.0 + ms } }
 
--- the connections after the clock has moved, before productions
+-- the connections after the clock has moved
 abbrev pub advanced : ScannerTable → Effect
 advanced t = and_then (and_then (all_expired t) all_given_up) ready_opened
+
+-- the connections and the explicit requests after the clock has moved, before productions
+abbrev pub moved_on : ScannerTable → Effect
+moved_on t = and_then (advanced t) explicit_timed_out
 
 -- the answer with the requests, the notices and the due datagrams, and the table after the productions
 abbrev pub ticked : Effect → Next
@@ -91,7 +97,7 @@ ticked effect = (sent_answer effect (map sent (due_productions effect.table)), p
 
 -- a number of milliseconds passes: at most the longest tick, and not beyond the end of the clock
 unfoldable pub tick : ScannerTable → ℕ → Result Next StepFault
-tick t ms = first_case_or (Ok (ticked (advanced (clocked_table t ms)))) (
+tick t ms = first_case_or (Ok (ticked (moved_on (clocked_table t ms)))) (
     (nat_lt longest_tick ms, Err fault.TickTooLong)
     ∷ (nat_lt clock_end (t.clock.0 + ms), Err fault.ClockEnd)
     ∷ []

@@ -5,11 +5,13 @@ use Rattle.scanner_table.specs.WellFormed.{IsWellFormed}
 use Rattle.scanner_table.specs.Drawn.{NumbersAreOwn}
 use Rattle.scanner_table.specs.Producers.{SlotsProduceAsThemselves}
 use Rattle.scanner_table.specs.Waiting.{SlotsWaitInTime}
+use Rattle.scanner_table.specs.Pending.{ExplicitArePending}
 
 -- The table is whole by its own definition; its numbers were allocated, and no id is used twice; each slot produces by its own
--- number for its own target; and no slot waits too long for a reply.
+-- number for its own target; no slot waits too long for a reply; and the explicit requests are pending.
 pub record IsWholeScanner (t : ScannerTable) : Type 0 where
   pub table : IsWellFormed t
   pub numbers : NumbersAreOwn t
   pub producers : SlotsProduceAsThemselves t
   pub waits : SlotsWaitInTime t
+  pub explicit : ExplicitArePending t

@@ -100,6 +100,7 @@ impl ScannerTable {
         let profile = self.profile.copy(alloc)?;
         let slots = Items::from_vec(copy_of_slots(alloc, self.slots.as_slice())?);
         let streams = Items::copy_of(alloc, self.streams.as_slice())?;
+        let explicit = Items::copy_of(alloc, self.explicit.as_slice())?;
         Ok(ScannerTable {
             profile,
             slots,
@@ -109,6 +110,7 @@ impl ScannerTable {
             next_serial: self.next_serial,
             next_request: self.next_request,
             streams,
+            explicit,
         })
     }
 

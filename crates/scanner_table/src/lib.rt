@@ -6,6 +6,7 @@
 
 mod copy;
 mod counters;
+mod explicit;
 mod laws;
 mod profile;
 mod profile_check;
@@ -17,6 +18,10 @@ mod whole;
 
 pub use copy::copy_of_slots;
 pub use counters::{counters_never_fall, numbers_are_below_the_next};
+pub use explicit::{
+    LONGEST_EXPLICIT, MOST_EXPLICIT, PendingExplicit, SHORTEST_EXPLICIT,
+    explicit_requests_are_pending, replies_are_to_pending_requests,
+};
 pub use laws::{
     advancing_keeps_tables_well_formed, fresh_tables_are_well_formed, steps_keep_tables_well_formed,
 };

@@ -1,5 +1,6 @@
 //! The table of a scanner.
 
+use crate::explicit::PendingExplicit;
 use crate::profile::ScannerProfile;
 use crate::slot::Slot;
 use cip_types::{Items, Ms, Node};
@@ -67,4 +68,6 @@ pub struct ScannerTable {
     pub next_request: u64,
     /// The open streams, in the order in which they were opened.
     pub streams: Items<TargetStream>,
+    /// The explicit requests without a reply yet, in the order in which they were sent.
+    pub explicit: Items<PendingExplicit>,
 }

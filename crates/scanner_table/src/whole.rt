@@ -9,17 +9,19 @@ ghost use Rattle.scanner_table.specs.Step.{scanner_step, scanner_table};
 ghost use Rattle.scanner_table.specs.Whole.{IsWholeScanner};
 
 use crate::counters::numbers_are_below_the_next;
+use crate::explicit::explicit_requests_are_pending;
 use crate::slots::{answers_are_waited_for_in_time, slots_produce_as_themselves};
 
 /// The table of a fresh scanner is whole, if its profile has no fault.
 pub fn fresh_tables_are_whole()
     ensures { (profile : ScannerProfile) → profile_fault profile ≡ None → IsWholeScanner (scanner_table profile) }
 {
-    // The four parts of a whole table.
+    // The five parts of a whole table.
     crate::fresh_tables_are_well_formed();
     numbers_are_below_the_next();
     slots_produce_as_themselves();
     answers_are_waited_for_in_time();
+    explicit_requests_are_pending();
 }
 
 /// A step from a whole table that gives an answer leads to a whole table. An event that is refused leaves the table as it
@@ -28,11 +30,12 @@ pub fn steps_keep_tables_whole()
     ensures { (t : ScannerTable) (event : Event) →
         IsWholeScanner t → IfOk (scanner_step t event) (λ next. IsWholeScanner next.1) }
 {
-    // The four parts of a whole table.
+    // The five parts of a whole table.
     crate::steps_keep_tables_well_formed();
     numbers_are_below_the_next();
     slots_produce_as_themselves();
     answers_are_waited_for_in_time();
+    explicit_requests_are_pending();
 }
 
 /// A whole table stays whole with a later counter for the next connection id, up to 16,777,216, at which no id is left.

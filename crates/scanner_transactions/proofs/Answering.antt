@@ -12,7 +12,7 @@ use Rattle.scanner_table.specs.declared.slot.SlotState.TheVariants.{Closing}
 use Rattle.scanner_table.specs.Closing.{given_up, given_up_state}
 use Rattle.scanner_table.specs.Encapsulation.{replied, replied_to}
 use Rattle.scanner_transactions.specs.Transactions.{Progress, begun, followed, at_found, after_at}
-use Rattle.scanner_transactions.specs.FrameOutcomes.{progress_next}
+use Rattle.scanner_transactions.specs.MessageOutcomes.{progress_next}
 use Rattle.scanner_transactions.proofs.SlotNumbers.{Each, StandsIn, slots_stand}
 
 pub is_done : (t : ScannerTable) (effect : Effect) (d : Progress) → d ≡ followed (begun t) effect → progress_next d ≡ done effect

@@ -6,68 +6,20 @@ use Rattle.cip_types.specs.Cases.{Case, first_case}
 use Rattle.cip_events.specs.declared.profile_fault.ProfileFault.TheVariants.{Incarnation, Points, SameInstance, Length, Timing}
 use Rattle.scanner_table.specs.declared.profile.ScannerProfile.{ScannerProfile}
 use Rattle.scanner_table.specs.declared.profile.SlotConfig.{SlotConfig}
-use Rattle.scanner_table.specs.Profiles.{profile_fault, are_served, are_apart, has_lengths, has_times, keeps_time, is_wait, are_few, listens_to_group, is_inhibit}
+use Rattle.scanner_table.specs.Profiles.{profile_fault, are_served, are_apart, has_lengths, has_times, keeps_time, are_few, listens_to_group, is_inhibit}
 use Rattle.cip_types.specs.declared.names.Mismatch.{Mismatch}
 use Rattle.cip_netparams.specs.Rate.{is_interval, interval_ms}
 use Rattle.cip_fwdopen.specs.declared.reply.Opened as made
 use Rattle.conn_state.specs.declared.names.Requested.{Requested}
 use Rattle.conn_state.specs.Answers.{answer_tests}
 use Rattle.scanner_requests.specs.Connections.{link_or_why}
-
-no_more : {A : Type 0} (test : Bool) (says : A) (rest : List (Case A)) → first_case ((test, says) ∷ rest) ≡ None → (test ≡ false) × (first_case rest ≡ None)
-no_more true says rest is = absurd (cc)
-no_more false says rest is = (refl, is)
-
-last_two : {A : Type 0} (a b c d e : Bool) (v w x y z : A) → first_case ((a, v) ∷ (b, w) ∷ (c, x) ∷ (d, y) ∷ (e, z) ∷ []) ≡ None → (d ≡ false) × (e ≡ false)
-last_two a b c d e v w x y z is =
-    let second = (no_more a v ((b, w) ∷ (c, x) ∷ (d, y) ∷ (e, z) ∷ []) is).1 in
-    let third = (no_more b w ((c, x) ∷ (d, y) ∷ (e, z) ∷ []) second).1 in
-    let fourth = (no_more c x ((d, y) ∷ (e, z) ∷ []) third).1 in
-    let fifth = no_more d y ((e, z) ∷ []) fourth in
-    (fifth.0, (no_more e z [] fifth.1).0)
-
-is_so : (b : Bool) → not b ≡ false → b ≡ true
-is_so true is = refl
-is_so false is = absurd (cc)
-
-pub both_so : (a b : Bool) → (a && b) ≡ true → (a ≡ true) × (b ≡ true)
-both_so true b is = (refl, is)
-both_so false b is = absurd (cc)
-
--- lengths and times within their limits
-pub record Faultless (profile : ScannerProfile) : Type 0 where
-  pub lengths : list_all has_lengths profile.slots ≡ true
-  pub times : list_all has_times profile.slots ≡ true
-  pub open_timeout : profile.open_timeout ≤ 60000
-  pub retry : profile.retry ≤ 60000
-
-wait_fits : (ms : ℕ) → is_wait ms ≡ true → ms ≤ 60000
-wait_fits ms is = grind (arith, nat_tests)
-
-pub faultless : (profile : ScannerProfile) → profile_fault profile ≡ None → Faultless profile
-unfolding profile_fault
-faultless profile is =
-    let passed = last_two (profile.incarnation == 0) (not (are_served profile)) (not (are_apart profile.slots)) (not (list_all has_lengths profile.slots)) (not (keeps_time profile)) Incarnation Points SameInstance Length Timing is in
-    let timely = both_so (list_all has_times profile.slots) (is_wait profile.open_timeout && is_wait profile.retry) (is_so (keeps_time profile) passed.1) in
-    let waits = both_so (is_wait profile.open_timeout) (is_wait profile.retry) timely.1 in
-    record {
-      lengths = is_so (list_all has_lengths profile.slots) passed.0;
-      times = timely.0;
-      open_timeout = wait_fits profile.open_timeout waits.0;
-      retry = wait_fits profile.retry waits.1;
-    }
+use Rattle.scanner_requests.specs.Lemmas.Waits.{no_more, is_so, both_so, faultless}
 
 -- a property of all holds of each
 pub all_at : {A : Type 0} (p : A → Bool) (xs : List A) (i : ℕ) (x : A) → list_all p xs ≡ true → slice_get xs i ≡ Some x → p x ≡ true
 all_at p [] i x all is = absurd (cc)
 all_at p (y ∷ ys) zero x all is = let both = both_so (p y) (list_all p ys) all in let same : y ≡ x = cc in rw (← same) both.0
 all_at p (y ∷ ys) (suc i) x all is = all_at p ys i x (both_so (p y) (list_all p ys) all).1 is
-
-pub retry_fits : (profile : ScannerProfile) → profile_fault profile ≡ None → profile.retry ≤ 60000
-retry_fits profile is = (faultless profile is).retry
-
-pub open_timeout_fits : (profile : ScannerProfile) → profile_fault profile ≡ None → profile.open_timeout ≤ 60000
-open_timeout_fits profile is = (faultless profile is).open_timeout
 
 few_by : {A : Type 0} (a b : Bool) (v w : A) (rest : List (Case A)) → first_case ((a, v) ∷ (b, w) ∷ rest) ≡ None → b ≡ false
 few_by a b v w rest is = (no_more b w rest (no_more a v ((b, w) ∷ rest) is).1).0

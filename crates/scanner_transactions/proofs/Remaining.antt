@@ -10,7 +10,7 @@ use Rattle.scanner_table.specs.declared.slot.Slot.{Slot}
 use Rattle.scanner_table.specs.declared.table.ScannerTable.{ScannerTable}
 use Rattle.scanner_table.specs.Requests.{sent_frame}
 use Rattle.scanner_table.specs.Slots.{IndexedSlot, indexed_from, indexed_slots, is_numbered, slot_at}
-use Rattle.scanner_table.specs.Effects.{Effect, after, on_each}
+use Rattle.scanner_table.specs.Effects.{Effect, after, and_then, on_each}
 use Rattle.scanner_transactions.specs.declared.transaction.Transaction.{Transaction}
 use Rattle.scanner_transactions.specs.Transactions.{Progress, followed, at_found, after_at}
 use Rattle.scanner_transactions.specs.Undoing.{GoesOn}
@@ -24,6 +24,10 @@ use Rattle.scanner_transactions.proofs.Tame.{Changes, IsTame, actions_are_tame}
 pub adds_both : (d : Progress) (first next : Effect) → followed (followed d first) next ≡ followed d (after first next)
 adds_both d first next =
     rw (map-append sent_frame first.sent next.sent, append_assoc d.frames (map sent_frame first.sent) (map sent_frame next.sent), append_assoc d.notices first.notices next.notices) refl
+
+-- an effect behind another one
+pub then_added : (d e : Progress) (first next : ScannerTable → Effect) → e ≡ followed d (first d.table) → followed e (next e.table) ≡ followed d (and_then (first d.table) next)
+then_added d e first next is = ap (λ (p : Progress). followed p (next p.table)) is ∙ adds_both d (first d.table) (next (first d.table).table)
 
 -- ---- the slots from a number on
 

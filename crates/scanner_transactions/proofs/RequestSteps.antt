@@ -25,7 +25,8 @@ use Rattle.scanner_table.specs.Profiles.{profile_fault, has_lengths}
 use Rattle.scanner_table.specs.Slots.{IndexedSlot, slot_at, with_slot}
 use Rattle.scanner_transactions.specs.declared.changes.SlotChange.{SlotChange}
 use Rattle.scanner_transactions.specs.Transactions.{Progress, followed, at_found, after_at, slot_changed, with_change, with_request, opening_change, open_requested_within, freshly_started, closing_change, close_requested_within, faulted, Adds}
-use Rattle.scanner_transactions.proofs.Faultless.{faultless, all_at, both_so}
+use Rattle.scanner_requests.specs.Lemmas.Waits.{faultless, both_so}
+use Rattle.scanner_transactions.proofs.Faultless.{all_at}
 use Rattle.scanner_transactions.proofs.Found.{found, refound}
 
 -- NUMBERS AND LENGTHS

@@ -1,4 +1,4 @@
 pub mod Transactions
 pub mod Undoing
 pub mod Runs
-pub mod FrameOutcomes
+pub mod MessageOutcomes

@@ -4,6 +4,7 @@ use Rattle.std.specs.Prelude.{◌≡◌, ℕ, Bool, List, [], ◌∷◌, Option,
 use Rattle.std.specs.Result.{IfOk}
 use Rattle.cip_types.specs.declared.names.Ms.{Ms}
 use Rattle.cip_types.specs.declared.memory.OutOfMemory as memory
+use Rattle.scanner_table.specs.declared.explicit.PendingExplicit.{PendingExplicit}
 use Rattle.scanner_table.specs.declared.profile.ScannerProfile.{ScannerProfile}
 use Rattle.scanner_table.specs.declared.slot.Slot.{Slot}
 use Rattle.scanner_table.specs.declared.table.ScannerTable.{ScannerTable}
@@ -44,6 +45,7 @@ pub record State : Type 0 where
   pub next_serial : ℕ
   pub next_request : ℕ
   pub streams : List TargetStream
+  pub explicit : List PendingExplicit
 
 abbrev pub state_of : ScannerState → State
 state_of scanner = record {
@@ -54,6 +56,7 @@ state_of scanner = record {
   next_serial = scanner.next_serial;
   next_request = scanner.next_request;
   streams = scanner.streams.items;
+  explicit = scanner.explicit.items;
 }
 
 -- the table with this profile
@@ -67,6 +70,7 @@ table_with profile state = record {
   next_serial = state.next_serial;
   next_request = state.next_request;
   streams = state.streams;
+  explicit = state.explicit;
 }
 
 -- the table beside the profile at the beginning of the transaction
@@ -79,6 +83,7 @@ state_before transaction = record {
   next_serial = transaction.undo.next_serial;
   next_request = transaction.undo.next_request;
   streams = unwrap_or transaction.undo.streams transaction.scanner.streams.items;
+  explicit = unwrap_or transaction.undo.explicit transaction.scanner.explicit.items;
 }
 
 -- the transaction goes on: its profile and its clock stay, and it can still go back to its beginning

@@ -14,7 +14,7 @@ use scanner_table::ScannerProfile;
 use std::alloc::Global;
 use std::mem;
 
-/// Returns a table without slots and streams. Takes no memory.
+/// Returns a table without slots, streams and explicit requests. Takes no memory.
 fn empty(alloc: Global) -> ScannerState {
     ScannerState {
         slots: Vec::new(alloc),
@@ -24,13 +24,14 @@ fn empty(alloc: Global) -> ScannerState {
         next_serial: 0,
         next_request: 0,
         streams: Vec::new(alloc),
+        explicit: Vec::new(alloc),
     }
 }
 
 impl<'a> Transaction<'a> {
     /// Begins a transaction on the table, without requests and notices. Takes no memory.
     ///
-    /// It takes the table over, and leaves one without slots and streams until the transaction ends.
+    /// It takes the table over, and leaves one without slots, streams and explicit requests until the transaction ends.
     pub fn begin(
         alloc: Global,
         profile: &'a ScannerProfile,
@@ -47,6 +48,7 @@ impl<'a> Transaction<'a> {
         let undo = Undo {
             slots: Vec::new(alloc),
             streams: None,
+            explicit: None,
             clock: scanner.clock,
             next_id: scanner.next_id,
             next_serial: scanner.next_serial,

@@ -1,16 +1,16 @@
-//! A change of one slot.
+//! A change of one slot, and a request whose reply it waits for.
 
-ghost use Rattle.std.specs.Prelude.{◌≡◌, ◌++◌, ◌∷◌, ◌<◌, [], length, slice_set, slice_get, IfOk, OnOk, OnErr};
+ghost use Rattle.std.specs.Prelude.{◌≡◌, ◌++◌, ◌∷◌, ◌<◌, ◌≤◌, ◌^◌, [], None, length, slice_set, slice_get, IfOk, OnOk, OnErr};
 ghost use Rattle.std.specs.Option.{ForSome, option_map};
 ghost use Rattle.scanner_table.specs.Effects.{state_notices};
 ghost use Rattle.scanner_table.specs.Slots.{slot_at};
 ghost use Rattle.scanner_slots.specs.Views.{view_slot};
-ghost use Rattle.scanner_transactions.specs.Transactions.{view_transaction, after_at, with_change, listed, slot_changed};
+ghost use Rattle.scanner_transactions.specs.Transactions.{view_transaction, after_at, with_change, with_request, listed, slot_changed};
 ghost use Rattle.scanner_transactions.specs.Undoing.{Performs, kept_slot};
 
 use crate::transaction::Transaction;
 use crate::undo::SlotBefore;
-use cip_events::Notice;
+use cip_events::{Frame, Notice};
 use cip_types::{Ms, OutOfMemory};
 use scanner_slots::{SlotView, number_of, slot_at};
 use scanner_table::{Slot, SlotState};
@@ -112,5 +112,21 @@ impl Transaction<'_> {
             slot_change,
         )?;
         Ok(())
+    }
+
+    /// Sends the next request, and changes the slot that waits for its reply.
+    pub(crate) fn send_request(
+        &mut self,
+        number: u32,
+        frame: Frame,
+        slot_change: SlotChange,
+    ) -> Result<(), OutOfMemory>
+        requires left { self.old.scanner.next_request ≤ 2 ^ 48 }
+        ensures { Performs (λ so_far. after_at (slot_changed slot_change None) number (with_request frame so_far))
+            self.old result self.new }
+    {
+        self.frames.push(frame)?;
+        self.scanner.next_request += 1;
+        self.change(number, slot_change, None)
     }
 }

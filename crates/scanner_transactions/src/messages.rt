@@ -1,27 +1,24 @@
-//! The frames that targets send.
+//! The messages that targets send.
 
 ghost use Rattle.std.specs.Prelude.{find};
 ghost use Rattle.cip_encap.specs.Message.{view_message};
-ghost use Rattle.cip_encap.specs.Reading.{message_reading};
 ghost use Rattle.scanner_table.specs.declared.table.Stage.TheVariants.{Waiting};
-ghost use Rattle.scanner_table.specs.Encapsulation.{is_awaiting, replied_to, reported, frame_answer};
+ghost use Rattle.scanner_table.specs.Encapsulation.{is_awaiting, replied_to, reported};
 ghost use Rattle.scanner_table.specs.Slots.{indexed_slots};
 ghost use Rattle.scanner_transactions.specs.Transactions.{IsFresh};
-ghost use Rattle.scanner_transactions.specs.FrameOutcomes.{Takes};
+ghost use Rattle.scanner_transactions.specs.MessageOutcomes.{Takes};
 
 use crate::Transaction;
 use crate::sessions::register;
-use cip_encap::{MessageView, read_message};
+use cip_encap::MessageView;
 use cip_types::{Node, OutOfMemory};
 use scanner_requests::{open_answer, service_for};
 use scanner_slots::find_awaiting;
 use scanner_table::{SlotState, Stage, TargetStream};
 
-/// The outcome of a frame.
+/// The outcome of a message that no explicit request waits for.
 #[derive(Clone, Copy, PartialEq, Eq)]
-pub enum FrameOutcome {
-    /// The frame is no whole message.
-    BadFrame,
+pub enum MessageOutcome {
     /// Nothing waits for the message.
     Ignored,
     /// The message is a reply that a slot or a registration waited for. Its effect is in the transaction.
@@ -34,7 +31,7 @@ fn replied_to(
     transaction: &mut Transaction<'_>,
     target: Node,
     message: &MessageView<'_>,
-) -> Result<FrameOutcome, OutOfMemory>
+) -> Result<MessageOutcome, OutOfMemory>
     requires { IsFresh transaction.old }
     ensures { let m = view_message message.now in Takes
         (λ t. replied_to t m (find (is_awaiting target m.context) (indexed_slots t)))
@@ -43,21 +40,21 @@ fn replied_to(
     let configs = transaction.profile.slots.as_slice();
     let slots = &transaction.scanner.slots;
     let Some(indexed) = find_awaiting(configs, slots, target, message.context) else {
-        return Ok(FrameOutcome::Ignored);
+        return Ok(MessageOutcome::Ignored);
     };
     let number = indexed.number;
     match indexed.slot.state {
         SlotState::Opening(opening) => {
             let reported = open_answer(service_for(indexed.config), message);
             transaction.answer(number, &opening, reported)?;
-            Ok(FrameOutcome::Answered)
+            Ok(MessageOutcome::Answered)
         }
         SlotState::Closing(_) => {
             transaction.give_up(number)?;
-            Ok(FrameOutcome::Answered)
+            Ok(MessageOutcome::Answered)
         }
         SlotState::Idle | SlotState::Established(_) | SlotState::TimedOut(_) => Ok(
-            FrameOutcome::Ignored,
+            MessageOutcome::Ignored,
         ),
     }
 }
@@ -67,23 +64,26 @@ fn registered(
     transaction: &mut Transaction<'_>,
     stream: TargetStream,
     message: &MessageView<'_>,
-) -> Result<FrameOutcome, OutOfMemory>
+) -> Result<MessageOutcome, OutOfMemory>
     requires { IsFresh transaction.old }
     ensures { Takes (λ t. reported t stream (view_message message.now) Waiting) transaction.old result transaction.new }
 {
     if message.context != 0 {
-        return Ok(FrameOutcome::Ignored);
+        return Ok(MessageOutcome::Ignored);
     }
     register(transaction, stream, message)?;
-    Ok(FrameOutcome::Answered)
+    Ok(MessageOutcome::Answered)
 }
 
-/// Takes a message of the target of an open stream, by the stage of the stream's session.
-fn reported(
+/// Takes a message of the target of an open stream, by the stage of the stream's session, in a transaction that has just
+/// begun. `OutOfMemory` is the only error; the transaction must be undone then.
+///
+/// Volume 2, chapter 2, encapsulation messages.
+pub fn receive_message(
     transaction: &mut Transaction<'_>,
     stream: TargetStream,
     message: &MessageView<'_>,
-) -> Result<FrameOutcome, OutOfMemory>
+) -> Result<MessageOutcome, OutOfMemory>
     requires { IsFresh transaction.old }
     ensures { Takes (λ t. reported t stream (view_message message.now) stream.stage)
         transaction.old result transaction.new }
@@ -91,24 +91,6 @@ fn reported(
     match stream.stage {
         Stage::Waiting => registered(transaction, stream, message),
         Stage::Up(_) => replied_to(transaction, stream.peer, message),
-        Stage::Unused => Ok(FrameOutcome::Ignored),
-    }
-}
-
-/// Takes a frame of an open stream, in a transaction that has just begun. `OutOfMemory` is the only error; the transaction
-/// must be undone then.
-///
-/// Volume 2, chapter 2, encapsulation messages.
-pub fn receive_frame(
-    transaction: &mut Transaction<'_>,
-    stream: TargetStream,
-    bytes: &[u8],
-) -> Result<FrameOutcome, OutOfMemory>
-    requires { IsFresh transaction.old }
-    ensures { Takes (λ t. frame_answer t stream (message_reading bytes.now)) transaction.old result transaction.new }
-{
-    match read_message(bytes) {
-        Ok(message) => reported(transaction, stream, &message),
-        Err(_) => Ok(FrameOutcome::BadFrame),
+        Stage::Unused => Ok(MessageOutcome::Ignored),
     }
 }

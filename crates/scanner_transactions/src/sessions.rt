@@ -1,8 +1,6 @@
 //! Slots at the beginning and at the end of the session with their target.
 
-ghost use Rattle.scanner_table.specs.Sessions.{without_stream};
-ghost use Rattle.scanner_table.specs.Encapsulation.{registered, session_begun, session_failed};
-ghost use Rattle.scanner_table.specs.Closing.{target_lost};
+ghost use Rattle.scanner_table.specs.Encapsulation.{registered, session_begun, session_failed, stream_lost};
 ghost use Rattle.cip_encap.specs.Message.{view_message};
 ghost use Rattle.scanner_transactions.specs.Transactions.{followed_by};
 ghost use Rattle.scanner_transactions.specs.Undoing.{Performs};
@@ -11,6 +9,7 @@ use crate::Transaction;
 use crate::running::{lose_target, open_target};
 use cip_encap::MessageView;
 use cip_types::OutOfMemory;
+use explicit_requests::ExplicitEnd;
 use scanner_requests::is_registered;
 use scanner_table::{Stage, TargetStream};
 
@@ -52,15 +51,16 @@ pub fn register(
     fail_session(transaction, stream)
 }
 
-/// Removes a stream, and lets its target's slots give up the replies that they wait for. `OutOfMemory` is the only error;
-/// the transaction must be undone then.
+/// Removes a stream, and lets its target's slots give up the replies that they wait for. Then the explicit requests of the
+/// stream end. `OutOfMemory` is the only error; the transaction must be undone then.
+#[tactic(auto, unfolding(scanner_table::specs::Explicit::explicit_lost))]
 pub fn cut_stream(
     transaction: &mut Transaction<'_>,
     stream: TargetStream,
 ) -> Result<(), OutOfMemory>
-    ensures { Performs (followed_by (λ t. target_lost stream.peer (without_stream t stream.number)))
-        transaction.old result transaction.new }
+    ensures { Performs (followed_by (λ t. stream_lost t stream)) transaction.old result transaction.new }
 {
     transaction.cut_stream(stream.number)?;
-    lose_target(transaction, stream.peer)
+    lose_target(transaction, stream.peer)?;
+    transaction.end_explicit(ExplicitEnd::Over(stream.number))
 }

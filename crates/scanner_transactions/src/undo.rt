@@ -7,7 +7,7 @@ ghost use Rattle.scanner_transactions.specs.Undoing.{slot_before, undone_slots, 
 use crate::transaction::Transaction;
 use cip_types::{Items, Ms, OutOfMemory};
 use scanner_slots::ScannerState;
-use scanner_table::{Slot, SlotState, TargetStream};
+use scanner_table::{PendingExplicit, Slot, SlotState, TargetStream};
 use std::alloc::Global;
 
 /// What a slot held before a change. Its output never changes in a transaction.
@@ -32,6 +32,8 @@ pub(crate) struct Undo {
     pub slots: Vec<SlotBefore>,
     /// The streams, if the transaction changed one.
     pub streams: Option<Items<TargetStream>>,
+    /// The explicit requests, if the transaction ended one.
+    pub explicit: Option<Items<PendingExplicit>>,
     /// The clock.
     pub clock: Ms,
     /// The counter of the next connection id.
@@ -42,17 +44,17 @@ pub(crate) struct Undo {
     pub next_request: u64,
 }
 
-/// Keeps the streams before their first change.
-pub(crate) fn keep_streams(
+/// Keeps a list before its first change.
+pub(crate) fn keep_list<T: Copy>(
     alloc: Global,
-    kept: &mut Option<Items<TargetStream>>,
-    streams: &[TargetStream],
+    kept: &mut Option<Items<T>>,
+    list: &[T],
 ) -> Result<(), OutOfMemory>
-    ensures ok { OnOk result (kept.new ≡ Some (unwrap_or kept.old streams.now)) }
+    ensures ok { OnOk result (kept.new ≡ Some (unwrap_or kept.old list.now)) }
     ensures err { OnErr result (kept.new ≡ kept.old) }
 {
     if kept.is_none() {
-        *kept = Some(Items::copy_of(alloc, streams)?);
+        *kept = Some(Items::copy_of(alloc, list)?);
     }
     Ok(())
 }
@@ -84,15 +86,12 @@ fn put_all_back(slots: &mut Vec<Slot>, kept: Vec<SlotBefore>)
     }
 }
 
-fn streams_before(
-    kept: Option<Items<TargetStream>>,
-    streams: Vec<TargetStream>,
-) -> Vec<TargetStream>
-    ensures { result.items ≡ unwrap_or kept streams.items }
+fn list_before<T: Copy>(kept: Option<Items<T>>, list: Vec<T>) -> Vec<T>
+    ensures { result.items ≡ unwrap_or kept list.items }
 {
     match kept {
         Some(kept) => kept.into_vec(),
-        None => streams,
+        None => list,
     }
 }
 
@@ -112,7 +111,8 @@ impl Transaction<'_> {
             next_id: undo.next_id,
             next_serial: undo.next_serial,
             next_request: undo.next_request,
-            streams: streams_before(undo.streams, scanner.streams),
+            streams: list_before(undo.streams, scanner.streams),
+            explicit: list_before(undo.explicit, scanner.explicit),
         }
     }
 }

@@ -19,7 +19,8 @@ use Rattle.cip_events.specs.declared.event.Event.{Event}
 use Rattle.cip_events.specs.declared.event.Event.TheVariants as event
 use Rattle.cip_events.specs.declared.event.Verdict.{Verdict}
 use Rattle.cip_events.specs.declared.event.Verdict.TheVariants.{Delivered}
-use Rattle.cip_productions.specs.Acceptance.{accepts_sequence, is_duplicate}
+use Rattle.adapter_table.specs.StatedLimits.{accepts_number}
+use Rattle.cip_productions.specs.Acceptance.{is_duplicate}
 use Rattle.cip_productions.specs.declared.acceptance.Accepted.{Accepted}
 use Rattle.cip_productions.specs.Kinds.{is_owner}
 use Rattle.adapter_table.specs.declared.profile.OutputPoint.{OutputPoint}
@@ -170,7 +171,7 @@ headed reads profile row d p (inr empty) same owns sized =
     expected_is : (profile : Profile) (row : Row) → is_owner row.kind ≡ true → expected_len profile row ≡ output_len (find (is_output_at row.consumed) profile.outputs) + 4
     expected_is profile row owns = rw owns refl
 
-owned_delivery_is : (profile : Profile) (row : Row) (d : DatagramFields) → is_owner row.kind ≡ true → row_delivery profile row d ≡ cond (length d.payload == expected_len profile row) (cond (accepts_sequence row.last d.sequence) (cond (is_duplicate row.last d.count) Duplicate (moded (header_at d.payload))) Old) WrongSize
+owned_delivery_is : (profile : Profile) (row : Row) (d : DatagramFields) → is_owner row.kind ≡ true → row_delivery profile row d ≡ cond (length d.payload == expected_len profile row) (cond (accepts_number profile.limits.newer row.last d.sequence) (cond (is_duplicate row.last d.count) Duplicate (moded (header_at d.payload))) Old) WrongSize
 owned_delivery_is profile row d owns = rw owns refl
 
 -- what was accepted before with the same count has the same payload
@@ -196,16 +197,16 @@ some_header a b xs ys is = (ap (λ (o : Option (Bool × List ℕ)). bit o) is, a
 -- the output of the owner that the datagram is for
 own_value : HeaderReadsBack → (accepted : List Acceptance) (device : ℕ) (p : Production) (t : AdapterTable) (row : Row) (d : DatagramFields) (delivery : Delivery) → row_delivery t.profile row d ≡ delivery → is_accepted delivery ≡ true → ComesBack p.made.datagram d → IsNumbered p → HasForm p.made → Has row t.rows → is_established row ≡ true → is_owner row.kind ≡ true → p.made.run ≡ true → (kept : List ℕ) → bytes_at t.values row.consumed ≡ Some kept → Remembers accepted device t → Repeats accepted device p row.opening → TableHolds accepted device t → bytes_at (accepted_values t.profile row.consumed d delivery t.values) row.consumed ≡ Some p.made.value
 own_value reads accepted device p t row d delivery said so back numbered form has lives owns run kept holds remembers repeats ok =
-    let sized = sized_of (length d.payload == expected_len t.profile row) (accepts_sequence row.last d.sequence) (is_owner row.kind) (is_duplicate row.last d.count) (header_at d.payload) (ap is_accepted said ∙ so) in
+    let sized = sized_of (length d.payload == expected_len t.profile row) (accepts_number t.profile.limits.newer row.last d.sequence) (is_owner row.kind) (is_duplicate row.last d.count) (header_at d.payload) (ap is_accepted said ∙ so) in
     let header = headed reads t.profile row d p form back.payload owns sized in
     let runs : run_bit (header_at d.payload) ≡ true = ap run_bit header ∙ run in
-    by_delivery header (owned_of (length d.payload == expected_len t.profile row) (accepts_sequence row.last d.sequence) (is_duplicate row.last d.count) (header_at d.payload) delivery runs (sym (owned_delivery_is t.profile row d owns) ∙ said) so)
+    by_delivery header (owned_of (length d.payload == expected_len t.profile row) (accepts_number t.profile.limits.newer row.last d.sequence) (is_duplicate row.last d.count) (header_at d.payload) delivery runs (sym (owned_delivery_is t.profile row d owns) ∙ said) so)
   where
     repeat : header_at d.payload ≡ Some (p.made.run, p.made.value) → (a : Acceptance) → newest (end_at device row.opening) accepted ≡ Some a → d.count ≡ a.production.made.datagram.count → bytes_at t.values row.consumed ≡ Some p.made.value
     repeat header a newest_is same =
         let one = repeats a newest_is (sym (count_back p d numbered back) ∙ same) in
         let payload : d.payload ≡ a.production.made.datagram.payload = back.payload ∙ one.payload in
-        let sized = sized_of (length d.payload == expected_len t.profile row) (accepts_sequence row.last d.sequence) (is_owner row.kind) (is_duplicate row.last d.count) (header_at d.payload) (ap is_accepted said ∙ so) in
+        let sized = sized_of (length d.payload == expected_len t.profile row) (accepts_number t.profile.limits.newer row.last d.sequence) (is_owner row.kind) (is_duplicate row.last d.count) (header_at d.payload) (ap is_accepted said ∙ so) in
         let other = headed reads t.profile row d a.production one.form payload owns sized in
         let equal = some_header a.production.made.run p.made.run a.production.made.value p.made.value (sym other ∙ header) in
         ok row has lives owns a newest_is (equal.0 ∙ run) ∙ ap Some equal.1
@@ -258,7 +259,7 @@ apart_by false t found row same whole has_found has ne lives owns living owning 
 
 other_apart : (t : AdapterTable) (peer : Node) (d : DatagramFields) (found row : Row) (delivery : Delivery) → row_delivery t.profile found d ≡ delivery → IsWhole t → Has found t.rows → is_for peer d.connection found ≡ true → Has row t.rows → found.opening ≢ row.opening → is_established row ≡ true → is_owner row.kind ≡ true → (delivery ≡ Applied) ⊎ (delivery ≡ Idle) → (found.consumed == row.consumed) ≡ false
 other_apart t peer d found row delivery said whole has_found for_it has ne lives owns acts =
-    apart_by (found.consumed == row.consumed) t found row refl whole has_found has ne (for_established peer d.connection found for_it) (owner_of (length d.payload == expected_len t.profile found) (accepts_sequence found.last d.sequence) (is_owner found.kind) (is_duplicate found.last d.count) (header_at d.payload) (acted acts)) lives owns
+    apart_by (found.consumed == row.consumed) t found row refl whole has_found has ne (for_established peer d.connection found for_it) (owner_of (length d.payload == expected_len t.profile found) (accepts_number t.profile.limits.newer found.last d.sequence) (is_owner found.kind) (is_duplicate found.last d.count) (header_at d.payload) (acted acts)) lives owns
   where
     acted : (delivery ≡ Applied) ⊎ (delivery ≡ Idle) → (row_delivery t.profile found d ≡ Applied) ⊎ (row_delivery t.profile found d ≡ Idle)
     acted (inl is) = inl (said ∙ is)
@@ -372,10 +373,10 @@ found_runs reads accepted device p t peer d (Some found) back facts n named said
     let applied : delivery ≡ Applied = same_delivery delivery Applied (sym verdict ∙ said) in
     let so : is_accepted delivery ≡ true = ap is_accepted applied in
     let form = (facts found.opening refl (ap reports_accepted verdict ∙ so)).form in
-    let owns = owner_of (length d.payload == expected_len t.profile found) (accepts_sequence found.last d.sequence) (is_owner found.kind) (is_duplicate found.last d.count) (header_at d.payload) (inl applied) in
-    let sized = sized_of (length d.payload == expected_len t.profile found) (accepts_sequence found.last d.sequence) (is_owner found.kind) (is_duplicate found.last d.count) (header_at d.payload) so in
+    let owns = owner_of (length d.payload == expected_len t.profile found) (accepts_number t.profile.limits.newer found.last d.sequence) (is_owner found.kind) (is_duplicate found.last d.count) (header_at d.payload) (inl applied) in
+    let sized = sized_of (length d.payload == expected_len t.profile found) (accepts_number t.profile.limits.newer found.last d.sequence) (is_owner found.kind) (is_duplicate found.last d.count) (header_at d.payload) so in
     let header = headed reads t.profile found d p form back.payload owns sized in
-    sym (ap run_bit header) ∙ runs_of (length d.payload == expected_len t.profile found) (accepts_sequence found.last d.sequence) (is_duplicate found.last d.count) (header_at d.payload) (sym (owned_delivery_is t.profile found d owns) ∙ applied)
+    sym (ap run_bit header) ∙ runs_of (length d.payload == expected_len t.profile found) (accepts_number t.profile.limits.newer found.last d.sequence) (is_duplicate found.last d.count) (header_at d.payload) (sym (owned_delivery_is t.profile found d owns) ∙ applied)
 
 read_runs : HeaderReadsBack → (accepted : List Acceptance) (device : ℕ) (p : Production) (t : AdapterTable) (peer : Node) (reading : Result DatagramFields DatagramFault) → datagram_reading (datagram_text p.made.datagram) ≡ reading → FactsAt accepted device p (names_in (Adapter t) peer reading) (datagram_of t peer reading).0.verdict → (n : ℕ) → names_in (Adapter t) peer reading ≡ Some n → (datagram_of t peer reading).0.verdict ≡ Delivered Applied → p.made.run ≡ true
 read_runs reads accepted device p t peer (Err why) is facts n named said = absurd (let e = named in cc)

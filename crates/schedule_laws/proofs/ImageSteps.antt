@@ -117,6 +117,7 @@ images_quietly = record {
   slots = goes_kept Images images_slotwise;
   streams = (goes_widely Images images_slotwise).streams;
   clocked = (goes_widely Images images_slotwise).clocked;
+  explicit = (goes_widely Images images_slotwise).explicit;
   establishing = λ t place o success stands is requested.
       let slot = established_slot place (new_connection t place o success) in
       set_goes Images images_slotwise.stays t t place slot (set_later t place.number slot) refl stands (begins_on place.config place.slot slot refl);

@@ -15,7 +15,7 @@ use Rattle.adapter_table.specs.declared.profile.Profile.{Profile}
 use Rattle.scanner_table.specs.declared.profile.SlotConfig.{SlotConfig}
 use Rattle.scanner_table.specs.declared.table.ScannerTable.{ScannerTable}
 use Rattle.scanner_table.specs.Profiles.{has_lengths, profile_fault}
-use Rattle.scanner_table.specs.Requests.{Request, registering, opening, closing, Sent, is_large, open_fields, sent_frame}
+use Rattle.scanner_table.specs.Requests.{Request, registering, opening, closing, requesting, Sent, is_large, open_fields, sent_frame}
 use Rattle.scanner_table.specs.Slots.{IndexedSlot, slot_at}
 use Rattle.scanner_table.specs.Step.{scanner_step}
 use Rattle.device_laws.specs.Newest.{OpeningsAreNumbered}
@@ -118,6 +118,7 @@ request_names reads from t number (opening large fields) slots is =
     } in
     subst (λ (n : ℕ). NamesSlots t n (read_back large fields)) (sym same) names_slots
 request_names reads from t number (closing fields) slots is = tt
+request_names reads from t number (requesting bytes) slots is = is
 
 -- the requests to open in the frame ask for the points of their slots
 abbrev pub FrameAsks : ScannerTable → Frame → Type 0

@@ -35,10 +35,11 @@ use Rattle.scanner_table.specs.declared.table.Session.{Session}
 use Rattle.scanner_table.specs.declared.table.Stage.{Stage}
 use Rattle.scanner_table.specs.declared.table.Stage.TheVariants.{Waiting, Up, Unused}
 use Rattle.scanner_table.specs.declared.table.TargetStream.{TargetStream}
-use Rattle.scanner_table.specs.Requests.{Request, registering, opening, closing, Sent, is_large, next_requested, open_fields, sent_frame}
+use Rattle.scanner_table.specs.Requests.{Request, registering, opening, closing, requesting, Sent, is_large, next_requested, open_fields, sent_frame}
 use Rattle.scanner_table.specs.Closing.{idle_slot, given_up_state, given_up, target_lost, closed_within, close_requested, slot_resigned, stopped, stopped_at}
 use Rattle.scanner_table.specs.Effects.{Next, Effect, after, on_each, changed, done}
-use Rattle.scanner_table.specs.Encapsulation.{registering_on, stream_opened, cut_of, stream_cut, is_registered, session_begun, session_failed, registered, ignored, is_awaiting, replied, replied_to, reported, frame_answer, frame_of, frame}
+use Rattle.scanner_table.specs.Explicit.{awaits, without_explicit, explicit_sent, explicit_request, explicit_timed_out, explicit_lost}
+use Rattle.scanner_table.specs.Encapsulation.{registering_on, stream_opened, stream_lost, cut_of, stream_cut, is_registered, session_begun, session_failed, registered, ignored, is_awaiting, replied, replied_to, reported, frame_answer, frame_of, frame}
 use Rattle.scanner_table.specs.Opening.{has_request, can_open, opening_slot, open_requested, exhausted, opened_within, opened, is_ready_slot, ready_slots, ready_opened, target_opened}
 use Rattle.scanner_table.specs.Points.{desired_slot, started, start_state, start_at, start, stop_of, stop}
 use Rattle.scanner_table.specs.Productions.{state_is_due, produced_table}
@@ -46,11 +47,12 @@ use Rattle.scanner_table.specs.Replies.{is_id_free, judged_success, open_answer,
 use Rattle.scanner_table.specs.Sessions.{is_stream, is_taken, without_stream, with_stage, session_with}
 use Rattle.scanner_table.specs.Slots.{IndexedSlot, indexed_slots, is_numbered, is_closed, is_with, slot_at, with_slot}
 use Rattle.scanner_table.specs.Step.{scanner_step}
-use Rattle.scanner_table.specs.Ticks.{expired_slots, expired_state, expired, all_expired, is_overdue, all_given_up, clocked_table, advanced, ticked, tick}
+use Rattle.scanner_table.specs.Ticks.{expired_slots, expired_state, expired, all_expired, is_overdue, all_given_up, clocked_table, advanced, moved_on, ticked, tick}
 use Rattle.device_laws.specs.Newest.{StateIsNumbered, OpeningsAreNumbered}
-use Rattle.scanner_table.specs.Lemmas.Moves.{Kept, KeptWidely, KeptAlways, Does, IsClosedSlot, opened_does, stand_on, stands_with, expired_leads, overdue_leads, step_leads}
+use Rattle.scanner_table.specs.Lemmas.Moves.{Kept, KeptWidely, KeptAlways, Does, IsClosedSlot, opened_does, stand_on, stands_with, expired_leads, overdue_leads, timed_out_leads, step_leads}
 use Rattle.scanner_table.specs.Lemmas.SlotLookups.{Stands, Each, EachTwo, Apart, each_filter, each_found, each_more, each_passes, each_stands, two_filter, slots_apart, get_other, indexed_at, slot_is, slot_stands}
 use Rattle.scanner_table.specs.Lemmas.Slotwise.{Relation, SlotwiseAlways, Goes, goes_always, was_of}
+use Rattle.device_laws.specs.Lemmas.ExplicitRequests.{IsExplicit, explicit_holds, message_ends}
 use Rattle.device_laws.specs.Lemmas.Lists.{all_both, all_more}
 use Rattle.device_laws.specs.Lemmas.Texts.{either}
 use Rattle.device_laws.specs.ProductionRuns.{opening_number}
@@ -173,6 +175,7 @@ abbrev pub RequestIsFor : ℕ → ScannerTable → ℕ → Request → Type 0
 RequestIsFor from t number registering = Unit {0}
 RequestIsFor from t number (opening large fields) = IsForSlots from t number large fields
 RequestIsFor from t number (closing fields) = Unit {0}
+RequestIsFor from t number (requesting bytes) = IsExplicit bytes
 
 abbrev pub SentIsFor : ℕ → ScannerTable → Sent → Type 0
 SentIsFor from t sent = RequestIsFor from t sent.number sent.request
@@ -189,11 +192,13 @@ request_later from t u number (opening large fields) goes is =
           subst (λ (c : SlotConfig). IsRequestOf c large fields) was.config_is (is.slots was.place was.there was.has);
     }
 request_later from t u number (closing fields) goes is = tt
+request_later from t u number (requesting bytes) goes is = is
 
 request_from : (low from : ℕ) (t : ScannerTable) (number : ℕ) (request : Request) → low ≤ from → RequestIsFor from t number request → RequestIsFor low t number request
 request_from low from t number registering up is = tt
 request_from low from t number (opening large fields) up is = record { first = omega (arith, up, is.first); last = is.last; slots = is.slots }
 request_from low from t number (closing fields) up is = tt
+request_from low from t number (requesting bytes) up is = is
 
 -- the effect goes on from the table, and its requests are those of their slots
 record OpensFor (t : ScannerTable) (effect : Effect) : Type 0 where
@@ -321,6 +326,17 @@ lost_silent : (target : Node) (t : ScannerTable) → SendsNone (target_lost targ
 unfolding target_lost
 lost_silent target t = each_silent given_up (λ u place. given_silent u place place.slot.state) (filter (is_with target) (indexed_slots t)) t
 
+ended_silent : (stream : ℕ) (t : ScannerTable) → SendsNone (explicit_lost stream t)
+unfolding explicit_lost
+ended_silent stream t = refl
+
+timed_out_silent : (t : ScannerTable) → SendsNone (explicit_timed_out t)
+unfolding explicit_timed_out
+timed_out_silent t = refl
+
+timed_out_for : (t : ScannerTable) → OpensFor t (explicit_timed_out t)
+timed_out_for t = silent_for t (explicit_timed_out t) (timed_out_silent t) (timed_out_leads (Goes Draws) kept_widely t)
+
 advanced_for : (t : ScannerTable) → OpeningsAreNumbered t → OpensFor t (advanced t)
 advanced_for t all =
     let first = expired_for t in
@@ -329,6 +345,9 @@ advanced_for t all =
     let both = opens_then t (all_expired t) (all_given_up one) first second in
     let two = (all_given_up one).table in
     opens_then t (after (all_expired t) (all_given_up one)) (ready_opened two) both (ready_opens two (numbered_on t two both.goes all))
+
+moved_for : (t : ScannerTable) → OpeningsAreNumbered t → OpensFor t (moved_on t)
+moved_for t all = opens_then t (advanced t) (explicit_timed_out (advanced t).table) (advanced_for t all) (timed_out_for (advanced t).table)
 
 -- ---- a step
 
@@ -385,7 +404,9 @@ reported_opens t stream m Unused all = quiet t (ignored t) refl
 
 answer_opens : (t : ScannerTable) (stream : TargetStream) (reading : Result MessageFields EncapFault) → OpeningsAreNumbered t → NextOpens t (frame_answer t stream reading)
 answer_opens t stream (Err why) all = quiet t (frame_answer t stream (Err why)) refl
-answer_opens t stream (Ok m) all = reported_opens t stream m stream.stage all
+answer_opens t stream (Ok m) all =
+    message_ends (NextOpens t) t stream m (reported_opens t stream m stream.stage all) (λ pending answer none silent. quiet t (answer, without_explicit t pending) none)
+    (find (awaits stream.number m.context) t.explicit)
 
 frame_of_opens : (t : ScannerTable) (bytes : List ℕ) (found : Option TargetStream) → OpeningsAreNumbered t → OkOpens t (frame_of t bytes found)
 frame_of_opens t bytes None all = tt
@@ -393,7 +414,10 @@ frame_of_opens t bytes (Some stream) all = answer_opens t stream (message_readin
 
 cut_opens : (t : ScannerTable) (found : Option TargetStream) → OkOpens t (cut_of t found)
 cut_opens t None = tt
-cut_opens t (Some stream) = silent_opens t (target_lost stream.peer (without_stream t stream.number)) (lost_silent stream.peer (without_stream t stream.number))
+cut_opens t (Some stream) =
+    let none = lost_silent stream.peer (without_stream t stream.number) in
+    let rest = ended_silent stream.number (target_lost stream.peer (without_stream t stream.number)).table in
+    silent_opens t (stream_lost t stream) (rw (none, rest) refl)
 
 streamed_opens : (t : ScannerTable) (number : ℕ) (target : Node) → OkOpens t (stream_opened t number target)
 unfolding stream_opened
@@ -445,23 +469,27 @@ stop_opens : (t : ScannerTable) (found : Option IndexedSlot) → OkOpens t (stop
 stop_opens t None = tt
 stop_opens t (Some place) = stopped_opens t place place.slot.state
 
-ticked_opens : (t : ScannerTable) (ms : ℕ) → OpeningsAreNumbered t → NextOpens t (ticked (advanced (clocked_table t ms)))
+explicit_opens : (t : ScannerTable) (target : Node) (number : ℕ) (bytes : List ℕ) → OkOpens t (explicit_request t target number bytes)
+explicit_opens t target number bytes =
+    explicit_holds (OkOpens t) t target number bytes (λ why. tt) (λ session goes. done_opens t (explicit_sent t session number bytes) (goes.explicit, tt))
+
+ticked_opens : (t : ScannerTable) (ms : ℕ) → OpeningsAreNumbered t → NextOpens t (ticked (moved_on (clocked_table t ms)))
 ticked_opens t ms all =
-    let effect = advanced (clocked_table t ms) in
-    let opens = advanced_for (clocked_table t ms) all in
+    let effect = moved_on (clocked_table t ms) in
+    let opens = moved_for (clocked_table t ms) all in
     record {
-      requests = (advanced (clocked_table t ms)).sent;
+      requests = (moved_on (clocked_table t ms)).sent;
       frames = refl;
-      are_for = all_more (SentIsFor t.next_request (advanced (clocked_table t ms)).table) (SentIsFor t.next_request (produced_table (advanced (clocked_table t ms)).table))
-          (λ sent is. request_later t.next_request (advanced (clocked_table t ms)).table (produced_table (advanced (clocked_table t ms)).table) sent.number sent.request (kept_widely.producing (advanced (clocked_table t ms)).table) is)
-          (advanced (clocked_table t ms)).sent opens.sent;
+      are_for = all_more (SentIsFor t.next_request (moved_on (clocked_table t ms)).table) (SentIsFor t.next_request (produced_table (moved_on (clocked_table t ms)).table))
+          (λ sent is. request_later t.next_request (moved_on (clocked_table t ms)).table (produced_table (moved_on (clocked_table t ms)).table) sent.number sent.request (kept_widely.producing (moved_on (clocked_table t ms)).table) is)
+          (moved_on (clocked_table t ms)).sent opens.sent;
     }
 
 tick_opens : (t : ScannerTable) (ms : ℕ) → OpeningsAreNumbered t → OkOpens t (tick t ms)
 unfolding tick
 tick_opens t ms all =
     either (OkOpens t) (nat_lt longest_tick ms) (Err fault.TickTooLong) _ tt
-    (either (OkOpens t) (nat_lt clock_end (t.clock.0 + ms)) (Err fault.ClockEnd) (Ok (ticked (advanced (clocked_table t ms)))) tt (ticked_opens t ms all))
+    (either (OkOpens t) (nat_lt clock_end (t.clock.0 + ms)) (Err fault.ClockEnd) (Ok (ticked (moved_on (clocked_table t ms)))) tt (ticked_opens t ms all))
 
 all_opens : (t : ScannerTable) (happens : Event) → OpeningsAreNumbered t → OkOpens t (scanner_step t happens)
 unfolding frame stream_cut start stop
@@ -471,6 +499,7 @@ all_opens t (event.StreamCut number) all = cut_opens t (find (is_stream number) 
 all_opens t (event.Tick ms) all = tick_opens t ms all
 all_opens t (event.Start number) all = start_opens t number (slot_at t number) refl all
 all_opens t (event.Stop number) all = stop_opens t (slot_at t number)
+all_opens t (event.Explicit target number bytes) all = explicit_opens t target number bytes
 all_opens t other all = slots_hold (OkOpens t) t (λ why. tt) (λ verdict u of. quiet t (plain_answer verdict, u) refl) other refl
 
 pub step_opens : (t : ScannerTable) (happens : Event) (next : Next) → scanner_step t happens ≡ Ok next → OpeningsAreNumbered t → NextOpens t next

@@ -122,6 +122,7 @@ notice_count p device streams (notice.Slot slot state) = omega arith
 notice_count p device streams (notice.Refused slot reason) = omega arith
 notice_count p device streams (notice.NoIds slot) = omega arith
 notice_count p device streams (notice.Reset kind) = omega arith
+notice_count p device streams (notice.Unanswered number why) = omega arith
 
 notices_count : (p : Test) (device : ℕ) (streams : List Stream) (notices : List Notice) → waiting_count p (notices_applied device streams notices) ≤ waiting_count p streams
 unfolding notices_applied

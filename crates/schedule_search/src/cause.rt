@@ -16,8 +16,6 @@ use std::alloc::Global;
 /// How many datagrams before the place where a search begins are looked at, too.
 const WINDOW: usize = 64;
 
-// STREAMS
-
 /// The device that takes what runs in a direction.
 pub fn receiver_of(endpoints: Endpoints, direction: Direction) -> u32
     ensures { result ≡ receiver_in direction endpoints }
@@ -103,8 +101,6 @@ fn stream_cause<D: Device + Drop>(
     None
 }
 
-// DATAGRAMS
-
 // Whether this is the datagram at a place among those that were sent.
 fn is_sent<D: Device + Drop>(world: &World<D>, place: usize, peer: Node, bytes: &[u8]) -> bool
     ensures { IsTrue result ↔ (slice_get world.now.sent place ≡ Some (record { from = peer; bytes = bytes.now })) }
@@ -177,13 +173,9 @@ fn sent_cause<D: Device + Drop>(
         Search::All => sent_place(world, peer, bytes),
         Search::Near(from) => sent_near(world, peer, bytes, from),
     };
-    match place {
-        None => None,
-        Some(index) => Some(Act::Deliver { index, device }),
-    }
+    let index = place?;
+    Some(Act::Deliver { index, device })
 }
-
-// CALLS
 
 // The act that is this event of a device's application, of time at it, or of a peer outside.
 #[tactic(auto, using(crate::proofs::Ways::call_is_cause))]
@@ -193,8 +185,6 @@ fn local_cause<D: Device + Drop>(_world: &World<D>, device: u32, _event: &Event,
 {
     Act::Local { device, call }
 }
-
-// ALL EVENTS
 
 /// The act that brings the event to the device now, if there is one.
 pub fn cause<D: Device + Drop>(
@@ -231,6 +221,15 @@ pub fn cause<D: Device + Drop>(
         Event::Mode { run } => Call::Mode { run: *run },
         Event::Start { slot } => Call::Start { slot: *slot },
         Event::Stop { slot } => Call::Stop { slot: *slot },
+        Event::Explicit {
+            target,
+            number,
+            bytes,
+        } => Call::Explicit {
+            target: *target,
+            number: *number,
+            bytes: Items::copy_of(alloc, bytes.as_slice())?,
+        },
         Event::Inquiry { peer, bytes } => Call::Inquiry {
             peer: *peer,
             bytes: Items::copy_of(alloc, bytes.as_slice())?,

@@ -7,7 +7,7 @@ use Rattle.cip_events.specs.declared.event.Frame.{Frame}
 use Rattle.cip_events.specs.declared.event.Recipient.{Recipient}
 use Rattle.cip_events.specs.declared.event.Recipient.TheVariants as recipient
 use Rattle.cip_events.specs.declared.event.Notice.{Notice}
-use Rattle.cip_events.specs.declared.event.Notice.TheVariants.{Opened, Closed, Expired, Dropped, Replaced, StreamClosed, Slot, Refused, NoIds, Reset}
+use Rattle.cip_events.specs.declared.event.Notice.TheVariants.{Opened, Closed, Expired, Dropped, Replaced, StreamClosed, Slot, Refused, NoIds, Reset, Unanswered}
 use Rattle.segment_traffic.specs.declared.direction.Direction.{Direction}
 use Rattle.segment_traffic.specs.declared.direction.Direction.TheVariants.{Forth, Back}
 use Rattle.segment_traffic.specs.Streams.{Stream, way_from, changed, with_stream, sent_along, sent_over, frame_sent, frames_sent, closed_along, closed_by, notice_applied, notices_applied, answered, taken_from}
@@ -79,6 +79,7 @@ notice_keeps count device streams (Slot slot state) all = all
 notice_keeps count device streams (Refused slot reason) all = all
 notice_keeps count device streams (NoIds slot) all = all
 notice_keeps count device streams (Reset kind) all = all
+notice_keeps count device streams (Unanswered number why) all = all
 
 notices_keep : (count device : ℕ) (streams : List Stream) (notices : List Notice) → AllByRecursion (AreEnds count) streams → AllByRecursion (AreEnds count) (notices_applied device streams notices)
 unfolding notices_applied

@@ -5,7 +5,7 @@ use Rattle.cip_events.specs.declared.event.Frame.{Frame}
 use Rattle.cip_events.specs.declared.event.Recipient.{Recipient}
 use Rattle.cip_events.specs.declared.event.Recipient.TheVariants as recipient
 use Rattle.cip_events.specs.declared.event.Notice.{Notice}
-use Rattle.cip_events.specs.declared.event.Notice.TheVariants.{Opened, Closed, Expired, Dropped, Replaced, StreamClosed, Slot, Refused, NoIds, Reset}
+use Rattle.cip_events.specs.declared.event.Notice.TheVariants.{Opened, Closed, Expired, Dropped, Replaced, StreamClosed, Slot, Refused, NoIds, Reset, Unanswered}
 use Rattle.segment_traffic.specs.declared.direction.Direction.{Direction}
 use Rattle.segment_traffic.specs.declared.direction.Direction.TheVariants.{Forth, Back}
 
@@ -121,6 +121,7 @@ notice_applied device streams (Slot slot state) = streams
 notice_applied device streams (Refused slot reason) = streams
 notice_applied device streams (NoIds slot) = streams
 notice_applied device streams (Reset kind) = streams
+notice_applied device streams (Unanswered number why) = streams
 
 unfoldable pub notices_applied : ℕ → List Stream → List Notice → List Stream
 notices_applied device streams [] = streams

@@ -76,6 +76,7 @@ event_of_call (call.Read point) = event.Read point
 event_of_call (call.Mode run) = event.Mode run
 event_of_call (call.Start slot) = event.Start slot
 event_of_call (call.Stop slot) = event.Stop slot
+event_of_call (call.Explicit target number bytes) = event.Explicit target number bytes
 event_of_call (call.Tick ms) = event.Tick ms
 event_of_call (call.Inquiry peer bytes) = event.Inquiry peer bytes
 

@@ -16,19 +16,41 @@ use thiserror::Error;
 #[derive(Drop)]
 pub enum Call {
     /// The application writes an input of an adapter, or the output of a scanner's slot.
-    Write { point: u32, bytes: Items<u8> },
+    Write {
+        point: u32,
+        bytes: Items<u8>,
+    },
     /// The application reads a point of an adapter, or the image of a scanner's slot.
-    Read { point: u32 },
+    Read {
+        point: u32,
+    },
     /// The application of a scanner changes to run (true) or to idle (false).
-    Mode { run: bool },
+    Mode {
+        run: bool,
+    },
     /// The application of a scanner starts a slot, which keeps its connection open from now on.
-    Start { slot: u32 },
+    Start {
+        slot: u32,
+    },
     /// The application of a scanner stops a slot, which closes its connection.
-    Stop { slot: u32 },
+    Stop {
+        slot: u32,
+    },
+    /// The application of a scanner sends a request to the message router of a target. The request gets this number.
+    Explicit {
+        target: Node,
+        number: u32,
+        bytes: Items<u8>,
+    },
     /// A number of milliseconds passes, at most 60,000.
-    Tick { ms: u32 },
+    Tick {
+        ms: u32,
+    },
     /// A peer sends an encapsulation message over no stream. The reply goes to the peer, and over no stream of the network.
-    Inquiry { peer: Node, bytes: Items<u8> },
+    Inquiry {
+        peer: Node,
+        bytes: Items<u8>,
+    },
 }
 
 /// A call that a device can perform: the write of these bytes to a point, or another event.
@@ -38,7 +60,7 @@ pub enum ReadyCall<'a> {
 }
 
 impl Call {
-    /// Makes the call ready, with a copy of the bytes of an inquiry. `OutOfMemory` is the only error.
+    /// Makes the call ready, with a copy of the bytes of an explicit request or an inquiry. `OutOfMemory` is the only error.
     pub fn ready(&self, alloc: Global) -> Result<ReadyCall<'_>, OutOfMemory>
         ensures { IfOk result (λ ready. event_of_ready ready ≡ event_of_call self.now) }
     {
@@ -48,6 +70,15 @@ impl Call {
             Call::Mode { run } => ReadyCall::Event(Event::Mode { run: *run }),
             Call::Start { slot } => ReadyCall::Event(Event::Start { slot: *slot }),
             Call::Stop { slot } => ReadyCall::Event(Event::Stop { slot: *slot }),
+            Call::Explicit {
+                target,
+                number,
+                bytes,
+            } => ReadyCall::Event(Event::Explicit {
+                target: *target,
+                number: *number,
+                bytes: Items::copy_of(alloc, bytes.as_slice())?,
+            }),
             Call::Tick { ms } => ReadyCall::Event(Event::Tick { ms: *ms }),
             Call::Inquiry { peer, bytes } => ReadyCall::Event(Event::Inquiry {
                 peer: *peer,

@@ -1,9 +1,10 @@
 //! The defects of profiles in words: what is wrong, its value, and what is allowed.
 
-use adapter_table::{LONGEST_INACTIVITY, PHYSICAL_ADDRESS};
+use adapter_table::{FARTHEST_NUMBER, LONGEST_INACTIVITY, PHYSICAL_ADDRESS};
 use cip_productions::Kind;
 use cip_types::limits::{
-    LONGEST_CONFIG, LONGEST_POINT, LONGEST_RPI_US, LONGEST_WAIT_MS, MOST_POINTS, MOST_SLOTS,
+    LONGEST_CONFIG, LONGEST_POINT, LONGEST_RPI_US, LONGEST_WAIT_MS, MOST_CONNECTIONS, MOST_POINTS,
+    MOST_SLOTS,
 };
 use cip_types::{Node, OutOfMemory};
 use list_identity::LONGEST_NAME;
@@ -12,13 +13,15 @@ use trace_words::{push_node, push_text};
 
 /// A limit as it is printed, with a comma before each three digits behind the first ones.
 fn push_limit(out: &mut String, limit: u64) -> Result<(), OutOfMemory> {
-    let millions = limit / 1_000_000;
+    let billions = limit / 1_000_000_000;
+    let millions = limit / 1_000_000 % 1_000;
     let thousands = limit / 1_000 % 1_000;
     let ones = limit % 1_000;
-    match (millions, thousands) {
-        (0, 0) => Ok(write!(out, "{ones}")?),
-        (0, _) => Ok(write!(out, "{thousands},{ones:03}")?),
-        _ => Ok(write!(out, "{millions},{thousands:03},{ones:03}")?),
+    match (billions, millions, thousands) {
+        (0, 0, 0) => Ok(write!(out, "{ones}")?),
+        (0, 0, _) => Ok(write!(out, "{thousands},{ones:03}")?),
+        (0, _, _) => Ok(write!(out, "{millions},{thousands:03},{ones:03}")?),
+        _ => Ok(write!(out, "{billions},{millions:03},{thousands:03},{ones:03}")?),
     }
 }
 
@@ -58,6 +61,10 @@ pub fn push_defect(
         Defect::NameLen(_) | Defect::AddressLen(_) | Defect::Inactivity(_) => {
             push_described(out, defect)
         }
+        Defect::LeastRpi(_)
+        | Defect::AllPlaces(_)
+        | Defect::NodeConnections(_)
+        | Defect::Newer(_) => push_stated(out, defect),
         _ => push_count(out, defect),
     }
 }
@@ -135,6 +142,35 @@ fn push_described(out: &mut String, defect: Defect) -> Result<(), OutOfMemory> {
                 "the inactivity time-out is {seconds} seconds, and it is 0 to "
             )?;
             push_limit(out, u64::from(LONGEST_INACTIVITY))
+        }
+        _ => Ok(()),
+    }
+}
+
+/// A limit of the maker's that is none.
+fn push_stated(out: &mut String, defect: Defect) -> Result<(), OutOfMemory> {
+    match defect {
+        Defect::LeastRpi(us) => {
+            write!(
+                out,
+                "the least packet interval is {us} microseconds, and it is 1 to "
+            )?;
+            push_limit(out, u64::from(LONGEST_RPI_US))
+        }
+        Defect::AllPlaces(places) => Ok(write!(
+            out,
+            "the places are {places} in all, and they are 1 to {MOST_CONNECTIONS}"
+        )?),
+        Defect::NodeConnections(most) => Ok(write!(
+            out,
+            "the most connections of one node are {most}, and they are 1 to {MOST_CONNECTIONS}"
+        )?),
+        Defect::Newer(within) => {
+            write!(
+                out,
+                "numbers are accepted within {within} of the newest, and that is 2 to "
+            )?;
+            push_limit(out, u64::from(FARTHEST_NUMBER))
         }
         _ => Ok(()),
     }

@@ -81,6 +81,7 @@ fn push_word(out: &mut String, line: &[u8], bad: BadWord) -> Result<(), OutOfMem
         WordReason::NotHex => "has a character that is no hexadecimal digit",
         WordReason::OddDigits => "has an odd number of hexadecimal digits",
         WordReason::NotEightBytes => "is a key that has not eight bytes",
+        WordReason::NotTwoDigits => "is no status of two hexadecimal digits",
         WordReason::OtherName => "is none of the names that are allowed there",
     };
     write!(out, "word {number} {words}")?;

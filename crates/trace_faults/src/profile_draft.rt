@@ -1,7 +1,7 @@
 //! The profile at the front of a text, and the lines that it is in.
 
 use crate::text_lines::first_line;
-use adapter_table::{Description, InputPoint, OutputPoint};
+use adapter_table::{Description, InputPoint, MakerLimits, OutputPoint};
 use cip_tables::Config;
 use cip_types::{Items, OutOfMemory};
 use profile_faults::LineName;
@@ -9,8 +9,10 @@ use scanner_table::SlotConfig;
 use std::alloc::Global;
 use std::str;
 use trace_lines::{
-    AdapterLine, HeartbeatLine, ScannerLine, profile_with, read_adapter, read_description,
-    read_heartbeat, read_output, read_point, read_scanner, read_slot, scanner_with,
+    AdapterLine, HeartbeatLine, LimitLine, ScannerLine, profile_with, read_adapter,
+    read_description, read_heartbeat, read_least_rpi, read_newer, read_node_connections,
+    read_output, read_own_closers, read_places, read_point, read_scanner, read_slot, scanner_with,
+    with_limit,
 };
 use trace_words::{TextFault, Words};
 
@@ -22,6 +24,11 @@ fn name_of(word: &str) -> Option<LineName> {
         "input" => Some(LineName::Input),
         "config" => Some(LineName::Config),
         "describe" => Some(LineName::Describe),
+        "least-rpi" => Some(LineName::LeastRpi),
+        "places" => Some(LineName::Places),
+        "node-connections" => Some(LineName::NodeConnections),
+        "closers" => Some(LineName::Closers),
+        "newer" => Some(LineName::Newer),
         "heartbeat" => Some(LineName::Heartbeat),
         "scanner" => Some(LineName::Scanner),
         "slot" => Some(LineName::Slot),
@@ -69,6 +76,7 @@ struct ProfileDraft {
     inputs: Vec<InputPoint>,
     config: Option<InputPoint>,
     description: Option<Description>,
+    limits: MakerLimits,
     heartbeat: Option<HeartbeatLine>,
     scanner: Option<ScannerLine>,
     slots: Vec<SlotConfig>,
@@ -82,6 +90,7 @@ impl ProfileDraft {
             inputs: Vec::new(alloc),
             config: None,
             description: None,
+            limits: MakerLimits::NONE,
             heartbeat: None,
             scanner: None,
             slots: Vec::new(alloc),
@@ -101,10 +110,21 @@ impl ProfileDraft {
             LineName::Input => self.inputs.push(read_point(words)?)?,
             LineName::Config => self.config = Some(read_point(words)?),
             LineName::Describe => self.description = Some(read_description(alloc, words)?),
+            LineName::LeastRpi => self.limit(read_least_rpi(words)?)?,
+            LineName::Places => self.limit(read_places(words)?)?,
+            LineName::NodeConnections => self.limit(read_node_connections(words)?)?,
+            LineName::Closers => self.limit(read_own_closers(words)?)?,
+            LineName::Newer => self.limit(read_newer(words)?)?,
             LineName::Heartbeat => self.heartbeat = Some(read_heartbeat(words)?),
             LineName::Scanner => self.scanner = Some(read_scanner(words)?),
             LineName::Slot => self.slots.push(read_slot(alloc, words)?)?,
         }
+        Ok(())
+    }
+
+    /// Adds the line of a limit. `Bad` if it is not allowed there.
+    fn limit(&mut self, limit: LimitLine) -> Result<(), TextFault> {
+        self.limits = with_limit(self.limits, limit).ok_or(TextFault::Bad)?;
         Ok(())
     }
 
@@ -122,6 +142,7 @@ impl ProfileDraft {
             inputs,
             self.config,
             self.description,
+            self.limits,
             self.heartbeat?,
         );
         Some(Config::Adapter(profile))

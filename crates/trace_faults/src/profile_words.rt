@@ -43,7 +43,8 @@ fn push_fault(out: &mut String, number: u8) -> Result<(), OutOfMemory> {
         5 => ProfileFault::Length,
         6 => ProfileFault::Timing,
         7 => ProfileFault::Identity,
-        _ => ProfileFault::Description,
+        8 => ProfileFault::Description,
+        _ => ProfileFault::Limits,
     };
     Ok(write!(out, "{fault}")?)
 }

@@ -34,6 +34,8 @@ pub enum WordReason {
     OddDigits,
     /// An electronic key that has not eight bytes.
     NotEightBytes,
+    /// Not two hexadecimal digits.
+    NotTwoDigits,
     /// None of the names that are allowed there.
     OtherName,
 }
@@ -216,6 +218,7 @@ fn word_reason(kind: WordKind, word: &str) -> WordReason {
         WordKind::Address | WordKind::Addresses => WordReason::NotAddress,
         WordKind::Hex => digits_reason(word.as_bytes()),
         WordKind::ElectronicKey => key_reason(word.as_bytes()),
+        WordKind::GeneralStatus => WordReason::NotTwoDigits,
         _ => WordReason::OtherName,
     }
 }

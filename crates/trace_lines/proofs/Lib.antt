@@ -1,5 +1,6 @@
 mod DescriptionSamples
 mod Keys
+mod LimitSamples
 mod Pieces
 mod Skipping
 mod SlotSamples

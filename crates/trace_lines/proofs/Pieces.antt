@@ -15,3 +15,6 @@ five s0 s1 s2 s3 s4 s5 a b c d e text e1 e2 e3 e4 e5 is = two s0 s1 s5 a (b ++ (
 
 pub six : (s0 s1 s2 s3 s4 s5 s6 a b c d e f text : List ℕ) → s1 ≡ s0 ++ a → s2 ≡ s1 ++ b → s3 ≡ s2 ++ c → s4 ≡ s3 ++ d → s5 ≡ s4 ++ e → s6 ≡ s5 ++ f → a ++ (b ++ (c ++ (d ++ (e ++ f)))) ≡ text → s6 ≡ s0 ++ text
 six s0 s1 s2 s3 s4 s5 s6 a b c d e f text e1 e2 e3 e4 e5 e6 is = two s0 s1 s6 a (b ++ (c ++ (d ++ (e ++ f)))) text e1 (five s1 s2 s3 s4 s5 s6 b c d e f (b ++ (c ++ (d ++ (e ++ f)))) e2 e3 e4 e5 e6 refl) is
+
+pub seven : (s0 s1 s2 s3 s4 s5 s6 s7 a b c d e f g text : List ℕ) → s1 ≡ s0 ++ a → s2 ≡ s1 ++ b → s3 ≡ s2 ++ c → s4 ≡ s3 ++ d → s5 ≡ s4 ++ e → s6 ≡ s5 ++ f → s7 ≡ s6 ++ g → a ++ (b ++ (c ++ (d ++ (e ++ (f ++ g))))) ≡ text → s7 ≡ s0 ++ text
+seven s0 s1 s2 s3 s4 s5 s6 s7 a b c d e f g text e1 e2 e3 e4 e5 e6 e7 is = two s0 s1 s7 a (b ++ (c ++ (d ++ (e ++ (f ++ g))))) text e1 (six s1 s2 s3 s4 s5 s6 s7 b c d e f g (b ++ (c ++ (d ++ (e ++ (f ++ g))))) e2 e3 e4 e5 e6 e7 refl) is

@@ -15,7 +15,7 @@ use Rattle.cip_productions.specs.declared.kind.Kind.TheVariants.{ExclusiveOwner,
 use Rattle.adapter_table.specs.declared.profile.Action.{Action}
 use Rattle.trace_lines.specs.declared.shapes.WordKind.{WordKind}
 use Rattle.trace_lines.specs.declared.shapes.WordKind.TheVariants as word
-use Rattle.trace_words.specs.Words.{number_of, node_of, nodes_of, bytes_of, instance_of, action_of, node_word, nodes_word, bytes_word, action_word}
+use Rattle.trace_words.specs.Words.{number_of, node_of, nodes_of, bytes_of, instance_of, action_of, general_of, node_word, nodes_word, bytes_word, action_word, general_word}
 use Rattle.trace_words.specs.Reader.{Meanings, meaning}
 
 -- NAMES
@@ -69,6 +69,16 @@ abbrev pub mode_word : Bool → List ℕ
 mode_word true = codes "run"
 mode_word false = codes "idle"
 
+-- which nodes close a connection: its own alone
+abbrev pub closers_meanings : Meanings (Option (Unit {0}))
+closers_meanings = (codes "own", Some tt) ∷ []
+
+unfoldable pub closers_of : List ℕ → Option (Unit {0})
+closers_of word = meaning closers_meanings None word
+
+abbrev pub closers_word : Unit {0} → List ℕ
+closers_word own = codes "own"
+
 -- INSTANCES AND KEYS
 
 -- an instance; a dash for none
@@ -119,11 +129,13 @@ ValueOf word.Address = Node
 ValueOf word.Addresses = List Node
 ValueOf word.Hex = List ℕ
 ValueOf word.ElectronicKey = Option ElectronicKey
+ValueOf word.GeneralStatus = ℕ
 ValueOf word.Action = Action
 ValueOf word.Mode = Bool
 ValueOf word.ApplicationType = Kind
 ValueOf word.ConnectionType = Bool
 ValueOf word.Trigger = Trigger
+ValueOf word.Closers = Unit {0}
 
 -- the value that a word writes, if it is of this kind
 abbrev pub value_of : (kind : WordKind) → List ℕ → Option (ValueOf kind)
@@ -136,11 +148,13 @@ value_of word.Address = node_of
 value_of word.Addresses = nodes_of
 value_of word.Hex = bytes_of
 value_of word.ElectronicKey = key_of
+value_of word.GeneralStatus = general_of
 value_of word.Action = action_of
 value_of word.Mode = mode_of
 value_of word.ApplicationType = kind_of
 value_of word.ConnectionType = multicast_of
 value_of word.Trigger = trigger_of
+value_of word.Closers = closers_of
 
 -- the word of a value
 abbrev pub word_of : (kind : WordKind) → ValueOf kind → List ℕ
@@ -153,8 +167,10 @@ word_of word.Address = node_word
 word_of word.Addresses = nodes_word
 word_of word.Hex = bytes_word
 word_of word.ElectronicKey = key_word
+word_of word.GeneralStatus = general_word
 word_of word.Action = action_word
 word_of word.Mode = mode_word
 word_of word.ApplicationType = kind_word
 word_of word.ConnectionType = multicast_word
 word_of word.Trigger = trigger_word
+word_of word.Closers = closers_word

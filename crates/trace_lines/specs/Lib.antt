@@ -1,4 +1,5 @@
 pub mod Kinds
+pub mod Limits
 pub mod Profiles
 pub mod Shapes
 pub mod Slots

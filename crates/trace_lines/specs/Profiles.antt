@@ -1,8 +1,9 @@
--- Readers of the lines of a profile, behind their keywords.
+-- Readers of the lines of a profile, behind their keywords; those of limits are in Limits.
 use Rattle.std.specs.Prelude.{List, Option}
 use Rattle.adapter_table.specs.declared.profile.OutputPoint.{OutputPoint}
 use Rattle.adapter_table.specs.declared.profile.InputPoint.{InputPoint}
 use Rattle.adapter_table.specs.declared.profile.Description.{Description}
+use Rattle.adapter_table.specs.declared.maker_limits.MakerLimits.{MakerLimits}
 use Rattle.adapter_table.specs.declared.profile.Profile.{Profile}
 use Rattle.trace_lines.specs.declared.forms.AdapterLine.{AdapterLine}
 use Rattle.trace_lines.specs.declared.forms.HeartbeatLine.{HeartbeatLine}
@@ -45,8 +46,8 @@ abbrev pub heartbeat_reader : Reader HeartbeatLine
 heartbeat_reader = shaped HEARTBEAT (λ input_only listen_only. ends (record { input_only = input_only; listen_only = listen_only }))
 
 -- the profile with the values of its lines
-abbrev pub profile_with : AdapterLine → List OutputPoint → List InputPoint → Option InputPoint → Option Description → HeartbeatLine → Profile
-profile_with adapter outputs inputs config description heartbeat = record {
+abbrev pub profile_with : AdapterLine → List OutputPoint → List InputPoint → Option InputPoint → Option Description → MakerLimits → HeartbeatLine → Profile
+profile_with adapter outputs inputs config description limits heartbeat = record {
   incarnation = adapter.incarnation;
   node = adapter.node;
   mask = adapter.mask;
@@ -57,4 +58,5 @@ profile_with adapter outputs inputs config description heartbeat = record {
   input_only = heartbeat.input_only;
   listen_only = heartbeat.listen_only;
   description = description;
+  limits = limits;
 }

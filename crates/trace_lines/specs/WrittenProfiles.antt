@@ -1,5 +1,5 @@
--- How a profile is written: a line for the device, a line for each of its points, and its description if it has one. One space separates the words of
--- a line, and LF ends it.
+-- How a profile is written: a line for the device, a line for each of its points, its description if it has one, and a
+-- line for each limit that its maker states. One space separates the words of a line, and LF ends it.
 use Rattle.std.specs.Prelude.{ℕ, List, [], ◌∷◌, ◌++◌, codes, flat_map, Option, Some, None}
 use Rattle.adapter_table.specs.declared.profile.OutputPoint.{OutputPoint}
 use Rattle.adapter_table.specs.declared.profile.InputPoint.{InputPoint}
@@ -7,6 +7,7 @@ use Rattle.adapter_table.specs.declared.profile.Description.{Description}
 use Rattle.adapter_table.specs.declared.profile.Profile.{Profile}
 use Rattle.trace_lines.specs.declared.shapes.TheConstants.{ADAPTER, OUTPUT, POINT, DESCRIBE, HEARTBEAT}
 use Rattle.trace_words.specs.Words.{line_text}
+use Rattle.trace_lines.specs.Limits.{limits_text}
 use Rattle.trace_lines.specs.Shapes.{spelled}
 
 abbrev pub adapter_words : Profile → List (List ℕ)
@@ -39,4 +40,5 @@ profile_text profile =
     ++ (flat_map (λ point. line_text (output_words point)) profile.outputs
     ++ (flat_map (λ point. line_text (point_words (codes "input") point)) profile.inputs
     ++ (config_text profile.config
-    ++ (description_text profile.description ++ line_text (heartbeat_words profile)))))
+    ++ (description_text profile.description
+    ++ (limits_text profile.limits ++ line_text (heartbeat_words profile))))))

@@ -4,7 +4,7 @@ ghost use Rattle.std.specs.Prelude.{◌≡◌};
 ghost use Rattle.trace_lines.specs.Profiles.{profile_with};
 ghost use Rattle.trace_lines.specs.Slots.{scanner_with};
 
-use adapter_table::{Description, InputPoint, OutputPoint, Profile};
+use adapter_table::{Description, InputPoint, MakerLimits, OutputPoint, Profile};
 use cip_netparams::Trigger;
 use cip_types::{Identity, Items, Node};
 use scanner_table::{ScannerProfile, SlotConfig};
@@ -50,9 +50,10 @@ pub fn profile_with(
     inputs: Items<InputPoint>,
     config: Option<InputPoint>,
     description: Option<Description>,
+    limits: MakerLimits,
     heartbeat: HeartbeatLine,
 ) -> Profile
-    ensures { result ≡ profile_with adapter outputs inputs config description heartbeat }
+    ensures { result ≡ profile_with adapter outputs inputs config description limits heartbeat }
 {
     Profile {
         incarnation: adapter.incarnation,
@@ -65,6 +66,7 @@ pub fn profile_with(
         input_only: heartbeat.input_only,
         listen_only: heartbeat.listen_only,
         description,
+        limits,
     }
 }
 

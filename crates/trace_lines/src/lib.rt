@@ -2,6 +2,7 @@
 #![tactic(auto)]
 
 mod forms;
+mod limit_lines;
 mod names;
 mod profile_lines;
 mod shapes;
@@ -10,11 +11,16 @@ mod written_profiles;
 mod written_slots;
 
 pub use forms::{AdapterLine, HeartbeatLine, Rate, ScannerLine, profile_with, scanner_with};
+pub use limit_lines::{
+    LimitLine, read_least_rpi, read_newer, read_node_connections, read_own_closers, read_places,
+    with_limit,
+};
 pub use names::read_mode;
 pub use profile_lines::{read_adapter, read_description, read_heartbeat, read_output, read_point};
 pub use shapes::{
-    ADAPTER, CUT, DESCRIBE, FRAME, FROM_NODE, HEARTBEAT, MODE, NUMBER, OUTPUT, POINT, RATE,
-    SCANNER, SEND, SLOT, STREAM, Shape, VALUE, WRITE, WordKind, part_shape_of, shape_of, skip_word,
+    ADAPTER, CLOSERS, CUT, DESCRIBE, EXPLICIT, FRAME, FROM_NODE, HEARTBEAT, MODE, NODE_CONNECTIONS,
+    NUMBER, OUTPUT, PLACES, POINT, RATE, REPLIED, SCANNER, SEND, SLOT, STREAM, Shape, VALUE, WRITE,
+    WordKind, part_shape_of, shape_of, skip_word,
 };
 pub use slot_lines::{read_scanner, read_slot};
 pub use written_profiles::push_profile;

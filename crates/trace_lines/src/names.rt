@@ -1,7 +1,7 @@
 //! The names that are words.
 
 ghost use Rattle.trace_words.specs.Reader.{unread_words, Takes, next_word};
-ghost use Rattle.trace_lines.specs.Kinds.{kind_of, multicast_of, trigger_of, mode_of};
+ghost use Rattle.trace_lines.specs.Kinds.{kind_of, multicast_of, trigger_of, mode_of, closers_of};
 
 use cip_netparams::Trigger;
 use cip_productions::Kind;
@@ -52,6 +52,17 @@ pub fn read_mode(words: &mut Words<'_>) -> Result<bool, TextFault>
     match words.word()? {
         "run" => Ok(true),
         "idle" => Ok(false),
+        _ => Err(TextFault::Bad),
+    }
+}
+
+/// Which nodes close a connection: its own, by its word.
+#[tactic(auto, unfolding(crate::specs::Kinds::closers_of))]
+pub fn read_closers(words: &mut Words<'_>) -> Result<(), TextFault>
+    ensures { Takes (next_word closers_of (unread_words words.old)) result (unread_words words.new) }
+{
+    match words.word()? {
+        "own" => Ok(()),
         _ => Err(TextFault::Bad),
     }
 }

@@ -5,7 +5,7 @@ ghost use Rattle.std.specs.Prelude.{◌≡◌, option_map};
 ghost use Rattle.trace_words.specs.Reader.{unread_words};
 ghost use Rattle.trace_lines.specs.Shapes.{behind_word, shape_of, part_shape_of, skipped, Skips};
 
-use crate::names::{read_kind, read_mode, read_multicast, read_trigger};
+use crate::names::{read_closers, read_kind, read_mode, read_multicast, read_trigger};
 use crate::slot_lines::read_key;
 use std::alloc::Global;
 use trace_words::{TextFault, Words};
@@ -26,11 +26,15 @@ pub enum WordKind {
     Hex,
     /// The digits of eight bytes, or a dash for none.
     ElectronicKey,
+    /// A general status: two hexadecimal digits.
+    GeneralStatus,
     Action,
     Mode,
     ApplicationType,
     ConnectionType,
     Trigger,
+    /// Which nodes close a connection: its own.
+    Closers,
 }
 
 /// The kinds of the words of a line, and of those that may follow.
@@ -70,6 +74,15 @@ pub const DESCRIBE: [WordKind; 7] = [
     WordKind::U16,
 ];
 
+/// Owners, input-only and listen-only connections.
+pub const PLACES: [WordKind; 3] = [WordKind::U8, WordKind::U8, WordKind::U8];
+
+/// Connections of one node.
+pub const NODE_CONNECTIONS: [WordKind; 1] = [WordKind::U8];
+
+/// Which nodes close a connection.
+pub const CLOSERS: [WordKind; 1] = [WordKind::Closers];
+
 /// The points of input-only and of listen-only connections.
 pub const HEARTBEAT: [WordKind; 2] = [WordKind::U32, WordKind::U32];
 
@@ -106,6 +119,9 @@ pub const RATE: [WordKind; 2] = [WordKind::Trigger, WordKind::U8];
 /// A node, and the bytes from it or to it.
 pub const FROM_NODE: [WordKind; 2] = [WordKind::Address, WordKind::Hex];
 
+/// A target, the number of a request to it, and the request's bytes.
+pub const EXPLICIT: [WordKind; 3] = [WordKind::Address, WordKind::U32, WordKind::Hex];
+
 /// A stream, and its peer.
 pub const STREAM: [WordKind; 2] = [WordKind::U16, WordKind::Address];
 
@@ -118,7 +134,7 @@ pub const CUT: [WordKind; 1] = [WordKind::U16];
 /// A point, and its bytes.
 pub const WRITE: [WordKind; 2] = [WordKind::U32, WordKind::Hex];
 
-/// A point, milliseconds, or a slot.
+/// A point, milliseconds, a slot, microseconds, or a limit of sequence numbers.
 pub const NUMBER: [WordKind; 1] = [WordKind::U32];
 
 /// Whether an application runs.
@@ -130,6 +146,14 @@ pub const SEND: [WordKind; 3] = [WordKind::Address, WordKind::Addresses, WordKin
 /// The bytes of a point.
 pub const VALUE: [WordKind; 1] = [WordKind::Hex];
 
+/// The number of a request, the general status of its reply, the bytes of the additional status, and the data.
+pub const REPLIED: [WordKind; 4] = [
+    WordKind::U32,
+    WordKind::GeneralStatus,
+    WordKind::Hex,
+    WordKind::Hex,
+];
+
 /// The shape of a line by its first word. None if no line begins so, or the line of an outcome.
 pub fn shape_of(first: &str) -> Option<Shape>
     ensures { option_map (λ shape. (shape.0.now, shape.1.now)) result ≡ shape_of first.now }
@@ -139,10 +163,15 @@ pub fn shape_of(first: &str) -> Option<Shape>
         "output" => Some((&OUTPUT, &[])),
         "input" | "config" => Some((&POINT, &[])),
         "describe" => Some((&DESCRIBE, &[])),
+        "least-rpi" | "newer" => Some((&NUMBER, &[])),
+        "places" => Some((&PLACES, &[])),
+        "node-connections" => Some((&NODE_CONNECTIONS, &[])),
+        "closers" => Some((&CLOSERS, &[])),
         "heartbeat" => Some((&HEARTBEAT, &[])),
         "scanner" => Some((&SCANNER, &[])),
         "slot" => Some((&SLOT, &RATE)),
         "request" | "datagram" | "inquiry" => Some((&FROM_NODE, &[])),
+        "explicit" => Some((&EXPLICIT, &[])),
         "stream" => Some((&STREAM, &[])),
         "frame" => Some((&FRAME, &[])),
         "cut" => Some((&CUT, &[])),
@@ -160,6 +189,7 @@ pub fn part_shape_of(word: &str) -> Option<Shape>
 {
     match word {
         "value" => Some((&VALUE, &[])),
+        "replied" => Some((&REPLIED, &[])),
         "reply" => Some((&FROM_NODE, &[])),
         "frame" => Some((&FRAME, &[])),
         "send" => Some((&SEND, &[])),
@@ -183,11 +213,13 @@ pub fn skip_word(alloc: Global, kind: WordKind, words: &mut Words<'_>) -> Result
         WordKind::Addresses => skipped(words.nodes(alloc)),
         WordKind::Hex => skipped(words.bytes(alloc)),
         WordKind::ElectronicKey => skipped(read_key(alloc, words)),
+        WordKind::GeneralStatus => skipped(words.general(alloc)),
         WordKind::Action => skipped(words.action()),
         WordKind::Mode => skipped(read_mode(words)),
         WordKind::ApplicationType => skipped(read_kind(words)),
         WordKind::ConnectionType => skipped(read_multicast(words)),
         WordKind::Trigger => skipped(read_trigger(words)),
+        WordKind::Closers => skipped(read_closers(words)),
     }
 }
 

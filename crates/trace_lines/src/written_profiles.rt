@@ -4,6 +4,7 @@ ghost use Rattle.std.specs.Prelude.{◌≡◌, ◌++◌, OnOk, string_bytes, fla
 ghost use Rattle.trace_words.specs.Words.{action_word, line_text};
 ghost use Rattle.trace_lines.specs.WrittenProfiles.{adapter_words, output_words, point_words, description_words, heartbeat_words, config_text, description_text, profile_text};
 
+use crate::limit_lines::push_limits;
 use adapter_table::{Action, Description, InputPoint, OutputPoint, Profile};
 use cip_types::{Node, OutOfMemory};
 use trace_words::{push_bytes, push_node};
@@ -17,6 +18,7 @@ pub fn push_profile(out: &mut String, profile: &Profile) -> Result<(), OutOfMemo
     push_inputs(out, profile.inputs.as_slice())?;
     push_config(out, profile.config)?;
     push_description(out, &profile.description)?;
+    push_limits(out, &profile.limits)?;
     push_heartbeat(out, profile)?;
     Ok(())
 }

@@ -1,1 +1,2 @@
+mod ExplicitSamples
 mod ResetSamples

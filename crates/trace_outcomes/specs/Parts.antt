@@ -14,11 +14,13 @@ use Rattle.cip_events.specs.declared.event.Notice.{Notice}
 use Rattle.cip_events.specs.declared.event.Notice.TheVariants as notice
 use Rattle.cip_events.specs.declared.event.Reason.{Reason}
 use Rattle.cip_events.specs.declared.event.Reason.TheVariants as reason
+use Rattle.cip_events.specs.declared.event.Unanswered.{Unanswered}
+use Rattle.cip_events.specs.declared.event.Unanswered.TheVariants as unanswered
 use Rattle.cip_events.specs.declared.event.StepFault.{StepFault}
 use Rattle.cip_events.specs.declared.event.StepFault.TheVariants as fault
 use Rattle.trace_outcomes.specs.declared.part.Part.{Part}
 use Rattle.trace_outcomes.specs.declared.part.Part.TheVariants as part
-use Rattle.trace_lines.specs.declared.shapes.TheConstants.{FROM_NODE, FRAME, SEND, VALUE}
+use Rattle.trace_lines.specs.declared.shapes.TheConstants.{FROM_NODE, FRAME, SEND, VALUE, REPLIED}
 use Rattle.trace_words.specs.Words.{number_of, bytes_of, id_of, general_of, extended_of}
 use Rattle.trace_words.specs.Reader.{Reader, next_word, gives, ends, refuses, Meanings, meaning, mapped, ◌>>=◌}
 use Rattle.trace_lines.specs.Shapes.{shaped}
@@ -125,6 +127,32 @@ refused_reader = do
   why ← reason_reader
   gives (notice.Refused slot why)
 
+abbrev pub unanswered_encap_reader : Reader Unanswered
+unanswered_encap_reader = do
+  status ← next_word (number_of 32)
+  ends (unanswered.Encap status)
+
+-- why an explicit request has no reply, each by its first word
+abbrev pub unanswered_meanings : Meanings (Reader Unanswered)
+unanswered_meanings =
+    (codes "timed-out", ends unanswered.TimedOut)
+    ∷ (codes "lost", ends unanswered.Lost)
+    ∷ (codes "encap", unanswered_encap_reader)
+    ∷ (codes "unreadable", ends unanswered.Unreadable)
+    ∷ []
+
+abbrev pub why_unanswered_reader : Reader Unanswered
+why_unanswered_reader = do
+  word ← next_word Some
+  meaning unanswered_meanings refuses word
+
+-- the number of an explicit request, and why it has no reply
+abbrev pub unanswered_reader : Reader Notice
+unanswered_reader = do
+  number ← next_word (number_of 32)
+  why ← why_unanswered_reader
+  gives (notice.Unanswered number why)
+
 -- the notices, each by its first word
 abbrev pub notice_meanings : Meanings (Reader Notice)
 notice_meanings =
@@ -138,6 +166,7 @@ notice_meanings =
     ∷ (codes "refused", refused_reader)
     ∷ (codes "no-ids", no_ids_reader)
     ∷ (codes "reset", reset_reader)
+    ∷ (codes "unanswered", unanswered_reader)
     ∷ []
 
 abbrev pub notice_reader : Reader Notice
@@ -199,6 +228,10 @@ verdict_of word = meaning verdict_meanings None word
 abbrev pub value_reader : Reader Verdict
 value_reader = shaped VALUE (λ bytes. ends (verdict.Value bytes))
 
+-- the reply to an explicit request: its number, the general status, the bytes of the additional status, and the data
+abbrev pub replied_reader : Reader Verdict
+replied_reader = shaped REPLIED (λ number status additional bytes. ends (verdict.Replied number status additional bytes))
+
 abbrev pub fault_reader : Reader StepFault
 fault_reader = do
   name ← next_word fault_of
@@ -208,6 +241,7 @@ fault_reader = do
 abbrev pub part_meanings : Meanings (Reader Part)
 part_meanings =
     (codes "value", mapped part.Verdict value_reader)
+    ∷ (codes "replied", mapped part.Verdict replied_reader)
     ∷ (codes "fault", mapped part.Fault fault_reader)
     ∷ (codes "reply", mapped part.Frame reply_reader)
     ∷ (codes "frame", mapped part.Frame frame_out_reader)

@@ -13,11 +13,13 @@ use Rattle.cip_events.specs.declared.event.OutgoingDatagram.{OutgoingDatagram}
 use Rattle.cip_events.specs.declared.event.Delivery.{Delivery}
 use Rattle.cip_events.specs.declared.event.Delivery.TheVariants.{Applied, Idle, Heartbeat, Duplicate, Old, UnknownId, WrongSize, Malformed}
 use Rattle.cip_events.specs.declared.event.Verdict.{Verdict}
-use Rattle.cip_events.specs.declared.event.Verdict.TheVariants.{Done, BadFrame, Ignored, Value, Delivered}
+use Rattle.cip_events.specs.declared.event.Verdict.TheVariants.{Done, BadFrame, Ignored, Value, Delivered, Replied}
 use Rattle.cip_events.specs.declared.event.Notice.{Notice}
-use Rattle.cip_events.specs.declared.event.Notice.TheVariants.{Opened, Closed, Expired, Dropped, Replaced, StreamClosed, Slot, Refused, NoIds, Reset}
+use Rattle.cip_events.specs.declared.event.Notice.TheVariants.{Opened, Closed, Expired, Dropped, Replaced, StreamClosed, Slot, Refused, NoIds, Reset, Unanswered as UnansweredNotice}
 use Rattle.cip_events.specs.declared.event.Reason.{Reason}
 use Rattle.cip_events.specs.declared.event.Reason.TheVariants as reason
+use Rattle.cip_events.specs.declared.event.Unanswered.{Unanswered}
+use Rattle.cip_events.specs.declared.event.Unanswered.TheVariants as unanswered
 use Rattle.cip_events.specs.declared.event.StepFault.{StepFault}
 use Rattle.cip_events.specs.declared.event.StepFault.TheVariants.{OutOfMemory, TickTooLong, ClockEnd, NoSuchPoint, WrongLength, NoSuchSlot, NotAllowedNow}
 use Rattle.cip_events.specs.Outcomes.{Outcome}
@@ -53,6 +55,7 @@ verdict_words BadFrame = codes "bad-frame"
 verdict_words Ignored = codes "ignored"
 verdict_words (Value bytes) = codes "value " ++ bytes_word bytes
 verdict_words (Delivered delivery) = delivery_word delivery
+verdict_words (Replied number status additional bytes) = codes "replied " ++ (decimal number ++ (codes " " ++ (general_word status ++ (codes " " ++ (bytes_word additional ++ (codes " " ++ bytes_word bytes))))))
 
 -- a connection's serial number, vendor number and originator serial number
 abbrev pub triad_words : Triad → List ℕ
@@ -75,6 +78,13 @@ reason_words (reason.Encap status) = codes "encap " ++ decimal status
 reason_words reason.Unreadable = codes "unreadable"
 reason_words (reason.Cip fault) = refusal_words fault
 reason_words (reason.Mismatch why) = mismatch_words why
+
+-- why an explicit request has no reply
+abbrev pub unanswered_words : Unanswered → List ℕ
+unanswered_words unanswered.TimedOut = codes "timed-out"
+unanswered_words unanswered.Lost = codes "lost"
+unanswered_words (unanswered.Encap status) = codes "encap " ++ decimal status
+unanswered_words unanswered.Unreadable = codes "unreadable"
 
 -- LINES
 
@@ -100,6 +110,7 @@ notice_words (Slot slot state) = codes "slot " ++ (decimal slot ++ (codes " " ++
 notice_words (Refused slot why) = codes "refused " ++ (decimal slot ++ (codes " " ++ reason_words why))
 notice_words (NoIds slot) = codes "no-ids " ++ decimal slot
 notice_words (Reset type) = codes "reset " ++ decimal type
+notice_words (UnansweredNotice number why) = codes "unanswered " ++ (decimal number ++ (codes " " ++ unanswered_words why))
 
 abbrev pub notice_line : ℕ → Notice → List ℕ
 notice_line number notice = decimal number ++ (codes " note " ++ (notice_words notice ++ codes "\n"))

@@ -1,9 +1,9 @@
 //! The lines of recorded notices.
 
 ghost use Rattle.trace_words.specs.Reader.{unread_words, Takes, next_word};
-ghost use Rattle.trace_outcomes.specs.Parts.{triad_reader, last_triad_reader, mismatch_of, reason_reader, notice_reader};
+ghost use Rattle.trace_outcomes.specs.Parts.{triad_reader, last_triad_reader, mismatch_of, reason_reader, why_unanswered_reader, notice_reader};
 
-use cip_events::{Notice, Reason};
+use cip_events::{Notice, Reason, Unanswered};
 use cip_types::{Fault, Mismatch, Triad};
 use std::alloc::Global;
 use trace_words::{TextFault, Words};
@@ -43,6 +43,11 @@ pub fn read_notice(alloc: Global, words: &mut Words<'_>) -> Result<Notice, TextF
         "reset" => {
             let kind = words.u8()?;
             words.last(Notice::Reset(kind))
+        }
+        "unanswered" => {
+            let number = words.u32()?;
+            let why = read_unanswered(words)?;
+            Ok(Notice::Unanswered(number, why))
         }
         _ => Err(TextFault::Bad),
     }
@@ -98,6 +103,22 @@ fn read_mismatch(words: &mut Words<'_>) -> Result<Mismatch, TextFault>
         "Triad" => Ok(Mismatch::Triad),
         "Id" => Ok(Mismatch::Id),
         "Api" => Ok(Mismatch::Api),
+        _ => Err(TextFault::Bad),
+    }
+}
+
+/// Why an explicit request has no reply.
+fn read_unanswered(words: &mut Words<'_>) -> Result<Unanswered, TextFault>
+    ensures { Takes (why_unanswered_reader (unread_words words.old)) result (unread_words words.new) }
+{
+    match words.word()? {
+        "timed-out" => words.last(Unanswered::TimedOut),
+        "lost" => words.last(Unanswered::Lost),
+        "encap" => {
+            let status = words.u32()?;
+            words.last(Unanswered::Encap(status))
+        }
+        "unreadable" => words.last(Unanswered::Unreadable),
         _ => Err(TextFault::Bad),
     }
 }

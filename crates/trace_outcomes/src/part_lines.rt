@@ -2,7 +2,7 @@
 
 ghost use Rattle.std.specs.Prelude.{◌≡◌};
 ghost use Rattle.trace_words.specs.Reader.{unread_words, Takes, next_word};
-ghost use Rattle.trace_outcomes.specs.Parts.{bytes_to, outgoing_reader, fault_of, verdict_of, part_reader};
+ghost use Rattle.trace_outcomes.specs.Parts.{bytes_to, outgoing_reader, fault_of, verdict_of, replied_reader, part_reader};
 
 use crate::notice_lines::read_notice;
 use crate::part::Part;
@@ -22,6 +22,7 @@ pub fn read_part(alloc: Global, words: &mut Words<'_>) -> Result<Part, TextFault
             let bytes = words.bytes(alloc)?;
             words.last(Part::Verdict(Verdict::Value(bytes)))
         }
+        "replied" => read_replied(alloc, words).map(Part::Verdict),
         "fault" => {
             let fault = read_fault(words)?;
             words.last(Part::Fault(fault))
@@ -62,6 +63,19 @@ fn read_verdict(word: &str) -> Option<Verdict>
         "malformed" => Some(Verdict::Delivered(Delivery::Malformed)),
         _ => None,
     }
+}
+
+/// What follows `replied`: `NUMBER STATUS ADDITIONAL DATA`.
+fn read_replied(alloc: Global, words: &mut Words<'_>) -> Result<Verdict, TextFault>
+    ensures { Takes (replied_reader (unread_words words.old)) result (unread_words words.new) }
+{
+    let replied = Verdict::Replied {
+        number: words.u32()?,
+        status: words.general(alloc)?,
+        additional: words.bytes(alloc)?,
+        data: words.bytes(alloc)?,
+    };
+    words.last(replied)
 }
 
 /// A fault by its name.

@@ -1,11 +1,12 @@
 //! Outcomes as they are written.
 
-ghost use Rattle.std.specs.Prelude.{◌≡◌, ◌++◌, OnOk, IfOk, string_bytes, flat_map, decimal};
+ghost use Rattle.std.specs.Prelude.{◌≡◌, ◌++◌, OnOk, IfOk, string_bytes, flat_map, codes, decimal};
+ghost use Rattle.trace_words.specs.Words.{bytes_word};
 ghost use Rattle.trace_outcomes.specs.WrittenOutcomes.{fault_word, delivery_word, verdict_words, triad_words, refusal_words, reason_words, recipient_words, frame_line, outgoing_line, notice_words, notice_line, answer_text, outcome_text};
 
 use cip_events::{
     Answer, Delivery, Frame, Notice, Outcome, OutgoingDatagram, Reason, Recipient, StepFault,
-    Verdict,
+    Unanswered, Verdict,
 };
 use cip_types::{Fault, Mismatch, OutOfMemory, Triad};
 use std::alloc::Global;
@@ -79,7 +80,29 @@ fn push_verdict(out: &mut String, verdict: &Verdict) -> Result<(), OutOfMemory>
             push_bytes(out, bytes.as_slice())
         }
         Verdict::Delivered(delivery) => push_text(out, delivery_name(*delivery)),
+        Verdict::Replied {
+            number,
+            status,
+            additional,
+            data,
+        } => {
+            write!(out, "replied {number} ")?;
+            push_digits(out, &[*status])?;
+            push_reply_bytes(out, additional.as_slice(), data.as_slice())
+        }
     }
+}
+
+/// Appends the bytes of an additional status and the data of a reply, each behind a space.
+fn push_reply_bytes(out: &mut String, additional: &[u8], data: &[u8]) -> Result<(), OutOfMemory>
+    ensures { OnOk result
+        (string_bytes out.new ≡ string_bytes out.old
+        ++ (codes " " ++ (bytes_word additional.now ++ (codes " " ++ bytes_word «data».now)))) }
+{
+    out.push_str(" ")?;
+    push_bytes(out, additional)?;
+    out.push_str(" ")?;
+    push_bytes(out, data)
 }
 
 /// The word for the delivery of a datagram.
@@ -174,6 +197,19 @@ fn push_notice_words(out: &mut String, notice: Notice) -> Result<(), OutOfMemory
         }
         Notice::NoIds(slot) => Ok(write!(out, "no-ids {slot}")?),
         Notice::Reset(kind) => Ok(write!(out, "reset {kind}")?),
+        Notice::Unanswered(number, why) => push_unanswered(out, number, why),
+    }
+}
+
+fn push_unanswered(out: &mut String, number: u32, why: Unanswered) -> Result<(), OutOfMemory>
+    ensures { OnOk result
+        (string_bytes out.new ≡ string_bytes out.old ++ notice_words (Notice.Unanswered number why)) }
+{
+    match why {
+        Unanswered::TimedOut => Ok(write!(out, "unanswered {number} timed-out")?),
+        Unanswered::Lost => Ok(write!(out, "unanswered {number} lost")?),
+        Unanswered::Encap(status) => Ok(write!(out, "unanswered {number} encap {status}")?),
+        Unanswered::Unreadable => Ok(write!(out, "unanswered {number} unreadable")?),
     }
 }
 

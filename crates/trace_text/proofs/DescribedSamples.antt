@@ -5,7 +5,7 @@ use Rattle.std.specs.Prelude.{Result}
 use Rattle.std.specs.Net.Reader.{read_ipv4, read_octet, read_number}
 use Rattle.hex.specs.Hex.{decode_pairs}
 use Rattle.cip_events.specs.declared.event.Event.TheVariants.{Inquiry}
-use Rattle.adapter_table.specs.Profiles.{profile_fault}
+use Rattle.adapter_table.specs.Profiles.{no_limits, profile_fault}
 use Rattle.adapter_table.specs.declared.profile.Description.{Description}
 use Rattle.adapter_table.specs.declared.profile.Profile.{Profile}
 use Rattle.cip_tables.specs.declared.table.Config.TheVariants.{Adapter}
@@ -16,7 +16,7 @@ use Rattle.trace_text.specs.declared.trace.TraceFault.TheVariants.{BadLine, BadP
 use Rattle.trace_text.specs.Forms.{line_of, event_of}
 use Rattle.trace_text.specs.Reading.{builder_after, trace_reading}
 
-abbrev rack : Description
+abbrev pub rack : Description
 rack = record { serial = 7; name = 82 ∷ 55 ∷ []; port = 44818; speed = 100; flags = 15; mac = 2 ∷ 0 ∷ 94 ∷ 16 ∷ 0 ∷ 7 ∷ []; inactivity = 120 }
 
 abbrev profile : Profile
@@ -31,6 +31,7 @@ profile = record {
   input_only = 152;
   listen_only = 153;
   description = Some rack;
+  limits = no_limits;
 }
 
 abbrev front : List ℕ

@@ -1,6 +1,8 @@
 mod AsciiLines
 mod DescribedSamples
 mod EntryTexts
+mod LimitLines
+mod LimitSamples
 mod Pieces
 mod Samples
 mod ScannerSamples

@@ -12,7 +12,7 @@ use Rattle.cip_tables.specs.declared.table.Config.TheVariants as config
 use Rattle.cip_tables.specs.Step.{config_fault}
 use Rattle.trace_lines.specs.Slots.{scanner_with}
 use Rattle.trace_text.specs.declared.builder.TraceBuilder.{TraceBuilder}
-use Rattle.trace_text.specs.declared.builder.TraceBuilder.TheVariants.{Empty, Points, Configured, Described, Slots, Events}
+use Rattle.trace_text.specs.declared.builder.TraceBuilder.TheVariants.{Empty, Points, Configured, Stated, Slots, Events}
 use Rattle.trace_text.specs.declared.forms.TraceLine.{TraceLine}
 use Rattle.trace_text.specs.declared.trace.Trace.{Trace}
 use Rattle.trace_text.specs.declared.trace.TraceFault.{TraceFault}
@@ -21,7 +21,8 @@ use Rattle.trace_text.specs.Forms.{line_of}
 use Rattle.trace_text.specs.Reading.{is_line_feed, is_skipped, parts_of, builder_with, builder_after, parsed_from, parsed, judged, judged_by, ended, trace_reading}
 use Rattle.trace_text.specs.Texts.{trace_values, IsOneLine, ended_lines, said_by, WriteTrace, BeginTrace, IsTraceText, IsBadNext, IsBadEnd, IsBadLine, IsTraceReading}
 use Rattle.trace_text.proofs.TextLines.{good_line, bad_line, open_line, text_ends}
-use Rattle.trace_text.proofs.TraceValues.{some_is, found_in, so_far, run, run_both, run_adds, completed, trace_run}
+use Rattle.trace_text.proofs.LimitLines.{some_is}
+use Rattle.trace_text.proofs.TraceValues.{found_in, so_far, run, run_both, run_adds, completed, trace_run}
 
 abbrev Lines : Type 0
 Lines = List (List ℕ)
@@ -124,7 +125,7 @@ whole_or_not : (end : TraceBuilder) → ((number : ℕ) → parsed number end �
 whole_or_not Empty = inl (λ number. refl)
 whole_or_not (Points adapter outputs inputs) = inl (λ number. refl)
 whole_or_not (Configured adapter outputs inputs point) = inl (λ number. refl)
-whole_or_not (Described adapter outputs inputs settings described) = inl (λ number. refl)
+whole_or_not (Stated adapter outputs inputs settings described limits) = inl (λ number. refl)
 whole_or_not (Slots scanner slots) = inr (record { config = config.Scanner (scanner_with scanner slots); events = [] }, (sym (append-nil _), λ number. refl))
 whole_or_not (Events made_of entries None) = inr (record { config = made_of; events = entries ++ [] }, (refl, λ number. refl))
 whole_or_not (Events made_of entries (Some last)) = inr (record { config = made_of; events = entries ++ last ∷ [] }, (refl, λ number. refl))

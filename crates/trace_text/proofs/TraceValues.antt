@@ -5,6 +5,9 @@ use Rattle.std.specs.Prelude.{option_to_list, option_map, option_and_then}
 use Rattle.std.proofs.lemmas.Bool.Decides.{nat_tests}
 use Rattle.std.proofs.lemmas.List.{append-nil, length-append}
 use Rattle.adapter_table.specs.declared.profile.Description.{Description}
+use Rattle.adapter_table.specs.declared.maker_limits.MakerLimits.{MakerLimits}
+use Rattle.adapter_table.specs.declared.maker_limits.Places.{Places}
+use Rattle.adapter_table.specs.Profiles.{no_limits}
 use Rattle.adapter_table.specs.declared.profile.Profile.{Profile}
 use Rattle.adapter_table.specs.declared.profile.InputPoint.{InputPoint}
 use Rattle.adapter_table.specs.declared.profile.OutputPoint.{OutputPoint}
@@ -22,17 +25,21 @@ use Rattle.cip_tables.specs.declared.table.Config.TheVariants as config
 use Rattle.trace_lines.specs.declared.forms.AdapterLine.{AdapterLine}
 use Rattle.trace_lines.specs.declared.forms.HeartbeatLine.{HeartbeatLine}
 use Rattle.trace_lines.specs.declared.forms.ScannerLine.{ScannerLine}
+use Rattle.trace_lines.specs.declared.limit_lines.LimitLine.{LimitLine}
+use Rattle.trace_lines.specs.declared.limit_lines.LimitLine.TheVariants as limit
+use Rattle.trace_lines.specs.Limits.{closers_line, with_limit, limit_lines}
 use Rattle.trace_lines.specs.Profiles.{profile_with}
 use Rattle.trace_lines.specs.Slots.{scanner_with}
 use Rattle.trace_outcomes.specs.declared.part.Part.{Part}
 use Rattle.trace_outcomes.specs.declared.part.Part.TheVariants as part
 use Rattle.trace_text.specs.Recorded.{recorded_with}
 use Rattle.trace_text.specs.declared.builder.TraceBuilder.{TraceBuilder}
-use Rattle.trace_text.specs.declared.builder.TraceBuilder.TheVariants.{Empty, Points, Configured, Described, Slots, Events}
+use Rattle.trace_text.specs.declared.builder.TraceBuilder.TheVariants.{Empty, Points, Configured, Stated, Slots, Events}
 use Rattle.trace_text.specs.declared.forms.TraceLine.{TraceLine}
 use Rattle.trace_text.specs.declared.forms.TraceLine.TheVariants as line
 use Rattle.trace_text.specs.declared.trace.Trace.{Trace}
-use Rattle.trace_text.specs.Reading.{Entry, builder_with, parsed, judged_by}
+use Rattle.trace_text.proofs.LimitLines.{some_is, limit_added}
+use Rattle.trace_text.specs.Reading.{Entry, with_stated, builder_with, parsed, judged_by}
 use Rattle.trace_text.specs.Texts.{adapter_line_of, heartbeat_line_of, scanner_line_of, config_values, outcome_parts, recorded_parts, entry_values, entries_values, trace_values}
 
 -- LISTS AND OPTIONS
@@ -44,9 +51,6 @@ map_last f (y ∷ xs) x = ap (λ t. f y ∷ t) (map_last f xs x)
 map_both : {A B : Type 0} (f : A → B) (xs ys : List A) → map f (xs ++ ys) ≡ map f xs ++ map f ys
 map_both f [] ys = refl
 map_both f (x ∷ xs) ys = ap (λ t. f x ∷ t) (map_both f xs ys)
-
-pub some_is : {A : Type 0} (x y : A) → Some x ≡ Some y → x ≡ y
-some_is x y is = cc
 
 no_elements : {A : Type 0} (xs : List A) → length xs ≡ 0 → xs ≡ []
 no_elements [] none = refl
@@ -80,7 +84,7 @@ abbrev pub so_far : TraceBuilder → List TraceLine
 so_far Empty = []
 so_far (Points adapter outputs inputs) = line.Adapter adapter ∷ (map line.Output outputs ++ map line.Input inputs)
 so_far (Configured adapter outputs inputs point) = line.Adapter adapter ∷ (map line.Output outputs ++ (map line.Input inputs ++ line.Config point ∷ []))
-so_far (Described adapter outputs inputs settings described) = line.Adapter adapter ∷ (map line.Output outputs ++ (map line.Input inputs ++ (map line.Config (option_to_list settings) ++ line.Description described ∷ [])))
+so_far (Stated adapter outputs inputs settings described limits) = line.Adapter adapter ∷ (map line.Output outputs ++ (map line.Input inputs ++ (map line.Config (option_to_list settings) ++ (map line.Description (option_to_list described) ++ map line.Limit (limit_lines limits)))))
 so_far (Slots scanner slots) = line.Scanner scanner ∷ map line.Slot slots
 so_far (Events made_of entries last) = config_values made_of ++ entries_values 1 (entries ++ option_to_list last)
 
@@ -194,10 +198,18 @@ ends_last adapter outputs inputs ends last =
 points_last : (adapter : AdapterLine) (outputs inputs : List TraceLine) (last : TraceLine) → line.Adapter adapter ∷ (outputs ++ (inputs ++ last ∷ [])) ≡ (line.Adapter adapter ∷ (outputs ++ inputs)) ++ last ∷ []
 points_last adapter outputs inputs last = ap (λ t. line.Adapter adapter ∷ t) (sym (append_assoc outputs inputs (last ∷ [])))
 
-described_last : (adapter : AdapterLine) (outputs inputs settings : List TraceLine) (described last : TraceLine) → line.Adapter adapter ∷ (outputs ++ (inputs ++ (settings ++ described ∷ last ∷ []))) ≡ (line.Adapter adapter ∷ (outputs ++ (inputs ++ (settings ++ described ∷ [])))) ++ last ∷ []
-described_last adapter outputs inputs settings described last =
-    ap (λ t. line.Adapter adapter ∷ (outputs ++ (inputs ++ t))) (sym (append_assoc settings (described ∷ []) (last ∷ [])))
-    ∙ ends_last adapter outputs inputs (settings ++ described ∷ []) last
+stated_last : (adapter : AdapterLine) (outputs inputs settings described limits : List TraceLine) (last : TraceLine) → line.Adapter adapter ∷ (outputs ++ (inputs ++ (settings ++ (described ++ (limits ++ last ∷ []))))) ≡ (line.Adapter adapter ∷ (outputs ++ (inputs ++ (settings ++ (described ++ limits))))) ++ last ∷ []
+stated_last adapter outputs inputs settings described limits last =
+    ap (λ t. line.Adapter adapter ∷ (outputs ++ (inputs ++ (settings ++ t)))) (sym (append_assoc described limits (last ∷ [])))
+    ∙ ap (λ t. line.Adapter adapter ∷ (outputs ++ (inputs ++ t))) (sym (append_assoc settings (described ++ limits) (last ∷ [])))
+    ∙ ends_last adapter outputs inputs (settings ++ (described ++ limits)) last
+
+limit_added_to : (adapter : AdapterLine) (outputs : List OutputPoint) (inputs : List InputPoint) (settings : Option InputPoint) (described : Option Description) (limits : MakerLimits) (limit : LimitLine) (next : TraceBuilder) → with_stated adapter outputs inputs settings described limits limit ≡ Some next → so_far next ≡ so_far (Stated adapter outputs inputs settings described limits) ++ line.Limit limit ∷ []
+limit_added_to adapter outputs inputs settings described limits limit next is =
+    let (more, (from, made)) = mapped_from (λ more. Stated adapter outputs inputs settings described more) (with_limit limits limit) next is in
+    ap so_far (sym made)
+    ∙ ap (λ t. line.Adapter adapter ∷ (map line.Output outputs ++ (map line.Input inputs ++ (map line.Config (option_to_list settings) ++ (map line.Description (option_to_list described) ++ t))))) (ap (map line.Limit) (limit_added limits limit more from) ∙ map_last line.Limit (limit_lines limits) limit)
+    ∙ stated_last adapter (map line.Output outputs) (map line.Input inputs) (map line.Config (option_to_list settings)) (map line.Description (option_to_list described)) (map line.Limit (limit_lines limits)) (line.Limit limit)
 
 -- a line that is allowed is one line more
 pub added : (builder : TraceBuilder) (parsed : TraceLine) (next : TraceBuilder) → builder_with builder parsed ≡ Some next → so_far next ≡ so_far builder ++ parsed ∷ []
@@ -206,6 +218,7 @@ added Empty (line.Output value) next is = absurd (cc)
 added Empty (line.Input value) next is = absurd (cc)
 added Empty (line.Config value) next is = absurd (cc)
 added Empty (line.Description value) next is = absurd (cc)
+added Empty (line.Limit value) next is = absurd (cc)
 added Empty (line.Heartbeat value) next is = absurd (cc)
 added Empty (line.Scanner value) next is = so_far_is _ _ is
 added Empty (line.Slot value) next is = absurd (cc)
@@ -216,6 +229,7 @@ added (Points adapter outputs inputs) (line.Output value) next is = output_added
 added (Points adapter outputs inputs) (line.Input value) next is = so_far_is _ _ is ∙ ap (λ t. line.Adapter adapter ∷ (map line.Output outputs ++ t)) (map_last line.Input inputs value) ∙ ap (λ t. line.Adapter adapter ∷ t) (sym (append_assoc (map line.Output outputs) (map line.Input inputs) (line.Input value ∷ [])))
 added (Points adapter outputs inputs) (line.Config value) next is = so_far_is _ _ is ∙ ap (λ t. line.Adapter adapter ∷ t) (sym (append_assoc (map line.Output outputs) (map line.Input inputs) (line.Config value ∷ [])))
 added (Points adapter outputs inputs) (line.Description value) next is = so_far_is _ _ is ∙ points_last adapter (map line.Output outputs) (map line.Input inputs) (line.Description value)
+added (Points adapter outputs inputs) (line.Limit value) next is = limit_added_to adapter outputs inputs None None no_limits value next is ∙ ap (λ t. (line.Adapter adapter ∷ (map line.Output outputs ++ t)) ++ line.Limit value ∷ []) (append-nil (map line.Input inputs))
 added (Points adapter outputs inputs) (line.Heartbeat value) next is = so_far_is _ _ is ∙ append-nil _ ∙ points_last adapter (map line.Output outputs) (map line.Input inputs) (line.Heartbeat value)
 added (Points adapter outputs inputs) (line.Scanner value) next is = absurd (cc)
 added (Points adapter outputs inputs) (line.Slot value) next is = absurd (cc)
@@ -226,26 +240,29 @@ added (Configured adapter outputs inputs point) (line.Output value) next is = ab
 added (Configured adapter outputs inputs point) (line.Input value) next is = absurd (cc)
 added (Configured adapter outputs inputs point) (line.Config value) next is = absurd (cc)
 added (Configured adapter outputs inputs point) (line.Description value) next is = so_far_is _ _ is ∙ ends_last adapter (map line.Output outputs) (map line.Input inputs) (line.Config point ∷ []) (line.Description value)
+added (Configured adapter outputs inputs point) (line.Limit value) next is = limit_added_to adapter outputs inputs (Some point) None no_limits value next is
 added (Configured adapter outputs inputs point) (line.Heartbeat value) next is = so_far_is _ _ is ∙ append-nil _ ∙ ends_last adapter (map line.Output outputs) (map line.Input inputs) (line.Config point ∷ []) (line.Heartbeat value)
 added (Configured adapter outputs inputs point) (line.Scanner value) next is = absurd (cc)
 added (Configured adapter outputs inputs point) (line.Slot value) next is = absurd (cc)
 added (Configured adapter outputs inputs point) (line.Event value) next is = absurd (cc)
 added (Configured adapter outputs inputs point) (line.Recorded number value) next is = absurd (cc)
-added (Described adapter outputs inputs settings described) (line.Adapter value) next is = absurd (cc)
-added (Described adapter outputs inputs settings described) (line.Output value) next is = absurd (cc)
-added (Described adapter outputs inputs settings described) (line.Input value) next is = absurd (cc)
-added (Described adapter outputs inputs settings described) (line.Config value) next is = absurd (cc)
-added (Described adapter outputs inputs settings described) (line.Description value) next is = absurd (cc)
-added (Described adapter outputs inputs settings described) (line.Heartbeat value) next is = so_far_is _ _ is ∙ append-nil _ ∙ described_last adapter (map line.Output outputs) (map line.Input inputs) (map line.Config (option_to_list settings)) (line.Description described) (line.Heartbeat value)
-added (Described adapter outputs inputs settings described) (line.Scanner value) next is = absurd (cc)
-added (Described adapter outputs inputs settings described) (line.Slot value) next is = absurd (cc)
-added (Described adapter outputs inputs settings described) (line.Event value) next is = absurd (cc)
-added (Described adapter outputs inputs settings described) (line.Recorded number value) next is = absurd (cc)
+added (Stated adapter outputs inputs settings described limits) (line.Adapter value) next is = absurd (cc)
+added (Stated adapter outputs inputs settings described limits) (line.Output value) next is = absurd (cc)
+added (Stated adapter outputs inputs settings described limits) (line.Input value) next is = absurd (cc)
+added (Stated adapter outputs inputs settings described limits) (line.Config value) next is = absurd (cc)
+added (Stated adapter outputs inputs settings described limits) (line.Description value) next is = absurd (cc)
+added (Stated adapter outputs inputs settings described limits) (line.Limit value) next is = limit_added_to adapter outputs inputs settings described limits value next is
+added (Stated adapter outputs inputs settings described limits) (line.Heartbeat value) next is = so_far_is _ _ is ∙ append-nil _ ∙ stated_last adapter (map line.Output outputs) (map line.Input inputs) (map line.Config (option_to_list settings)) (map line.Description (option_to_list described)) (map line.Limit (limit_lines limits)) (line.Heartbeat value)
+added (Stated adapter outputs inputs settings described limits) (line.Scanner value) next is = absurd (cc)
+added (Stated adapter outputs inputs settings described limits) (line.Slot value) next is = absurd (cc)
+added (Stated adapter outputs inputs settings described limits) (line.Event value) next is = absurd (cc)
+added (Stated adapter outputs inputs settings described limits) (line.Recorded number value) next is = absurd (cc)
 added (Slots scanner slots) (line.Adapter value) next is = absurd (cc)
 added (Slots scanner slots) (line.Output value) next is = absurd (cc)
 added (Slots scanner slots) (line.Input value) next is = absurd (cc)
 added (Slots scanner slots) (line.Config value) next is = absurd (cc)
 added (Slots scanner slots) (line.Description value) next is = absurd (cc)
+added (Slots scanner slots) (line.Limit value) next is = absurd (cc)
 added (Slots scanner slots) (line.Heartbeat value) next is = absurd (cc)
 added (Slots scanner slots) (line.Scanner value) next is = absurd (cc)
 added (Slots scanner slots) (line.Slot value) next is = so_far_is _ _ is ∙ ap (λ t. line.Scanner scanner ∷ t) (map_last line.Slot slots value)
@@ -256,6 +273,7 @@ added (Events made_of entries None) (line.Output value) next is = absurd (cc)
 added (Events made_of entries None) (line.Input value) next is = absurd (cc)
 added (Events made_of entries None) (line.Config value) next is = absurd (cc)
 added (Events made_of entries None) (line.Description value) next is = absurd (cc)
+added (Events made_of entries None) (line.Limit value) next is = absurd (cc)
 added (Events made_of entries None) (line.Heartbeat value) next is = absurd (cc)
 added (Events made_of entries None) (line.Scanner value) next is = absurd (cc)
 added (Events made_of entries None) (line.Slot value) next is = absurd (cc)
@@ -266,6 +284,7 @@ added (Events made_of entries (Some (event, recorded))) (line.Output value) next
 added (Events made_of entries (Some (event, recorded))) (line.Input value) next is = absurd (cc)
 added (Events made_of entries (Some (event, recorded))) (line.Config value) next is = absurd (cc)
 added (Events made_of entries (Some (event, recorded))) (line.Description value) next is = absurd (cc)
+added (Events made_of entries (Some (event, recorded))) (line.Limit value) next is = absurd (cc)
 added (Events made_of entries (Some (event, recorded))) (line.Heartbeat value) next is = absurd (cc)
 added (Events made_of entries (Some (event, recorded))) (line.Scanner value) next is = absurd (cc)
 added (Events made_of entries (Some (event, recorded))) (line.Slot value) next is = absurd (cc)
@@ -310,11 +329,11 @@ no_points = record { input_only = 0; listen_only = 0 }
 pub completed : (builder : TraceBuilder) → (trace : Trace) × ((more : List TraceLine) × (so_far builder ++ more ≡ trace_values trace))
 completed Empty = (record { config = config.Scanner no_scanner; events = [] }, (config_values (config.Scanner no_scanner) ++ [], refl))
 completed (Points adapter outputs inputs) =
-    (record { config = config.Adapter (profile_with adapter outputs inputs None None no_points); events = [] }, (line.Heartbeat no_points ∷ [], sym (added (Points adapter outputs inputs) (line.Heartbeat no_points) _ refl)))
+    (record { config = config.Adapter (profile_with adapter outputs inputs None None no_limits no_points); events = [] }, (line.Heartbeat no_points ∷ [], sym (added (Points adapter outputs inputs) (line.Heartbeat no_points) _ refl)))
 completed (Configured adapter outputs inputs point) =
-    (record { config = config.Adapter (profile_with adapter outputs inputs (Some point) None no_points); events = [] }, (line.Heartbeat no_points ∷ [], sym (added (Configured adapter outputs inputs point) (line.Heartbeat no_points) _ refl)))
-completed (Described adapter outputs inputs settings described) =
-    (record { config = config.Adapter (profile_with adapter outputs inputs settings (Some described) no_points); events = [] }, (line.Heartbeat no_points ∷ [], sym (added (Described adapter outputs inputs settings described) (line.Heartbeat no_points) _ refl)))
+    (record { config = config.Adapter (profile_with adapter outputs inputs (Some point) None no_limits no_points); events = [] }, (line.Heartbeat no_points ∷ [], sym (added (Configured adapter outputs inputs point) (line.Heartbeat no_points) _ refl)))
+completed (Stated adapter outputs inputs settings described limits) =
+    (record { config = config.Adapter (profile_with adapter outputs inputs settings described limits no_points); events = [] }, (line.Heartbeat no_points ∷ [], sym (added (Stated adapter outputs inputs settings described limits) (line.Heartbeat no_points) _ refl)))
 completed (Slots scanner slots) = (record { config = config.Scanner (scanner_with scanner slots); events = [] }, ([], refl))
 completed (Events made_of entries last) = (record { config = made_of; events = entries ++ option_to_list last }, ([], append-nil _))
 
@@ -337,17 +356,63 @@ inputs_run : (adapter : AdapterLine) (outputs : List OutputPoint) (before inputs
 inputs_run adapter outputs before [] = ap (λ t. Some (Points adapter outputs t)) (sym (append-nil before))
 inputs_run adapter outputs before (input ∷ inputs) = inputs_run adapter outputs (before ++ input ∷ []) inputs ∙ ap (λ t. Some (Points adapter outputs t)) (append_assoc before (input ∷ []) inputs)
 
-ends_run : (adapter : AdapterLine) (outputs : List OutputPoint) (inputs : List InputPoint) (settings : Option InputPoint) (described : Option Description) (points : HeartbeatLine) → run (Points adapter outputs inputs) (map Some (map line.Config (option_to_list settings) ++ (map line.Description (option_to_list described) ++ line.Heartbeat points ∷ []))) ≡ Some (Events (config.Adapter (profile_with adapter outputs inputs settings described points)) [] None)
-ends_run adapter outputs inputs None None points = refl
-ends_run adapter outputs inputs None (Some described) points = refl
-ends_run adapter outputs inputs (Some point) None points = refl
-ends_run adapter outputs inputs (Some point) (Some described) points = refl
+-- the lines of limits, and the one behind them
+abbrev limits_end : HeartbeatLine → List LimitLine → List (Option TraceLine)
+limits_end points limits = map Some (map line.Limit limits ++ line.Heartbeat points ∷ [])
+
+abbrev limits_of : Option ℕ → Option Places → Option ℕ → Bool → Option ℕ → MakerLimits
+limits_of rpi places node closers newer = record { least_rpi = rpi; places = places; node_connections = node; own_closers = closers; newer = newer }
+
+module _ (adapter : AdapterLine) (outputs : List OutputPoint) (inputs : List InputPoint) (settings : Option InputPoint) (described : Option Description) (points : HeartbeatLine) where
+  abbrev stated : MakerLimits → TraceBuilder
+  stated limits = Stated adapter outputs inputs settings described limits
+
+  abbrev whole : MakerLimits → Option TraceBuilder
+  whole limits = Some (Events (config.Adapter (profile_with adapter outputs inputs settings described limits points)) [] None)
+
+  newer_run : (a : Option ℕ) (b : Option Places) (c : Option ℕ) (d : Bool) (e : Option ℕ) → run (stated (limits_of a b c d None)) (limits_end points (option_to_list (option_map limit.Newer e))) ≡ whole (limits_of a b c d e)
+  newer_run a b c d None = refl
+  newer_run a b c d (Some within) = refl
+
+  closers_run : (a : Option ℕ) (b : Option Places) (c : Option ℕ) (d : Bool) (e : Option ℕ) → run (stated (limits_of a b c false None)) (limits_end points (option_to_list (closers_line d) ++ option_to_list (option_map limit.Newer e))) ≡ whole (limits_of a b c d e)
+  closers_run a b c false e = newer_run a b c false e
+  closers_run a b c true e = newer_run a b c true e
+
+  node_run : (a : Option ℕ) (b : Option Places) (c : Option ℕ) (d : Bool) (e : Option ℕ) → run (stated (limits_of a b None false None)) (limits_end points (option_to_list (option_map limit.NodeConnections c) ++ (option_to_list (closers_line d) ++ option_to_list (option_map limit.Newer e)))) ≡ whole (limits_of a b c d e)
+  node_run a b None d e = closers_run a b None d e
+  node_run a b (Some most) d e = closers_run a b (Some most) d e
+
+  places_run : (a : Option ℕ) (b : Option Places) (c : Option ℕ) (d : Bool) (e : Option ℕ) → run (stated (limits_of a None None false None)) (limits_end points (option_to_list (option_map limit.Places b) ++ (option_to_list (option_map limit.NodeConnections c) ++ (option_to_list (closers_line d) ++ option_to_list (option_map limit.Newer e))))) ≡ whole (limits_of a b c d e)
+  places_run a None c d e = node_run a None c d e
+  places_run a (Some places) c d e = node_run a (Some places) c d e
+
+  rpi_run : (a : Option ℕ) (b : Option Places) (c : Option ℕ) (d : Bool) (e : Option ℕ) → run (stated no_limits) (limits_end points (limit_lines (limits_of a b c d e))) ≡ whole (limits_of a b c d e)
+  rpi_run None b c d e = places_run None b c d e
+  rpi_run (Some us) b c d e = places_run (Some us) b c d e
+
+  limits_run : (limits : MakerLimits) → run (stated no_limits) (limits_end points (limit_lines limits)) ≡ whole limits
+  limits_run limits = rpi_run limits.least_rpi limits.places limits.node_connections limits.own_closers limits.newer
+
+-- the limits and the points without data, where no description is before them
+after_points : (adapter : AdapterLine) (outputs : List OutputPoint) (inputs : List InputPoint) (points : HeartbeatLine) (limits : List LimitLine) → run (Points adapter outputs inputs) (limits_end points limits) ≡ run (Stated adapter outputs inputs None None no_limits) (limits_end points limits)
+after_points adapter outputs inputs points [] = refl
+after_points adapter outputs inputs points (limit ∷ limits) = refl
+
+after_settings : (adapter : AdapterLine) (outputs : List OutputPoint) (inputs : List InputPoint) (point : InputPoint) (points : HeartbeatLine) (limits : List LimitLine) → run (Configured adapter outputs inputs point) (limits_end points limits) ≡ run (Stated adapter outputs inputs (Some point) None no_limits) (limits_end points limits)
+after_settings adapter outputs inputs point points [] = refl
+after_settings adapter outputs inputs point points (limit ∷ limits) = refl
+
+ends_run : (adapter : AdapterLine) (outputs : List OutputPoint) (inputs : List InputPoint) (settings : Option InputPoint) (described : Option Description) (limits : MakerLimits) (points : HeartbeatLine) → run (Points adapter outputs inputs) (map Some (map line.Config (option_to_list settings) ++ (map line.Description (option_to_list described) ++ (map line.Limit (limit_lines limits) ++ line.Heartbeat points ∷ [])))) ≡ Some (Events (config.Adapter (profile_with adapter outputs inputs settings described limits points)) [] None)
+ends_run adapter outputs inputs None None limits points = after_points adapter outputs inputs points (limit_lines limits) ∙ limits_run adapter outputs inputs None None points limits
+ends_run adapter outputs inputs None (Some described) limits points = limits_run adapter outputs inputs None (Some described) points limits
+ends_run adapter outputs inputs (Some point) None limits points = after_settings adapter outputs inputs point points (limit_lines limits) ∙ limits_run adapter outputs inputs (Some point) None points limits
+ends_run adapter outputs inputs (Some point) (Some described) limits points = limits_run adapter outputs inputs (Some point) (Some described) points limits
 
 adapter_run : (profile : Profile) → run Empty (map Some (config_values (config.Adapter profile))) ≡ Some (Events (config.Adapter profile) [] None)
 adapter_run profile =
     both_run (Points (adapter_line_of profile) [] []) (Points (adapter_line_of profile) profile.outputs []) (map line.Output profile.outputs) _ _ (outputs_run (adapter_line_of profile) [] profile.outputs)
     (both_run (Points (adapter_line_of profile) profile.outputs []) (Points (adapter_line_of profile) profile.outputs profile.inputs) (map line.Input profile.inputs) _ _ (inputs_run (adapter_line_of profile) profile.outputs [] profile.inputs)
-    (ends_run (adapter_line_of profile) profile.outputs profile.inputs profile.config profile.description (heartbeat_line_of profile)))
+    (ends_run (adapter_line_of profile) profile.outputs profile.inputs profile.config profile.description profile.limits (heartbeat_line_of profile)))
 
 slots_run : (scanner : ScannerLine) (before slots : List SlotConfig) → run (Slots scanner before) (map Some (map line.Slot slots)) ≡ Some (Slots scanner (before ++ slots))
 slots_run scanner before [] = ap (λ t. Some (Slots scanner t)) (sym (append-nil before))

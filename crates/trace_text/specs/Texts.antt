@@ -13,6 +13,7 @@ use Rattle.cip_tables.specs.Step.{config_fault}
 use Rattle.trace_lines.specs.declared.forms.AdapterLine.{AdapterLine}
 use Rattle.trace_lines.specs.declared.forms.HeartbeatLine.{HeartbeatLine}
 use Rattle.trace_lines.specs.declared.forms.ScannerLine.{ScannerLine}
+use Rattle.trace_lines.specs.Limits.{limit_lines}
 use Rattle.trace_outcomes.specs.declared.part.Part.{Part}
 use Rattle.trace_outcomes.specs.declared.part.Part.TheVariants as part
 use Rattle.trace_text.specs.declared.forms.TraceLine.{TraceLine}
@@ -36,7 +37,7 @@ heartbeat_line_of profile = record { input_only = profile.input_only; listen_onl
 abbrev pub scanner_line_of : ScannerProfile → ScannerLine
 scanner_line_of profile = record { incarnation = profile.incarnation; node = profile.node; vendor = profile.vendor; serial = profile.serial; open_timeout = profile.open_timeout; retry = profile.retry }
 
--- a profile: an adapter's outputs, inputs, configuration, description and heartbeats, or a scanner's slots
+-- a profile: an adapter's outputs, inputs, configuration, description, limits and heartbeats, or a scanner's slots
 abbrev pub config_values : Config → List TraceLine
 config_values (config.Adapter profile) =
     line.Adapter (adapter_line_of profile)
@@ -44,7 +45,8 @@ config_values (config.Adapter profile) =
     ++ (map line.Input profile.inputs
     ++ (map line.Config (option_to_list profile.config)
     ++ (map line.Description (option_to_list profile.description)
-    ++ line.Heartbeat (heartbeat_line_of profile) ∷ []))))
+    ++ (map line.Limit (limit_lines profile.limits)
+    ++ line.Heartbeat (heartbeat_line_of profile) ∷ [])))))
 config_values (config.Scanner profile) = line.Scanner (scanner_line_of profile) ∷ map line.Slot profile.slots
 
 -- an outcome: the verdict, the frames, the datagrams and the notices, or the fault

@@ -3,18 +3,18 @@
 ghost use Rattle.std.specs.Prelude.{◌≡◌, ◌==◌, ◌+◌, [], length, ◌++◌, OnOk, option_to_list};
 ghost use Rattle.trace_words.specs.Reader.{Finds};
 ghost use Rattle.cip_tables.specs.declared.table.Config.{Config};
-ghost use Rattle.trace_text.specs.Reading.{builder_with, Leaves};
+ghost use Rattle.trace_text.specs.Reading.{with_stated, builder_with, Leaves};
 
 use crate::forms::TraceLine;
 use crate::kept::Recorded;
 use crate::recorded::{recorded_with, with_item};
-use adapter_table::Description;
+use adapter_table::{Description, MakerLimits};
 use cip_tables::{Config, Event, InputPoint, Outcome, OutputPoint};
 use cip_types::{Items, OutOfMemory};
 use scanner_table::SlotConfig;
 use std::alloc::Global;
 use std::mem;
-use trace_lines::{AdapterLine, ScannerLine, profile_with, scanner_with};
+use trace_lines::{AdapterLine, LimitLine, ScannerLine, profile_with, scanner_with, with_limit};
 use trace_outcomes::Part;
 use trace_words::TextFault;
 
@@ -36,13 +36,14 @@ pub enum TraceBuilder {
         inputs: Items<InputPoint>,
         config: InputPoint,
     },
-    /// A profile up to its description.
-    Described {
+    /// A profile up to what its maker states: its description and its limits.
+    Stated {
         adapter: AdapterLine,
         outputs: Items<OutputPoint>,
         inputs: Items<InputPoint>,
         config: Option<InputPoint>,
-        description: Description,
+        description: Option<Description>,
+        limits: MakerLimits,
     },
     /// A scanner's profile up to its slots.
     Slots {
@@ -99,28 +100,29 @@ fn builder_with(
             inputs,
             config,
         } => after_config(alloc, adapter, outputs, inputs, config, parsed),
-        TraceBuilder::Described {
+        TraceBuilder::Stated {
             adapter,
             outputs,
             inputs,
             config,
             description,
-        } => after_description(alloc, adapter, outputs, inputs, config, description, parsed),
+            limits,
+        } => after_stated(
+            alloc,
+            adapter,
+            outputs,
+            inputs,
+            config,
+            description,
+            limits,
+            parsed,
+        ),
         TraceBuilder::Slots { scanner, slots } => after_slots(alloc, scanner, slots, parsed),
         TraceBuilder::Events {
             config,
-            mut entries,
-            mut last,
-        } => {
-            match add_to_events(alloc, &mut entries, &mut last, parsed) {
-                Ok(()) => Ok(TraceBuilder::Events {
-                    config,
-                    entries,
-                    last,
-                }),
-                Err(fault) => Err(fault),
-            }
-        }
+            entries,
+            last,
+        } => after_events(alloc, config, entries, last, parsed),
     }
 }
 
@@ -167,15 +169,21 @@ fn after_points(
             inputs,
             config,
         }),
-        TraceLine::Description(description) => Ok(TraceBuilder::Described {
+        TraceLine::Description(description) => Ok(TraceBuilder::Stated {
             adapter,
             outputs,
             inputs,
             config: None,
-            description,
+            description: Some(description),
+            limits: MakerLimits::NONE,
         }),
+        TraceLine::Limit(limit) => {
+            let limits = MakerLimits::NONE;
+            with_stated(adapter, outputs, inputs, None, None, limits, limit)
+        }
         TraceLine::Heartbeat(heartbeat) => {
-            let profile = profile_with(adapter, outputs, inputs, None, None, heartbeat);
+            let limits = MakerLimits::NONE;
+            let profile = profile_with(adapter, outputs, inputs, None, None, limits, heartbeat);
             Ok(after_profile(alloc, Config::Adapter(profile), None))
         }
         _ => Err(TextFault::Bad),
@@ -193,41 +201,83 @@ fn after_config(
     ensures { Finds (builder_with (TraceBuilder.Configured adapter outputs inputs config) parsed) result }
 {
     match parsed {
-        TraceLine::Description(description) => Ok(TraceBuilder::Described {
+        TraceLine::Description(description) => Ok(TraceBuilder::Stated {
             adapter,
             outputs,
             inputs,
             config: Some(config),
-            description,
+            description: Some(description),
+            limits: MakerLimits::NONE,
         }),
+        TraceLine::Limit(limit) => {
+            let limits = MakerLimits::NONE;
+            with_stated(adapter, outputs, inputs, Some(config), None, limits, limit)
+        }
         TraceLine::Heartbeat(heartbeat) => {
-            let profile = profile_with(adapter, outputs, inputs, Some(config), None, heartbeat);
+            let limits = MakerLimits::NONE;
+            let profile = profile_with(
+                adapter,
+                outputs,
+                inputs,
+                Some(config),
+                None,
+                limits,
+                heartbeat,
+            );
             Ok(after_profile(alloc, Config::Adapter(profile), None))
         }
         _ => Err(TextFault::Bad),
     }
 }
 
-fn after_description(
+/// One limit more, behind the description or where that is left out.
+fn with_stated(
+    adapter: AdapterLine,
+    outputs: Items<OutputPoint>,
+    inputs: Items<InputPoint>,
+    config: Option<InputPoint>,
+    description: Option<Description>,
+    limits: MakerLimits,
+    limit: LimitLine,
+) -> Result<TraceBuilder, TextFault>
+    ensures { Finds (with_stated adapter outputs inputs config description limits limit) result }
+{
+    let limits = with_limit(limits, limit).ok_or(TextFault::Bad)?;
+    Ok(TraceBuilder::Stated {
+        adapter,
+        outputs,
+        inputs,
+        config,
+        description,
+        limits,
+    })
+}
+
+fn after_stated(
     alloc: Global,
     adapter: AdapterLine,
     outputs: Items<OutputPoint>,
     inputs: Items<InputPoint>,
     config: Option<InputPoint>,
-    description: Description,
+    description: Option<Description>,
+    limits: MakerLimits,
     parsed: TraceLine,
 ) -> Result<TraceBuilder, TextFault>
     ensures { Finds
-        (builder_with (TraceBuilder.Described adapter outputs inputs config description) parsed) result }
+        (builder_with (TraceBuilder.Stated adapter outputs inputs config description limits) parsed) result }
 {
     match parsed {
+        TraceLine::Limit(limit) => {
+            with_stated(adapter, outputs, inputs, config, description, limits, limit)
+        }
         TraceLine::Heartbeat(heartbeat) => {
             let profile = profile_with(
                 adapter,
                 outputs,
                 inputs,
                 config,
-                Some(description),
+                description,
+                limits,
                 heartbeat,
             );
             Ok(after_profile(alloc, Config::Adapter(profile), None))
@@ -254,6 +304,25 @@ fn after_slots(
             Ok(after_profile(alloc, config, Some((event, None))))
         }
         _ => Err(TextFault::Bad),
+    }
+}
+
+fn after_events(
+    alloc: Global,
+    config: Config,
+    mut entries: Items<(Event, Recorded)>,
+    mut last: Option<(Event, Option<Outcome>)>,
+    parsed: TraceLine,
+) -> Result<TraceBuilder, TextFault>
+    ensures { Finds (builder_with (TraceBuilder.Events config entries last) parsed) result }
+{
+    match add_to_events(alloc, &mut entries, &mut last, parsed) {
+        Ok(()) => Ok(TraceBuilder::Events {
+            config,
+            entries,
+            last,
+        }),
+        Err(fault) => Err(fault),
     }
 }
 

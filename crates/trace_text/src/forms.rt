@@ -3,7 +3,7 @@
 use adapter_table::Description;
 use cip_tables::{Event, InputPoint, OutputPoint};
 use scanner_table::SlotConfig;
-use trace_lines::{AdapterLine, HeartbeatLine, ScannerLine};
+use trace_lines::{AdapterLine, HeartbeatLine, LimitLine, ScannerLine};
 use trace_outcomes::Part;
 
 /// The value of a line, whatever its position.
@@ -14,6 +14,7 @@ pub enum TraceLine {
     Input(InputPoint),
     Config(InputPoint),
     Description(Description),
+    Limit(LimitLine),
     Heartbeat(HeartbeatLine),
     Scanner(ScannerLine),
     Slot(SlotConfig),

@@ -3,15 +3,16 @@
 ghost use Rattle.std.specs.Prelude.{◌≡◌, take, option_map, if◌then◌else◌, Some, None};
 ghost use Rattle.trace_words.specs.Reader.{unread_words, Takes, Finds, meaning};
 ghost use Rattle.trace_words.specs.Words.{number_of};
-ghost use Rattle.trace_text.specs.Forms.{event_of, is_ascii, line_of, line_meanings, line_reader, numbered};
+ghost use Rattle.trace_text.specs.Forms.{event_of, explicit_reader, is_ascii, line_of, line_meanings, line_reader, numbered};
 
 use crate::forms::TraceLine;
 use cip_tables::Event;
 use std::alloc::Global;
 use std::str;
 use trace_lines::{
-    read_adapter, read_description, read_heartbeat, read_mode, read_output, read_point,
-    read_scanner, read_slot,
+    read_adapter, read_description, read_heartbeat, read_least_rpi, read_mode, read_newer,
+    read_node_connections, read_output, read_own_closers, read_places, read_point, read_scanner,
+    read_slot,
 };
 use trace_outcomes::read_part;
 use trace_words::{TextFault, Words, read_u64};
@@ -100,9 +101,10 @@ fn read_words(alloc: Global, words: &mut Words<'_>) -> Result<TraceLine, TextFau
     }
 }
 
-/// What follows the word of a request, of an inquiry, of a stream's event or of a profile's line, or the number of an event.
+/// What follows the word of a request, of an inquiry, of a stream's event or of a profile's line, or the number of an
+/// event.
 fn read_other(alloc: Global, words: &mut Words<'_>, word: &str) -> Result<TraceLine, TextFault>
-    ensures { Takes (meaning (take 13 line_meanings) (numbered (number_of 64 word.now)) word.now
+    ensures { Takes (meaning (take 19 line_meanings) (numbered (number_of 64 word.now)) word.now
         (unread_words words.old)) result (unread_words words.new) }
 {
     match word {
@@ -120,6 +122,7 @@ fn read_other(alloc: Global, words: &mut Words<'_>, word: &str) -> Result<TraceL
                 .last(Event::Inquiry { peer, bytes })
                 .map(TraceLine::Event)
         }
+        "explicit" => read_explicit(alloc, words).map(TraceLine::Event),
         "frame" => {
             let stream = words.u16()?;
             let bytes = words.bytes(alloc)?;
@@ -144,13 +147,25 @@ fn read_other(alloc: Global, words: &mut Words<'_>, word: &str) -> Result<TraceL
     }
 }
 
+/// What follows `explicit`: `NODE NUMBER HEX`.
+fn read_explicit(alloc: Global, words: &mut Words<'_>) -> Result<Event, TextFault>
+    ensures { Takes (explicit_reader (unread_words words.old)) result (unread_words words.new) }
+{
+    let explicit = Event::Explicit {
+        target: words.node()?,
+        number: words.u32()?,
+        bytes: words.bytes(alloc)?,
+    };
+    words.last(explicit)
+}
+
 /// What follows the word of a profile's line, or the number of an event.
 fn read_profile_line(
     alloc: Global,
     words: &mut Words<'_>,
     word: &str,
 ) -> Result<TraceLine, TextFault>
-    ensures { Takes (meaning (take 8 line_meanings) (numbered (number_of 64 word.now)) word.now
+    ensures { Takes (meaning (take 13 line_meanings) (numbered (number_of 64 word.now)) word.now
         (unread_words words.old)) result (unread_words words.new) }
 {
     match word {
@@ -159,6 +174,11 @@ fn read_profile_line(
         "input" => read_point(words).map(TraceLine::Input),
         "config" => read_point(words).map(TraceLine::Config),
         "describe" => read_description(alloc, words).map(TraceLine::Description),
+        "least-rpi" => read_least_rpi(words).map(TraceLine::Limit),
+        "places" => read_places(words).map(TraceLine::Limit),
+        "node-connections" => read_node_connections(words).map(TraceLine::Limit),
+        "closers" => read_own_closers(words).map(TraceLine::Limit),
+        "newer" => read_newer(words).map(TraceLine::Limit),
         "heartbeat" => read_heartbeat(words).map(TraceLine::Heartbeat),
         "scanner" => read_scanner(words).map(TraceLine::Scanner),
         "slot" => read_slot(alloc, words).map(TraceLine::Slot),

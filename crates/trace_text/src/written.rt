@@ -70,6 +70,11 @@ pub fn push_event(out: &mut String, event: &Event) -> Result<(), OutOfMemory>
             push_of_node(out, "datagram", *peer, bytes.as_slice())
         }
         Event::Inquiry { peer, bytes } => { push_of_node(out, "inquiry", *peer, bytes.as_slice()) }
+        Event::Explicit {
+            target,
+            number,
+            bytes,
+        } => push_explicit(out, *target, *number, bytes.as_slice()),
         Event::Write { point, bytes } => { push_of_number(out, "write", *point, bytes.as_slice()) }
         Event::Read { point } => push_number(out, "read", *point),
         Event::Tick { ms } => push_number(out, "tick", *ms),
@@ -100,6 +105,23 @@ fn push_stream(out: &mut String, stream: u16, peer: Node) -> Result<(), OutOfMem
     write!(out, "stream {stream} ")?;
     push_node(out, peer)?;
     out.push_str("\n")?;
+    Ok(())
+}
+
+fn push_explicit(
+    out: &mut String,
+    target: Node,
+    number: u32,
+    bytes: &[u8],
+) -> Result<(), OutOfMemory>
+    ensures { OnOk result
+        (string_bytes out.new ≡ string_bytes out.old
+        ++ line_text (event_words (Event.Explicit target number bytes.now))) }
+{
+    out.push_str("explicit ")?;
+    push_node(out, target)?;
+    // (what is behind the address is as behind a keyword)
+    push_of_number(out, "", number, bytes)?;
     Ok(())
 }
 

@@ -4,7 +4,7 @@ ghost use Rattle.std.specs.Prelude.{◌≤◌, length};
 
 use eip::{
     Action, Config, ConnId, ConnectionRequest, Device, Event, FastAdapter, Identity, InputPoint,
-    Items, NewFault, Node, Notice, OutOfMemory, OutputPoint, Profile, SentData, StepFault, Triad,
+    Items, MakerLimits, NewFault, Node, Notice, OutOfMemory, OutputPoint, Profile, SentData, StepFault, Triad,
     datagram_bytes, open_request,
 };
 use std::alloc::Global;
@@ -48,6 +48,7 @@ fn profile(alloc: Global) -> Result<Profile, OutOfMemory> {
         input_only: 152,
         listen_only: 153,
         description: None,
+        limits: MakerLimits::NONE,
     })
 }
 

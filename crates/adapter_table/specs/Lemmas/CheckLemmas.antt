@@ -158,7 +158,7 @@ admitted_is t request admitted e =
     let named = are_named t request (result_ok (path_reading request.path)) j.points j.named in
     -- the answers of checks 2 to 9, of 10 to 13, and of 14 and 15
     let first = j.passed in
-    let second = first.1.1.1.1.1.1.1.1.1.1 in
+    let second = first.1.1.1.1.1.1.1.1.1.1.1 in
     let third = second.1.1.1.1.1.1.1 in
     let points = j.points in
     let made : IsAdmitted t request (admitted_at request j.points) = record {

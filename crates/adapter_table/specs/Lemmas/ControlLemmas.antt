@@ -11,7 +11,7 @@ use Rattle.adapter_table.specs.Inquiries.{inquiry_reply, inquired_by, inquired}
 use Rattle.adapter_table.specs.Streams.{is_taken, with_stream}
 use Rattle.adapter_table.specs.Step.{adapter_step}
 use Rattle.adapter_table.specs.Lemmas.PassiveLemmas.{passive_is}
-use Rattle.adapter_table.specs.Lemmas.RequestLemmas.{RequestsDo, answered_does, frame_does, next_is, streamed_is, cut_does}
+use Rattle.adapter_table.specs.Lemmas.RequestLemmas.{RequestsDo, LimitedDo, limited_do, answered_does, frame_does, next_is, streamed_is, cut_does}
 
 -- the event brings data or time: a datagram, a write or a tick
 abbrev pub brings_data : Event → Bool
@@ -24,20 +24,24 @@ brings_data other = false
 abbrev pub StreamsDo : (AdapterTable → AdapterTable → Type 0) → Type 0
 StreamsDo R = (t : AdapterTable) (number : ℕ) (peer : Node) → is_taken t.streams number ≡ false → R t (with_stream t number peer)
 
-inquired_does : (R : AdapterTable → AdapterTable → Type 0) → RequestsDo R → (t : AdapterTable) (peer : Node) (text : Option (List ℕ)) → R t (inquired_by t peer text).1
+inquired_does : (R : AdapterTable → AdapterTable → Type 0) → LimitedDo R → (t : AdapterTable) (peer : Node) (text : Option (List ℕ)) → R t (inquired_by t peer text).1
 inquired_does R does t peer None = does.stays t
 inquired_does R does t peer (Some text) = does.stays t
 
-pub control_does : (R : AdapterTable → AdapterTable → Type 0) → RequestsDo R → StreamsDo R → (t : AdapterTable) (event : Event) (next : Next) → brings_data event ≡ false → adapter_step t event ≡ Ok next → R t next.1
+pub limited_control : (R : AdapterTable → AdapterTable → Type 0) → LimitedDo R → StreamsDo R → (t : AdapterTable) (event : Event) (next : Next) → brings_data event ≡ false → adapter_step t event ≡ Ok next → R t next.1
 unfolding requested inquired
-control_does R does streams t (Request peer bytes) next none is = subst (λ (n : Next). R t n.1) (next_is _ _ is) (answered_does R does t peer (router_request_reading bytes))
-control_does R does streams t (StreamOpened number peer) next none is =
+limited_control R does streams t (Request peer bytes) next none is = subst (λ (n : Next). R t n.1) (next_is _ _ is) (answered_does R does t peer (router_request_reading bytes))
+limited_control R does streams t (StreamOpened number peer) next none is =
     let streamed = streamed_is t number peer next is in
     subst (λ (n : Next). R t n.1) streamed.said (streams t number peer streamed.free)
-control_does R does streams t (Frame number bytes) next none is = frame_does R does t number bytes next is
-control_does R does streams t (StreamCut number) next none is = cut_does R does t number next is
-control_does R does streams t (Datagram peer bytes) next none is = absurd (let e = none in cc)
-control_does R does streams t (Inquiry peer bytes) next none is = subst (λ (n : Next). R t n.1) (next_is _ _ is) (inquired_does R does t peer (inquiry_reply t bytes))
-control_does R does streams t (Write point bytes) next none is = absurd (let e = none in cc)
-control_does R does streams t (Tick ms) next none is = absurd (let e = none in cc)
-control_does R does streams t other next none is = subst (λ (n : Next). R t n.1) (passive_is t other next refl is).said (does.stays t)
+limited_control R does streams t (Frame number bytes) next none is = frame_does R does t number bytes next is
+limited_control R does streams t (StreamCut number) next none is = cut_does R does t number next is
+limited_control R does streams t (Datagram peer bytes) next none is = absurd (let e = none in cc)
+limited_control R does streams t (Inquiry peer bytes) next none is = subst (λ (n : Next). R t n.1) (next_is _ _ is) (inquired_does R does t peer (inquiry_reply t bytes))
+limited_control R does streams t (Write point bytes) next none is = absurd (let e = none in cc)
+limited_control R does streams t (Tick ms) next none is = absurd (let e = none in cc)
+limited_control R does streams t other next none is = subst (λ (n : Next). R t n.1) (passive_is t other next refl is).said (does.stays t)
+
+-- what every opening that is admitted does, one within the limits does
+pub control_does : (R : AdapterTable → AdapterTable → Type 0) → RequestsDo R → StreamsDo R → (t : AdapterTable) (event : Event) (next : Next) → brings_data event ≡ false → adapter_step t event ≡ Ok next → R t next.1
+control_does R does streams t event next none is = limited_control R (limited_do R does) streams t event next none is

@@ -16,8 +16,9 @@ use Rattle.adapter_table.specs.declared.table.PointValue.{PointValue}
 use Rattle.adapter_table.specs.Profiles.{is_output_at}
 use Rattle.adapter_table.specs.Points.{bytes_at}
 use Rattle.cip_productions.specs.Kinds.{is_owner}
+use Rattle.adapter_table.specs.StatedLimits.{accepts_number}
 use Rattle.adapter_table.specs.Datagrams.{output_len, expected_len, moded, row_delivery, run_data, accepted_values}
-use Rattle.cip_productions.specs.Acceptance.{accepts_sequence, is_duplicate}
+use Rattle.cip_productions.specs.Acceptance.{is_duplicate}
 use Rattle.adapter_table.specs.Shapes.{IsShaped, len_of}
 use Rattle.adapter_table.specs.Whole.{ConsumesOutput}
 use Rattle.adapter_table.specs.Scratch.{left_accepted}
@@ -53,7 +54,7 @@ same_len a b c p q = omega arith
 
 applied_len : (profile : Profile) (row : Row) (d : DatagramFields) → row_delivery profile row d ≡ Applied → length (run_data (header_at d.payload)) ≡ output_len (find (is_output_at row.consumed) profile.outputs)
 applied_len profile row d is =
-    let by = applied_by (length d.payload == expected_len profile row) (accepts_sequence row.last d.sequence) (is_owner row.kind) (is_duplicate row.last d.count) (header_at d.payload) is in
+    let by = applied_by (length d.payload == expected_len profile row) (accepts_number profile.limits.newer row.last d.sequence) (is_owner row.kind) (is_duplicate row.last d.count) (header_at d.payload) is in
     let len : length d.payload ≡ output_len (find (is_output_at row.consumed) profile.outputs) + 4 = eqb-true _ _ by.sized ∙ expected_is profile row by.owns in
     same_len (length d.payload) (output_len (find (is_output_at row.consumed) profile.outputs)) (length (run_data (header_at d.payload))) len (data_len d.payload (omega arith))
 
@@ -64,13 +65,13 @@ fits_found profile point len (Some output) is some long = output_fits profile po
 -- they fit the output of their connection
 pub applied_fits : (profile : Profile) (row : Row) (d : DatagramFields) → ConsumesOutput profile row → row_delivery profile row d ≡ Applied → len_of profile row.consumed ≡ Some (length (run_data (header_at d.payload)))
 applied_fits profile row d consumes is =
-    let by = applied_by (length d.payload == expected_len profile row) (accepts_sequence row.last d.sequence) (is_owner row.kind) (is_duplicate row.last d.count) (header_at d.payload) is in
+    let by = applied_by (length d.payload == expected_len profile row) (accepts_number profile.limits.newer row.last d.sequence) (is_owner row.kind) (is_duplicate row.last d.count) (header_at d.payload) is in
     fits_found profile row.consumed (length (run_data (header_at d.payload))) (find (is_output_at row.consumed) profile.outputs) refl (consumes by.owns) (applied_len profile row d is)
 
 -- there is such an output
 pub applied_output : (profile : Profile) (row : Row) (d : DatagramFields) → ConsumesOutput profile row → row_delivery profile row d ≡ Applied → is_some (find (is_output_at row.consumed) profile.outputs) ≡ true
 applied_output profile row d consumes is =
-    let by = applied_by (length d.payload == expected_len profile row) (accepts_sequence row.last d.sequence) (is_owner row.kind) (is_duplicate row.last d.count) (header_at d.payload) is in
+    let by = applied_by (length d.payload == expected_len profile row) (accepts_number profile.limits.newer row.last d.sequence) (is_owner row.kind) (is_duplicate row.last d.count) (header_at d.payload) is in
     consumes by.owns
 
 -- what a datagram does keeps the lengths

@@ -65,6 +65,8 @@ use Rattle.adapter_table.specs.Objects.{ObjectAnswer, said, denied, resetting, o
 use Rattle.adapter_table.specs.Inquiries.{frame_alone, inquiry_reply, inquired_by, inquired}
 use Rattle.adapter_table.specs.Rows.{has_triad, is_member, written_state, written_row}
 use Rattle.adapter_table.specs.Checks.{Check, Points, Admitted, drawn_ids, group_of, joined, named_points, points_of, path_check, consumed_point_of, input_of, is_multicast, judged, view_of, verdict, admission}
+use Rattle.adapter_table.specs.StatedLimits.{exceeds, limited, limited_admission, is_wrong_closer}
+use Rattle.adapter_table.specs.declared.maker_limits.MakerLimits.{MakerLimits}
 use Rattle.adapter_table.specs.Opening.{opened_t_o_id, opened_row, opened_table}
 use Rattle.adapter_table.specs.Closing.{stays, without_triad, closed_table}
 use Rattle.adapter_table.specs.Datagrams.{is_for, accepted_row, accepted_if_for, row_delivery, accepted_table, delivered, found_datagram, datagram_of, received}
@@ -149,6 +151,14 @@ unfolding verdict
 admission_holds P Q t request rows =
     judged_holds P request (points_of (view_of t request.triad) request (result_ok (path_reading request.path))) _ (points_hold P Q t request (result_ok (path_reading request.path)) rows)
 
+limited_step : (P : ℕ → Type 0) (b : Bool) (admitted : Admitted) → GroupHolds P admitted.group → AdmittedHolds P (cond b (Err refused_as.OutOfConnections) (Ok admitted))
+limited_step P true admitted holds = tt
+limited_step P false admitted holds = holds
+
+limited_holds : (P : ℕ → Type 0) (limits : MakerLimits) (rows : List Row) (peer : Node) (said : Result Admitted Refusal) → AdmittedHolds P said → AdmittedHolds P (limited limits rows peer said)
+limited_holds P limits rows peer (Err why) holds = tt
+limited_holds P limits rows peer (Ok admitted) holds = limited_step P (exceeds limits rows peer admitted.kind) admitted holds
+
 -- the ids of the new connection
 t_o_holds : (P : ℕ → Type 0) (t : AdapterTable) (request : OpenFields) (multicast : Bool) (group : Option Row) (to : ℕ) → GroupHolds P group → P request.t_o_id.0 → IdsFromTo P t.profile.incarnation t.next_id to → t.next_id + drawn_ids multicast group ≤ to → P (opened_t_o_id t request multicast group).0
 t_o_holds P t request true None to joins requested drawn in_range = drawn (t.next_id + 1) (omega arith) (omega (arith, in_range))
@@ -168,6 +178,7 @@ nonzero status.NotEnoughData = refl
 nonzero status.Attribute = refl
 nonzero status.TooMuchData = refl
 nonzero status.NotSettable = refl
+nonzero status.PrivilegeViolation = refl
 nonzero status.StateConflict = refl
 nonzero status.InvalidParameter = refl
 
@@ -190,10 +201,12 @@ open_holds P Q cuts t peer large request (Ok admitted) to below drawn joins requ
       all_both (RowIds P Q) _ _ (all_filtered (RowIds P Q) _ t.rows rows) (record { o_t = o_t; t_o = t_o; opening = opening_holds }, tt),
     )
 
-close_holds : (P Q : ℕ → Type 0) (t : AdapterTable) (request : CloseFields) (found : Option Row) → RowsHold P Q t.rows → ServedHolds P Q (close_of t request found)
+close_holds : (P Q : ℕ → Type 0) (t : AdapterTable) (peer : Node) (request : CloseFields) (found : Option Row) → RowsHold P Q t.rows → ServedHolds P Q (close_of t peer request found)
 unfolding closed_table
-close_holds P Q t request None rows = (refused_ids P 0x4E (refusal_fault refused_as.NotFound) (Some request.triad) refl, rows)
-close_holds P Q t request (Some row) rows =
+close_holds P Q t peer request None rows = (refused_ids P 0x4E (refusal_fault refused_as.NotFound) (Some request.triad) refl, rows)
+close_holds P Q t peer request (Some row) rows =
+    either (ServedHolds P Q) (is_wrong_closer t.profile.limits peer row) _ _
+    (refused_ids P 0x4E (status_fault status.PrivilegeViolation) (Some request.triad) refl, rows)
     (closed_ids P row.triad, all_filtered (RowIds P Q) (stays (without_triad row.triad t.rows)) (without_triad row.triad t.rows) (all_filtered (RowIds P Q) _ t.rows rows))
 
 object_holds : (P Q : ℕ → Type 0) (t : AdapterTable) (service : ℕ) (answer : ObjectAnswer) → RowsHold P Q t.rows → ServedHolds P Q (object_served t service answer)
@@ -213,10 +226,11 @@ served_holds : (P Q : ℕ → Type 0) → Cuts P → (t : AdapterTable) (peer : 
 unfolding served_open served_close served_object
 served_holds P Q cuts t peer nothing to below drawn ids rows = tt
 served_holds P Q cuts t peer (refused service why) to below drawn ids rows = refusal_holds P Q t service why rows
-served_holds P Q cuts t peer (closing request) to below drawn ids rows = close_holds P Q t request (find (has_triad request.triad) t.rows) rows
+served_holds P Q cuts t peer (closing request) to below drawn ids rows = close_holds P Q t peer request (find (has_triad request.triad) t.rows) rows
 served_holds P Q cuts t peer (object service class instance attribute body) to below drawn ids rows = object_holds P Q t service (object_answer t service class instance attribute body) rows
 served_holds P Q cuts t peer (opening large request) to below drawn ids rows =
-    open_holds P Q cuts t peer large request (admission t request) to below drawn (admission_holds P Q t request rows) ids rows
+    open_holds P Q cuts t peer large request (limited_admission t peer request) to below drawn
+    (limited_holds P t.profile.limits t.rows peer (admission t request) (admission_holds P Q t request rows)) ids rows
 
 -- ---- messages
 

@@ -34,7 +34,9 @@ use Rattle.adapter_table.specs.Objects as objects
 use Rattle.adapter_table.specs.Opening.{opened_row, opened_table}
 use Rattle.adapter_table.specs.Requests.{Next, Served, judged_open, admitted_open, served_open, close_of, served_close, object_served, served_object, served}
 use Rattle.adapter_table.specs.Rows.{has_triad}
+use Rattle.adapter_table.specs.StatedLimits.{limited_admission, is_wrong_closer}
 use Rattle.adapter_table.specs.Streams.{without_stream, has_session, registered_table}
+use Rattle.adapter_table.specs.Lemmas.LimitLemmas.{limited_is}
 use Rattle.device_laws.specs.Lemmas.Lists.{all_both, all_filtered}
 use Rattle.device_laws.specs.Lemmas.Texts.{either}
 
@@ -47,18 +49,20 @@ Makes O t requested = (large : Bool) (request : OpenFields) → requested ≡ op
 abbrev pub RowsAre : (Row → Type 0) → AdapterTable → Type 0
 RowsAre O t = AllByRecursion O t.rows
 
-open_rows : (O : Row → Type 0) (t : AdapterTable) (peer : Node) (large : Bool) (request : OpenFields) (said : Result Admitted Refusal) → admission t request ≡ said → ((admitted : Admitted) → admission t request ≡ Ok admitted → O (opened_row t peer request admitted)) → RowsAre O t → RowsAre O (judged_open t peer large request said).table
+open_rows : (O : Row → Type 0) (t : AdapterTable) (peer : Node) (large : Bool) (request : OpenFields) (said : Result Admitted Refusal) → limited_admission t peer request ≡ said → ((admitted : Admitted) → admission t request ≡ Ok admitted → O (opened_row t peer request admitted)) → RowsAre O t → RowsAre O (judged_open t peer large request said).table
 unfolding admitted_open opened_table
 open_rows O t peer large request (Err why) is makes rows = rows
-open_rows O t peer large request (Ok admitted) is makes rows = all_both O _ (opened_row t peer request admitted ∷ []) (all_filtered O _ t.rows rows) (makes admitted is, tt)
-
-close_rows : (O : Row → Type 0) (t : AdapterTable) (request : CloseFields) (found : Option Row) → RowsAre O t → RowsAre O (close_of t request found).table
-unfolding closed_table
-close_rows O t request None rows = rows
-close_rows O t request (Some row) rows = all_filtered O (stays (without_triad row.triad t.rows)) (without_triad row.triad t.rows) (all_filtered O _ t.rows rows)
+open_rows O t peer large request (Ok admitted) is makes rows = all_both O _ (opened_row t peer request admitted ∷ []) (all_filtered O _ t.rows rows) (makes admitted (limited_is t peer request admitted is).admitted, tt)
 
 abbrev ServedRows : (Row → Type 0) → Served → Type 0
 ServedRows O s = RowsAre O s.table
+
+close_rows : (O : Row → Type 0) (t : AdapterTable) (peer : Node) (request : CloseFields) (found : Option Row) → RowsAre O t → RowsAre O (close_of t peer request found).table
+unfolding closed_table
+close_rows O t peer request None rows = rows
+close_rows O t peer request (Some row) rows =
+    either (ServedRows O) (is_wrong_closer t.profile.limits peer row) _ _ rows
+    (all_filtered O (stays (without_triad row.triad t.rows)) (without_triad row.triad t.rows) (all_filtered O _ t.rows rows))
 
 object_rows : (O : Row → Type 0) (t : AdapterTable) (service : ℕ) (answer : ObjectAnswer) → RowsAre O t → ServedRows O (object_served t service answer)
 object_rows O t service (objects.said by value) rows = rows
@@ -69,9 +73,9 @@ served_rows : (O : Row → Type 0) (t : AdapterTable) (peer : Node) (requested :
 unfolding served_open served_close served_object
 served_rows O t peer nothing makes rows = tt
 served_rows O t peer (refused service why) makes rows = rows
-served_rows O t peer (closing request) makes rows = close_rows O t request (find (has_triad request.triad) t.rows) rows
+served_rows O t peer (closing request) makes rows = close_rows O t peer request (find (has_triad request.triad) t.rows) rows
 served_rows O t peer (object service class instance attribute body) makes rows = object_rows O t service (object_answer t service class instance attribute body) rows
-served_rows O t peer (opening large request) makes rows = open_rows O t peer large request (admission t request) refl (makes large request refl peer) rows
+served_rows O t peer (opening large request) makes rows = open_rows O t peer large request (limited_admission t peer request) refl (makes large request refl peer) rows
 
 -- ---- a frame
 

@@ -1,6 +1,6 @@
--- What leads from a table to another at every event but one: slots that open, end, and are established, and streams; a tick
--- up to its productions.
-use Rattle.std.proofs.Common.{◌≡◌, ℕ, Bool, true, false, cond, not, ◌&&◌, ◌==◌, List, [], filter, find, Option, Some, None, Result, Ok, Err, refl}
+-- What leads from a table to another at every event but one: slots that open, end, and are established, streams, and explicit
+-- requests; a tick up to its productions.
+use Rattle.std.proofs.Common.{◌≡◌, ◌≤◌, ℕ, ◌+◌, Bool, true, false, cond, not, ◌&&◌, ◌==◌, List, [], filter, find, Option, Some, None, Result, Ok, Err, refl, arith}
 use Rattle.cip_types.specs.Cases.{first_case}
 use Rattle.cip_types.specs.declared.names.Mismatch.{Mismatch}
 use Rattle.cip_types.specs.declared.names.Mismatch.TheVariants as mismatch
@@ -29,16 +29,20 @@ use Rattle.scanner_table.specs.Opening.{ready_opened, target_opened}
 use Rattle.scanner_table.specs.Replies.{open_answer, is_id_free, failed_slot, judged_success, answered}
 use Rattle.scanner_table.specs.Closing.{idle_slot, given_up, target_lost}
 use Rattle.scanner_table.specs.Encapsulation.{registering_on, ignored, stream_opened, cut_of, stream_cut, is_registered, session_begun, session_failed, registered, is_awaiting, replied, replied_to, reported, frame_answer, frame_of, frame}
+use Rattle.scanner_table.specs.declared.explicit.PendingExplicit.{PendingExplicit}
+use Rattle.scanner_table.specs.Explicit.{awaits, without_explicit, explicit_sent, explicit_request, explicit_timed_out, explicit_lost}
 use Rattle.scanner_table.specs.Ticks.{clocked_table, all_expired, all_given_up, advanced}
+use Rattle.device_laws.specs.Lemmas.ExplicitRequests.{explicit_holds, message_ends}
 use Rattle.scanner_table.specs.Lemmas.SlotLookups.{Stands, Any, Apart, each_any, each_filter, two_filter, each_found, each_stands, slots_apart}
 use Rattle.scanner_table.specs.Lemmas.Moves.{Kept, Leads, Establishes, each_does, given_does, ready_leads, target_leads, expired_leads, overdue_leads}
 
--- it holds too where streams change, and time passes
+-- it holds too where streams change, time passes, and explicit requests are sent and end
 pub record KeptQuietly (R : ScannerTable → ScannerTable → Type 0) : Type 0 where
   pub slots : Kept R
   pub streams : (t : ScannerTable) (streams : List TargetStream) → R t (record t { streams = streams })
   pub clocked : (t : ScannerTable) (ms : ℕ) → R t (clocked_table t ms)
   pub establishing : (t : ScannerTable) → Establishes R t
+  pub explicit : (t : ScannerTable) (pending : List PendingExplicit) (request : ℕ) → t.next_request ≤ request → R t (record t { next_request = request; explicit = pending })
 
 pub advanced_leads : (R : ScannerTable → ScannerTable → Type 0) → Kept R → (t : ScannerTable) → R t (advanced t).table
 advanced_leads R kept t =
@@ -60,11 +64,29 @@ pub streamed_leads : (R : ScannerTable → ScannerTable → Type 0) → KeptQuie
 unfolding stream_opened
 streamed_leads R kept t number target = taken_step (is_taken t.streams number target) R kept t number target
 
+-- ---- explicit requests
+
+pub timed_out_leads : (R : ScannerTable → ScannerTable → Type 0) → KeptQuietly R → (t : ScannerTable) → R t (explicit_timed_out t).table
+unfolding explicit_timed_out
+timed_out_leads R kept t = kept.explicit t (explicit_timed_out t).table.explicit t.next_request (omega arith)
+
+ended_leads : (R : ScannerTable → ScannerTable → Type 0) → KeptQuietly R → (stream : ℕ) (t : ScannerTable) → R t (explicit_lost stream t).table
+unfolding explicit_lost
+ended_leads R kept stream t = kept.explicit t (explicit_lost stream t).table.explicit t.next_request (omega arith)
+
+pub explicit_leads : (R : ScannerTable → ScannerTable → Type 0) → KeptQuietly R → (t : ScannerTable) (target : Node) (number : ℕ) (bytes : List ℕ) → Leads R t (explicit_request t target number bytes)
+explicit_leads R kept t target number bytes =
+    explicit_holds (Leads R t) t target number bytes (λ why. tt)
+    (λ session goes. kept.explicit t (explicit_sent t session number bytes).table.explicit (t.next_request + 1) (omega arith))
+
+-- ---- streams and messages
+
 cut_of_leads : (R : ScannerTable → ScannerTable → Type 0) → KeptQuietly R → (t : ScannerTable) (found : Option TargetStream) → Leads R t (cut_of t found)
 cut_of_leads R kept t None = tt
 cut_of_leads R kept t (Some stream) =
     let now = without_stream t stream.number in
-    kept.slots.after t now (target_lost stream.peer now).table (kept.streams t now.streams) (lost_leads R kept.slots stream.peer now)
+    let lost = (target_lost stream.peer now).table in
+    kept.slots.after t lost (explicit_lost stream.number lost).table (kept.slots.after t now lost (kept.streams t now.streams) (lost_leads R kept.slots stream.peer now)) (ended_leads R kept stream.number lost)
 
 pub cut_leads : (R : ScannerTable → ScannerTable → Type 0) → KeptQuietly R → (t : ScannerTable) (number : ℕ) → Leads R t (stream_cut t number)
 unfolding stream_cut
@@ -117,7 +139,9 @@ reported_leads R t kept stream m Unused = kept.slots.same t
 
 frame_answer_leads : (R : ScannerTable → ScannerTable → Type 0) (t : ScannerTable) → KeptQuietly R → (stream : TargetStream) (reading : Result MessageFields EncapFault) → R t (frame_answer t stream reading).1
 frame_answer_leads R t kept stream (Err why) = kept.slots.same t
-frame_answer_leads R t kept stream (Ok m) = reported_leads R t kept stream m stream.stage
+frame_answer_leads R t kept stream (Ok m) =
+    message_ends (λ next. R t next.1) t stream m (reported_leads R t kept stream m stream.stage)
+    (λ pending answer silent quiet. kept.explicit t (without_explicit t pending).explicit t.next_request (omega arith)) (find (awaits stream.number m.context) t.explicit)
 
 frame_of_leads : (R : ScannerTable → ScannerTable → Type 0) (t : ScannerTable) → KeptQuietly R → (bytes : List ℕ) (found : Option TargetStream) → Leads R t (frame_of t bytes found)
 frame_of_leads R t kept bytes None = tt

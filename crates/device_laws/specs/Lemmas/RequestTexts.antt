@@ -26,10 +26,11 @@ use Rattle.adapter_table.specs.Checks.{is_multicast}
 use Rattle.scanner_table.specs.declared.profile.ScannerProfile.{ScannerProfile}
 use Rattle.cip_fwdopen.specs.Services.{open_service}
 use Rattle.cip_types.specs.Ids.{connection_id}
-use Rattle.scanner_table.specs.Requests.{Request, registering, opening, closing, Sent, manager_text, slot_params, sent_message, sent_frame}
+use Rattle.scanner_table.specs.Requests.{Request, registering, opening, closing, requesting, Sent, manager_text, slot_params, sent_message, sent_frame}
 use Rattle.device_laws.specs.Ids.{RequestIds}
 use Rattle.answer_sizes.specs.Sizes.{IsShortFrame}
 use Rattle.device_laws.specs.Lemmas.AdapterIds.{plain_protocol, few_bytes}
+use Rattle.device_laws.specs.Lemmas.ExplicitRequests.{IsExplicit, explicit_ids, explicit_some}
 use Rattle.device_laws.specs.Lemmas.Payloads.{close_request_ids, manager_path, manager_front}
 use Rattle.device_laws.specs.Lemmas.Texts.{either, again, cut, fields_cut, same_again}
 use Rattle.device_laws.specs.OwnIds.{IsDrawnId, AsksOwnId, FrameAsks}
@@ -95,6 +96,7 @@ abbrev pub HoldsAsRead : (OpenFields → Type 0) → Request → Type 0
 HoldsAsRead Q registering = Unit {0}
 HoldsAsRead Q (opening large request) = Q (read_back large request)
 HoldsAsRead Q (closing request) = Unit {0}
+HoldsAsRead Q (requesting bytes) = IsExplicit bytes
 
 pub packet_opens : ItemsReadBack → (Q : OpenFields → Type 0) (sent : Sent) (request : Request) → sent.request ≡ request → HoldsAsRead Q request → length (message_text (sent_message sent)) ≤ 2048 → PacketOpens Q (packet_reading (sent_message sent).payload)
 packet_opens back Q sent registering is holds few = rw is (subst (PacketOpens Q) (sym plain_protocol) tt)
@@ -106,6 +108,10 @@ packet_opens back Q sent (closing fields) is holds few =
     let none = close_request_ids (λ id. ⊥) (close_text fields) in
     rw is (subst (PacketOpens Q) (sym (back body None (omega arith) (few_bytes (sent_message sent) body None (rw is refl) few)))
     (opens_none Q (router_request_reading body) none.requested))
+packet_opens back Q sent (requesting bytes) is explicit few =
+    let none = explicit_ids (λ id. ⊥) bytes explicit in
+    rw is (subst (PacketOpens Q) (sym (back bytes None (explicit_some bytes explicit) (few_bytes (sent_message sent) bytes None (rw is refl) few)))
+    (opens_none Q (router_request_reading bytes) none.requested))
 
 -- ---- the T->O type and id
 
@@ -142,6 +148,7 @@ abbrev pub RequestAsks : ScannerProfile → Request → Type 0
 RequestAsks profile registering = Unit {0}
 RequestAsks profile (opening large request) = IsMulticast large request ⊎ IsDrawnId profile request.t_o_id.0
 RequestAsks profile (closing request) = Unit {0}
+RequestAsks profile (requesting bytes) = IsExplicit bytes
 
 abbrev pub SentAsks : ScannerProfile → Sent → Type 0
 SentAsks profile sent = RequestAsks profile sent.request
@@ -165,6 +172,7 @@ holds_requested : (profile : ScannerProfile) → profile.incarnation ≤ 255 →
 holds_requested profile byte registering asks = tt
 holds_requested profile byte (opening large fields) asks = asks_back profile large fields byte asks
 holds_requested profile byte (closing fields) asks = tt
+holds_requested profile byte (requesting bytes) asks = asks
 
 frame_asks : ItemsReadBack → (profile : ScannerProfile) → profile.incarnation ≤ 255 → (sent : Sent) → SentAsks profile sent → length (message_text (sent_message sent)) ≤ 2048 → FrameAsks profile (sent_frame sent)
 frame_asks back profile byte sent asks few request is =

@@ -26,10 +26,11 @@ use Rattle.scanner_table.specs.declared.table.ScannerTable.{ScannerTable}
 use Rattle.scanner_table.specs.declared.table.Session.{Session}
 use Rattle.cip_fwdopen.specs.Services.{open_service}
 use Rattle.cip_types.specs.Ids.{connection_id}
-use Rattle.scanner_table.specs.Requests.{Request, registering, opening, closing, Sent, manager_text, sent_message, sent_frame, id_or_zero}
+use Rattle.scanner_table.specs.Requests.{Request, registering, opening, closing, requesting, Sent, manager_text, sent_message, sent_frame, id_or_zero}
 use Rattle.scanner_table.specs.Closing.{close_requested}
 use Rattle.scanner_table.specs.Effects.{Next, Effect, after, done}
 use Rattle.scanner_table.specs.Encapsulation.{registering_on, stream_opened}
+use Rattle.scanner_table.specs.Explicit.{explicit_sent}
 use Rattle.scanner_table.specs.Opening.{open_requested}
 use Rattle.scanner_table.specs.Sessions.{is_taken}
 use Rattle.scanner_table.specs.Slots.{IndexedSlot}
@@ -40,6 +41,7 @@ use Rattle.answer_sizes.specs.Sizes.{IsShortFrame, IsSmall, AnswersAreSmall}
 use Rattle.device_laws.specs.Ids.{RequestIds, PacketIds, MessageIds, FrameIds}
 use Rattle.device_laws.specs.Lemmas.Lists.{all_both}
 use Rattle.device_laws.specs.Lemmas.AdapterIds.{plain_protocol, few_bytes}
+use Rattle.device_laws.specs.Lemmas.ExplicitRequests.{IsExplicit, explicit_ids, explicit_some}
 use Rattle.device_laws.specs.Lemmas.Payloads.{request_ids, close_request_ids}
 use Rattle.device_laws.specs.Lemmas.Texts.{either, message_ids, packet_ids, same_again}
 use Rattle.device_laws.specs.Frames.{OpensNothing, IsNoOpening}
@@ -91,15 +93,17 @@ abbrev asks_for : ℕ → Request → Bool
 asks_for id registering = false
 asks_for id (opening large fields) = fields.t_o_id.0 == id
 asks_for id (closing fields) = false
+asks_for id (requesting bytes) = false
 
 abbrev sent_asks : ℕ → Sent → Bool
 sent_asks id sent = asks_for id sent.request
 
--- the id that a request has fits its field
+-- the id that a request has fits its field; an explicit request has none
 abbrev RequestFits : Request → Type 0
 RequestFits registering = Unit {0}
 RequestFits (opening large fields) = fields.t_o_id.0 < 2 ^ 32
 RequestFits (closing fields) = Unit {0}
+RequestFits (requesting bytes) = IsExplicit bytes
 
 abbrev SentFits : Sent → Type 0
 SentFits sent = RequestFits sent.request
@@ -117,6 +121,9 @@ id_requested back sent (closing fields) id is fits short asks =
     let body = manager_text 0x4E (close_text fields) in
     absurd (frame_has (λ id. ⊥) id (message_text (sent_message sent)) (message_ids (λ id. ⊥) (sent_message sent) (rw is
     (packet_ids back (λ id. ⊥) body None (omega arith) (few_bytes (sent_message sent) body None (rw is refl) short) (close_request_ids (λ id. ⊥) (close_text fields))))) asks)
+id_requested back sent (requesting bytes) id is explicit short asks =
+    absurd (frame_has (λ id. ⊥) id (message_text (sent_message sent)) (message_ids (λ id. ⊥) (sent_message sent) (rw is
+    (packet_ids back (λ id. ⊥) bytes None (explicit_some bytes explicit) (few_bytes (sent_message sent) bytes None (rw is refl) short) (explicit_ids (λ id. ⊥) bytes explicit)))) asks)
 
 -- ---- counts
 
@@ -223,12 +230,16 @@ requested_asks id some t place session = record {
 closed_asks : (id : ℕ) (t : ScannerTable) (place : IndexedSlot) (c : SlotConnection) (session : Session) → Asks id t (close_requested t place c session)
 closed_asks id t place c session = record { profile = refl; ids = omega arith; requested = λ byte below. record { fits = (tt, tt); count = omega arith } }
 
+explicit_asks : (id : ℕ) (t : ScannerTable) (session : Session) (number : ℕ) (bytes : List ℕ) → IsExplicit bytes → Asks id t (explicit_sent t session number bytes)
+explicit_asks id t session number bytes explicit = record { profile = refl; ids = omega arith; requested = λ byte below. record { fits = (explicit, tt); count = omega arith } }
+
 effects_ask : (id : ℕ) → id ≢ 0 → EffectsDo (Asks id)
 effects_ask id some = record {
   stays = λ t u notices like. silent_asks id t (silent notices u) like.profile (omega (arith, like.next_id)) refl;
   next = then_asks id;
   opens = λ t place session is. requested_asks id some t place session;
   closes = λ t place c session is. closed_asks id t place c session;
+  requests = λ t target session number bytes goes. explicit_asks id t session number bytes goes.explicit;
 }
 
 -- ---- a step

@@ -42,7 +42,8 @@ use Rattle.adapter_table.specs.declared.row.State.{State}
 use Rattle.adapter_table.specs.declared.row.State.TheVariants.{Established, TimedOut}
 use Rattle.adapter_table.specs.declared.table.AdapterTable.{AdapterTable}
 use Rattle.adapter_table.specs.declared.table.Stream.{Stream}
-use Rattle.adapter_table.specs.Checks.{Admitted, admission}
+use Rattle.adapter_table.specs.Checks.{Admitted}
+use Rattle.adapter_table.specs.StatedLimits.{limited_admission, is_wrong_closer}
 use Rattle.adapter_table.specs.Closing.{stays, without_triad, closed_table}
 use Rattle.adapter_table.specs.Datagrams.{is_for, accepted_row, accepted_if_for, row_delivery, accepted_table, delivered, found_datagram, datagram_of, received}
 use Rattle.adapter_table.specs.Encapsulation.{Handled, refusal, unanswered, session_begun, session_ended, register_session, request_replied, packet_replied, handled, framed, frame_answer, stream_answer, frame_of, frame}
@@ -65,6 +66,7 @@ use Rattle.device_laws.specs.Frames.{IsOpening}
 use Rattle.device_laws.specs.RowIds.{IsSameRow, WasThere, IsNewOf, IsProduced, RowCame, WasOpen, StreamCame, Came, ConnectionsKeepTheirIds}
 use Rattle.device_laws.specs.Lemmas.Admissions.{opening_produced}
 use Rattle.device_laws.specs.Lemmas.Serving.{new_row_found}
+use Rattle.adapter_table.specs.Lemmas.LimitLemmas.{limited_is}
 use Rattle.adapter_table.specs.Lemmas.PassiveLemmas.{passive_holds}
 
 -- ---- a list and its elements
@@ -185,23 +187,25 @@ opened_rows O t peer request row admitted so produced new is = record {
   streams = were_open t;
 }
 
-open_after : (O : OpenFields → Type 0) (t : AdapterTable) (peer : Node) (large : Bool) (request : OpenFields) (said : Result Admitted Refusal) → admission t request ≡ said → O request → IdsAreDrawn t.profile t.next_id t.rows → TableAfter O t peer (judged_open t peer large request said).table
+open_after : (O : OpenFields → Type 0) (t : AdapterTable) (peer : Node) (large : Bool) (request : OpenFields) (said : Result Admitted Refusal) → limited_admission t peer request ≡ said → O request → IdsAreDrawn t.profile t.next_id t.rows → TableAfter O t peer (judged_open t peer large request said).table
 unfolding admitted_open
 open_after O t peer large request (Err why) is so drawn = stays_so O t peer
 open_after O t peer large request (Ok admitted) is so drawn =
-    opened_rows O t peer request (opened_row t peer request admitted) admitted so (opening_produced t peer request admitted (all_contained t.rows [] t.rows refl) is)
+    opened_rows O t peer request (opened_row t peer request admitted) admitted so (opening_produced t peer request admitted (all_contained t.rows [] t.rows refl) (limited_is t peer request admitted is).admitted)
     (new_row_found t peer request admitted drawn) (new_peer t peer request admitted)
-
-close_after : (O : OpenFields → Type 0) (t : AdapterTable) (peer : Node) (request : CloseFields) (found : Option Row) → TableAfter O t peer (close_of t request found).table
-unfolding closed_table
-close_after O t peer request None = stays_so O t peer
-close_after O t peer request (Some row) = record {
-  rows = old_rows O t (closed_table t row) peer _ (all_filtered (WasThere t) (stays (without_triad row.triad t.rows)) (without_triad row.triad t.rows) (all_filtered (WasThere t) _ t.rows (were_there t)));
-  streams = were_open t;
-}
 
 abbrev ServedAfter : (OpenFields → Type 0) → AdapterTable → Node → Served → Type 0
 ServedAfter O t peer s = TableAfter O t peer s.table
+
+close_after : (O : OpenFields → Type 0) (t : AdapterTable) (peer : Node) (request : CloseFields) (found : Option Row) → TableAfter O t peer (close_of t peer request found).table
+unfolding closed_table
+close_after O t peer request None = stays_so O t peer
+close_after O t peer request (Some row) =
+    either (ServedAfter O t peer) (is_wrong_closer t.profile.limits peer row) _ _ (stays_so O t peer)
+    (record {
+      rows = old_rows O t (closed_table t row) peer _ (all_filtered (WasThere t) (stays (without_triad row.triad t.rows)) (without_triad row.triad t.rows) (all_filtered (WasThere t) _ t.rows (were_there t)));
+      streams = were_open t;
+    })
 
 object_after : (O : OpenFields → Type 0) (t : AdapterTable) (peer : Node) (service : ℕ) (answer : ObjectAnswer) → ServedAfter O t peer (object_served t service answer)
 object_after O t peer service (objects.said by value) = stays_so O t peer
@@ -214,7 +218,7 @@ served_after O t peer nothing asks drawn = tt
 served_after O t peer (refused service why) asks drawn = stays_so O t peer
 served_after O t peer (closing request) asks drawn = close_after O t peer request (find (has_triad request.triad) t.rows)
 served_after O t peer (object service class instance attribute body) asks drawn = object_after O t peer service (object_answer t service class instance attribute body)
-served_after O t peer (opening large request) asks drawn = open_after O t peer large request (admission t request) refl (asks large request refl) drawn
+served_after O t peer (opening large request) asks drawn = open_after O t peer large request (limited_admission t peer request) refl (asks large request refl) drawn
 
 -- ---- messages
 

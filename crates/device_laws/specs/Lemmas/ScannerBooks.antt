@@ -175,6 +175,11 @@ books_quietly sent device = record {
   streams = λ t streams ok. record { unproduced = ok.unproduced; slots = λ place stands. ok.slots place (record { config = stands.config; slot = stands.slot }); distinct = λ a b r one two. ok.distinct a b r (record { config = one.config; slot = one.slot }) (record { config = two.config; slot = two.slot }) };
   clocked = λ t ms ok. record { unproduced = ok.unproduced; slots = λ place stands. ok.slots place (record { config = stands.config; slot = stands.slot }); distinct = λ a b r one two. ok.distinct a b r (record { config = one.config; slot = one.slot }) (record { config = two.config; slot = two.slot }) };
   establishing = establishing_keeps sent device;
+  explicit = λ t pending request later ok. record {
+    unproduced = λ r up. ok.unproduced r (omega (arith, later, up));
+    slots = λ place stands. state_on sent device t.run t.next_request request place.config place.slot place.slot.state later (ok.slots place (record { config = stands.config; slot = stands.slot }));
+    distinct = λ a b r one two. ok.distinct a b r (record { config = one.config; slot = one.slot }) (record { config = two.config; slot = two.slot });
+  };
 }
 
 -- ---- writes and datagrams

@@ -1,7 +1,8 @@
--- What an event of a scanner does: its answer has the frames of one effect, which opens slots, closes one or sends nothing. So a
+-- What an event of a scanner does: its answer has the frames of one effect, which opens slots, closes one, sends an explicit request
+-- or sends nothing. So a
 -- relation between a table and an effect holds of each step, if it holds of these and of one effect after another.
 use Rattle.std.proofs.Common.{◌≡◌, ◌⊎◌, inl, inr, ℕ, ◌+◌, ◌==◌, nat_lt, List, [], ◌∷◌, map, filter, find, Option, Some, None, Result, Ok, Err, IfOk, refl}
-use Rattle.std.specs.List.{list_any}
+use Rattle.std.specs.List.{list_any, AllByRecursion}
 use Rattle.cip_types.specs.Cases.{first_case}
 use Rattle.cip_types.specs.declared.names.Mismatch.{Mismatch}
 use Rattle.cip_types.specs.declared.names.Node.{Node}
@@ -35,6 +36,7 @@ use Rattle.scanner_table.specs.Requests.{Sent, is_large, sent_frame}
 use Rattle.scanner_table.specs.Closing.{idle_slot, given_up_state, given_up, target_lost, closed_within, close_requested, slot_resigned, stopped, stopped_at}
 use Rattle.scanner_table.specs.Effects.{Next, Effect, after, on_each, changed, done}
 use Rattle.scanner_table.specs.Encapsulation.{registering_on, stream_opened, cut_of, stream_cut, is_registered, session_begun, session_failed, registered, ignored, is_awaiting, replied, replied_to, reported, frame_answer, frame_of, frame}
+use Rattle.scanner_table.specs.Explicit.{awaits, explicit_sent, explicit_request, explicit_timed_out, explicit_lost}
 use Rattle.scanner_table.specs.Opening.{has_request, can_open, open_requested, exhausted, opened_within, opened, resigned, ready_slots, ready_opened, target_opened}
 use Rattle.scanner_table.specs.Points.{desired_slot, started, start_state, start_at, start, stop_of, stop}
 use Rattle.scanner_table.specs.Productions.{produced_table}
@@ -42,7 +44,9 @@ use Rattle.scanner_table.specs.Replies.{is_id_free, new_connection, established_
 use Rattle.scanner_table.specs.Sessions.{is_stream, is_taken, without_stream, staged_stream, with_stage, session_with}
 use Rattle.scanner_table.specs.Slots.{IndexedSlot, indexed_slots, is_with, slot_at, with_slot}
 use Rattle.scanner_table.specs.Step.{scanner_step}
-use Rattle.scanner_table.specs.Ticks.{expired_slots, expired_state, expired, all_expired, is_overdue, all_given_up, clocked_table, advanced, ticked, tick}
+use Rattle.scanner_table.specs.Ticks.{expired_slots, expired_state, expired, all_expired, is_overdue, all_given_up, clocked_table, advanced, moved_on, ticked, tick}
+use Rattle.device_laws.specs.Lemmas.ExplicitRequests.{GoesOut, explicit_holds, message_ends, SendsIfExplicit}
+use Rattle.device_laws.specs.Lemmas.Lists.{all_both}
 use Rattle.device_laws.specs.Lemmas.Texts.{either}
 use Rattle.scanner_table.specs.Lemmas.SlotEventLemmas.{slots_hold}
 
@@ -65,6 +69,7 @@ pub record EffectsDo (R : ScannerTable → Effect → Type 0) : Type 0 where
   pub next : (t : ScannerTable) (first second : Effect) → R t first → R first.table second → R t (after first second)
   pub opens : (t : ScannerTable) (place : IndexedSlot) (session : Session) → session_with t place.config.target ≡ Some session → R t (open_requested t place session)
   pub closes : (t : ScannerTable) (place : IndexedSlot) (c : SlotConnection) (session : Session) → session_with t place.config.target ≡ Some session → R t (close_requested t place c session)
+  pub requests : (t : ScannerTable) (target : Node) (session : Session) (number : ℕ) (bytes : List ℕ) → GoesOut t target bytes session → R t (explicit_sent t session number bytes)
 
 abbrev Relation : Type 1
 Relation = ScannerTable → Effect → Type 0
@@ -209,7 +214,8 @@ reported_does R does t stream m Unused = inl refl
 
 answer_does : (R : Relation) → EffectsDo R → (t : ScannerTable) (stream : TargetStream) (reading : Result MessageFields EncapFault) → NextDoes R t (frame_answer t stream reading)
 answer_does R does t stream (Err why) = inl refl
-answer_does R does t stream (Ok m) = reported_does R does t stream m stream.stage
+answer_does R does t stream (Ok m) =
+    message_ends (NextDoes R t) t stream m (reported_does R does t stream m stream.stage) (λ pending answer none quiet. inl none) (find (awaits stream.number m.context) t.explicit)
 
 frame_of_does : (R : Relation) → EffectsDo R → (t : ScannerTable) (bytes : List ℕ) (found : Option TargetStream) → OkDoes R t (frame_of t bytes found)
 frame_of_does R does t bytes None = tt
@@ -237,9 +243,16 @@ lost_none : (target : Node) (t : ScannerTable) → SendsNone (target_lost target
 unfolding target_lost
 lost_none target t = each_none (filter (is_with target) (indexed_slots t)) t
 
+ended_none : (stream : ℕ) (t : ScannerTable) → SendsNone (explicit_lost stream t)
+unfolding explicit_lost
+ended_none stream t = refl
+
 cut_does : (R : Relation) (t : ScannerTable) (found : Option TargetStream) → OkDoes R t (cut_of t found)
 cut_does R t None = tt
-cut_does R t (Some stream) = let none = lost_none stream.peer (without_stream t stream.number) in inl (rw none refl)
+cut_does R t (Some stream) =
+    let none = lost_none stream.peer (without_stream t stream.number) in
+    let rest = ended_none stream.number (target_lost stream.peer (without_stream t stream.number)).table in
+    inl (rw (none, rest) refl)
 
 start_does : (R : Relation) → EffectsDo R → (t : ScannerTable) (place : IndexedSlot) (state : SlotState) → OkDoes R t (start_state t place state)
 start_does R does t place Idle =
@@ -270,22 +283,35 @@ stop_does : (R : Relation) (t : ScannerTable) (said : Result Effect StepFault) �
 stop_does R t (Err why) goes = tt
 stop_does R t (Ok effect) goes = done_does R t effect goes
 
-ticked_does : (R : Relation) → EffectsDo R → (t : ScannerTable) (ms : ℕ) → NextDoes R t (ticked (advanced (clocked_table t ms)))
+timed_out_does : (R : Relation) → EffectsDo R → (t : ScannerTable) → R t (explicit_timed_out t)
+unfolding explicit_timed_out
+timed_out_does R does t = does.stays t (explicit_timed_out t).table (explicit_timed_out t).notices (record { profile = refl; next_id = refl; streams = λ n. refl })
+
+moved_does : (R : Relation) → EffectsDo R → (t : ScannerTable) → R t (moved_on t)
+moved_does R does t =
+    let first = advanced t in
+    does.next t first (explicit_timed_out first.table) (advanced_does R does t) (timed_out_does R does first.table)
+
+ticked_does : (R : Relation) → EffectsDo R → (t : ScannerTable) (ms : ℕ) → NextDoes R t (ticked (moved_on (clocked_table t ms)))
 unfolding produced_table
 ticked_does R does t ms =
-    let effect = advanced (clocked_table t ms) in
+    let effect = moved_on (clocked_table t ms) in
     inr (record {
       effect = effect;
       frames = refl;
       next_id = refl;
-      does = from_like R does t (clocked_table t ms) (advanced (clocked_table t ms)) (record { profile = refl; next_id = refl; streams = λ n. refl }) (advanced_does R does (clocked_table t ms));
+      does = from_like R does t (clocked_table t ms) (moved_on (clocked_table t ms)) (record { profile = refl; next_id = refl; streams = λ n. refl }) (moved_does R does (clocked_table t ms));
     })
 
 tick_does : (R : Relation) → EffectsDo R → (t : ScannerTable) (ms : ℕ) → OkDoes R t (tick t ms)
 unfolding tick
 tick_does R does t ms =
     either (OkDoes R t) (nat_lt longest_tick ms) (Err fault.TickTooLong) _ tt
-    (either (OkDoes R t) (nat_lt clock_end (t.clock.0 + ms)) (Err fault.ClockEnd) (Ok (ticked (advanced (clocked_table t ms)))) tt (ticked_does R does t ms))
+    (either (OkDoes R t) (nat_lt clock_end (t.clock.0 + ms)) (Err fault.ClockEnd) (Ok (ticked (moved_on (clocked_table t ms)))) tt (ticked_does R does t ms))
+
+explicit_does : (R : Relation) → EffectsDo R → (t : ScannerTable) (target : Node) (number : ℕ) (bytes : List ℕ) → OkDoes R t (explicit_request t target number bytes)
+explicit_does R does t target number bytes =
+    explicit_holds (OkDoes R t) t target number bytes (λ why. tt) (λ session goes. done_does R t (explicit_sent t session number bytes) (does.requests t target session number bytes goes))
 
 -- a stream that opens is not told here
 abbrev pub EventDoes : Relation → ScannerTable → Event → Type 0
@@ -300,29 +326,32 @@ event_does R does t (event.StreamCut number) = cut_does R t (find (is_stream num
 event_does R does t (event.Tick ms) = tick_does R does t ms
 event_does R does t (event.Start number) = start_at_does R does t (slot_at t number)
 event_does R does t (event.Stop number) = stop_does R t (stopped_at t (slot_at t number)) (stopped_at_does R does t (slot_at t number))
+event_does R does t (event.Explicit target number bytes) = explicit_does R does t target number bytes
 event_does R does t other = slots_hold (OkDoes R t) t (λ why. tt) (λ verdict u of. inl refl) other refl
 
 -- ---- frames of an answer
 
--- each frame is a request
+-- each frame is a request, and an explicit one has no ids
 pub record SendsRequests (next : Next) : Type 0 where
   pub requests : List Sent
   pub frames : next.0.frames ≡ map sent_frame requests
+  pub explicit : AllByRecursion SendsIfExplicit requests
 
 abbrev AnyEffect : Relation
-AnyEffect t effect = Unit {0}
+AnyEffect t effect = AllByRecursion SendsIfExplicit effect.sent
 
 any_effects : EffectsDo AnyEffect
 any_effects = record {
   stays = λ t u notices like. tt;
-  next = λ t first second one other. tt;
-  opens = λ t place session is. tt;
-  closes = λ t place c session is. tt;
+  next = λ t first second one other. all_both SendsIfExplicit first.sent second.sent one other;
+  opens = λ t place session is. (tt, tt);
+  closes = λ t place c session is. (tt, tt);
+  requests = λ t target session number bytes goes. (goes.explicit, tt);
 }
 
 sends_of : (t : ScannerTable) (next : Next) → NextDoes AnyEffect t next → SendsRequests next
-sends_of t next (inl none) = record { requests = []; frames = none }
-sends_of t next (inr of) = record { requests = of.effect.sent; frames = of.frames }
+sends_of t next (inl none) = record { requests = []; frames = none; explicit = tt }
+sends_of t next (inr of) = record { requests = of.effect.sent; frames = of.frames; explicit = of.does }
 
 ok_sends : (t : ScannerTable) (said : Result Next StepFault) → OkDoes AnyEffect t said → IfOk said SendsRequests
 ok_sends t (Err why) does = tt
@@ -332,7 +361,7 @@ opens_sends : (t : ScannerTable) (number : ℕ) (target : Node) → IfOk (stream
 unfolding stream_opened
 opens_sends t number target =
     either (λ (said : Result Next StepFault). IfOk said SendsRequests) (is_taken t.streams number target) (Err fault.NotAllowedNow) (Ok (done (registering_on t number target))) tt
-    (record { requests = (registering_on t number target).sent; frames = refl })
+    (record { requests = (registering_on t number target).sent; frames = refl; explicit = (tt, tt) })
 
 -- each frame that an event of a scanner sends is a request
 pub event_sends : (t : ScannerTable) (happens : Event) → IfOk (scanner_step t happens) SendsRequests

@@ -39,11 +39,12 @@ use Rattle.scanner_table.specs.declared.table.Stage.{Stage}
 use Rattle.scanner_table.specs.declared.table.Stage.TheVariants.{Waiting, Up, Unused}
 use Rattle.scanner_table.specs.declared.table.TargetStream.{TargetStream}
 use Rattle.cip_fwdopen.specs.Services.{open_service}
-use Rattle.scanner_table.specs.Requests.{Request, registering, opening, closing, Sent, is_large, manager_text, sent_message, sent_frame}
+use Rattle.scanner_table.specs.Requests.{Request, registering, opening, closing, requesting, Sent, is_large, manager_text, sent_message, sent_frame}
 use Rattle.scanner_table.specs.Closing.{idle_slot, target_lost, closing_slot, close_requested, slot_resigned, closed_within, stopped, stopped_at}
 use Rattle.scanner_table.specs.Datagrams.{is_for, accepted_connection, accepted_table, delivered, accepted, sized, connected, state_received, received_at, received_as, received}
-use Rattle.scanner_table.specs.Effects.{Next, Effect, changed, counted, done}
-use Rattle.scanner_table.specs.Encapsulation.{registering_on, stream_opened, cut_of, stream_cut, is_registered, session_begun, session_failed, registered, ignored, waits_for, is_awaiting, replied, replied_to, reported, frame_answer, frame_of, frame}
+use Rattle.scanner_table.specs.Effects.{Next, Effect, and_then, changed, counted, done}
+use Rattle.scanner_table.specs.Explicit.{awaits, explicit_sent, explicit_request, explicit_timed_out, explicit_lost}
+use Rattle.scanner_table.specs.Encapsulation.{registering_on, stream_opened, stream_lost, cut_of, stream_cut, is_registered, session_begun, session_failed, registered, ignored, waits_for, is_awaiting, replied, replied_to, reported, frame_answer, frame_of, frame}
 use Rattle.scanner_table.specs.Opening.{has_request, exhausted, resigned}
 use Rattle.scanner_table.specs.Points.{write_length, write_at, write, output_written, output_slot, same_mode, moded_slot, moded_table, mode, desired_slot, started, start_state, start_at, start, stop_of, stop}
 use Rattle.scanner_table.specs.Productions.{written_state, state_production, slot_production, state_is_due, is_due, by_due, due_slots, due_productions, produced_state, produced_slot, produced_table}
@@ -51,10 +52,11 @@ use Rattle.scanner_table.specs.Replies.{open_answer, answered}
 use Rattle.scanner_table.specs.Sessions.{is_stream, is_taken, without_stream, with_stage, session_with}
 use Rattle.scanner_table.specs.Slots.{IndexedSlot, indexed_slots, is_numbered, slot_at, is_with, with_slot}
 use Rattle.scanner_table.specs.Step.{scanner_step}
-use Rattle.scanner_table.specs.Ticks.{clocked_table, advanced, ticked, tick}
+use Rattle.scanner_table.specs.Ticks.{clocked_table, advanced, moved_on, ticked, tick}
 use Rattle.answer_sizes.specs.Sizes.{IsShortFrame, IsSmall}
 use Rattle.device_laws.specs.Ids.{PacketIds, HasFrameIds, HasDatagramId, AnswerIds}
-use Rattle.device_laws.specs.Lemmas.Lists.{all_filtered, all_found, all_made, all_mapped, all_ordered}
+use Rattle.device_laws.specs.Lemmas.ExplicitRequests.{explicit_ids, explicit_some, explicit_holds, message_ends}
+use Rattle.device_laws.specs.Lemmas.Lists.{all_both, all_filtered, all_found, all_made, all_mapped, all_ordered}
 use Rattle.device_laws.specs.Lemmas.Texts.{either, Cuts, message_ids, packet_ids, datagram_id}
 use Rattle.device_laws.specs.Lemmas.Payloads.{request_ids, close_request_ids}
 use Rattle.device_laws.specs.Lemmas.AdapterIds.{plain_protocol, few_bytes}
@@ -71,6 +73,8 @@ request_packet back P cuts request (opening large fields) is holds short =
 request_packet back P cuts request (closing fields) is holds short =
     let body = manager_text 0x4E (close_text fields) in
     rw is (packet_ids back P body None (omega arith) (few_bytes (sent_message request) body None (rw is refl) short) (close_request_ids P (close_text fields)))
+request_packet back P cuts request (requesting bytes) is explicit short =
+    rw is (packet_ids back P bytes None (explicit_some bytes explicit) (few_bytes (sent_message request) bytes None (rw is refl) short) (explicit_ids P bytes explicit))
 
 requests_hold : ItemsReadBack → (P : ℕ → Type 0) → Cuts P → (requests : List Sent) → AllByRecursion (SentId P) requests → AllByRecursion IsShortFrame (map sent_frame requests) → AllByRecursion (HasFrameIds P) (map sent_frame requests)
 requests_hold back P cuts [] holds short = tt
@@ -162,17 +166,44 @@ reported_holds back G P cuts to t happens kept requested_ids stream m Unused by 
 message_holds : ItemsReadBack → (G : OfSlots) (P : ℕ → Type 0) → Cuts P → (to : ℕ) (t : ScannerTable) (number : ℕ) (bytes : List ℕ) → Kept G t to (event.Frame number bytes) → RequestIdsHold P t to → (stream : TargetStream) (reading : Result MessageFields EncapFault) → message_reading bytes ≡ reading → find (is_stream number) t.streams ≡ Some stream → SlotsHold G t → NextHolds G P to (frame_answer t stream reading)
 message_holds back G P cuts to t number bytes kept requested_ids stream (Err why) reads found slots = λ below small. (record { frames = tt; datagrams = tt }, slots)
 message_holds back G P cuts to t number bytes kept requested_ids stream (Ok m) reads found slots =
-    reported_holds back G P cuts to t (event.Frame number bytes) kept requested_ids stream m stream.stage (record { number = number; bytes = bytes; is = refl; found = found; reads = reads }) slots
+    message_ends (NextHolds G P to) t stream m
+    (reported_holds back G P cuts to t (event.Frame number bytes) kept requested_ids stream m stream.stage (record { number = number; bytes = bytes; is = refl; found = found; reads = reads }) slots)
+    (λ pending answer silent quiet below small. (record { frames = subst (AllByRecursion (HasFrameIds P)) (sym silent) tt; datagrams = subst (AllByRecursion (HasDatagramId P)) (sym quiet) tt }, slots))
+    (find (awaits stream.number m.context) t.explicit)
 
 frame_holds : ItemsReadBack → (G : OfSlots) (P : ℕ → Type 0) → Cuts P → (to : ℕ) (t : ScannerTable) (number : ℕ) (bytes : List ℕ) → Kept G t to (event.Frame number bytes) → RequestIdsHold P t to → (found : Option TargetStream) → find (is_stream number) t.streams ≡ found → SlotsHold G t → OkHolds G P to (frame_of t bytes found)
 frame_holds back G P cuts to t number bytes kept requested_ids None is slots = tt
 frame_holds back G P cuts to t number bytes kept requested_ids (Some stream) is slots = message_holds back G P cuts to t number bytes kept requested_ids stream (message_reading bytes) refl is slots
 
+-- an effect behind another one, which keeps slots and sends nothing
+silent_after : (G : OfSlots) (P : ℕ → Type 0) (first : Effect) (next : ScannerTable → Effect) → ((now : ScannerTable) → SlotsHold G now → EffectHolds G P (next now)) → EffectHolds G P first → EffectHolds G P (and_then first next)
+silent_after G P first next keeps holds =
+    let more = keeps first.table holds.slots in
+    record { slots = more.slots; sent = all_both (SentId P) first.sent (next first.table).sent holds.sent more.sent }
+
+ended_holds : (G : OfSlots) (P : ℕ → Type 0) (stream : ℕ) (now : ScannerTable) → SlotsHold G now → EffectHolds G P (explicit_lost stream now)
+unfolding explicit_lost
+ended_holds G P stream now slots = record { slots = slots; sent = tt }
+
+ended_below : (stream to : ℕ) (now : ScannerTable) → (explicit_lost stream now).table.next_id ≤ to → now.next_id ≤ to
+unfolding explicit_lost
+ended_below stream to now below = below
+
+timed_out_holds : (G : OfSlots) (P : ℕ → Type 0) (now : ScannerTable) → SlotsHold G now → EffectHolds G P (explicit_timed_out now)
+unfolding explicit_timed_out
+timed_out_holds G P now slots = record { slots = slots; sent = tt }
+
+timed_out_below : (to : ℕ) (now : ScannerTable) → (explicit_timed_out now).table.next_id ≤ to → now.next_id ≤ to
+unfolding explicit_timed_out
+timed_out_below to now below = below
+
 cut_holds : ItemsReadBack → (G : OfSlots) (P : ℕ → Type 0) → Cuts P → (to : ℕ) (t : ScannerTable) (happens : Event) → Kept G t to happens → (found : Option TargetStream) → SlotsHold G t → OkHolds G P to (cut_of t found)
 cut_holds back G P cuts to t happens kept None slots = tt
 cut_holds back G P cuts to t happens kept (Some stream) slots =
-    done_holds back G P cuts to (target_lost stream.peer (without_stream t stream.number))
-    (λ below. lost_holds G P t to happens kept stream.peer (without_stream t stream.number) (record { profile = refl; ids = omega arith; requests = omega arith }) below slots)
+    done_holds back G P cuts to (stream_lost t stream)
+    (λ below. silent_after G P (target_lost stream.peer (without_stream t stream.number)) (explicit_lost stream.number)
+    (λ now whole. ended_holds G P stream.number now whole)
+    (lost_holds G P t to happens kept stream.peer (without_stream t stream.number) (record { profile = refl; ids = omega arith; requests = omega arith }) (ended_below stream.number to (target_lost stream.peer (without_stream t stream.number)).table below) slots))
 
 -- ---- datagrams received
 
@@ -322,9 +353,17 @@ tick_holds : ItemsReadBack → (G : OfSlots) (P : ℕ → Type 0) → Cuts P →
 unfolding tick
 tick_holds back G P cuts sends to t happens kept requested_ids ms slots =
     either (OkHolds G P to) (nat_lt longest_tick ms) (Err fault.TickTooLong) _ tt
-    (either (OkHolds G P to) (nat_lt clock_end (t.clock.0 + ms)) (Err fault.ClockEnd) (Ok (ticked (advanced (clocked_table t ms)))) tt
-    (ticked_holds back G P cuts sends to t happens kept (advanced (clocked_table t ms))
-    (λ below. advanced_holds G P t to happens kept requested_ids (clocked_table t ms) (record { profile = refl; ids = omega arith; requests = omega arith }) below slots)))
+    (either (OkHolds G P to) (nat_lt clock_end (t.clock.0 + ms)) (Err fault.ClockEnd) (Ok (ticked (moved_on (clocked_table t ms)))) tt
+    (ticked_holds back G P cuts sends to t happens kept (moved_on (clocked_table t ms))
+    (λ below. silent_after G P (advanced (clocked_table t ms)) explicit_timed_out (λ now whole. timed_out_holds G P now whole)
+    (advanced_holds G P t to happens kept requested_ids (clocked_table t ms) (record { profile = refl; ids = omega arith; requests = omega arith }) (timed_out_below to (advanced (clocked_table t ms)).table below) slots))))
+
+-- ---- explicit requests
+
+explicit_request_holds : ItemsReadBack → (G : OfSlots) (P : ℕ → Type 0) → Cuts P → (to : ℕ) (t : ScannerTable) (target : Node) (number : ℕ) (bytes : List ℕ) → SlotsHold G t → OkHolds G P to (explicit_request t target number bytes)
+explicit_request_holds back G P cuts to t target number bytes slots =
+    explicit_holds (OkHolds G P to) t target number bytes (λ why. tt)
+    (λ session goes. done_holds back G P cuts to (explicit_sent t session number bytes) (λ below. record { slots = slots; sent = (goes.explicit, tt) }))
 
 -- ---- the step
 
@@ -345,4 +384,5 @@ scanner_holds back G P cuts sends to t (event.Tick ms) kept requested_ids slots 
 scanner_holds back G P cuts sends to t (event.Mode run) kept requested_ids slots = mode_holds G P to t (event.Mode run) kept run slots
 scanner_holds back G P cuts sends to t (event.Start number) kept requested_ids slots = start_holds back G P cuts to t (event.Start number) kept requested_ids (slot_at t number) (found_slot G t (is_numbered number) slots) slots
 scanner_holds back G P cuts sends to t (event.Stop number) kept requested_ids slots = stop_holds back G P cuts to t (event.Stop number) kept (slot_at t number) (found_slot G t (is_numbered number) slots) slots
+scanner_holds back G P cuts sends to t (event.Explicit target number bytes) kept requested_ids slots = explicit_request_holds back G P cuts to t target number bytes slots
 scanner_holds back G P cuts sends to t other kept requested_ids slots = passive_holds (OkHolds G P to) t (λ why. tt) (λ verdict below small. (record { frames = tt; datagrams = tt }, slots)) other refl

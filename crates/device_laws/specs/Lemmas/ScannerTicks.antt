@@ -4,7 +4,7 @@ use Rattle.std.specs.List.{filter_map}
 use Rattle.cip_types.specs.declared.names.Ms.{Ms}
 use Rattle.cip_events.specs.Clock.{longest_tick, clock_end}
 use Rattle.cip_events.specs.declared.event.Event.{Event}
-use Rattle.cip_events.specs.declared.event.Event.TheVariants.{StreamOpened, Frame, StreamCut, Datagram, Write, Tick, Mode, Start, Stop}
+use Rattle.cip_events.specs.declared.event.Event.TheVariants.{StreamOpened, Frame, StreamCut, Datagram, Write, Tick, Mode, Start, Stop, Explicit}
 use Rattle.cip_events.specs.declared.event.StepFault.{StepFault}
 use Rattle.cip_events.specs.declared.event.StepFault.TheVariants as fault
 use Rattle.cip_productions.specs.declared.production.Production as cip
@@ -21,12 +21,13 @@ use Rattle.scanner_table.specs.Slots.{IndexedSlot, indexed_slots}
 use Rattle.scanner_table.specs.Effects.{Next}
 use Rattle.scanner_table.specs.Points.{moded_slot, moded_table, same_mode, mode}
 use Rattle.scanner_table.specs.Productions.{written_state, state_is_due, is_due, by_due, due_slots, produced_state, produced_slot, produced_table}
-use Rattle.scanner_table.specs.Ticks.{clocked_table, advanced, ticked, tick}
+use Rattle.scanner_table.specs.Ticks.{clocked_table, advanced, moved_on, ticked, tick}
+use Rattle.scanner_table.specs.Explicit.{explicit_timed_out}
 use Rattle.scanner_table.specs.Step.{scanner_step}
 use Rattle.scanner_table.specs.Lemmas.SlotLookups.{Stands, indexed_at, same_slot, Each, EachTwo, Apart, each_stands, each_filter, two_filter, each_passes, each_in_order, two_in_order, slots_apart, slot_stands}
 use Rattle.scanner_table.specs.Lemmas.Moves.{Leads, received_leads, write_leads, start_leads, stop_leads}
 use Rattle.scanner_table.specs.Lemmas.Slotwise.{Relation, moded_goes, produced_goes, was_of, Was}
-use Rattle.device_laws.specs.Lemmas.Quietly.{advanced_leads, streamed_leads, cut_leads, frame_leads}
+use Rattle.device_laws.specs.Lemmas.Quietly.{timed_out_leads, explicit_leads, advanced_leads, streamed_leads, cut_leads, frame_leads}
 use Rattle.device_laws.specs.Lemmas.ListCounts.{Has, has_filter, has_order}
 use Rattle.device_laws.specs.Lemmas.Books.{HasNotProduced, ProducerBooks, WellMade, IsOwn, books_own, books_other, unproduced_more, well_more}
 use Rattle.device_laws.specs.Lemmas.ScannerBooks.{output_data, StateBooks, opening_in, ScannerBooks, Keeps, books_quietly, writing_keeps, accepting_keeps, written_books, written_old}
@@ -334,14 +335,15 @@ same_sent : (sent : List Production) (device : ℕ) (t : ScannerTable) (said : R
 same_sent sent device t (Err why) ok leads = tt
 same_sent sent device t (Ok next) ok leads = record { books = leads ok.books; well = ok.well }
 
-tick_step : (a b : Bool) (sent : List Production) (device : ℕ) (t : ScannerTable) (ms : ℕ) → Agrees sent device t → IfOk (cond a (Err fault.TickTooLong) (cond b (Err fault.ClockEnd) (Ok (ticked (advanced (clocked_table t ms)))))) (NextAgrees (produced_more device sent (places_made (advanced (clocked_table t ms)).table)) device)
+tick_step : (a b : Bool) (sent : List Production) (device : ℕ) (t : ScannerTable) (ms : ℕ) → Agrees sent device t → IfOk (cond a (Err fault.TickTooLong) (cond b (Err fault.ClockEnd) (Ok (ticked (moved_on (clocked_table t ms)))))) (NextAgrees (produced_more device sent (places_made (advanced (clocked_table t ms)).table)) device)
+unfolding explicit_timed_out
 tick_step true b sent device t ms ok = tt
 tick_step false true sent device t ms ok = tt
 tick_step false false sent device t ms ok =
     let now = clocked_table t ms in
-    let u = (advanced now).table in
+    let u = (explicit_timed_out (advanced now).table).table in
     let kept = books_quietly sent device in
-    let books = advanced_leads (Keeps sent device) kept.slots now (kept.clocked t ms ok.books) in
+    let books = timed_out_leads (Keeps sent device) kept (advanced now).table (advanced_leads (Keeps sent device) kept.slots now (kept.clocked t ms ok.books)) in
     record {
       books = producing_keeps sent device u books;
       well = well_in device u u.run (due_slots u) books.distinct (due_stand u) (due_apart u) sent (each_books sent device u books (due_slots u) (due_stand u)) ok.well;
@@ -361,4 +363,5 @@ scanner_agrees sent device t (Tick ms) ok = tick_agrees sent device t ms ok
 scanner_agrees sent device t (Mode run) ok = same_sent sent device t (scanner_step t (Mode run)) ok (mode_keeps sent device t run)
 scanner_agrees sent device t (Start slot) ok = same_sent sent device t (scanner_step t (Start slot)) ok (start_leads (Keeps sent device) (books_quietly sent device).slots t slot)
 scanner_agrees sent device t (Stop slot) ok = same_sent sent device t (scanner_step t (Stop slot)) ok (stop_leads (Keeps sent device) (books_quietly sent device).slots t slot)
+scanner_agrees sent device t (Explicit target number bytes) ok = same_sent sent device t (scanner_step t (Explicit target number bytes)) ok (explicit_leads (Keeps sent device) (books_quietly sent device) t target number bytes)
 scanner_agrees sent device t other ok = same_sent sent device t (scanner_step t other) ok (passive_leads (Keeps sent device) (books_quietly sent device).slots t other refl)

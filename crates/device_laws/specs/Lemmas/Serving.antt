@@ -14,7 +14,8 @@ use Rattle.cip_router.specs.Requests.{RouterRequestFields, nothing, refused, clo
 use Rattle.adapter_table.specs.declared.profile.Profile.{Profile}
 use Rattle.adapter_table.specs.Connections.{Row}
 use Rattle.adapter_table.specs.declared.table.AdapterTable.{AdapterTable}
-use Rattle.adapter_table.specs.Checks.{Admitted, admission}
+use Rattle.adapter_table.specs.Checks.{Admitted}
+use Rattle.adapter_table.specs.StatedLimits.{limited_admission, is_wrong_closer}
 use Rattle.adapter_table.specs.Newest.{was_opened_as}
 use Rattle.adapter_table.specs.Opening.{opened_row, opened_table}
 use Rattle.adapter_table.specs.Objects.{ObjectAnswer, said, denied, resetting, object_answer}
@@ -22,6 +23,7 @@ use Rattle.adapter_table.specs.Requests.{Served, judged_open, admitted_open, ser
 use Rattle.adapter_table.specs.Rows.{has_triad}
 use Rattle.adapter_table.specs.Sound.{IdsAreDrawn}
 use Rattle.device_laws.specs.Lemmas.Lists.{all_filtered}
+use Rattle.device_laws.specs.Lemmas.Texts.{either}
 use Rattle.device_laws.specs.Frames.{again}
 use Rattle.device_laws.specs.Lemmas.ReplyTexts.{ReplyHolds}
 
@@ -69,9 +71,9 @@ open_has t peer large request (Ok admitted) drawn = λ read ids. record {
   t_o_api = ids.t_o_api_is;
 }
 
-close_has : (t : AdapterTable) (request : CloseFields) (found : Option Row) → ServedHas t (close_of t request found)
-close_has t request None = refl
-close_has t request (Some row) = tt
+close_has : (t : AdapterTable) (peer : Node) (request : CloseFields) (found : Option Row) → ServedHas t (close_of t peer request found)
+close_has t peer request None = refl
+close_has t peer request (Some row) = either (ServedHas t) (is_wrong_closer t.profile.limits peer row) _ _ refl tt
 
 object_has : (t : AdapterTable) (service : ℕ) (answer : ObjectAnswer) → ServedHas t (object_served t service answer)
 object_has t service (said by value) = tt
@@ -82,6 +84,6 @@ pub served_has : (t : AdapterTable) (peer : Node) (requested : RouterRequestFiel
 unfolding served_open served_close served_object
 served_has t peer nothing drawn = tt
 served_has t peer (refused service why) drawn = nonzero why
-served_has t peer (closing request) drawn = close_has t request (find (has_triad request.triad) t.rows)
+served_has t peer (closing request) drawn = close_has t peer request (find (has_triad request.triad) t.rows)
 served_has t peer (object service class instance attribute body) drawn = object_has t service (object_answer t service class instance attribute body)
-served_has t peer (opening large request) drawn = open_has t peer large request (admission t request) drawn
+served_has t peer (opening large request) drawn = open_has t peer large request (limited_admission t peer request) drawn

@@ -28,7 +28,7 @@ use Rattle.scanner_table.specs.declared.slot.SlotState.TheVariants.{Idle, Openin
 use Rattle.scanner_table.specs.declared.table.ScannerTable.{ScannerTable}
 use Rattle.scanner_table.specs.declared.table.Session.{Session}
 use Rattle.scanner_table.specs.Slots.{IndexedSlot, indexed_from, indexed_slots, is_with, with_slot}
-use Rattle.scanner_table.specs.Requests.{Request, registering, opening, closing, Sent, next_t_o_id, next_requested, id_or_zero}
+use Rattle.scanner_table.specs.Requests.{Request, registering, opening, closing, requesting, Sent, next_t_o_id, next_requested, id_or_zero}
 use Rattle.scanner_table.specs.Effects.{Effect, after, and_then, on_each, changed, counted}
 use Rattle.scanner_table.specs.Opening.{can_open, drawn, opening_slot, resigned, exhausted, open_requested, opened_within, opened, is_ready_slot, ready_slots, ready_opened, target_opened}
 use Rattle.scanner_table.specs.Closing.{idle_slot, given_up_state, given_up, target_lost}
@@ -37,6 +37,7 @@ use Rattle.scanner_table.specs.Sessions.{session_with}
 use Rattle.scanner_table.specs.Ticks.{by_deadline, has_expired, expired_slots, expired_state, expired, all_expired, is_overdue, all_given_up, advanced}
 use Rattle.device_laws.specs.Ids.{Replied}
 use Rattle.device_laws.specs.Carrying.{Waits}
+use Rattle.device_laws.specs.Lemmas.ExplicitRequests.{IsExplicit}
 use Rattle.device_laws.specs.Lemmas.Lists.{all_both, all_filtered, all_ordered}
 use Rattle.device_laws.specs.Lemmas.Texts.{either}
 
@@ -113,11 +114,12 @@ pub record Kept (G : OfSlots) (old : ScannerTable) (to : ℕ) (happens : Event) 
   pub opens : (number : ℕ) (config : SlotConfig) (now : ScannerTable) (o : pending.PendingOpen) → CanDraw old to now config → o.request ≡ now.next_request → o.requested ≡ next_requested now config → G number config (Opening o)
   pub establishes : (number : ℕ) (config : SlotConfig) (o : pending.PendingOpen) (success : made.Opened) (c : SlotConnection) → Waits old number config o → Replied old happens config.target o.request success → is_requested_id o.requested.t_o_id success.t_o_id ≡ true → c.opening ≡ o.request → c.link ≡ link_of o.requested success → G number config (Opening o) → G number config (Established c)
 
--- the ids of requests
+-- the ids of requests; an explicit request has none
 abbrev pub RequestId : (ℕ → Type 0) → Request → Type 0
 RequestId P registering = Unit {0}
 RequestId P (opening large fields) = P fields.t_o_id.0
 RequestId P (closing fields) = Unit {0}
+RequestId P (requesting bytes) = IsExplicit bytes
 
 abbrev pub SentId : (ℕ → Type 0) → Sent → Type 0
 SentId P sent = RequestId P sent.request

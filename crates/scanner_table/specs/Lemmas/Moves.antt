@@ -1,5 +1,6 @@
 -- The changes of one slot that the effects of an event make, and the events that make them.
-use Rattle.std.proofs.Common.{◌≡◌, ◌≢◌, ℕ, ◌+◌, Bool, true, false, cond, not, ◌&&◌, ◌==◌, nat_lt, List, [], ◌∷◌, filter, find, slice_get, Option, Some, None, Result, Ok, Err, IfOk, refl, sym, ◌∙◌}
+use Rattle.std.proofs.Common.{◌≡◌, ◌≢◌, ◌≤◌, ℕ, ◌+◌, Bool, true, false, cond, not, ◌&&◌, ◌==◌, nat_lt, List, [], ◌∷◌, filter, find, slice_get, Option, Some, None, Result, Ok, Err, IfOk, refl, sym, ◌∙◌, arith}
+use Rattle.std.specs.List.{list_any}
 use Rattle.std.proofs.lemmas.Bool.{and_parts}
 use Rattle.cip_types.specs.Cases.{first_case}
 use Rattle.cip_types.specs.declared.names.Mismatch.{Mismatch}
@@ -13,7 +14,7 @@ use Rattle.cip_encap.specs.declared.message.EncapFault.{EncapFault}
 use Rattle.cip_encap.specs.Message.{MessageFields}
 use Rattle.cip_encap.specs.Reading.{message_reading}
 use Rattle.cip_events.specs.declared.event.Event.{Event}
-use Rattle.cip_events.specs.declared.event.Event.TheVariants.{StreamOpened, Frame, StreamCut, Datagram, Write, Tick, Mode, Start, Stop}
+use Rattle.cip_events.specs.declared.event.Event.TheVariants.{StreamOpened, Frame, StreamCut, Datagram, Write, Tick, Mode, Start, Stop, Explicit}
 use Rattle.cip_events.specs.declared.event.Delivery.TheVariants.{Applied, Duplicate, Old, WrongSize}
 use Rattle.cip_events.specs.declared.event.Notice.{Notice}
 use Rattle.cip_events.specs.declared.event.Notice.TheVariants as notice
@@ -28,6 +29,10 @@ use Rattle.cip_fwdopen.specs.declared.reply.OpenAnswer.TheVariants as answer
 use Rattle.cip_productions.specs.Acceptance.{accepts_sequence, is_duplicate}
 use Rattle.cip_productions.specs.Kinds.{is_owner}
 use Rattle.conn_state.specs.Answers.{is_requested_id, answer_tests, has_intervals}
+use Rattle.cip_events.specs.declared.event.Unanswered.{Unanswered}
+use Rattle.cip_events.specs.declared.event.Unanswered.TheVariants as unanswered
+use Rattle.cip_router.specs.RouterReplies.{RouterReplyFields}
+use Rattle.scanner_table.specs.declared.explicit.PendingExplicit.{PendingExplicit}
 use Rattle.scanner_table.specs.declared.slot.SlotConnection.{SlotConnection}
 use Rattle.scanner_table.specs.declared.slot.PendingOpen as opening
 use Rattle.scanner_table.specs.declared.slot.Slot.{Slot}
@@ -45,11 +50,12 @@ use Rattle.scanner_table.specs.Effects.{Next, Effect, nothing, on_each, counted,
 use Rattle.scanner_table.specs.Opening.{has_request, can_open, drawn, opening_slot, resigned, exhausted, open_requested, opened_within, opened, is_ready_slot, ready_slots, ready_opened, target_opened}
 use Rattle.scanner_table.specs.Replies.{open_answer, is_id_free, new_connection, established_slot, failed_slot, judged_success, answered}
 use Rattle.scanner_table.specs.Closing.{idle_slot, given_up_state, given_up, target_lost, closing_slot, close_requested, slot_resigned, closed_within, stopped, stopped_at}
-use Rattle.scanner_table.specs.Encapsulation.{registering_on, ignored, stream_opened, cut_of, stream_cut, is_registered, session_begun, session_failed, registered, is_awaiting, replied, replied_to, reported, frame_answer, frame_of, frame}
+use Rattle.scanner_table.specs.Explicit.{is_request, is_over, is_late, others, awaits, has_explicit_length, is_barred, connects_to, explicit_sent, explicit_within, explicit_request, explicit_reply, explicit_ended, explicit_answered, without_explicit, explicit_timed_out, explicit_lost}
+use Rattle.scanner_table.specs.Encapsulation.{registering_on, ignored, stream_opened, message_answer, cut_of, stream_cut, is_registered, session_begun, session_failed, registered, is_awaiting, replied, replied_to, reported, frame_answer, frame_of, frame}
 use Rattle.scanner_table.specs.Datagrams.{is_for, accepted_table, accepted, sized, delivered, state_received, received_at, received_as, received}
 use Rattle.scanner_table.specs.Points.{output_slot, output_written, write_at, write, same_mode, moded_table, mode, desired_slot, started, start_state, start_at, start, stop_of, stop}
 use Rattle.scanner_table.specs.Productions.{produced_table}
-use Rattle.scanner_table.specs.Ticks.{by_deadline, has_expired, expired_slots, expired_state, expired, all_expired, is_overdue, all_given_up, clocked_table, advanced, ticked, tick}
+use Rattle.scanner_table.specs.Ticks.{by_deadline, has_expired, expired_slots, expired_state, expired, all_expired, is_overdue, all_given_up, clocked_table, advanced, moved_on, ticked, tick}
 use Rattle.scanner_table.specs.Step.{scanner_step}
 use Rattle.scanner_table.specs.Lemmas.SlotLookups.{Stands, Each, EachTwo, Any, Apart, each_any, each_more, each_filter, two_filter, each_passes, each_in_order, two_in_order, each_found, each_stands, slots_apart, get_same, get_other}
 use Rattle.scanner_table.specs.Lemmas.PassiveLemmas.{is_passive, passive_holds}
@@ -71,13 +77,14 @@ pub record Kept (R : ScannerTable → ScannerTable → Type 0) : Type 0 where
   pub timing_out : (t : ScannerTable) (indexed : IndexedSlot) (c : SlotConnection) → Stands t indexed → indexed.slot.state ≡ Established c → R t (with_slot t indexed.number (failed_slot t (TimedOut c.link) indexed.slot))
   pub closing : (t : ScannerTable) (indexed : IndexedSlot) (c : SlotConnection) → Stands t indexed → indexed.slot.state ≡ Established c → R t (with_slot (counted t) indexed.number (closing_slot t c indexed.slot))
 
--- it holds too where streams change, time passes, slots produce, and the mode changes
+-- it holds too where streams change, time passes, slots produce, the mode changes, and explicit requests are sent and end
 pub record KeptWidely (R : ScannerTable → ScannerTable → Type 0) : Type 0 where
   pub slots : Kept R
   pub streams : (t : ScannerTable) (streams : List TargetStream) → R t (record t { streams = streams })
   pub clocked : (t : ScannerTable) (ms : ℕ) → R t (clocked_table t ms)
   pub producing : (t : ScannerTable) → R t (produced_table t)
   pub moding : (t : ScannerTable) (run : Bool) → R t (moded_table t run)
+  pub explicit : (t : ScannerTable) (pending : List PendingExplicit) (request : ℕ) → t.next_request ≤ request → R t (record t { next_request = request; explicit = pending })
 
 -- a slot is established by the reply to its opening
 abbrev pub Establishes : (ScannerTable → ScannerTable → Type 0) → ScannerTable → Type 0
@@ -217,7 +224,7 @@ given_state_does R kept t indexed (Closing c) stands = does_clear R kept t index
 pub given_does : (R : ScannerTable → ScannerTable → Type 0) → Kept R → DoesAt R Any given_up
 given_does R kept t indexed stands any = given_state_does R kept t indexed indexed.slot.state stands
 
-lost_leads : (R : ScannerTable → ScannerTable → Type 0) → Kept R → (target : Node) (t : ScannerTable) → R t (target_lost target t).table
+pub lost_leads : (R : ScannerTable → ScannerTable → Type 0) → Kept R → (target : Node) (t : ScannerTable) → R t (target_lost target t).table
 unfolding target_lost
 lost_leads R kept target t =
     each_does R kept Any given_up (given_does R kept) (filter (is_with target) (indexed_slots t)) t (each_filter (Stands t) (is_with target) (indexed_slots t) (each_stands t))
@@ -246,7 +253,7 @@ expired_leads R kept t =
     (each_in_order (Stands t) by_deadline (filter (has_expired t.clock) (indexed_slots t)) (each_filter (Stands t) (has_expired t.clock) (indexed_slots t) (each_stands t)))
     (two_in_order by_deadline (filter (has_expired t.clock) (indexed_slots t)) (two_filter Apart (has_expired t.clock) (indexed_slots t) (slots_apart t))) (each_any (expired_slots t))
 
-advanced_leads : (R : ScannerTable → ScannerTable → Type 0) → Kept R → (t : ScannerTable) → R t (advanced t).table
+pub advanced_leads : (R : ScannerTable → ScannerTable → Type 0) → Kept R → (t : ScannerTable) → R t (advanced t).table
 advanced_leads R kept t =
     let first = (all_expired t).table in
     let second = (all_given_up first).table in
@@ -311,13 +318,49 @@ pub start_leads : (R : ScannerTable → ScannerTable → Type 0) → Kept R → 
 unfolding start
 start_leads R kept t number = start_at_leads R kept t number (slot_at t number) refl
 
-tick_step : (a b : Bool) (R : ScannerTable → ScannerTable → Type 0) → KeptWidely R → (t : ScannerTable) (ms : ℕ) → Leads R t (cond a (Err fault.TickTooLong) (cond b (Err fault.ClockEnd) (Ok (ticked (advanced (clocked_table t ms))))))
+-- ---- explicit requests
+
+-- requests that wait for their replies end
+pub ended_leads : (R : ScannerTable → ScannerTable → Type 0) → KeptWidely R → (test : PendingExplicit → Bool) (why : Unanswered) (t : ScannerTable) → R t (explicit_ended test why t).table
+ended_leads R kept test why t = kept.explicit t (others test t.explicit) t.next_request (omega arith)
+
+pub timed_out_leads : (R : ScannerTable → ScannerTable → Type 0) → KeptWidely R → (t : ScannerTable) → R t (explicit_timed_out t).table
+unfolding explicit_timed_out
+timed_out_leads R kept t = ended_leads R kept (is_late t.clock) unanswered.TimedOut t
+
+pub explicit_lost_leads : (R : ScannerTable → ScannerTable → Type 0) → KeptWidely R → (stream : ℕ) (t : ScannerTable) → R t (explicit_lost stream t).table
+unfolding explicit_lost
+explicit_lost_leads R kept stream t = ended_leads R kept (is_over stream) unanswered.Lost t
+
+barred_step : (b : Bool) (R : ScannerTable → ScannerTable → Type 0) → KeptWidely R → (t : ScannerTable) (session : Session) (number : ℕ) (bytes : List ℕ) → Leads R t (cond b (Err fault.NotAllowedNow) (Ok (done (explicit_sent t session number bytes))))
+barred_step true R kept t session number bytes = tt
+barred_step false R kept t session number bytes = kept.explicit t (explicit_sent t session number bytes).table.explicit (t.next_request + 1) (omega arith)
+
+explicit_within_leads : (R : ScannerTable → ScannerTable → Type 0) → KeptWidely R → (t : ScannerTable) (number : ℕ) (bytes : List ℕ) (session : Option Session) → Leads R t (explicit_within t number bytes session)
+explicit_within_leads R kept t number bytes None = tt
+explicit_within_leads R kept t number bytes (Some session) = barred_step (is_barred t number bytes) R kept t session number bytes
+
+explicit_step : (a b : Bool) (R : ScannerTable → ScannerTable → Type 0) → KeptWidely R → (t : ScannerTable) (target : Node) (number : ℕ) (bytes : List ℕ) → Leads R t (cond a (cond b (explicit_within t number bytes (session_with t target)) (Err fault.WrongLength)) (Err fault.NoSuchSlot))
+explicit_step true true R kept t target number bytes = explicit_within_leads R kept t number bytes (session_with t target)
+explicit_step true false R kept t target number bytes = tt
+explicit_step false b R kept t target number bytes = tt
+
+pub explicit_leads : (R : ScannerTable → ScannerTable → Type 0) → KeptWidely R → (t : ScannerTable) (target : Node) (number : ℕ) (bytes : List ℕ) → Leads R t (explicit_request t target number bytes)
+unfolding explicit_request
+explicit_leads R kept t target number bytes = explicit_step (list_any (connects_to target) t.profile.slots) (has_explicit_length bytes) R kept t target number bytes
+
+-- ---- ticks and streams
+
+tick_step : (a b : Bool) (R : ScannerTable → ScannerTable → Type 0) → KeptWidely R → (t : ScannerTable) (ms : ℕ) → Leads R t (cond a (Err fault.TickTooLong) (cond b (Err fault.ClockEnd) (Ok (ticked (moved_on (clocked_table t ms))))))
 tick_step true b R kept t ms = tt
 tick_step false true R kept t ms = tt
 tick_step false false R kept t ms =
     let now = clocked_table t ms in
-    let left = (advanced now).table in
-    kept.slots.after t left (produced_table left) (kept.slots.after t now left (kept.clocked t ms) (advanced_leads R kept.slots now)) (kept.producing left)
+    let moved = (advanced now).table in
+    let left = (explicit_timed_out moved).table in
+    kept.slots.after t left (produced_table left)
+    (kept.slots.after t moved left (kept.slots.after t now moved (kept.clocked t ms) (advanced_leads R kept.slots now)) (timed_out_leads R kept moved))
+    (kept.producing left)
 
 pub tick_leads : (R : ScannerTable → ScannerTable → Type 0) → KeptWidely R → (t : ScannerTable) (ms : ℕ) → Leads R t (tick t ms)
 unfolding tick
@@ -343,7 +386,8 @@ cut_of_leads : (R : ScannerTable → ScannerTable → Type 0) → KeptWidely R �
 cut_of_leads R kept t None = tt
 cut_of_leads R kept t (Some stream) =
     let now = without_stream t stream.number in
-    kept.slots.after t now (target_lost stream.peer now).table (kept.streams t now.streams) (lost_leads R kept.slots stream.peer now)
+    let lost = (target_lost stream.peer now).table in
+    kept.slots.after t lost (explicit_lost stream.number lost).table (kept.slots.after t now lost (kept.streams t now.streams) (lost_leads R kept.slots stream.peer now)) (explicit_lost_leads R kept stream.number lost)
 
 pub cut_leads : (R : ScannerTable → ScannerTable → Type 0) → KeptWidely R → (t : ScannerTable) (number : ℕ) → Leads R t (stream_cut t number)
 unfolding stream_cut
@@ -406,9 +450,21 @@ reported_leads R C t either stream m Waiting = first_step (m.context == 0) R C t
 reported_leads R C t either stream m (Up handle) = replied_to_leads R C t either m (is_awaiting stream.peer m.context) (find (is_awaiting stream.peer m.context) (indexed_slots t)) refl
 reported_leads R C t either stream m Unused = stays_leads R C t either
 
+-- a pending request is pending no more
+removed_leads : (R C : ScannerTable → ScannerTable → Type 0) (t : ScannerTable) → OrEstablished R C t → (pending : PendingExplicit) → C t (without_explicit t pending)
+removed_leads R C t either pending = either.weaker (without_explicit t pending) (either.kept.explicit t (others (is_request pending.request) t.explicit) t.next_request (omega arith))
+
+explicit_answered_leads : (R C : ScannerTable → ScannerTable → Type 0) (t : ScannerTable) → OrEstablished R C t → (pending : PendingExplicit) (reply : Result RouterReplyFields Unanswered) → C t (explicit_answered t pending reply).1
+explicit_answered_leads R C t either pending (Ok reply) = removed_leads R C t either pending
+explicit_answered_leads R C t either pending (Err why) = removed_leads R C t either pending
+
+message_leads : (R C : ScannerTable → ScannerTable → Type 0) (t : ScannerTable) → OrEstablished R C t → (stream : TargetStream) (m : MessageFields) (found : Option PendingExplicit) → C t (message_answer t stream m found).1
+message_leads R C t either stream m None = reported_leads R C t either stream m stream.stage
+message_leads R C t either stream m (Some pending) = explicit_answered_leads R C t either pending (explicit_reply pending.service m)
+
 frame_answer_leads : (R C : ScannerTable → ScannerTable → Type 0) (t : ScannerTable) → OrEstablished R C t → (stream : TargetStream) (reading : Result MessageFields EncapFault) → C t (frame_answer t stream reading).1
 frame_answer_leads R C t either stream (Err why) = stays_leads R C t either
-frame_answer_leads R C t either stream (Ok m) = reported_leads R C t either stream m stream.stage
+frame_answer_leads R C t either stream (Ok m) = message_leads R C t either stream m (find (awaits stream.number m.context) t.explicit)
 
 frame_of_leads : (R C : ScannerTable → ScannerTable → Type 0) (t : ScannerTable) → OrEstablished R C t → (bytes : List ℕ) (found : Option TargetStream) → Leads C t (frame_of t bytes found)
 frame_of_leads R C t either bytes None = tt
@@ -476,7 +532,7 @@ brings_bytes (Datagram peer bytes) = true
 brings_bytes (Write point bytes) = true
 brings_bytes other = false
 
--- each other event makes no more than streams, time, productions, modes and changes of single slots
+-- each other event makes no more than streams, time, productions, modes, explicit requests and changes of single slots
 pub bare_leads : (R : ScannerTable → ScannerTable → Type 0) → KeptWidely R → (t : ScannerTable) (event : Event) → brings_bytes event ≡ false → Leads R t (scanner_step t event)
 bare_leads R kept t (StreamOpened stream peer) bare = streamed_leads R kept t stream peer
 bare_leads R kept t (Frame stream bytes) bare = absurd (let e = bare in cc)
@@ -487,6 +543,7 @@ bare_leads R kept t (Tick ms) bare = tick_leads R kept t ms
 bare_leads R kept t (Mode run) bare = mode_leads R kept t run
 bare_leads R kept t (Start slot) bare = start_leads R kept.slots t slot
 bare_leads R kept t (Stop slot) bare = stop_leads R kept.slots t slot
+bare_leads R kept t (Explicit target number bytes) bare = explicit_leads R kept t target number bytes
 bare_leads R kept t other bare = passive_leads R kept.slots t other refl
 
 in_all_cases : (R : ScannerTable → ScannerTable → Type 0) → KeptAlways R → (t : ScannerTable) → OrEstablished R R t

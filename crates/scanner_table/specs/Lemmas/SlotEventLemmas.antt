@@ -8,7 +8,7 @@ use Rattle.cip_datagram.specs.Reading.{datagram_reading}
 use Rattle.cip_events.specs.declared.event.Delivery.{Delivery}
 use Rattle.cip_events.specs.declared.event.Delivery.TheVariants.{Applied, Duplicate, Old, UnknownId, WrongSize, Malformed}
 use Rattle.cip_events.specs.declared.event.Event.{Event}
-use Rattle.cip_events.specs.declared.event.Event.TheVariants.{StreamOpened, Frame, StreamCut, Datagram, Write, Tick, Mode, Start, Stop}
+use Rattle.cip_events.specs.declared.event.Event.TheVariants.{StreamOpened, Frame, StreamCut, Datagram, Write, Tick, Mode, Start, Stop, Explicit}
 use Rattle.cip_events.specs.declared.event.StepFault.{StepFault}
 use Rattle.cip_events.specs.declared.event.StepFault.TheVariants.{NoSuchSlot, NotAllowedNow, WrongLength}
 use Rattle.cip_events.specs.declared.event.Verdict.{Verdict}
@@ -37,19 +37,20 @@ pub record DiffersInSlots (t u : ScannerTable) : Type 0 where
   pub next_serial : u.next_serial ≡ t.next_serial
   pub next_request : u.next_request ≡ t.next_request
   pub streams : u.streams ≡ t.streams
+  pub explicit : u.explicit ≡ t.explicit
 
 -- what holds of a table that so differs, with each verdict
 abbrev pub HoldsForSlots : (Next → Type 0) → ScannerTable → Type 0
 HoldsForSlots P t = (verdict : Verdict) (u : ScannerTable) → DiffersInSlots t u → P (plain_answer verdict, u)
 
 itself : (t : ScannerTable) → DiffersInSlots t t
-itself t = record { profile = refl; clock = refl; next_id = refl; next_serial = refl; next_request = refl; streams = refl }
+itself t = record { profile = refl; clock = refl; next_id = refl; next_serial = refl; next_request = refl; streams = refl; explicit = refl }
 
 set : (t : ScannerTable) (number : ℕ) (slot : Slot) → DiffersInSlots t (with_slot t number slot)
-set t number slot = record { profile = refl; clock = refl; next_id = refl; next_serial = refl; next_request = refl; streams = refl }
+set t number slot = record { profile = refl; clock = refl; next_id = refl; next_serial = refl; next_request = refl; streams = refl; explicit = refl }
 
 moded : (t : ScannerTable) (run : Bool) → DiffersInSlots t (moded_table t run)
-moded t run = record { profile = refl; clock = refl; next_id = refl; next_serial = refl; next_request = refl; streams = refl }
+moded t run = record { profile = refl; clock = refl; next_id = refl; next_serial = refl; next_request = refl; streams = refl; explicit = refl }
 
 -- ---- datagrams
 
@@ -101,6 +102,7 @@ changes_more (StreamCut stream) = true
 changes_more (Tick ms) = true
 changes_more (Start slot) = true
 changes_more (Stop slot) = true
+changes_more (Explicit target number bytes) = true
 changes_more other = false
 
 pub slots_hold : (Q : Result Next StepFault → Type 0) (t : ScannerTable) → ((why : StepFault) → Q (Err why)) → HoldsForSlots (λ next. Q (Ok next)) t → (event : Event) → changes_more event ≡ false → Q (scanner_step t event)
@@ -115,4 +117,5 @@ slots_hold Q t refused holds (Mode run) more =
     either (λ (u : ScannerTable). Q (Ok (plain_answer Done, u))) (same_mode run t.run) t (moded_table t run) (holds Done t (itself t)) (holds Done (moded_table t run) (moded t run))
 slots_hold Q t refused holds (Start slot) more = absurd (let e = more in cc)
 slots_hold Q t refused holds (Stop slot) more = absurd (let e = more in cc)
+slots_hold Q t refused holds (Explicit target number bytes) more = absurd (let e = more in cc)
 slots_hold Q t refused holds other more = passive_holds Q t refused (λ verdict. holds verdict t (itself t)) other refl

@@ -220,6 +220,7 @@ goes_widely S by = record {
   clocked = λ t ms. stays_goes S by.stays t (clocked_table t ms) (record { profile = refl; ids = omega arith; requests = omega arith; clock = omega arith }) refl;
   producing = produced_goes S by.producing;
   moding = moded_goes S by.moding;
+  explicit = λ t pending request later. stays_goes S by.stays t (record t { next_request = request; explicit = pending }) (record { profile = refl; ids = omega arith; requests = later; clock = omega arith }) refl;
 }
 
 -- the premises where a slot becomes established, is written, or accepts a datagram

@@ -99,6 +99,7 @@ notice_holds Q device streams (notice.Slot slot state) all = all
 notice_holds Q device streams (notice.Refused slot reason) all = all
 notice_holds Q device streams (notice.NoIds slot) all = all
 notice_holds Q device streams (notice.Reset kind) all = all
+notice_holds Q device streams (notice.Unanswered number why) all = all
 
 notices_hold : (Q : List ℕ → Type 0) (device : ℕ) (streams : List Stream) (notices : List Notice) → StreamsHold Q streams → StreamsHold Q (notices_applied device streams notices)
 unfolding notices_applied

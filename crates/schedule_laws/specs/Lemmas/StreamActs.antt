@@ -150,6 +150,7 @@ notice_still Q device streams (notice.Slot slot state) all = record { ends = ref
 notice_still Q device streams (notice.Refused slot reason) all = record { ends = refl; waits = all }
 notice_still Q device streams (notice.NoIds slot) all = record { ends = refl; waits = all }
 notice_still Q device streams (notice.Reset kind) all = record { ends = refl; waits = all }
+notice_still Q device streams (notice.Unanswered number why) all = record { ends = refl; waits = all }
 
 notices_still : (Q : Waiting) (device : ℕ) (streams : List Stream) (notices : List Notice) → StreamsWait Q streams → Still Q streams (notices_applied device streams notices)
 unfolding notices_applied

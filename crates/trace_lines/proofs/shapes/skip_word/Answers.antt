@@ -29,6 +29,9 @@ returns-in-Hex c = rw (c.in-Hex.is, c.skipped-in-Hex.ensures) (skips word.Hex _ 
 pub returns-in-ElectronicKey : goal.returns-in-ElectronicKey
 returns-in-ElectronicKey c = rw (c.in-ElectronicKey.is, c.skipped-in-ElectronicKey.ensures) (skips word.ElectronicKey _ _ _ c.read_key.ensures)
 
+pub returns-in-GeneralStatus : goal.returns-in-GeneralStatus
+returns-in-GeneralStatus c = rw (c.in-GeneralStatus.is, c.skipped-in-GeneralStatus.ensures) (skips word.GeneralStatus _ _ _ c.general.ensures)
+
 pub returns-in-Action : goal.returns-in-Action
 returns-in-Action c = rw (c.in-Action.is, c.skipped-in-Action.ensures) (skips word.Action _ _ _ c.action.ensures)
 
@@ -43,3 +46,6 @@ returns-in-ConnectionType c = rw (c.in-ConnectionType.is, c.skipped-in-Connectio
 
 pub returns-in-Trigger : goal.returns-in-Trigger
 returns-in-Trigger c = rw (c.in-Trigger.is, c.skipped-in-Trigger.ensures) (skips word.Trigger _ _ _ c.read_trigger.ensures)
+
+pub returns-in-Closers : goal.returns-in-Closers
+returns-in-Closers c = rw (c.in-Closers.is, c.skipped-in-Closers.ensures) (skips word.Closers _ _ _ c.read_closers.ensures)

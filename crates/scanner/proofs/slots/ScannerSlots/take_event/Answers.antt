@@ -17,3 +17,6 @@ returns-in-Start-clause-hints g c = c.start.ensures.hints c.requires.hints
 
 pub returns-in-Stop-clause-hints : goal.returns-in-Stop-clause-hints
 returns-in-Stop-clause-hints g c = c.stop.ensures.hints c.requires.hints
+
+pub returns-in-Explicit-clause-hints : goal.returns-in-Explicit-clause-hints
+returns-in-Explicit-clause-hints g c = c.request_explicit.ensures.hints _ c.requires.hints

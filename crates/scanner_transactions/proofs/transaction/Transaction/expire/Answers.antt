@@ -2,7 +2,7 @@ use Rattle.std.proofs.Common.{refl}
 use Rattle.scanner_table.specs.Ticks.{expired}
 use Rattle.scanner_transactions.specs.Transactions.{view_transaction}
 use Rattle.scanner_transactions.proofs.Steps.{none_found}
-use Rattle.scanner_transactions.proofs.Faultless.{retry_fits}
+use Rattle.scanner_requests.specs.Lemmas.Waits.{retry_fits}
 use Rattle.scanner_transactions.proofs.transaction.Transaction.expire.Goals as goal
 
 pub later-requires-clause-wait : goal.later-requires-clause-wait

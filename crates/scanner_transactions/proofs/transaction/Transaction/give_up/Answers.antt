@@ -2,7 +2,7 @@ use Rattle.std.proofs.Common.{refl}
 use Rattle.scanner_table.specs.Closing.{given_up}
 use Rattle.scanner_transactions.specs.Transactions.{view_transaction}
 use Rattle.scanner_transactions.proofs.Steps.{none_found}
-use Rattle.scanner_transactions.proofs.Faultless.{retry_fits}
+use Rattle.scanner_requests.specs.Lemmas.Waits.{retry_fits}
 use Rattle.scanner_transactions.proofs.transaction.Transaction.give_up.Goals as goal
 
 pub later-retry_at-requires-clause-wait : goal.later-retry_at-requires-clause-wait

@@ -1,7 +1,7 @@
 use Rattle.std.proofs.Common.{refl}
 use Rattle.scanner_transactions.specs.Transactions.{view_transaction, refused_by}
 use Rattle.scanner_transactions.proofs.Steps.{none_found}
-use Rattle.scanner_transactions.proofs.Faultless.{retry_fits}
+use Rattle.scanner_requests.specs.Lemmas.Waits.{retry_fits}
 use Rattle.scanner_transactions.proofs.transaction.Transaction.refuse.Goals as goal
 
 pub later-requires-clause-wait : goal.later-requires-clause-wait

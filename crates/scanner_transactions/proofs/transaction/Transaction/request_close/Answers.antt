@@ -4,7 +4,7 @@ use Rattle.scanner_table.specs.declared.slot.SlotState.TheVariants.{Closing}
 use Rattle.std.specs.Result.{IfOk}
 use Rattle.scanner_slots.specs.Views.{view_slot}
 use Rattle.scanner_transactions.specs.Transactions.{Progress, view_transaction, close_requested_within}
-use Rattle.scanner_transactions.proofs.Faultless.{open_timeout_fits}
+use Rattle.scanner_requests.specs.Lemmas.Waits.{open_timeout_fits}
 use Rattle.scanner_transactions.proofs.Found.{found}
 use Rattle.scanner_transactions.proofs.RequestSteps.{requests_close, lengths_at}
 use Rattle.scanner_transactions.proofs.Steps.{none_found}

@@ -6,7 +6,7 @@ use Rattle.scanner_table.specs.declared.slot.SlotState.TheVariants.{Opening}
 use Rattle.std.specs.Result.{IfOk}
 use Rattle.scanner_slots.specs.Views.{view_slot}
 use Rattle.scanner_transactions.specs.Transactions.{Progress, view_transaction, open_requested_within}
-use Rattle.scanner_transactions.proofs.Faultless.{open_timeout_fits}
+use Rattle.scanner_requests.specs.Lemmas.Waits.{open_timeout_fits}
 use Rattle.scanner_transactions.proofs.Found.{found}
 use Rattle.scanner_transactions.proofs.RequestSteps.{requests_open, left_for, lengths_at, within}
 use Rattle.scanner_transactions.proofs.Steps.{none_found}

@@ -1,0 +1,27 @@
+-- What is within the limits that the maker states: the fifteen checks admit it, and it has a place.
+use Rattle.std.proofs.Common.{◌≡◌, Bool, true, false, cond, Result, Ok, Err, List, refl, subst}
+use Rattle.cip_types.specs.declared.names.Node.{Node}
+use Rattle.cip_fwdopen.specs.Open.{OpenFields}
+use Rattle.cip_router.specs.declared.refusal.Refusal.{Refusal}
+use Rattle.cip_router.specs.declared.refusal.Refusal.TheVariants as refusal
+use Rattle.adapter_table.specs.declared.maker_limits.MakerLimits.{MakerLimits}
+use Rattle.adapter_table.specs.Connections.{Row}
+use Rattle.adapter_table.specs.declared.table.AdapterTable.{AdapterTable}
+use Rattle.adapter_table.specs.Checks.{Admitted, admission}
+use Rattle.adapter_table.specs.StatedLimits.{exceeds, limited, limited_admission}
+
+pub record IsLimited (limits : MakerLimits) (rows : List Row) (peer : Node) (said : Result Admitted Refusal) (found : Admitted) : Type 0 where
+  pub admitted : said ≡ Ok found
+  pub within : exceeds limits rows peer found.kind ≡ false
+
+within_step : (b : Bool) (limits : MakerLimits) (rows : List Row) (peer : Node) (found admitted : Admitted) → exceeds limits rows peer found.kind ≡ b → ◌≡◌ {A = Result Admitted Refusal} (cond b (Err refusal.OutOfConnections) (Ok found)) (Ok admitted) → IsLimited limits rows peer (Ok found) admitted
+within_step true limits rows peer found admitted is says = absurd cc
+within_step false limits rows peer found admitted is says = record { admitted = says; within = let same : found ≡ admitted = cc in subst (λ (a : Admitted). exceeds limits rows peer a.kind ≡ false) same is }
+
+pub limited_parts : (limits : MakerLimits) (rows : List Row) (peer : Node) (said : Result Admitted Refusal) (admitted : Admitted) → limited limits rows peer said ≡ Ok admitted → IsLimited limits rows peer said admitted
+limited_parts limits rows peer (Err why) admitted is = absurd cc
+limited_parts limits rows peer (Ok found) admitted is = within_step (exceeds limits rows peer found.kind) limits rows peer found admitted refl is
+
+-- the same at a table
+pub limited_is : (t : AdapterTable) (peer : Node) (request : OpenFields) (admitted : Admitted) → limited_admission t peer request ≡ Ok admitted → IsLimited t.profile.limits t.rows peer (admission t request) admitted
+limited_is t peer request admitted is = limited_parts t.profile.limits t.rows peer (admission t request) admitted is

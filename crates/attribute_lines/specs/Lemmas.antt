@@ -1,0 +1,2 @@
+-- Lemmas that crates above cite: texts that are appended.
+pub mod Appended

@@ -1,0 +1,7 @@
+pub mod Requested
+pub mod Calls
+pub mod Lemmas
+pub mod Names
+pub mod Replies
+pub mod Statuses
+pub mod Values

@@ -1,0 +1,139 @@
+-- A close of another node is refused, and a number that is far ahead is not accepted.
+use Rattle.std.proofs.Common.{◌≡◌, ◌≢◌, ◌≤◌, inl, inr, ℕ, ◌==◌, nat_lt, Bool, true, false, cond, List, [], length, find, Option, Some, None, Result, Ok, refl, sym, ◌∙◌, ap, subst, arith}
+use Rattle.std.proofs.lemmas.Bool.{le-ltb}
+use Rattle.std.proofs.lemmas.Bool.Decides.{nat_tests}
+use Rattle.base_lemmas.specs.Booleans.{and_none, either}
+use Rattle.cip_types.specs.declared.names.Node.{Node}
+use Rattle.cip_types.specs.Circle.{distance}
+use Rattle.cip_types.specs.Fields.{fields_at}
+use Rattle.cip_datagram.specs.declared.datagram.DatagramFault.{DatagramFault}
+use Rattle.cip_datagram.specs.Datagram.{DatagramFields}
+use Rattle.cip_encap.specs.declared.message.EncapFault.{EncapFault}
+use Rattle.cip_encap.specs.declared.packet.ItemFault.{ItemFault}
+use Rattle.cip_encap.specs.Message.{MessageFields, header_widths}
+use Rattle.cip_encap.specs.Packet.{PacketFields}
+use Rattle.cip_events.specs.declared.event.Delivery.{Delivery}
+use Rattle.cip_events.specs.declared.event.Delivery.TheVariants.{Old, WrongSize}
+use Rattle.cip_events.specs.declared.event.Event.{Event}
+use Rattle.cip_events.specs.declared.event.Event.TheVariants as event
+use Rattle.cip_events.specs.declared.event.Notice.{Notice}
+use Rattle.cip_fwdopen.specs.Close.{CloseFields}
+use Rattle.cip_productions.specs.declared.acceptance.Accepted.{Accepted}
+use Rattle.cip_productions.specs.Acceptance.{accepts_sequence}
+use Rattle.cip_router.specs.declared.refusal.Status.TheVariants as status
+use Rattle.cip_router.specs.Commands.{command_of}
+use Rattle.cip_router.specs.Frames.{request_header_of, frame_fields, frame_reading}
+use Rattle.cip_router.specs.Refusals.{status_fault}
+use Rattle.cip_router.specs.Requests.{closing, router_request_reading}
+use Rattle.adapter_table.specs.declared.maker_limits.MakerLimits.{MakerLimits}
+use Rattle.adapter_table.specs.Connections.{Row}
+use Rattle.adapter_table.specs.declared.table.AdapterTable.{AdapterTable}
+use Rattle.adapter_table.specs.declared.table.Stream.{Stream}
+use Rattle.adapter_table.specs.Datagrams.{expected_len, accepted_delivery, judged_datagram, found_datagram, datagram_of, received}
+use Rattle.adapter_table.specs.Encapsulation.{Handled, request_replied, packet_replied, handled, frame_answer, stream_answer, frame_of, frame}
+use Rattle.adapter_table.specs.Inquiries.{inquiry_reply}
+use Rattle.adapter_table.specs.Lemmas.RequestLemmas.{next_is}
+use Rattle.adapter_table.specs.Requests.{Next, Served, refused_close, close_of, served_close, served, answered, requested}
+use Rattle.adapter_table.specs.Rows.{has_triad}
+use Rattle.adapter_table.specs.StatedLimits.{is_wrong_closer, accepts_number}
+use Rattle.adapter_table.specs.Step.{adapter_step}
+use Rattle.adapter_table.specs.Streams.{has_session}
+use Rattle.device_laws.specs.StatedLimits.{IsCloseFrame, IsStreamOf, BringsClose, AnotherNodeClosesNothing, IsFarAhead, IsNotAccepted, FarNumbersChangeNothing}
+
+-- ---- a close that is refused
+
+differs : (n m : ℕ) → n ≢ m → (n == m) ≡ false
+differs n m other = grind (arith, nat_tests)
+
+wrong_closer : (limits : MakerLimits) (peer : Node) (row : Row) → limits.own_closers ≡ true → row.peer.0 ≢ peer.0 → is_wrong_closer limits peer row ≡ true
+wrong_closer limits peer row own other = let apart = differs row.peer.0 peer.0 other in rw (own, apart) refl
+
+-- what is served of the close: a refusal
+abbrev IsRefused : AdapterTable → Node → CloseFields → Type 0
+IsRefused t peer request = served t peer (closing request) ≡ Some (refused_close t request (status_fault status.PrivilegeViolation))
+
+close_refused : (t : AdapterTable) (peer : Node) (request : CloseFields) (row : Row) → t.profile.limits.own_closers ≡ true → find (has_triad request.triad) t.rows ≡ Some row → row.peer.0 ≢ peer.0 → IsRefused t peer request
+unfolding served_close
+close_refused t peer request row own found other =
+    let wrong = wrong_closer t.profile.limits peer row own other in
+    ap (λ (o : Option Row). Some (close_of t peer request o)) found ∙ rw wrong refl
+
+abbrev Stays : AdapterTable → AdapterTable → List Notice → Type 0
+Stays t next notices = (next ≡ t) × (notices ≡ [])
+
+abbrev NextStays : AdapterTable → Next → Type 0
+NextStays t next = Stays t next.1 next.0.notices
+
+abbrev HandledStays : AdapterTable → Handled → Type 0
+HandledStays t done = Stays t done.table done.notices
+
+requested_stays : (t : AdapterTable) (peer : Node) (request : CloseFields) → IsRefused t peer request → (bytes : List ℕ) → router_request_reading bytes ≡ closing request → NextStays t (requested t peer bytes)
+unfolding requested
+requested_stays t peer request refused bytes reads =
+    subst (λ (s : Option Served). NextStays t (answered t peer s)) (sym (ap (served t peer) reads ∙ refused)) (refl, refl)
+
+packet_stays : (t : AdapterTable) (peer : Node) (request : CloseFields) → IsRefused t peer request → (packet : PacketFields) → router_request_reading packet.payload ≡ closing request → HandledStays t (packet_replied t peer (Ok packet))
+packet_stays t peer request refused packet reads =
+    subst (λ (s : Option Served). HandledStays t (request_replied t s)) (sym (ap (served t peer) reads ∙ refused)) (refl, refl)
+
+sent_stays : (t : AdapterTable) (request : CloseFields) (stream : Stream) → IsRefused t stream.peer request → (bytes : List ℕ) (is : IsCloseFrame bytes request) → HandledStays t (handled t stream (request_header_of is.message) is.message.payload (command_of is.message.command))
+unfolding handled
+sent_stays t request stream refused bytes is =
+    subst (λ (c : ℕ). HandledStays t (handled t stream (request_header_of is.message) is.message.payload (command_of c))) (sym is.sends)
+    (either (HandledStays t) (has_session stream is.message.session) _ _
+    (subst (λ (r : Result PacketFields ItemFault). HandledStays t (packet_replied t stream.peer r)) (sym is.packet_is) (packet_stays t stream.peer request refused is.packet is.request_is))
+    (refl, refl))
+
+message_stays : (t : AdapterTable) (request : CloseFields) (stream : Stream) → IsRefused t stream.peer request → (bytes : List ℕ) → IsCloseFrame bytes request → NextStays t (frame_answer t stream (frame_reading bytes))
+unfolding frame_reading
+message_stays t request stream refused bytes is =
+    subst (λ (r : Result MessageFields EncapFault). NextStays t (frame_answer t stream (frame_fields (fields_at header_widths bytes) r))) (sym is.reads) (sent_stays t request stream refused bytes is)
+
+stream_stays : (t : AdapterTable) (request : CloseFields) (stream : Stream) → IsRefused t stream.peer request → (bytes : List ℕ) (reply : Option (List ℕ)) → IsCloseFrame bytes request → NextStays t (stream_answer t stream bytes reply)
+stream_stays t request stream refused bytes None is = message_stays t request stream refused bytes is
+stream_stays t request stream refused bytes (Some text) is = (refl, refl)
+
+frame_stays : (t : AdapterTable) (peer : Node) (request : CloseFields) → IsRefused t peer request → (number : ℕ) (bytes : List ℕ) (next : Next) → frame t number bytes ≡ Ok next → IsStreamOf t number peer → IsCloseFrame bytes request → NextStays t next
+unfolding frame
+frame_stays t peer request refused number bytes next is over close =
+    let own : IsRefused t over.stream.peer request = subst (λ (n : Node). IsRefused t n request) (sym over.peer_is) refused in
+    let said : frame_of t bytes (Some over.stream) ≡ Ok next = ap (frame_of t bytes) (sym over.found) ∙ is in
+    subst (NextStays t) (next_is _ _ said) (stream_stays t request over.stream own bytes (inquiry_reply t bytes) close)
+
+step_stays : (t : AdapterTable) (happens : Event) (peer : Node) (request : CloseFields) → IsRefused t peer request → (next : Next) → adapter_step t happens ≡ Ok next → BringsClose t happens peer request → NextStays t next
+step_stays t (event.Request from bytes) peer request refused next is brings =
+    let own : IsRefused t from request = subst (λ (n : Node). IsRefused t n request) (sym brings.0) refused in
+    subst (NextStays t) (next_is _ _ is) (requested_stays t from request own bytes brings.1)
+step_stays t (event.Frame number bytes) peer request refused next is brings = frame_stays t peer request refused number bytes next is brings.0 brings.1
+step_stays t other peer request refused next is brings = absurd brings
+
+pub closes_nothing : AnotherNodeClosesNothing
+closes_nothing t happens peer request row next is brings own found other =
+    let stays = step_stays t happens peer request (close_refused t peer request row own found other) next is brings in
+    record { table = stays.0; notices = stays.1 }
+
+-- ---- a number that is far ahead
+
+far_refused : (newer : Option ℕ) (last : Option Accepted) (number within : ℕ) (newest : Accepted) → newer ≡ Some within → last ≡ Some newest → within ≤ distance number newest.number → accepts_number newer last number ≡ false
+far_refused newer last number within newest states accepted far =
+    let near : nat_lt (distance number newest.number) within ≡ false = le-ltb _ _ far in
+    rw (states, accepted, near) (and_none (accepts_sequence (Some newest) number))
+
+refused_step : (sized newer : Bool) (t : AdapterTable) (peer : Node) (d : DatagramFields) (row : Row) (what : Delivery) → newer ≡ false → IsNotAccepted t (judged_datagram t peer d row (cond sized (cond newer what Old) WrongSize))
+refused_step true true t peer d row what is = absurd (let e = is in cc)
+refused_step true false t peer d row what is = record { table = refl; answer = inl refl }
+refused_step false newer t peer d row what is = record { table = refl; answer = inr refl }
+
+far_found : (t : AdapterTable) (peer : Node) (d : DatagramFields) (row : Row) → accepts_number t.profile.limits.newer row.last d.sequence ≡ false → IsNotAccepted t (found_datagram t peer d (Some row))
+far_found t peer d row refused =
+    refused_step (length d.payload == expected_len t.profile row) (accepts_number t.profile.limits.newer row.last d.sequence) t peer d row (accepted_delivery row d) refused
+
+far_received : (t : AdapterTable) (peer : Node) (bytes : List ℕ) → IsFarAhead t peer bytes → IsNotAccepted t (received t peer bytes)
+unfolding received
+far_received t peer bytes is =
+    let refused = far_refused t.profile.limits.newer is.row.last is.datagram.sequence is.within is.last is.within_is is.last_is is.far in
+    subst (λ (r : Result DatagramFields DatagramFault). IsNotAccepted t (datagram_of t peer r)) (sym is.reads)
+    (subst (λ (o : Option Row). IsNotAccepted t (found_datagram t peer is.datagram o)) (sym is.found) (far_found t peer is.datagram is.row refused))
+
+pub far_numbers_stay : FarNumbersChangeNothing
+far_numbers_stay t peer bytes next is far = subst (IsNotAccepted t) (next_is _ _ is) (far_received t peer bytes far)

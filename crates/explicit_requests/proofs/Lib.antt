@@ -1,0 +1,3 @@
+mod Deadlines
+mod Judged
+mod Resting

@@ -1,0 +1,2 @@
+-- Lemmas that crates above cite: the times of a profile without a fault.
+pub mod Waits
