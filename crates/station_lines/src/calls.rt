@@ -126,9 +126,7 @@ pub fn has_news(event: &Event, outcome: &Outcome) -> bool
 {
     match outcome {
         Ok(answer) => {
-            is_call(event)
-                || is_reply(&answer.verdict)
-                || !answer.notices.as_slice().is_empty()
+            is_call(event) || is_reply(&answer.verdict) || !answer.notices.as_slice().is_empty()
         }
         Err(StepFault::OutOfMemory) => false,
         Err(_) => is_call(event),
