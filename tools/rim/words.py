@@ -1,11 +1,12 @@
 """What a station says of itself, and of what it is given."""
 
-import contextlib, re, select, socket, subprocess, time
+import contextlib, re, select, signal, socket, subprocess, time
 from bad_profiles import BAD_PROFILES, BAD_PROFILE_LINES
 from rim.host import Station, holds, listens, need, run, sure, until, wait
 from rim.peers import INPUT_ONLY, MULTICAST, POINT_TO_POINT, Originator, Silent, Target
 
-CALLS = ["write POINT HEX", "read POINT", "mode run", "mode idle", "start SLOT", "stop SLOT", "status"]
+CALLS = ["write POINT HEX", "read POINT", "mode run", "mode idle", "start SLOT", "stop SLOT",
+         "get NODE CLASS INSTANCE ATTRIBUTE", "set NODE CLASS INSTANCE ATTRIBUTE HEX", "explicit NODE NUMBER HEX", "status"]
 MUTE = "scanner 32 {owner} 1 101 1000 1000\nslot {adapter} input - 152 100 0 4 10000 10000 2 multicast - -\n"
 FED = "slot {adapter} input - 152 100 0 4 10000 10000 2 p2p - -\n"
 
@@ -99,6 +100,51 @@ def run_scanner_lines(bench):
     moods.stop()
     line_of(station, rf"eip_station: stream \d+ of {peer} ended: its peer cut it")
     station.end()
+    bench.clear()
+
+
+def replied(station, call, pattern, text, seconds=6):
+    """Gives a scanner a call that gets or sets an attribute, and waits for the line of its reply."""
+    form = re.compile(rf"\d+ at \d+ {re.escape(call.rsplit(' ', 1)[0] if call.startswith('set') else call)} {pattern}")
+    before = len(station.lines())
+    station.call(call)
+    wait(lambda: any(form.fullmatch(line) for line in station.lines()[before:]), lambda: f"{call}: {station.lines()[before:]}", seconds)
+    holds(f"{text}: {next(line for line in station.lines()[before:] if form.fullmatch(line))}")
+
+
+def run_attributes(bench):
+    """A scanner reads its target, which refuses to be set, and then does not answer."""
+    adapter = bench.adapter("--name", "Valve island", "--serial", "305419896", log="asked_adapter")
+    scanner = bench.scanner("owner", "--record", bench.file("asked.trace"), log="asked")
+    wait(scanner.is_established, "the scanner is established")
+    target = bench.address["adapter"]
+    asks = {
+        "get {} 1 1 1": ("vendor 1", "Identity, vendor"),
+        "get {} 1 1 6": ("serial-number 305419896", "serial number"),
+        "get {} 1 1 7": ('product-name "Valve island"', "product name"),
+        "get {} 1 0 1": ("revision 1", "revision of the class"),
+        "get {} 245 1 5": (rf'interface address {re.escape(target)} mask .* gateway 0\.0\.0\.0 .* domain ""', "TCP/IP Interface, configuration"),
+        "get {} 245 1 13": (r"inactivity-timeout \d+", "inactivity time-out"),
+        "get {} 246 1 1": (r"speed \d+", "Ethernet Link, speed"),
+        "get {} 246 1 3": (r"physical-address [0-9a-f:]{17}", "physical address"),
+        "get {} 4 100 4": ("size 4", "Assembly, size"),
+        "get {} 1 1 99": (r"status 14 \(attribute not supported\) additional -", "an attribute that there is not"),
+        "set {} 245 1 13 0a00": (r"status 0e \(attribute not settable\) additional -", "an attribute that is not set"),
+    }
+    for call, (pattern, text) in asks.items():
+        replied(scanner, call.format(target), pattern, text)
+    before = len(scanner.lines())
+    scanner.call(f"get {bench.address['peer']} 1 1 1")
+    wait(lambda: any(line.endswith(" fault NoSuchSlot") for line in scanner.lines()[before:]), "a target of no slot is refused")
+    holds("a target of no slot is refused")
+    scanner.call("stop 0")
+    wait(lambda: scanner.states()[-1] == 0, "the slot is closed")
+    adapter.process.send_signal(signal.SIGSTOP)
+    replied(scanner, f"get {target} 1 1 1", "unanswered timed-out", "a target that is stopped")
+    adapter.process.send_signal(signal.SIGCONT)
+    replied(scanner, f"get {target} 1 1 1", "vendor 1", "it goes on")
+    need(scanner.end() == 0 == adapter.end(), "both end with status 0")
+    bench.replay("asked")
     bench.clear()
 
 

@@ -1,5 +1,5 @@
-//! Attributes of a scanner's targets: the calls that get and set them, what was requested until its reply comes, and the
-//! lines of replies, with the names and values of the attributes that a station knows.
+//! Attributes of a scanner's targets: the calls that get and set them, what was requested until its reply comes, and
+//! the lines of replies, with the names and values of the attributes that a station knows.
 #![tactic(auto)]
 
 mod calls;

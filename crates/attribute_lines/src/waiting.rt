@@ -41,7 +41,8 @@ impl PendingAttributes {
 
     /// Notes an event that the device has accepted. The fault: an allocation was refused, and what it asks is not kept.
     pub fn note(&mut self, event: &Event) -> Result<(), OutOfMemory>
-        ensures requested { OnOk result (self.new.requested.items ≡ requested_after event.now self.old.requested.items) }
+        ensures requested { OnOk result
+            (self.new.requested.items ≡ requested_after event.now self.old.requested.items) }
         ensures last { self.new.last ≡ last_after event.now self.old.last }
     {
         let Event::Explicit {
@@ -59,8 +60,8 @@ impl PendingAttributes {
         )
     }
 
-    /// Appends the lines of an answer: of the reply that it brings, and of each request that has none. These wait no more.
-    /// The fault: an allocation was refused, and not all is appended.
+    /// Appends the lines of an answer: of the reply that it brings, and of each request that has none. These wait no
+    /// more. The fault: an allocation was refused, and not all is appended.
     pub fn push_answer(
         &mut self,
         out: &mut String,

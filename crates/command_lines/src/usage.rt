@@ -51,6 +51,8 @@ options:
   --page-writes  the page takes write, mode, start and stop, from who has the token in that line
 The station runs until its standard input ends, and at most N seconds. Each line of the input is a call:
   write POINT HEX, read POINT, mode run, mode idle, start SLOT, stop SLOT, status
+and at a scanner, to read and to set an attribute of a target by decimal numbers, and to send any request to its message router:
+  get NODE CLASS INSTANCE ATTRIBUTE, set NODE CLASS INSTANCE ATTRIBUTE HEX, explicit NODE NUMBER HEX
 It prints the outcome of each call and of each event with a notice, in the lines of a trace, and for each output or
 image that has changed N at MS output POINT HEX or N at MS image SLOT HEX: the number of the last event, and the time.
 It waits for no reader: lines that nobody reads are lost, and a line says how many.

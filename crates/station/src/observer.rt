@@ -2,9 +2,11 @@
 
 ghost use Rattle.std.specs.Prelude.{◌≡◌, IfOk};
 ghost use Rattle.std.specs.List.{list_any};
+ghost use Rattle.attribute_lines.specs.Requested.{next_number};
 ghost use Rattle.station_watch.specs.Closing.{is_marked};
 
 use crate::fault::EarlyEnd;
+use attribute_lines::{PendingAttributes, ReplyMoment};
 use cip_events::{Answer, Delivery, Event, Outcome, Verdict};
 use cip_tables::{Config, Device};
 use cip_types::{Node, OutOfMemory};
@@ -28,6 +30,7 @@ pub struct StationObserver<W, O, E> {
     peers: ConnectedPeers,
     slots: SlotWatches,
     traffic: StationTraffic,
+    requested: PendingAttributes,
     fault: Option<EarlyEnd>,
     record_fault: Option<RecordFault>,
     page: Option<PageFeed>,
@@ -57,6 +60,7 @@ impl<W: RecordSink + Drop, O: LineSink, E: LineSink> StationObserver<W, O, E> {
             peers: ConnectedPeers::none(alloc),
             slots: SlotWatches::of(alloc, config)?,
             traffic: StationTraffic::of(alloc, config)?,
+            requested: PendingAttributes::none(alloc),
             fault: None,
             record_fault: None,
             page: None,
@@ -172,6 +176,13 @@ impl<W: RecordSink + Drop, O: LineSink, E: LineSink> StationObserver<W, O, E> {
         &self.traffic
     }
 
+    /// The number of the next explicit request.
+    pub fn next_explicit(&self) -> u32
+        ensures { result ≡ next_number self.now.requested.last }
+    {
+        self.requested.next_number()
+    }
+
     /// Fails once if there was no memory to note a step.
     pub fn check(&mut self) -> Result<(), EarlyEnd>
         ensures kept { self.new.recorder ≡ self.old.recorder }
@@ -208,6 +219,31 @@ impl<W: RecordSink + Drop, O: LineSink, E: LineSink> StationObserver<W, O, E> {
         Ok(())
     }
 
+    /// Prints the outcome of the last event, and what it says of attributes that were requested.
+    fn print_news(&mut self, outcome: &Outcome) -> Result<(), OutOfMemory>
+        ensures kept { self.new.recorder ≡ self.old.recorder }
+    {
+        self.print_outcome(outcome)?;
+        self.print_attributes(outcome)
+    }
+
+    /// Prints what an answer says of attributes that were requested.
+    fn print_attributes(&mut self, outcome: &Outcome) -> Result<(), OutOfMemory>
+        ensures kept { self.new.recorder ≡ self.old.recorder }
+    {
+        let Ok(answer) = outcome else {
+            return Ok(());
+        };
+        let mut text = String::new(self.alloc);
+        let moment = ReplyMoment {
+            number: self.count(),
+            ms: self.now_ms(),
+        };
+        self.requested.push_answer(&mut text, moment, answer)?;
+        self.print(text.as_bytes());
+        Ok(())
+    }
+
     /// Notes what the device has done.
     fn note(&mut self, event: &Event, outcome: &Outcome) -> Result<(), OutOfMemory>
         ensures kept { self.new.recorder ≡ self.old.recorder }
@@ -231,7 +267,8 @@ impl<W: RecordSink + Drop, O: LineSink, E: LineSink> StationObserver<W, O, E> {
         self.closing.note(notices);
         self.peers.note(event, notices)?;
         self.slots.note(event, answer)?;
-        self.traffic.note(event, answer)
+        self.traffic.note(event, answer)?;
+        self.requested.note(event)
     }
 
     /// Notes a step. Reports why the record has ended, if it has, and prints the outcome, if it is to be printed.
@@ -244,7 +281,7 @@ impl<W: RecordSink + Drop, O: LineSink, E: LineSink> StationObserver<W, O, E> {
         if self.note(event, outcome).is_err() {
             self.fault = Some(EarlyEnd::OutOfMemory);
         }
-        if has_news(event, outcome) && self.print_outcome(outcome).is_err() {
+        if has_news(event, outcome) && self.print_news(outcome).is_err() {
             self.fault = Some(EarlyEnd::OutOfMemory);
         }
     }

@@ -13,6 +13,7 @@ ghost use Rattle.station_watch.specs.Closing.{is_marked};
 use crate::fault::{EarlyEnd, failures_after_call, failures_after_turn};
 use crate::observer::StationObserver;
 use crate::sessions::{sessions_of, unregister_message};
+use attribute_lines::{AttributeCall, call_event};
 use cip_tables::{Config, Device, Event};
 use cip_types::{Ms, Node, OutOfMemory};
 use scanner_table::Session;
@@ -269,9 +270,19 @@ impl<P: KeptPort, C: Clock, D: Device, W: RecordSink + Drop, O: LineSink, E: Lin
         match read_line(self.alloc, line)? {
             InputLine::Skipped => Ok(()),
             InputLine::Call(event) => self.act(&event),
+            InputLine::Attribute(call) => self.ask(&call),
             InputLine::Status => self.print_status(),
             InputLine::NoCall => self.report_line(),
         }
+    }
+
+    /// Has a scanner send the request of a call that concerns an attribute. Its number is one above that of the last one.
+    #[tactic(auto, using(crate::proofs::Noting::at_rest, crate::proofs::Noting::unmoved))]
+    fn ask(&mut self, call: &AttributeCall) -> Result<(), EarlyEnd>
+        ensures { Recorded W.contents P.is_scripted C.is_scripted C.coming P.tape P.failed D.table self.old self.new }
+    {
+        let event = call_event(self.alloc, self.observer.next_explicit(), call)?;
+        self.act(&event)
     }
 
     /// Steps the device by an event of the application, sends the answer, and prints what has changed.
@@ -407,7 +418,7 @@ impl<P: KeptPort, C: Clock, D: Device, W: RecordSink + Drop, O: LineSink, E: Lin
         let number = self.lines;
         if write!(
             &mut self.text,
-            "eip_station: line {number} of standard input is no call: write POINT HEX, read POINT, mode run, mode idle, start SLOT, stop SLOT, status\n"
+            "eip_station: line {number} of standard input is no call: write POINT HEX, read POINT, mode run, mode idle, start SLOT, stop SLOT, get NODE CLASS INSTANCE ATTRIBUTE, set NODE CLASS INSTANCE ATTRIBUTE HEX, explicit NODE NUMBER HEX, status\n"
         )
         .is_err()
         {

@@ -2,14 +2,15 @@
 
 ghost use Rattle.std.specs.Prelude.{◌≡◌, slice_index_or, IfOk};
 ghost use Rattle.trace_words.specs.Reader.{Finds};
-ghost use Rattle.station_lines.specs.Calls.{call_of, has_news, is_call, is_skipped, is_status, line_of};
+ghost use Rattle.station_lines.specs.Calls.{attribute_in, attribute_with, call_of, has_news, is_call, is_reply, is_skipped, is_status, line_of};
 
-use cip_events::{Event, Outcome, StepFault};
+use attribute_lines::{AttributeCall, read_attribute_call};
+use cip_events::{Event, Outcome, StepFault, Verdict};
 use cip_types::OutOfMemory;
 use std::alloc::Global;
-use trace_text::{TextFault, read_event_line};
+use trace_text::{TextFault, ascii_text, read_event_line};
 
-/// Whether an event is a call of the application: `write`, `read`, `mode`, `start` or `stop`.
+/// Whether an event is a call of the application: `write`, `read`, `mode`, `start`, `stop` or `explicit`.
 pub fn is_call(event: &Event) -> bool
     ensures { result ≡ is_call event.now }
 {
@@ -19,6 +20,7 @@ pub fn is_call(event: &Event) -> bool
         Event::Mode { run: _ } => true,
         Event::Start { slot: _ } => true,
         Event::Stop { slot: _ } => true,
+        Event::Explicit { .. } => true,
         _ => false,
     }
 }
@@ -44,6 +46,8 @@ pub enum InputLine {
     Skipped,
     /// A call of the application.
     Call(Event),
+    /// A call that gets or sets an attribute of a target.
+    Attribute(AttributeCall),
     /// The call for the state of the station.
     Status,
     /// Anything else.
@@ -62,6 +66,20 @@ pub fn read_line(alloc: Global, line: &[u8]) -> Result<InputLine, OutOfMemory>
     }
     match read_call(alloc, line) {
         Ok(event) => Ok(InputLine::Call(event)),
+        Err(TextFault::Bad) => read_attribute(alloc, line),
+        Err(TextFault::OutOfMemory) => Err(OutOfMemory),
+    }
+}
+
+/// What a line is that is no event: a call that concerns an attribute, or none.
+fn read_attribute(alloc: Global, line: &[u8]) -> Result<InputLine, OutOfMemory>
+    ensures { IfOk result (λ said. said ≡ attribute_with (attribute_in line.now)) }
+{
+    let Some(text) = ascii_text(line) else {
+        return Ok(InputLine::NoCall);
+    };
+    match read_attribute_call(alloc, text) {
+        Ok(call) => Ok(InputLine::Attribute(call)),
         Err(TextFault::Bad) => Ok(InputLine::NoCall),
         Err(TextFault::OutOfMemory) => Err(OutOfMemory),
     }
@@ -91,13 +109,25 @@ fn first_or_mark(line: &[u8]) -> u8
     }
 }
 
-/// Whether the outcome of an event is printed: that of each call, and that of each event with a notice. An event for which
-/// there was no memory has none.
+/// Whether a verdict is a target's reply to an explicit request.
+fn is_reply(verdict: &Verdict) -> bool
+    ensures { result ≡ is_reply verdict.now }
+{
+    match verdict {
+        Verdict::Replied { .. } => true,
+        _ => false,
+    }
+}
+
+/// Whether the outcome of an event is printed: that of each call, that of each reply to an explicit request, and that of each
+/// event with a notice. An event for which there was no memory has none.
 pub fn has_news(event: &Event, outcome: &Outcome) -> bool
     ensures { result ≡ has_news event.now outcome.now }
 {
     match outcome {
-        Ok(answer) => is_call(event) || !answer.notices.as_slice().is_empty(),
+        Ok(answer) => {
+            is_call(event) || is_reply(&answer.verdict) || !answer.notices.as_slice().is_empty()
+        }
         Err(StepFault::OutOfMemory) => false,
         Err(_) => is_call(event),
     }
