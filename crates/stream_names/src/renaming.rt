@@ -217,6 +217,17 @@ fn same_verdict(alloc: Global, verdict: &Verdict) -> Result<Verdict, OutOfMemory
         Verdict::Ignored => Verdict::Ignored,
         Verdict::Value(bytes) => Verdict::Value(Items::copy_of(alloc, bytes.as_slice())?),
         Verdict::Delivered(delivery) => Verdict::Delivered(*delivery),
+        Verdict::Replied {
+            number,
+            status,
+            additional,
+            data,
+        } => Verdict::Replied {
+            number: *number,
+            status: *status,
+            additional: Items::copy_of(alloc, additional.as_slice())?,
+            data: Items::copy_of(alloc, data.as_slice())?,
+        },
     })
 }
 

@@ -4,16 +4,16 @@ use crate::datagrams::push_datagram;
 use crate::events::is_target;
 use crate::frames::push_message;
 use crate::replies::push_reply;
-use crate::statuses::{encap_words, push_fault};
 use crate::values::{push_data, push_id, push_triad};
 use cip_events::{
     Answer, Delivery, Event, Frame, Notice, Outcome, OutgoingDatagram, Reason, Recipient,
-    SlotPhase, Verdict,
+    SlotPhase, Unanswered, Verdict,
 };
 use cip_tables::Config;
-use cip_types::{Node, OutOfMemory};
+use cip_types::{Fault, Node, OutOfMemory};
+use status_words::{encap_words, push_fault, push_general};
 use std::alloc::Global;
-use trace_words::{push_node, push_nodes, push_text};
+use trace_words::{push_bytes, push_node, push_nodes, push_text};
 
 /// What begins a line of an outcome.
 const INDENT: &str = "\n    ";
@@ -43,7 +43,7 @@ fn push_answer(
     answer: &Answer,
 ) -> Result<(), OutOfMemory> {
     push_text(out, INDENT)?;
-    push_verdict(alloc, out, &answer.verdict)?;
+    push_verdict(alloc, out, config, &answer.verdict)?;
     for frame in answer.frames.as_slice() {
         push_text(out, INDENT)?;
         push_frame(alloc, out, config, event, frame)?;
@@ -59,7 +59,12 @@ fn push_answer(
     Ok(())
 }
 
-fn push_verdict(alloc: Global, out: &mut String, verdict: &Verdict) -> Result<(), OutOfMemory> {
+fn push_verdict(
+    alloc: Global,
+    out: &mut String,
+    config: &Config,
+    verdict: &Verdict,
+) -> Result<(), OutOfMemory> {
     match verdict {
         Verdict::Done => push_text(out, "done"),
         Verdict::BadFrame => push_text(out, "not answered: too short, or a wrong length field"),
@@ -68,8 +73,47 @@ fn push_verdict(alloc: Global, out: &mut String, verdict: &Verdict) -> Result<()
             push_text(out, "the point holds ")?;
             push_data(alloc, out, bytes.as_slice())
         }
+        Verdict::Delivered(Delivery::Old) => push_old(out, config),
         Verdict::Delivered(delivery) => push_text(out, delivery_words(*delivery)),
+        Verdict::Replied {
+            number,
+            status,
+            additional,
+            data,
+        } => {
+            write!(out, "explicit request {number} is answered: ")?;
+            push_status(out, *status, additional.as_slice())?;
+            push_text(out, ", ")?;
+            push_data(alloc, out, data.as_slice())
+        }
     }
+}
+
+/// A sequence number that is not accepted, with the limit of how far ahead it may be, if the maker states one.
+fn push_old(out: &mut String, config: &Config) -> Result<(), OutOfMemory> {
+    push_text(out, delivery_words(Delivery::Old))?;
+    match config {
+        Config::Adapter(profile) => push_within(out, profile.limits.newer),
+        Config::Scanner(_) => Ok(()),
+    }
+}
+
+fn push_within(out: &mut String, newer: Option<u32>) -> Result<(), OutOfMemory> {
+    match newer {
+        Some(within) => Ok(write!(out, ", or is ahead of it by {within} or more")?),
+        None => Ok(()),
+    }
+}
+
+/// A general status, and the bytes of the additional one. Two bytes are an extended status.
+fn push_status(out: &mut String, general: u8, additional: &[u8]) -> Result<(), OutOfMemory> {
+    if let [low, high] = additional {
+        let extended = Some(u16::from_le_bytes([*low, *high]));
+        return push_fault(out, Fault { general, extended });
+    }
+    push_general(out, general)?;
+    push_text(out, ", additional status ")?;
+    push_bytes(out, additional)
 }
 
 fn delivery_words(delivery: Delivery) -> &'static str {
@@ -170,8 +214,26 @@ fn push_notice(out: &mut String, notice: Notice) -> Result<(), OutOfMemory> {
             let words = reset_words(kind);
             Ok(write!(out, "a peer requests a reset of type {kind}{words}")?)
         }
+        Notice::Unanswered(number, why) => {
+            write!(out, "explicit request {number} is not answered: ")?;
+            push_unanswered(out, why)
+        }
         _ => push_slot_notice(out, notice),
     }
+}
+
+fn push_unanswered(out: &mut String, why: Unanswered) -> Result<(), OutOfMemory> {
+    match why {
+        Unanswered::TimedOut => push_text(out, "no reply came within the open time-out"),
+        Unanswered::Lost => push_text(out, "its stream ended"),
+        Unanswered::Encap(status) => push_encap(out, status),
+        Unanswered::Unreadable => push_text(out, "no readable reply"),
+    }
+}
+
+fn push_encap(out: &mut String, status: u32) -> Result<(), OutOfMemory> {
+    let words = encap_words(status);
+    Ok(write!(out, "encapsulation status {status:#06x} ({words})")?)
 }
 
 /// What a reset of this type is.
@@ -205,10 +267,7 @@ fn push_slot_notice(out: &mut String, notice: Notice) -> Result<(), OutOfMemory>
 
 fn push_reason(out: &mut String, reason: Reason) -> Result<(), OutOfMemory> {
     match reason {
-        Reason::Encap(status) => {
-            let words = encap_words(status);
-            Ok(write!(out, "encapsulation status {status:#06x} ({words})")?)
-        }
+        Reason::Encap(status) => push_encap(out, status),
         Reason::Unreadable => push_text(out, "no readable reply"),
         Reason::Cip(fault) => push_fault(out, fault),
         Reason::Mismatch(mismatch) => Ok(write!(out, "{mismatch}")?),

@@ -52,6 +52,16 @@ pub fn push_event(
             push_text(out, ": ")?;
             push_datagram(alloc, out, bytes.as_slice(), is_target(config))
         }
+        Event::Explicit {
+            target,
+            number,
+            bytes,
+        } => {
+            write!(out, "the application sends explicit request {number} to ")?;
+            push_node(out, *target)?;
+            push_text(out, ": ")?;
+            push_request(alloc, out, config, bytes.as_slice())
+        }
         _ => push_call(alloc, out, event),
     }
 }

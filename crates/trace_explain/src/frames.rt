@@ -3,13 +3,13 @@
 use crate::identities::push_identity;
 use crate::replies::push_reply;
 use crate::requests::push_request;
-use crate::statuses::encap_words;
 use crate::values::push_data;
 use cip_encap::{MessageView, read_items, read_message};
 use cip_router::Command;
 use cip_tables::Config;
 use cip_types::OutOfMemory;
 use identity_reading::read_identity_reply;
+use status_words::encap_words;
 use std::alloc::Global;
 use trace_words::push_text;
 

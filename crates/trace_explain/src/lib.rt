@@ -10,7 +10,6 @@ mod identities;
 mod lines;
 mod replies;
 mod requests;
-mod statuses;
 mod values;
 
 pub use lines::{EventLine, event_lines, explain_event, explain_trace};

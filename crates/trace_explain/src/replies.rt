@@ -1,7 +1,6 @@
 //! Replies of the message router in words.
 
 use crate::requests::service_name;
-use crate::statuses::push_fault;
 use crate::values::{push_data, push_id, push_interval, push_triad};
 use cip_fwdopen::service::{FORWARD_CLOSE, FORWARD_OPEN, LARGE_FORWARD_OPEN, REPLY};
 use cip_fwdopen::{
@@ -9,6 +8,7 @@ use cip_fwdopen::{
     read_open_reply,
 };
 use cip_types::OutOfMemory;
+use status_words::push_fault;
 use std::alloc::Global;
 use trace_words::push_text;
 

@@ -1,12 +1,12 @@
 //! Requests to the message router in words.
 
 use crate::connections::{push_direction, push_multiplier, push_path, push_trigger};
-use crate::statuses::push_fault;
 use crate::values::{push_data, push_id, push_triad};
 use cip_fwdopen::{CloseRequest, OpenRequest, OpenService};
 use cip_router::{RouterRequest, Status, read_router_request};
 use cip_tables::Config;
 use cip_types::OutOfMemory;
+use status_words::push_fault;
 use std::alloc::Global;
 use trace_words::push_text;
 

@@ -50,6 +50,7 @@ event_is (event.Tick ms) fits = line_is (codes "tick") (decimal ms ∷ []) (line
 event_is (event.Mode run) fits = line_is (codes "mode") (mode_word run ∷ []) (line.Event (event.Mode run)) refl refl (rw (mode_clean run) refl) (rw (mode_back run) refl)
 event_is (event.Start slot) fits = line_is (codes "start") (decimal slot ∷ []) (line.Event (event.Start slot)) refl refl (rw (c32 slot fits) refl) (rw (n32 slot fits) refl)
 event_is (event.Stop slot) fits = line_is (codes "stop") (decimal slot ∷ []) (line.Event (event.Stop slot)) refl refl (rw (c32 slot fits) refl) (rw (n32 slot fits) refl)
+event_is (event.Explicit target number bytes) fits = line_is (codes "explicit") (node_word target ∷ decimal number ∷ bytes_word bytes ∷ []) (line.Event (event.Explicit target number bytes)) refl refl (rw (node_clean target, c32 number fits.1, bytes_clean bytes fits.2) refl) (rw (node_back target fits.0, n32 number fits.1, bytes_back bytes fits.2) refl)
 
 -- an event, wherever it is allowed
 pub event_reads : (builder builder' : TraceBuilder) (given : Event) → EventFits given → builder_with builder (line.Event given) ≡ Some builder' → Reads builder (line_text (event_words given)) builder'

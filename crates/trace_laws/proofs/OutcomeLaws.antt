@@ -17,6 +17,8 @@ use Rattle.cip_events.specs.declared.event.Reason.TheVariants as reason
 use Rattle.cip_events.specs.declared.event.Recipient.{Recipient}
 use Rattle.cip_events.specs.declared.event.Recipient.TheVariants as recipient
 use Rattle.cip_events.specs.declared.event.OutgoingDatagram.{OutgoingDatagram}
+use Rattle.cip_events.specs.declared.event.Unanswered.{Unanswered}
+use Rattle.cip_events.specs.declared.event.Unanswered.TheVariants as unanswered
 use Rattle.cip_events.specs.declared.event.StepFault.{StepFault}
 use Rattle.cip_events.specs.declared.event.StepFault.TheVariants as fault
 use Rattle.cip_events.specs.declared.event.Verdict.{Verdict}
@@ -46,6 +48,7 @@ verdict_first verdict.BadFrame = codes "bad-frame"
 verdict_first verdict.Ignored = codes "ignored"
 verdict_first (verdict.Value bytes) = codes "value"
 verdict_first (verdict.Delivered what) = delivery_word what
+verdict_first (verdict.Replied number status additional bytes) = codes "replied"
 
 abbrev verdict_rest : Verdict → List (List ℕ)
 verdict_rest (verdict.Value bytes) = bytes_word bytes ∷ []
@@ -53,6 +56,7 @@ verdict_rest verdict.Done = []
 verdict_rest verdict.BadFrame = []
 verdict_rest verdict.Ignored = []
 verdict_rest (verdict.Delivered what) = []
+verdict_rest (verdict.Replied number status additional bytes) = decimal number ∷ general_word status ∷ bytes_word additional ∷ bytes_word bytes ∷ []
 
 verdict_joined : (given : Verdict) → verdict_words given ≡ join_with_byte 32 (verdict_first given ∷ verdict_rest given)
 verdict_joined verdict.Done = refl
@@ -60,6 +64,7 @@ verdict_joined verdict.BadFrame = refl
 verdict_joined verdict.Ignored = refl
 verdict_joined (verdict.Value bytes) = refl
 verdict_joined (verdict.Delivered what) = refl
+verdict_joined (verdict.Replied number status additional bytes) = refl
 
 verdict_read : (given : Verdict) → VerdictFits given → part_reader (verdict_first given ∷ verdict_rest given) ≡ Some (part.Verdict given, [])
 unfolding verdict_of
@@ -75,6 +80,7 @@ verdict_read (verdict.Delivered delivery.Old) fits = refl
 verdict_read (verdict.Delivered delivery.UnknownId) fits = refl
 verdict_read (verdict.Delivered delivery.WrongSize) fits = refl
 verdict_read (verdict.Delivered delivery.Malformed) fits = refl
+verdict_read (verdict.Replied number status additional bytes) fits = rw (n32 number fits.0, general_back status fits.1, bytes_back additional fits.2, bytes_back bytes fits.3) refl
 
 verdict_clean : (given : Verdict) → VerdictFits given → are_clean (verdict_first given ∷ verdict_rest given) ≡ true
 verdict_clean verdict.Done fits = refl
@@ -89,6 +95,7 @@ verdict_clean (verdict.Delivered delivery.Old) fits = refl
 verdict_clean (verdict.Delivered delivery.UnknownId) fits = refl
 verdict_clean (verdict.Delivered delivery.WrongSize) fits = refl
 verdict_clean (verdict.Delivered delivery.Malformed) fits = refl
+verdict_clean (verdict.Replied number status additional bytes) fits = rw (c32 number fits.0, general_clean status fits.1, bytes_clean additional fits.2, bytes_clean bytes fits.3) refl
 
 fault_read : (why : StepFault) → part_reader (codes "fault" ∷ fault_word why ∷ []) ≡ Some (part.Fault why, [])
 unfolding fault_of
@@ -144,6 +151,12 @@ reason_list (reason.Mismatch mismatch.Id) = codes "mismatch" ∷ codes "Id" ∷ 
 reason_list (reason.Mismatch mismatch.Api) = codes "mismatch" ∷ codes "Api" ∷ []
 reason_list (reason.Mismatch (mismatch.Refused why)) = []
 
+abbrev unanswered_list : Unanswered → List (List ℕ)
+unanswered_list unanswered.TimedOut = codes "timed-out" ∷ []
+unanswered_list unanswered.Lost = codes "lost" ∷ []
+unanswered_list (unanswered.Encap status) = codes "encap" ∷ decimal status ∷ []
+unanswered_list unanswered.Unreadable = codes "unreadable" ∷ []
+
 abbrev triad_list : Triad → List (List ℕ) → List (List ℕ)
 triad_list triad more = decimal triad.serial ∷ decimal triad.vendor ∷ decimal triad.originator ∷ more
 
@@ -158,6 +171,7 @@ notice_list (notice.Slot slot state) = codes "slot" ∷ decimal slot ∷ decimal
 notice_list (notice.Refused slot why) = codes "refused" ∷ decimal slot ∷ reason_list why
 notice_list (notice.NoIds slot) = codes "no-ids" ∷ decimal slot ∷ []
 notice_list (notice.Reset type) = codes "reset" ∷ decimal type ∷ []
+notice_list (notice.Unanswered number why) = codes "unanswered" ∷ decimal number ∷ unanswered_list why
 
 triad_joined : (triad : Triad) (rest : List ℕ) → triad_words triad ++ rest ≡ decimal triad.serial ++ 32 ∷ (decimal triad.vendor ++ 32 ∷ (decimal triad.originator ++ rest))
 triad_joined triad rest =
@@ -181,6 +195,10 @@ notice_joined (notice.Refused slot (reason.Mismatch mismatch.Api)) fits = refl
 notice_joined (notice.Refused slot (reason.Mismatch (mismatch.Refused why))) fits = absurd fits.1
 notice_joined (notice.NoIds slot) fits = refl
 notice_joined (notice.Reset type) fits = refl
+notice_joined (notice.Unanswered number unanswered.TimedOut) fits = refl
+notice_joined (notice.Unanswered number unanswered.Lost) fits = refl
+notice_joined (notice.Unanswered number (unanswered.Encap status)) fits = refl
+notice_joined (notice.Unanswered number unanswered.Unreadable) fits = refl
 
 notice_read : (given : Notice) → NoticeFits given → part_reader (codes "note" ∷ notice_list given) ≡ Some (part.Notice given, [])
 unfolding mismatch_of
@@ -200,6 +218,10 @@ notice_read (notice.Refused slot (reason.Mismatch mismatch.Api)) fits = rw (n32 
 notice_read (notice.Refused slot (reason.Mismatch (mismatch.Refused why))) fits = absurd fits.1
 notice_read (notice.NoIds slot) fits = rw (n32 slot fits) refl
 notice_read (notice.Reset type) fits = rw (n8 type fits) refl
+notice_read (notice.Unanswered number unanswered.TimedOut) fits = rw (n32 number fits.0) refl
+notice_read (notice.Unanswered number unanswered.Lost) fits = rw (n32 number fits.0) refl
+notice_read (notice.Unanswered number (unanswered.Encap status)) fits = rw (n32 number fits.0, n32 status fits.1) refl
+notice_read (notice.Unanswered number unanswered.Unreadable) fits = rw (n32 number fits.0) refl
 
 notice_clean : (given : Notice) → NoticeFits given → are_clean (codes "note" ∷ notice_list given) ≡ true
 notice_clean (notice.Opened triad id) fits = rw (c16 triad.serial fits.0.0, c16 triad.vendor fits.0.1, c32 triad.originator fits.0.2, id_clean id) refl
@@ -218,6 +240,10 @@ notice_clean (notice.Refused slot (reason.Mismatch mismatch.Api)) fits = rw (c32
 notice_clean (notice.Refused slot (reason.Mismatch (mismatch.Refused why))) fits = absurd fits.1
 notice_clean (notice.NoIds slot) fits = rw (c32 slot fits) refl
 notice_clean (notice.Reset type) fits = rw (c8 type fits) refl
+notice_clean (notice.Unanswered number unanswered.TimedOut) fits = rw (c32 number fits.0) refl
+notice_clean (notice.Unanswered number unanswered.Lost) fits = rw (c32 number fits.0) refl
+notice_clean (notice.Unanswered number (unanswered.Encap status)) fits = rw (c32 number fits.0, c32 status fits.1) refl
+notice_clean (notice.Unanswered number unanswered.Unreadable) fits = rw (c32 number fits.0) refl
 
 -- THE LINES AS THEY ARE PRINTED
 
@@ -252,6 +278,7 @@ noted (notice.Slot slot state) fits = ap (λ t. codes "note " ++ t) (notice_join
 noted (notice.Refused slot why) fits = ap (λ t. codes "note " ++ t) (notice_joined (notice.Refused slot why) fits)
 noted (notice.NoIds slot) fits = ap (λ t. codes "note " ++ t) (notice_joined (notice.NoIds slot) fits)
 noted (notice.Reset type) fits = ap (λ t. codes "note " ++ t) (notice_joined (notice.Reset type) fits)
+noted (notice.Unanswered number why) fits = ap (λ t. codes "note " ++ t) (notice_joined (notice.Unanswered number why) fits)
 
 spelled : (n : ℕ) (body : List ℕ) (words : List (List ℕ)) → body ≡ join_with_byte 32 (codes "note" ∷ words) → decimal n ++ (32 ∷ (body ++ 10 ∷ [])) ≡ line_text (decimal n ∷ codes "note" ∷ words)
 spelled n body words is = numbered_line n body (codes "note") words is

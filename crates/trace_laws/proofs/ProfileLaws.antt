@@ -1,30 +1,37 @@
 -- A profile that is written is read as itself.
-use Rattle.std.proofs.Common.{◌≡◌, ℕ, ◌<◌, ◌^◌, true, List, [], ◌∷◌, ◌++◌, Option, Some, None, refl, sym, subst, arith, append_assoc}
-use Rattle.std.specs.Prelude.{decimal, codes, drop, flat_map, IfSome}
+use Rattle.std.proofs.Common.{◌≡◌, ℕ, ◌<◌, ◌^◌, Bool, true, false, List, [], ◌∷◌, ◌++◌, Option, Some, None, refl, sym, subst, arith, append_assoc}
+use Rattle.std.specs.Prelude.{decimal, codes, drop, flat_map, option_map, IfSome}
 use Rattle.std.specs.List.{All}
 use Rattle.std.proofs.lemmas.List.{append-nil}
 use Rattle.adapter_table.specs.declared.profile.Action.{Action}
 use Rattle.adapter_table.specs.declared.profile.Action.TheVariants.{Zero, Hold}
+use Rattle.adapter_table.specs.declared.maker_limits.MakerLimits.{MakerLimits}
+use Rattle.adapter_table.specs.declared.maker_limits.Places.{Places}
 use Rattle.adapter_table.specs.declared.profile.Description.{Description}
 use Rattle.adapter_table.specs.declared.profile.InputPoint.{InputPoint}
 use Rattle.adapter_table.specs.declared.profile.OutputPoint.{OutputPoint}
 use Rattle.adapter_table.specs.declared.profile.Profile.{Profile}
+use Rattle.adapter_table.specs.Profiles.{no_limits}
 use Rattle.cip_tables.specs.declared.table.Config.TheVariants as config
 use Rattle.trace_words.specs.Words.{number_of, action_word, line_text}
 use Rattle.trace_lines.specs.declared.forms.AdapterLine.{AdapterLine}
 use Rattle.trace_lines.specs.declared.forms.HeartbeatLine.{HeartbeatLine}
+use Rattle.trace_lines.specs.declared.limit_lines.LimitLine.{LimitLine}
+use Rattle.trace_lines.specs.declared.limit_lines.LimitLine.TheVariants as limit
+use Rattle.trace_lines.specs.Kinds.{closers_of}
+use Rattle.trace_lines.specs.Limits.{closers_line, limit_words, limit_text, limits_text}
 use Rattle.trace_lines.specs.Profiles.{profile_with}
 use Rattle.trace_lines.specs.WrittenProfiles.{adapter_words, output_words, point_words, description_words, heartbeat_words, config_text, description_text, profile_text}
 use Rattle.trace_text.specs.declared.builder.TraceBuilder.{TraceBuilder}
-use Rattle.trace_text.specs.declared.builder.TraceBuilder.TheVariants.{Empty, Points, Configured, Described, Events}
+use Rattle.trace_text.specs.declared.builder.TraceBuilder.TheVariants.{Empty, Points, Configured, Stated, Events}
 use Rattle.trace_text.specs.declared.forms.TraceLine.TheVariants as line
 use Rattle.trace_text.specs.Forms.{line_reader}
-use Rattle.trace_text.specs.Reading.{builder_with}
-use Rattle.trace_laws.specs.TraceBack.{OutputFits, InputFits, DescriptionFits, ProfileFits}
+use Rattle.trace_text.specs.Reading.{with_stated, with_profile, builder_with}
+use Rattle.trace_laws.specs.TraceBack.{OutputFits, InputFits, DescriptionFits, PlacesFit, LimitsFit, ProfileFits}
 use Rattle.trace_laws.proofs.WordLaws.{number_back, node_back, bytes_back, action_back}
 use Rattle.trace_laws.proofs.CleanWords.{decimal_clean, node_clean, bytes_clean}
 use Rattle.trace_laws.proofs.LineLaws.{is_clean, are_clean}
-use Rattle.trace_laws.proofs.TextLaws.{first_of, rest_of, Reads, reads_none, reads_both, line_reads}
+use Rattle.trace_laws.proofs.TextLaws.{first_of, rest_of, Reads, reads_none, reads_both, reads_as, line_reads}
 
 pub n8 : (n : ℕ) → n < 2 ^ 8 → number_of 8 (decimal n) ≡ Some n
 n8 n fits = number_back 8 n fits (omega (arith, fits))
@@ -120,28 +127,125 @@ settings_read profile (Some point) fit =
     let clean : are_clean (decimal point.instance ∷ decimal point.len ∷ []) ≡ true = rw (c32 point.instance fit.0, decimal_clean point.len fit.1) refl in
     line_reads _ _ (codes "config") (decimal point.instance ∷ decimal point.len ∷ []) (line.Config point) refl refl clean (config_read point fit) refl
 
--- the profile with this configuration and this description
-abbrev with_ends : Profile → Option InputPoint → Option Description → TraceBuilder
-with_ends profile settings described = Events (config.Adapter (profile_with (adapter_line profile) profile.outputs profile.inputs settings described (heartbeat_line profile))) [] None
+-- the profile with this configuration, this description and these limits
+abbrev with_ends : Profile → Option InputPoint → Option Description → MakerLimits → TraceBuilder
+with_ends profile settings described limits = Events (config.Adapter (profile_with (adapter_line profile) profile.outputs profile.inputs settings described limits (heartbeat_line profile))) [] None
 
-heartbeats_read : (profile : Profile) → ProfileFits profile → (builder : TraceBuilder) (settings : Option InputPoint) (described : Option Description) → builder_with builder (line.Heartbeat (heartbeat_line profile)) ≡ Some (with_ends profile settings described) → Reads builder (line_text (heartbeat_words profile)) (with_ends profile settings described)
-heartbeats_read profile fits builder settings described built =
-    line_reads builder (with_ends profile settings described) (codes "heartbeat") (decimal profile.input_only ∷ decimal profile.listen_only ∷ []) (line.Heartbeat (heartbeat_line profile)) refl refl (heartbeat_clean profile fits) (heartbeat_read profile fits) built
+heartbeats_read : (profile : Profile) → ProfileFits profile → (builder : TraceBuilder) (settings : Option InputPoint) (described : Option Description) (limits : MakerLimits) → builder_with builder (line.Heartbeat (heartbeat_line profile)) ≡ Some (with_ends profile settings described limits) → Reads builder (line_text (heartbeat_words profile)) (with_ends profile settings described limits)
+heartbeats_read profile fits builder settings described limits built =
+    line_reads builder (with_ends profile settings described limits) (codes "heartbeat") (decimal profile.input_only ∷ decimal profile.listen_only ∷ []) (line.Heartbeat (heartbeat_line profile)) refl refl (heartbeat_clean profile fits) (heartbeat_read profile fits) built
+
+-- LIMITS
+
+abbrev LimitFits : LimitLine → Type 0
+LimitFits (limit.LeastRpi us) = us < 2 ^ 32
+LimitFits (limit.Places places) = PlacesFit places
+LimitFits (limit.NodeConnections most) = most < 2 ^ 8
+LimitFits limit.OwnClosers = Unit {0}
+LimitFits (limit.Newer within) = within < 2 ^ 32
+
+limit_reads : (builder builder' : TraceBuilder) (given : LimitLine) → LimitFits given → builder_with builder (line.Limit given) ≡ Some builder' → Reads builder (line_text (limit_words given)) builder'
+unfolding closers_of
+limit_reads builder builder' (limit.LeastRpi us) fits built = line_reads builder builder' (codes "least-rpi") (decimal us ∷ []) (line.Limit (limit.LeastRpi us)) refl refl (rw (c32 us fits) refl) (rw (n32 us fits) refl) built
+limit_reads builder builder' (limit.Places places) fits built = line_reads builder builder' (codes "places") (decimal places.owners ∷ decimal places.readers ∷ decimal places.listeners ∷ []) (line.Limit (limit.Places places)) refl refl (rw (c8 places.owners fits.0, c8 places.readers fits.1, c8 places.listeners fits.2) refl) (rw (n8 places.owners fits.0, n8 places.readers fits.1, n8 places.listeners fits.2) refl) built
+limit_reads builder builder' (limit.NodeConnections most) fits built = line_reads builder builder' (codes "node-connections") (decimal most ∷ []) (line.Limit (limit.NodeConnections most)) refl refl (rw (c8 most fits) refl) (rw (n8 most fits) refl) built
+limit_reads builder builder' limit.OwnClosers fits built = line_reads builder builder' (codes "closers") (codes "own" ∷ []) (line.Limit limit.OwnClosers) refl refl refl refl built
+limit_reads builder builder' (limit.Newer within) fits built = line_reads builder builder' (codes "newer") (decimal within ∷ []) (line.Limit (limit.Newer within)) refl refl (rw (c32 within fits) refl) (rw (n32 within fits) refl) built
+
+-- what was read goes on as one with these limits does
+abbrev GoesOn : Profile → Option InputPoint → Option Description → MakerLimits → TraceBuilder → Type 0
+GoesOn profile settings described limits builder =
+    ((given : LimitLine) → builder_with builder (line.Limit given) ≡ with_stated (adapter_line profile) profile.outputs profile.inputs settings described limits given)
+    × ((points : HeartbeatLine) → builder_with builder (line.Heartbeat points) ≡ with_profile (adapter_line profile) profile.outputs profile.inputs settings described limits points)
+
+abbrev limits_of : Option ℕ → Option Places → Option ℕ → Bool → Option ℕ → MakerLimits
+limits_of rpi places node closers newer = record { least_rpi = rpi; places = places; node_connections = node; own_closers = closers; newer = newer }
+
+module _ (profile : Profile) (fits : ProfileFits profile) (settings : Option InputPoint) (described : Option Description) where
+  abbrev stated : MakerLimits → TraceBuilder
+  stated limits = Stated (adapter_line profile) profile.outputs profile.inputs settings described limits
+
+  abbrev last_line : List ℕ
+  last_line = line_text (heartbeat_words profile)
+
+  -- texts that lead to these limits and the points without data
+  abbrev Ends : TraceBuilder → List ℕ → MakerLimits → Type 0
+  Ends builder text limits = Reads builder (text ++ last_line) (with_ends profile settings described limits)
+
+  -- the line of one limit, and what is behind it
+  one_limit : (builder : TraceBuilder) (given : LimitLine) (next limits : MakerLimits) (text : List ℕ) → LimitFits given → builder_with builder (line.Limit given) ≡ Some (stated next) → Ends (stated next) text limits → Ends builder (line_text (limit_words given) ++ text) limits
+  one_limit builder given next limits text fit built more =
+      reads_as builder (with_ends profile settings described limits) ((line_text (limit_words given) ++ text) ++ last_line) (line_text (limit_words given) ++ (text ++ last_line)) (append_assoc (line_text (limit_words given)) text last_line)
+      (reads_both builder (stated next) (with_ends profile settings described limits) (line_text (limit_words given)) (text ++ last_line) (limit_reads builder (stated next) given fit built) more)
+
+  abbrev goes_on_stated : (limits : MakerLimits) → GoesOn profile settings described limits (stated limits)
+  goes_on_stated limits = (λ given. refl, λ points. refl)
+
+  abbrev newer_text : Option ℕ → List ℕ
+  newer_text e = limit_text (option_map limit.Newer e)
+
+  newer_ends : (builder : TraceBuilder) (a : Option ℕ) (b : Option Places) (c : Option ℕ) (d : Bool) (e : Option ℕ) → GoesOn profile settings described (limits_of a b c d None) builder → IfSome e (λ within. within < 2 ^ 32) → Ends builder (newer_text e) (limits_of a b c d e)
+  newer_ends builder a b c d None on fit = heartbeats_read profile fits builder settings described (limits_of a b c d None) (on.1 (heartbeat_line profile))
+  newer_ends builder a b c d (Some within) on fit =
+      reads_both builder (stated (limits_of a b c d (Some within))) (with_ends profile settings described (limits_of a b c d (Some within))) (line_text (limit_words (limit.Newer within))) last_line
+      (limit_reads builder (stated (limits_of a b c d (Some within))) (limit.Newer within) fit (on.0 (limit.Newer within)))
+      (heartbeats_read profile fits (stated (limits_of a b c d (Some within))) settings described (limits_of a b c d (Some within)) refl)
+
+  abbrev closers_text : Bool → Option ℕ → List ℕ
+  closers_text d e = limit_text (closers_line d) ++ newer_text e
+
+  closers_ends : (builder : TraceBuilder) (a : Option ℕ) (b : Option Places) (c : Option ℕ) (d : Bool) (e : Option ℕ) → GoesOn profile settings described (limits_of a b c false None) builder → IfSome e (λ within. within < 2 ^ 32) → Ends builder (closers_text d e) (limits_of a b c d e)
+  closers_ends builder a b c false e on newer_fits = newer_ends builder a b c false e on newer_fits
+  closers_ends builder a b c true e on newer_fits =
+      one_limit builder limit.OwnClosers (limits_of a b c true None) (limits_of a b c true e) (newer_text e) tt (on.0 limit.OwnClosers)
+      (newer_ends (stated (limits_of a b c true None)) a b c true e (goes_on_stated (limits_of a b c true None)) newer_fits)
+
+  abbrev node_text : Option ℕ → Bool → Option ℕ → List ℕ
+  node_text c d e = limit_text (option_map limit.NodeConnections c) ++ closers_text d e
+
+  node_ends : (builder : TraceBuilder) (a : Option ℕ) (b : Option Places) (c : Option ℕ) (d : Bool) (e : Option ℕ) → GoesOn profile settings described (limits_of a b None false None) builder → IfSome c (λ most. most < 2 ^ 8) → IfSome e (λ within. within < 2 ^ 32) → Ends builder (node_text c d e) (limits_of a b c d e)
+  node_ends builder a b None d e on node_fits newer_fits = closers_ends builder a b None d e on newer_fits
+  node_ends builder a b (Some most) d e on node_fits newer_fits =
+      one_limit builder (limit.NodeConnections most) (limits_of a b (Some most) false None) (limits_of a b (Some most) d e) (closers_text d e) node_fits (on.0 (limit.NodeConnections most))
+      (closers_ends (stated (limits_of a b (Some most) false None)) a b (Some most) d e (goes_on_stated (limits_of a b (Some most) false None)) newer_fits)
+
+  abbrev places_text : Option Places → Option ℕ → Bool → Option ℕ → List ℕ
+  places_text b c d e = limit_text (option_map limit.Places b) ++ node_text c d e
+
+  places_ends : (builder : TraceBuilder) (a : Option ℕ) (b : Option Places) (c : Option ℕ) (d : Bool) (e : Option ℕ) → GoesOn profile settings described (limits_of a None None false None) builder → IfSome b PlacesFit → IfSome c (λ most. most < 2 ^ 8) → IfSome e (λ within. within < 2 ^ 32) → Ends builder (places_text b c d e) (limits_of a b c d e)
+  places_ends builder a None c d e on places_fit node_fits newer_fits = node_ends builder a None c d e on node_fits newer_fits
+  places_ends builder a (Some places) c d e on places_fit node_fits newer_fits =
+      one_limit builder (limit.Places places) (limits_of a (Some places) None false None) (limits_of a (Some places) c d e) (node_text c d e) places_fit (on.0 (limit.Places places))
+      (node_ends (stated (limits_of a (Some places) None false None)) a (Some places) c d e (goes_on_stated (limits_of a (Some places) None false None)) node_fits newer_fits)
+
+  rpi_ends : (builder : TraceBuilder) (a : Option ℕ) (b : Option Places) (c : Option ℕ) (d : Bool) (e : Option ℕ) → GoesOn profile settings described no_limits builder → LimitsFit (limits_of a b c d e) → Ends builder (limits_text (limits_of a b c d e)) (limits_of a b c d e)
+  rpi_ends builder None b c d e on fit = places_ends builder None b c d e on fit.places_fit fit.node_connections_fit fit.newer_fits
+  rpi_ends builder (Some us) b c d e on fit =
+      one_limit builder (limit.LeastRpi us) (limits_of (Some us) None None false None) (limits_of (Some us) b c d e) (places_text b c d e) fit.least_rpi_fits (on.0 (limit.LeastRpi us))
+      (places_ends (stated (limits_of (Some us) None None false None)) (Some us) b c d e (goes_on_stated (limits_of (Some us) None None false None)) fit.places_fit fit.node_connections_fit fit.newer_fits)
+
+  -- the limits that are stated, and the heartbeats
+  limits_end : (builder : TraceBuilder) (limits : MakerLimits) → GoesOn profile settings described no_limits builder → LimitsFit limits → Ends builder (limits_text limits) limits
+  limits_end builder limits on fit = rpi_ends builder limits.least_rpi limits.places limits.node_connections limits.own_closers limits.newer on fit
 
 described_lines : (builder builder' : TraceBuilder) (described : Description) → DescriptionFits described → builder_with builder (line.Description described) ≡ Some builder' → Reads builder (line_text (description_words described)) builder'
 described_lines builder builder' described fit built =
     line_reads builder builder' (codes "describe") (behind_describe described) (line.Description described) refl refl (description_clean described fit) (description_read described fit) built
 
--- the description, where there is one, and the heartbeats
-ends_read : (profile : Profile) (settings : Option InputPoint) (described : Option Description) → ProfileFits profile → IfSome described DescriptionFits → Reads (beside profile settings) (description_text described ++ line_text (heartbeat_words profile)) (with_ends profile settings described)
-ends_read profile None None fits fit = heartbeats_read profile fits (beside profile None) None None refl
-ends_read profile (Some point) None fits fit = heartbeats_read profile fits (beside profile (Some point)) (Some point) None refl
-ends_read profile None (Some described) fits fit =
-    reads_both _ _ _ _ _ (described_lines (beside profile None) (Described (adapter_line profile) profile.outputs profile.inputs None described) described fit refl)
-    (heartbeats_read profile fits (Described (adapter_line profile) profile.outputs profile.inputs None described) None (Some described) refl)
-ends_read profile (Some point) (Some described) fits fit =
-    reads_both _ _ _ _ _ (described_lines (beside profile (Some point)) (Described (adapter_line profile) profile.outputs profile.inputs (Some point) described) described fit refl)
-    (heartbeats_read profile fits (Described (adapter_line profile) profile.outputs profile.inputs (Some point) described) (Some point) (Some described) refl)
+-- what was read up to the description
+abbrev up_to : Profile → Option InputPoint → Description → TraceBuilder
+up_to profile settings described = Stated (adapter_line profile) profile.outputs profile.inputs settings (Some described) no_limits
+
+-- the description, where there is one, the limits and the heartbeats
+ends_read : (profile : Profile) (settings : Option InputPoint) (described : Option Description) (limits : MakerLimits) → ProfileFits profile → IfSome described DescriptionFits → LimitsFit limits → Reads (beside profile settings) (description_text described ++ (limits_text limits ++ line_text (heartbeat_words profile))) (with_ends profile settings described limits)
+ends_read profile None None limits fits fit limits_fit = limits_end profile fits None None (beside profile None) limits (λ given. refl, λ points. refl) limits_fit
+ends_read profile (Some point) None limits fits fit limits_fit = limits_end profile fits (Some point) None (beside profile (Some point)) limits (λ given. refl, λ points. refl) limits_fit
+ends_read profile None (Some described) limits fits fit limits_fit =
+    reads_both _ _ _ _ _ (described_lines (beside profile None) (up_to profile None described) described fit refl)
+    (limits_end profile fits None (Some described) (up_to profile None described) limits (λ given. refl, λ points. refl) limits_fit)
+ends_read profile (Some point) (Some described) limits fits fit limits_fit =
+    reads_both _ _ _ _ _ (described_lines (beside profile (Some point)) (up_to profile (Some point) described) described fit refl)
+    (limits_end profile fits (Some point) (Some described) (up_to profile (Some point) described) limits (λ given. refl, λ points. refl) limits_fit)
 
 -- the words of an adapter behind its keyword
 abbrev behind_adapter : Profile → List (List ℕ)
@@ -159,4 +263,4 @@ profile_read profile fits =
     (reads_both _ _ _ _ _ (outputs_read (adapter_line profile) [] profile.outputs fits.outputs_fit)
     (reads_both _ _ _ _ _ (inputs_read (adapter_line profile) profile.outputs [] profile.inputs fits.inputs_fit)
     (reads_both _ _ _ _ _ (settings_read profile profile.config fits.config_fits)
-    (ends_read profile profile.config profile.description fits fits.description_fits))))
+    (ends_read profile profile.config profile.description profile.limits fits fits.description_fits fits.limits_fit))))

@@ -10,6 +10,8 @@ use Rattle.cip_types.specs.declared.names.Identity.{Identity}
 use Rattle.cip_types.specs.declared.names.Mismatch.{Mismatch}
 use Rattle.cip_types.specs.declared.names.Mismatch.TheVariants as mismatch
 use Rattle.cip_types.specs.declared.names.Triad.{Triad}
+use Rattle.adapter_table.specs.declared.maker_limits.MakerLimits.{MakerLimits}
+use Rattle.adapter_table.specs.declared.maker_limits.Places.{Places}
 use Rattle.adapter_table.specs.declared.profile.Description.{Description}
 use Rattle.adapter_table.specs.declared.profile.InputPoint.{InputPoint}
 use Rattle.adapter_table.specs.declared.profile.OutputPoint.{OutputPoint}
@@ -26,6 +28,8 @@ use Rattle.cip_events.specs.declared.event.Reason.TheVariants as reason
 use Rattle.cip_events.specs.declared.event.Recipient.{Recipient}
 use Rattle.cip_events.specs.declared.event.Recipient.TheVariants as recipient
 use Rattle.cip_events.specs.declared.event.OutgoingDatagram.{OutgoingDatagram}
+use Rattle.cip_events.specs.declared.event.Unanswered.{Unanswered}
+use Rattle.cip_events.specs.declared.event.Unanswered.TheVariants as unanswered
 use Rattle.cip_events.specs.declared.event.Verdict.{Verdict}
 use Rattle.cip_events.specs.declared.event.Verdict.TheVariants as verdict
 use Rattle.cip_events.specs.Outcomes.{Outcome}
@@ -56,6 +60,15 @@ pub record DescriptionFits (described : Description) : Type 0 where
   pub mac_fits : IsBytes described.mac
   pub inactivity_fits : described.inactivity < 2 ^ 16
 
+abbrev pub PlacesFit : Places → Type 0
+PlacesFit places = (places.owners < 2 ^ 8) × (places.readers < 2 ^ 8) × (places.listeners < 2 ^ 8)
+
+pub record LimitsFit (limits : MakerLimits) : Type 0 where
+  pub least_rpi_fits : IfSome limits.least_rpi (λ us. us < 2 ^ 32)
+  pub places_fit : IfSome limits.places PlacesFit
+  pub node_connections_fit : IfSome limits.node_connections (λ most. most < 2 ^ 8)
+  pub newer_fits : IfSome limits.newer (λ within. within < 2 ^ 32)
+
 pub record ProfileFits (profile : Profile) : Type 0 where
   pub incarnation_fits : profile.incarnation < 2 ^ 8
   pub node_fits : profile.node.0 < 2 ^ 32
@@ -67,6 +80,7 @@ pub record ProfileFits (profile : Profile) : Type 0 where
   pub input_only_fits : profile.input_only < 2 ^ 32
   pub listen_only_fits : profile.listen_only < 2 ^ 32
   pub description_fits : IfSome profile.description DescriptionFits
+  pub limits_fit : LimitsFit profile.limits
 
 -- PROFILES OF SCANNERS
 
@@ -112,6 +126,7 @@ EventFits (event.Tick ms) = ms < 2 ^ 32
 EventFits (event.Mode run) = Unit {0}
 EventFits (event.Start slot) = slot < 2 ^ 32
 EventFits (event.Stop slot) = slot < 2 ^ 32
+EventFits (event.Explicit target number bytes) = (target.0 < 2 ^ 32) × (number < 2 ^ 32) × IsBytes bytes
 
 -- OUTCOMES
 
@@ -132,6 +147,10 @@ ReasonFits reason.Unreadable = Unit {0}
 ReasonFits (reason.Cip fault) = FaultFits fault
 ReasonFits (reason.Mismatch why) = MismatchFits why
 
+abbrev pub UnansweredFits : Unanswered → Type 0
+UnansweredFits (unanswered.Encap status) = status < 2 ^ 32
+UnansweredFits why = Unit {0}
+
 abbrev pub NoticeFits : Notice → Type 0
 NoticeFits (notice.Opened triad id) = TriadFits triad × (id.0 < 2 ^ 32)
 NoticeFits (notice.Closed triad) = TriadFits triad
@@ -143,6 +162,7 @@ NoticeFits (notice.Slot slot state) = (slot < 2 ^ 32) × (state < 2 ^ 8)
 NoticeFits (notice.Refused slot why) = (slot < 2 ^ 32) × ReasonFits why
 NoticeFits (notice.NoIds slot) = slot < 2 ^ 32
 NoticeFits (notice.Reset type) = type < 2 ^ 8
+NoticeFits (notice.Unanswered number why) = (number < 2 ^ 32) × UnansweredFits why
 
 abbrev pub RecipientFits : Recipient → Type 0
 RecipientFits (recipient.Stream stream) = stream < 2 ^ 16
@@ -156,6 +176,7 @@ OutgoingDatagramFits outgoing = (outgoing.address.0 < 2 ^ 32) × All (λ node. n
 
 abbrev pub VerdictFits : Verdict → Type 0
 VerdictFits (verdict.Value bytes) = IsBytes bytes
+VerdictFits (verdict.Replied number status additional bytes) = (number < 2 ^ 32) × (status < 2 ^ 8) × IsBytes additional × IsBytes bytes
 VerdictFits given = Unit {0}
 
 pub record AnswerFits (answer : Answer) : Type 0 where

@@ -1,4 +1,5 @@
-//! Statuses in the words of the standard.
+//! Statuses in the words of the standard: general and extended ones of the Connection Manager, and those of encapsulation.
+#![tactic(auto)]
 
 use cip_types::{Fault, OutOfMemory};
 use trace_words::push_text;
@@ -8,8 +9,7 @@ use trace_words::push_text;
 /// Volume 1, appendix B, general status codes; chapter 3, Connection Manager extended status codes.
 pub fn push_fault(out: &mut String, fault: Fault) -> Result<(), OutOfMemory> {
     let Fault { general, extended } = fault;
-    let words = general_words(general);
-    write!(out, "general status {general:#04x} ({words})")?;
+    push_general(out, general)?;
     match extended {
         Some(extended) if general == 1 => {
             let words = extended_words(extended);
@@ -18,6 +18,12 @@ pub fn push_fault(out: &mut String, fault: Fault) -> Result<(), OutOfMemory> {
         Some(extended) => Ok(write!(out, ", extended status {extended:#06x}")?),
         None => push_text(out, ", no extended status"),
     }
+}
+
+/// A general status in words.
+pub fn push_general(out: &mut String, general: u8) -> Result<(), OutOfMemory> {
+    let words = general_words(general);
+    Ok(write!(out, "general status {general:#04x} ({words})")?)
 }
 
 fn general_words(general: u8) -> &'static str {
