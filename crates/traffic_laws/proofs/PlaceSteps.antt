@@ -47,6 +47,8 @@ use Rattle.traffic_laws.proofs.PlaceEffects.{KeepsPlaces, unchanged, keeps_fed, 
 use Rattle.traffic_laws.proofs.PlaceCounts.{at_event}
 use Rattle.traffic_laws.specs.Places.{StepsKeepPlaces}
 use Rattle.station_watch.specs.Traffic.{TrafficSeen, after_event, sent_totals}
+use Rattle.adapter_table.specs.StatedLimits.{is_wrong_closer, limited_admission}
+use Rattle.adapter_table.specs.Lemmas.LimitLemmas.{limited_is}
 use Rattle.adapter_table.specs.Lemmas.PassiveLemmas.{passive_holds}
 use Rattle.base_lemmas.specs.Booleans.{either}
 
@@ -70,14 +72,14 @@ openings_keep effects given t holds = record {
 abbrev ServedKeeps : Event → AdapterTable → Served → Type 0
 ServedKeeps given t s = KeepsPlaces given t s.notices s.table
 
-keeps_judged : (given : Event) (t : AdapterTable) → OpeningsKeep given t → (peer : Node) (large : Bool) (request : OpenFields) (said : Result Admitted Refusal) → admission t request ≡ said → ServedKeeps given t (judged_open t peer large request said)
+keeps_judged : (given : Event) (t : AdapterTable) → OpeningsKeep given t → (peer : Node) (large : Bool) (request : OpenFields) (said : Result Admitted Refusal) → limited_admission t peer request ≡ said → ServedKeeps given t (judged_open t peer large request said)
 unfolding admitted_open
 keeps_judged given t opens peer large request (Err why) is = unchanged given t
-keeps_judged given t opens peer large request (Ok admitted) is = opens.opened peer request admitted is
+keeps_judged given t opens peer large request (Ok admitted) is = opens.opened peer request admitted (limited_is t peer request admitted is).admitted
 
-keeps_close : (given : Event) (t : AdapterTable) → TriadsDiffer t.rows → (request : CloseFields) (found : Option Row) → ServedKeeps given t (close_of t request found)
-keeps_close given t differ request None = unchanged given t
-keeps_close given t differ request (Some row) = keeps_closed given t row differ
+keeps_close : (given : Event) (t : AdapterTable) → TriadsDiffer t.rows → (peer : Node) (request : CloseFields) (found : Option Row) → ServedKeeps given t (close_of t peer request found)
+keeps_close given t differ peer request None = unchanged given t
+keeps_close given t differ peer request (Some row) = either (ServedKeeps given t) (is_wrong_closer t.profile.limits peer row) _ _ (unchanged given t) (keeps_closed given t row differ)
 
 keeps_object : (given : Event) (t : AdapterTable) (service : ℕ) (answer : ObjectAnswer) → ServedKeeps given t (object_served t service answer)
 keeps_object given t service (said by value) = unchanged given t
@@ -93,9 +95,9 @@ keeps_served : (given : Event) (t : AdapterTable) → OpeningsKeep given t → (
 unfolding served_open served_close served_object
 keeps_served given t opens peer nothing = tt
 keeps_served given t opens peer (refused service why) = unchanged given t
-keeps_served given t opens peer (closing request) = keeps_close given t opens.differ request (find (has_triad request.triad) t.rows)
+keeps_served given t opens peer (closing request) = keeps_close given t opens.differ peer request (find (has_triad request.triad) t.rows)
 keeps_served given t opens peer (object service class instance attribute body) = keeps_object given t service (object_answer t service class instance attribute body)
-keeps_served given t opens peer (opening large request) = keeps_judged given t opens peer large request (admission t request) refl
+keeps_served given t opens peer (opening large request) = keeps_judged given t opens peer large request (limited_admission t peer request) refl
 
 -- an answer and the next table keep the places
 abbrev NextKeeps : Event → AdapterTable → Next → Type 0
