@@ -22,6 +22,7 @@ use Rattle.adapter_table.specs.declared.profile.Profile.{Profile}
 use Rattle.adapter_table.specs.Connections.{Row}
 use Rattle.adapter_table.specs.Requests.{Next as AdapterNext}
 use Rattle.adapter_table.specs.Datagrams as adapter
+use Rattle.adapter_table.specs.StatedLimits.{accepts_number}
 use Rattle.scanner_table.specs.declared.table.ScannerTable.{ScannerTable}
 use Rattle.scanner_table.specs.declared.slot.SlotConnection as slotted
 use Rattle.scanner_table.specs.declared.slot.SlotState.{SlotState}
@@ -63,11 +64,11 @@ owned_kept row d = either is_kept (is_duplicate row.last d.count) _ _ refl (mode
 accepted_kept : (row : Row) (d : DatagramFields) → is_lost (adapter.accepted_delivery row d) ≡ false
 accepted_kept row d = either is_kept (is_owner row.kind) _ _ (owned_kept row d) refl
 
-sized_kept : (row : Row) (d : DatagramFields) → is_lost (adapter.sized_delivery row d) ≡ false
-sized_kept row d = either is_kept (accepts_sequence row.last d.sequence) _ _ (accepted_kept row d) refl
+sized_kept : (within : Option ℕ) (row : Row) (d : DatagramFields) → is_lost (adapter.sized_delivery within row d) ≡ false
+sized_kept within row d = either is_kept (accepts_number within row.last d.sequence) _ _ (accepted_kept row d) refl
 
 row_kept : (profile : Profile) (row : Row) (d : DatagramFields) → is_lost (adapter.row_delivery profile row d) ≡ false
-row_kept profile row d = either is_kept (length d.payload == adapter.expected_len profile row) _ _ (sized_kept row d) refl
+row_kept profile row d = either is_kept (length d.payload == adapter.expected_len profile row) _ _ (sized_kept profile.limits.newer row d) refl
 
 judged_kept : (t : AdapterTable) (peer : Node) (d : DatagramFields) (row : Row) (delivery : Delivery) → is_lost delivery ≡ false → is_for_none (Ok (adapter.judged_datagram t peer d row delivery).0) ≡ false
 judged_kept t peer d row delivery kept =

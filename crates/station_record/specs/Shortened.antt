@@ -32,6 +32,7 @@ is_lost_by verdict.BadFrame = false
 is_lost_by verdict.Ignored = false
 is_lost_by (verdict.Value bytes) = false
 is_lost_by (verdict.Delivered delivery) = is_lost delivery
+is_lost_by (verdict.Replied number status additional content) = false
 
 -- the outcome is that of such a datagram
 abbrev pub is_for_none : Outcome → Bool
