@@ -44,7 +44,9 @@ fn verdict_len(verdict: &Verdict) -> usize
 {
     match verdict {
         Verdict::Replied {
-            additional, data, ..
+            additional,
+            data,
+            ..
         } => reply_len(additional.as_slice(), data.as_slice()),
         Verdict::Value(bytes) => item_len(bytes.as_slice()),
         Verdict::Done | Verdict::BadFrame | Verdict::Ignored | Verdict::Delivered(_) => HEAD_LEN,

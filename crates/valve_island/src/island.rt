@@ -4,8 +4,8 @@ ghost use Rattle.std.specs.Prelude.{◌≤◌, length};
 
 use eip::{
     Action, Config, ConnId, ConnectionRequest, Device, Event, FastAdapter, Identity, InputPoint,
-    Items, MakerLimits, NewFault, Node, Notice, OutOfMemory, OutputPoint, Profile, SentData, StepFault, Triad,
-    datagram_bytes, open_request,
+    Items, MakerLimits, NewFault, Node, Notice, OutOfMemory, OutputPoint, Profile, SentData,
+    StepFault, Triad, datagram_bytes, open_request,
 };
 use std::alloc::Global;
 
