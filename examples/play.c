@@ -106,6 +106,19 @@ static void print_consumers(size_t *at)
         putchar('-');
 }
 
+/* A reply to an explicit request. Its additional status is the item at *at. */
+static void print_reply(const eip_item *item, size_t *at)
+{
+    eip_item additional;
+    if (!eip_next(answer, size, at, &additional) || additional.kind != EIP_ITEM_ADDITIONAL_STATUS)
+        stop("a reply has no additional status");
+    printf("replied %u %02x ", item->a, item->b);
+    print_bytes(additional.bytes, additional.size);
+    putchar(' ');
+    print_bytes(item->bytes, item->size);
+    putchar('\n');
+}
+
 static void print_item(const eip_item *item, size_t *at)
 {
     if (item->kind >= EIP_ITEM_OPENED) {
@@ -113,6 +126,10 @@ static void print_item(const eip_item *item, size_t *at)
         return;
     }
     printf("%lu ", number);
+    if (item->kind == EIP_ITEM_REPLIED) {
+        print_reply(item, at);
+        return;
+    }
     if (item->kind < sizeof verdicts / sizeof *verdicts) {
         puts(verdicts[item->kind]);
         return;
