@@ -2,3 +2,4 @@ pub mod Connections
 pub mod Facts
 pub mod Points
 pub mod Snapshots
+pub mod Turns

@@ -1,4 +1,5 @@
-//! What a station tells its page: snapshots of its device with the last events in words, through a place for one text.
+//! What stations tell their page: snapshots of a device with the last events in words, through a place for one text of
+//! each device.
 #![tactic(auto)]
 
 mod connections;

@@ -3,12 +3,14 @@
 #![tactic(auto)]
 
 mod fault;
+mod living;
 mod observer;
 mod run;
 mod serving;
 mod sessions;
 
 pub use fault::EarlyEnd;
+pub use living::{LifeLines, NextDeed};
 pub use observer::StationObserver;
 pub use run::Ending;
 pub use serving::{Station, Voice};

@@ -99,7 +99,7 @@ impl<P: KeptPort, C: Clock, D: Device, W: RecordSink + Drop, O: LineSink, E: Lin
     }
 
     /// Performs the call of a line, and makes a turn that does not wait.
-    fn perform(&mut self, line: &[u8]) -> Result<bool, EarlyEnd>
+    pub(crate) fn perform(&mut self, line: &[u8]) -> Result<bool, EarlyEnd>
         ensures { Recorded W.contents P.is_scripted C.is_scripted C.coming P.tape P.failed D.table self.old self.new }
     {
         self.call(line)?;
@@ -108,7 +108,7 @@ impl<P: KeptPort, C: Clock, D: Device, W: RecordSink + Drop, O: LineSink, E: Lin
     }
 
     /// Closes the slots, waits a bounded time for the replies, and ends the sessions.
-    fn close(&mut self, slots: u32) -> Result<(), EarlyEnd>
+    pub fn close(&mut self, slots: u32) -> Result<(), EarlyEnd>
         ensures { Recorded W.contents P.is_scripted C.is_scripted C.coming P.tape P.failed D.table self.old self.new }
     {
         self.stop(slots)?;

@@ -39,7 +39,7 @@ pub struct Voice {
 #[derive(Drop)]
 pub struct Station<P, C, D, W, O, E> {
     alloc: Global,
-    port: P,
+    pub(crate) port: P,
     clock: C,
     device: D,
     observer: StationObserver<W, O, E>,

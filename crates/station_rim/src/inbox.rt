@@ -111,8 +111,17 @@ impl SharedInput {
         taken
     }
 
+    /// Takes the next line: first those of a page. Never waits.
+    pub fn next_line<R: Wait>(&self, rt: &R) -> Result<NextLine, OutOfMemory> {
+        let mut unread = self.unread.lock(rt);
+        match unread.offered.next_line(self.alloc)? {
+            NextLine::Line(line) => Ok(NextLine::Line(line)),
+            _ => unread.buffer.next_line(self.alloc),
+        }
+    }
+
     /// Ends the input, and wakes the station.
-    fn end<R: Wait>(&self, rt: &R) {
+    pub fn end<R: Wait>(&self, rt: &R) {
         self.unread.lock(rt).buffer.end();
         self.wake(rt);
     }
@@ -134,12 +143,7 @@ pub struct InputLines<R: Wait + Drop> {
 
 impl<R: Wait + Drop> CallLines for InputLines<R> {
     fn next_line(&mut self) -> Result<NextLine, OutOfMemory> {
-        let alloc = self.input.alloc;
-        let mut unread = self.input.unread.lock(&self.rt);
-        match unread.offered.next_line(alloc)? {
-            NextLine::Line(line) => Ok(NextLine::Line(line)),
-            _ => unread.buffer.next_line(alloc),
-        }
+        self.input.next_line(&self.rt)
     }
 }
 

@@ -21,6 +21,7 @@ struct Way {
     place: Option<RecordPlace>,
     is_busy: bool,
     has_failed: bool,
+    has_ended: bool,
 }
 
 /// The way from a station to the writer of its record. Its lock is held only while an entry is put in or taken out.
@@ -46,6 +47,7 @@ impl SharedRecord {
                 place: None,
                 is_busy: false,
                 has_failed: false,
+                has_ended: false,
             }),
             more: Condvar::new(),
         };
@@ -77,28 +79,36 @@ impl SharedRecord {
         Ok(Entries { rt, record })
     }
 
-    /// Writes the entries to the record's files without end. After a failure they are taken and discarded.
+    /// No entry is put in from now on: the writer ends once those on their way are written.
+    pub fn end<R: Wait>(&self, rt: &R) {
+        self.channel.way.lock(rt).has_ended = true;
+        self.channel.more.notify_one();
+    }
+
+    /// Writes the entries to the record's files until the record has ended. After a failure they are taken and discarded.
     pub fn write_files<R: Wait + Files<File = File>>(&self, rt: &R) {
         let mut file: Option<RecordFile> = None;
         for _ in rt.forever() {
-            if let Some(entry) = self.next(rt) {
-                let written = self.write(rt, &mut file, entry.as_slice());
-                let mut way = self.channel.way.lock(rt);
-                way.is_busy = false;
-                way.has_failed |= written.is_err();
-            }
+            let Some(entry) = self.next(rt) else {
+                return;
+            };
+            let written = self.write(rt, &mut file, entry.as_slice());
+            let mut way = self.channel.way.lock(rt);
+            way.is_busy = false;
+            way.has_failed |= written.is_err();
         }
     }
 
-    /// Waits for the next entry, and takes it.
+    /// Waits for the next entry, and takes it. None if the record has ended, and each entry was taken.
     fn next<R: Wait>(&self, rt: &R) -> Option<Items<u8>> {
         let way = self.channel.way.lock(rt);
         let mut way = self
             .channel
             .more
-            .wait_while(rt, way, |way| way.queue.is_empty());
-        way.is_busy = true;
-        way.queue.pop()
+            .wait_while(rt, way, |way| way.queue.is_empty() && !way.has_ended);
+        let entry = way.queue.pop();
+        way.is_busy = entry.is_some();
+        entry
     }
 
     /// Writes an entry, unless one could not be written before.

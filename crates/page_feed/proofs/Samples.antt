@@ -1,0 +1,16 @@
+-- The turns of a plant's devices at their page, worked by hand.
+use Rattle.std.proofs.Common.{◌≡◌, [], ◌∷◌, Some, None, refl}
+use Rattle.page_feed.specs.Turns.{changed_from}
+
+the_next_one_is_shown : changed_from (5 ∷ 7 ∷ 9 ∷ []) (4 ∷ 7 ∷ 8 ∷ []) 1 ≡ Some 2
+the_next_one_is_shown = refl
+
+then_the_first_one : changed_from (5 ∷ 7 ∷ 9 ∷ []) (4 ∷ 7 ∷ 9 ∷ []) 1 ≡ Some 0
+then_the_first_one = refl
+
+no_text_is_new : changed_from (5 ∷ 7 ∷ 9 ∷ []) (5 ∷ 7 ∷ 9 ∷ []) 1 ≡ None
+no_text_is_new = refl
+
+-- a number that was never seen is that of a new text
+nothing_was_seen : changed_from (0 ∷ 0 ∷ []) [] 0 ≡ Some 0
+nothing_was_seen = refl
