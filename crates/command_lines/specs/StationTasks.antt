@@ -1,5 +1,5 @@
 -- The task that a command line requests.
-use Rattle.std.specs.Prelude.{ℕ, List, [], ◌∷◌, codes, length, Bool, false, true, Option, Some, None, Result, Ok, Err}
+use Rattle.std.specs.Prelude.{ℕ, ◌||◌, if◌then◌else◌, is_some, List, [], ◌∷◌, codes, length, Bool, false, true, Option, Some, None, Result, Ok, Err}
 use Rattle.trace_words.specs.Reader.{Meanings, meaning}
 use Rattle.command_lines.specs.Questions.{search_of, sheet_of}
 use Rattle.command_lines.specs.StationOptions.{usual, options_after}
@@ -18,6 +18,7 @@ abbrev pub command_meanings : Meanings (Option StationCommand)
 command_meanings =
     (codes "adapter", Some command.Adapter)
     ∷ (codes "scanner", Some command.Scanner)
+    ∷ (codes "plant", Some command.Plant)
     ∷ (codes "replay", Some command.Replay)
     ∷ (codes "pcap", Some command.Pcap)
     ∷ (codes "explain", Some command.Explain)
@@ -41,6 +42,19 @@ station_with scanner (Err fault) = Err fault
 abbrev pub station_of : Bool → List (List ℕ) → Result ProgramTask StationMisuse
 station_of scanner [] = Err misuse.NoFile
 station_of scanner (file ∷ rest) = station_with scanner (options_after usual rest)
+
+-- what one device has, and no plant
+abbrev pub is_for_one : Options → Bool
+is_for_one options = is_some options.address || is_some options.state_from_end || is_some options.incarnation || is_some options.serial || is_some options.name_from_end
+
+-- a plant, with the options of all its devices
+abbrev pub plant_with : Result Options StationMisuse → Result ProgramTask StationMisuse
+plant_with (Ok options) = if is_for_one options then Err misuse.OneDevice else Ok (task.Plant options)
+plant_with (Err fault) = Err fault
+
+abbrev pub plant_of : List (List ℕ) → Result ProgramTask StationMisuse
+plant_of [] = Err misuse.NoFile
+plant_of (file ∷ rest) = plant_with (options_after usual rest)
 
 -- a task whose words are the names of its files
 abbrev pub of_files : ProgramTask → List (List ℕ) → Result ProgramTask StationMisuse
@@ -68,6 +82,7 @@ task_with command.Help words = Ok task.Help
 task_with command.Version words = Ok task.Version
 task_with command.Adapter words = station_of false words
 task_with command.Scanner words = station_of true words
+task_with command.Plant words = plant_of words
 task_with command.Replay words = of_files task.Replay words
 task_with command.Pcap words = of_files task.Pcap words
 task_with command.Explain words = of_files task.Explain words

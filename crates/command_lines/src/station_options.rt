@@ -143,6 +143,9 @@ pub enum StationMisuse {
     /// The word is no address.
     #[error("no address")]
     BadAddress(usize),
+    /// An option of a plant is for one device.
+    #[error("--address, --state, --incarnation, --serial and --name are for one device, and a plant has several")]
+    OneDevice,
 }
 
 /// The usual values.

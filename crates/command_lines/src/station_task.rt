@@ -1,7 +1,7 @@
 //! The task that a command line requests.
 
 ghost use Rattle.std.specs.Prelude.{◌≡◌, map};
-ghost use Rattle.command_lines.specs.StationTasks.{command_of, of_files, search_with, sheet_with, station_of, task_of, task_with};
+ghost use Rattle.command_lines.specs.StationTasks.{command_of, is_for_one, of_files, plant_of, search_with, sheet_with, station_of, task_of, task_with};
 
 use crate::question_task::{SearchTask, SheetTask, search_of, sheet_of};
 use crate::station_options::{Options, StationMisuse, read_options};
@@ -14,6 +14,8 @@ pub enum StationCommand {
     Adapter,
     /// Keeps the connections of a profile open.
     Scanner,
+    /// Runs the devices of a file.
+    Plant,
     /// Plays a trace.
     Replay,
     /// Writes a trace as a capture file.
@@ -46,6 +48,8 @@ pub enum ProgramTask {
     Help,
     /// Runs a station.
     Station(StationTask),
+    /// Runs the devices of the file that is the third word, with these options.
+    Plant(Options),
     /// Prints which version of the program it is.
     Version,
     /// Plays the trace of the files from the third word on.
@@ -70,6 +74,7 @@ fn command_of(word: &str) -> Option<StationCommand>
     match word {
         "adapter" => Some(StationCommand::Adapter),
         "scanner" => Some(StationCommand::Scanner),
+        "plant" => Some(StationCommand::Plant),
         "replay" => Some(StationCommand::Replay),
         "pcap" => Some(StationCommand::Pcap),
         "explain" => Some(StationCommand::Explain),
@@ -110,6 +115,7 @@ fn task_with<S: AsStr>(command: StationCommand, words: &[S]) -> Result<ProgramTa
     match command {
         StationCommand::Adapter => station_of(false, words),
         StationCommand::Scanner => station_of(true, words),
+        StationCommand::Plant => plant_of(words),
         StationCommand::Replay => of_files(ProgramTask::Replay, words),
         StationCommand::Pcap => of_files(ProgramTask::Pcap, words),
         StationCommand::Explain => of_files(ProgramTask::Explain, words),
@@ -132,6 +138,32 @@ fn station_of<S: AsStr>(scanner: bool, words: &[S]) -> Result<ProgramTask, Stati
         Ok(options) => Ok(ProgramTask::Station(StationTask { scanner, options })),
         Err(misuse) => Err(misuse),
     }
+}
+
+/// A plant, whose words are the name of its file and its options. The faults are those of the options, and behind them
+/// `OneDevice` if one of them is for one device.
+fn plant_of<S: AsStr>(words: &[S]) -> Result<ProgramTask, StationMisuse>
+    ensures { result ≡ plant_of (map S.text words.now) }
+{
+    let Some((_file, rest)) = words.split_first() else {
+        return Err(StationMisuse::NoFile);
+    };
+    match read_options(rest) {
+        Ok(options) if is_for_one(&options) => Err(StationMisuse::OneDevice),
+        Ok(options) => Ok(ProgramTask::Plant(options)),
+        Err(misuse) => Err(misuse),
+    }
+}
+
+/// Whether options say what one device has: its address, state, incarnation, serial number or name.
+fn is_for_one(options: &Options) -> bool
+    ensures { result ≡ is_for_one options.now }
+{
+    options.address.is_some()
+        || options.state_from_end.is_some()
+        || options.incarnation.is_some()
+        || options.serial.is_some()
+        || options.name_from_end.is_some()
 }
 
 /// A data sheet, whose words are the name of its profile, and three names or none.

@@ -6,6 +6,9 @@ usage: eip_station adapter PROFILE [options]
            serves the profile: answers its peers, takes outputs and sends inputs
        eip_station scanner PROFILE [options]
            opens a connection for each slot of the profile, sends its output and gathers its input
+       eip_station plant FILE [options]
+           serves all devices of the file, each at an address of its own, with their faults and scripts (docs/PROFILE.md,
+           section 34)
        eip_station replay TRACE ..
            plays the files as one trace, and prints what eip_line step prints
        eip_station pcap TRACE ..
@@ -30,7 +33,7 @@ options:
   --peer-udp PORT  the UDP port of its peers (2222 if it is left out)
   --seconds N    the station ends after N seconds
   --record FILE  writes all that the device takes and answers, and begins FILE.2, FILE.3 .. as a file is full;
-                 eip_station replay FILE FILE.2 .. replays it
+                 eip_station replay FILE FILE.2 .. replays it. A plant's FILE is a folder: NAME.1.trace, NAME.2.trace .. are a device's lives
   --state FILE   counts the starts there, so that no id of an earlier start is used again (PROFILE.state if it is left out)
   --incarnation N  the incarnation of this start, 1 to 255, in place of counting
   --inactivity S an adapter's stream over which no message comes for S seconds ends (the profile's or 120 if it is left out, 0: none)
@@ -53,6 +56,8 @@ The station runs until its standard input ends, and at most N seconds. Each line
   write POINT HEX, read POINT, mode run, mode idle, start SLOT, stop SLOT, status
 and at a scanner, to read and to set an attribute of a target by decimal numbers, and to send any request to its message router:
   get NODE CLASS INSTANCE ATTRIBUTE, set NODE CLASS INSTANCE ATTRIBUTE HEX, explicit NODE NUMBER HEX
+A plant takes them behind the NAME of a device (a script all but get and set), and status alone for all; besides
+  cut, pause MS, restart [same], send NODE HEX
 It prints the outcome of each call and of each event with a notice, in the lines of a trace, and for each output or
 image that has changed N at MS output POINT HEX or N at MS image SLOT HEX: the number of the last event, and the time.
 It waits for no reader: lines that nobody reads are lost, and a line says how many.
