@@ -1,0 +1,30 @@
+-- What is read of a profile as its device begins, and what is put in its place.
+use Rattle.std.specs.Prelude.{ℕ, ◌-◌, ◌^◌, min, length, Bool, true, false}
+use Rattle.cip_tables.specs.declared.table.Config.{Config}
+use Rattle.std.specs.declared.io.ErrorKind.{ErrorKind}
+use Rattle.std.specs.declared.io.ErrorKind.TheVariants.{OutOfMemory}
+use Rattle.cip_tables.specs.declared.table.Config.TheVariants.{Adapter, Scanner}
+use Rattle.station_opening.specs.declared.profiles.UnusableProfile.{UnusableProfile}
+use Rattle.station_opening.specs.declared.profiles.UnusableProfile.TheVariants as fault
+
+abbrev pub is_scanner : Config → Bool
+is_scanner (Adapter profile) = false
+is_scanner (Scanner profile) = true
+
+abbrev pub incarnation_of : Config → ℕ
+incarnation_of (Adapter profile) = profile.incarnation
+incarnation_of (Scanner profile) = profile.incarnation
+
+abbrev pub with_incarnation : Config → ℕ → Config
+with_incarnation (Adapter profile) incarnation = Adapter (record profile { incarnation = incarnation })
+with_incarnation (Scanner profile) incarnation = Scanner (record profile { incarnation = incarnation })
+
+-- the slots of a scanner, within 32 bits; none of an adapter
+abbrev pub slots_of : Config → ℕ
+slots_of (Adapter profile) = 0
+slots_of (Scanner profile) = min (length profile.slots) (2 ^ 32 - 1)
+
+-- why the file of a profile is not read to its end
+abbrev pub unread_profile : ErrorKind → UnusableProfile
+unread_profile OutOfMemory = fault.OutOfMemory
+unread_profile _ = fault.Unread

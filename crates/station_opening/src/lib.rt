@@ -1,0 +1,12 @@
+//! What opens a station: its profile in a file, its device, its port at a real address, and its record.
+#![tactic(auto)]
+
+mod devices;
+mod ports;
+mod profiles;
+mod records;
+
+pub use devices::{FastDevice, incarnation_of, is_scanner, with_incarnation};
+pub use ports::{OpenedPort, open_port};
+pub use profiles::{UnusableProfile, profile_in, unread_profile};
+pub use records::{head_of, recorder_in};
