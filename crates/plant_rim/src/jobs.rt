@@ -1,0 +1,126 @@
+//! The jobs of a plant's threads: each thread takes one after another.
+
+use crate::board::{Board, PlantState};
+use crate::failure::DeviceFailure;
+use cip_tables::Config;
+use cip_types::{Items, OutOfMemory};
+use command_lines::Options;
+use page_feed::FeedEnd;
+use plant_script::{IncarnationSpan, ScriptLine};
+use station_rim::{SharedInput, SharedLines, SharedRecord};
+use std::alloc::Global;
+use std::sync::{Arc, Condvar, Mutex, Wait};
+
+/// A device that is to live.
+#[derive(Drop)]
+pub struct DeviceSeat {
+    pub name: String,
+    pub config: Config,
+    pub options: Options,
+    pub script: Items<ScriptLine>,
+    pub span: IncarnationSpan,
+    pub input: SharedInput,
+    /// The folder of its records, if it is recorded.
+    pub folder: Option<String>,
+    /// Where it tells its page, if there is one.
+    pub page: Option<FeedEnd>,
+    pub scanner: bool,
+}
+
+/// A job of a thread.
+#[derive(Drop)]
+pub enum PlantJob {
+    /// A device lives, one life after another.
+    Serve(DeviceSeat),
+    /// The record of a life is written to its end.
+    Write(SharedRecord),
+}
+
+/// A board, and what wakes the threads that wait for a job.
+#[derive(Drop)]
+struct SharedBoard {
+    board: Mutex<Board>,
+    more: Condvar,
+}
+
+/// What the threads of a plant share.
+#[derive(Drop)]
+pub struct SharedPlant {
+    shared: Arc<SharedBoard, Global>,
+    pub out: SharedLines,
+    pub err: SharedLines,
+}
+
+impl SharedPlant {
+    /// No job waits. What devices print goes to these outputs. OutOfMemory is the only fault.
+    pub fn new(
+        alloc: Global,
+        out: &SharedLines,
+        err: &SharedLines,
+    ) -> Result<SharedPlant, OutOfMemory> {
+        let shared = SharedBoard {
+            board: Mutex::new(Board::none(alloc)),
+            more: Condvar::new(),
+        };
+        let (out, err) = (out.share()?, err.share()?);
+        match Arc::new(alloc, shared) {
+            Ok(shared) => Ok(SharedPlant { shared, out, err }),
+            Err(_) => Err(OutOfMemory),
+        }
+    }
+
+    /// The same, for another thread. OutOfMemory is the only fault.
+    pub fn share(&self) -> Result<SharedPlant, OutOfMemory> {
+        let (out, err) = (self.out.share()?, self.err.share()?);
+        match Arc::try_clone(&self.shared) {
+            Ok(shared) => Ok(SharedPlant { shared, out, err }),
+            Err(_) => Err(OutOfMemory),
+        }
+    }
+
+    /// Has a thread serve a device. OutOfMemory is the only fault, and then none does.
+    pub fn serve<R: Wait>(&self, rt: &R, seat: DeviceSeat) -> Result<(), OutOfMemory> {
+        self.shared.board.lock(rt).serve(seat)?;
+        self.shared.more.notify_one();
+        Ok(())
+    }
+
+    /// Has a thread write a record to its end. OutOfMemory is the only fault, and then none does.
+    pub fn write<R: Wait>(&self, rt: &R, record: SharedRecord) -> Result<(), OutOfMemory> {
+        self.shared.board.lock(rt).write(record)?;
+        self.shared.more.notify_one();
+        Ok(())
+    }
+
+    /// Waits for a job, and takes it: the one that waits longest.
+    pub fn next_job<R: Wait>(&self, rt: &R) -> Option<PlantJob> {
+        let board = self.shared.board.lock(rt);
+        let mut board = self
+            .shared
+            .more
+            .wait_while(rt, board, |board| board.is_idle());
+        board.take()
+    }
+
+    /// A device lives no more, and has failed or not. The first failure is kept.
+    pub fn leave<R: Wait>(
+        &self,
+        rt: &R,
+        scanner: bool,
+        failure: Option<DeviceFailure>,
+        is_stillborn: bool,
+    ) {
+        let mut board = self.shared.board.lock(rt);
+        board.state.leave(scanner, failure, is_stillborn);
+    }
+
+    /// A record is written to its end, or has failed.
+    pub fn leave_record<R: Wait>(&self, rt: &R, has_failed: bool) {
+        self.shared.board.lock(rt).state.leave_record(has_failed);
+    }
+
+    /// How it is.
+    pub fn state<R: Wait>(&self, rt: &R) -> PlantState {
+        self.shared.board.lock(rt).state
+    }
+}
