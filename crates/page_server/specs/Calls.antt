@@ -1,5 +1,5 @@
 -- The calls that a page hands on.
-use Rattle.std.specs.Prelude.{Bool, true, false, Option, Some, None}
+use Rattle.std.specs.Prelude.{ℕ, ◌+◌, ◌==◌, Bool, true, false, List, [], drop, position, Option, Some, None}
 use Rattle.cip_events.specs.declared.event.Event.{Event}
 use Rattle.cip_events.specs.declared.event.Event.TheVariants as event
 
@@ -15,3 +15,16 @@ writes other = false
 abbrev pub is_page_call : Option Event → Bool
 is_page_call (Some call) = writes call
 is_page_call None = false
+
+-- A CALL AT A DEVICE OF A PLANT
+
+abbrev pub is_space : ℕ → Bool
+is_space byte = byte == 32
+
+abbrev pub behind_place : List ℕ → Option ℕ → List ℕ
+behind_place line (Some end) = drop (end + 1) line
+behind_place line None = []
+
+-- the call behind the name of a device, which ends with the first space
+abbrev pub behind_name : List ℕ → List ℕ
+behind_name line = behind_place line (position is_space line)

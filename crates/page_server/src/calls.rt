@@ -1,8 +1,8 @@
 //! The calls that a page hands on.
 
-ghost use Rattle.std.specs.Prelude.{◌≡◌, IfOk};
+ghost use Rattle.std.specs.Prelude.{◌≡◌, ◌<◌, length, position, IfOk, IfSome};
 ghost use Rattle.station_lines.specs.Calls.{call_of};
-ghost use Rattle.page_server.specs.Calls.{is_page_call, writes};
+ghost use Rattle.page_server.specs.Calls.{behind_name, is_page_call, is_space, writes};
 
 use cip_events::Event;
 use cip_types::OutOfMemory;
@@ -19,6 +19,24 @@ pub(crate) fn is_page_call(alloc: Global, line: &[u8]) -> Result<bool, OutOfMemo
         Err(TextFault::Bad) => Ok(false),
         Err(TextFault::OutOfMemory) => Err(OutOfMemory),
     }
+}
+
+/// A call at a device without the name in front, which ends with the first space; nothing if there is no space.
+pub(crate) fn behind_name(line: &[u8]) -> &[u8]
+    ensures { result.now ≡ behind_name line.now }
+{
+    match name_end(line) {
+        Some(end) => &line[end + 1..],
+        None => &[],
+    }
+}
+
+/// The place of the first space.
+fn name_end(line: &[u8]) -> Option<usize>
+    ensures first { result ≡ position is_space line.now }
+    ensures inside { IfSome result (λ end. end < length line.now) }
+{
+    line.iter().position(|byte| *byte == b' ')
 }
 
 /// Whether an event is a call that changes a device.

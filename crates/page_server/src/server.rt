@@ -27,13 +27,36 @@ pub struct PageSetting {
     pub greeting: String,
     /// The name of the record's first file.
     pub record: Option<String>,
+    /// Whether it is the page of a plant, whose calls have the name of a device in front.
+    pub is_plant: bool,
 }
 
-/// What an event stream begins with, as JSON: the name of the station, and what the page allows. OutOfMemory is the only fault.
-pub fn greeting_text(alloc: Global, name: &str, allowed: Allowed) -> Result<String, OutOfMemory> {
-    let name = Value::String(format!(in alloc; "{name}")?).to_string(alloc)?;
+/// What an event stream begins with, as JSON: the name of the station or plant, what the page allows, and the devices of a
+/// plant. OutOfMemory is the only fault.
+pub fn greeting_text(
+    alloc: Global,
+    name: &str,
+    allowed: Allowed,
+    devices: &[&str],
+) -> Result<String, OutOfMemory> {
+    let name = quoted(alloc, name)?;
     let (name, writes, record) = (name.as_str(), allowed.writes, allowed.record);
-    Ok(format!(in alloc; "{{\"name\":{name},\"writes\":{writes},\"record\":{record}}}")?)
+    let mut text = format!(in alloc;
+        "{{\"name\":{name},\"writes\":{writes},\"record\":{record},\"devices\":["
+    )?;
+    for (place, device) in devices.iter().enumerate() {
+        if place > 0 {
+            text.push_str(",")?;
+        }
+        text.push_str(quoted(alloc, device)?.as_str())?;
+    }
+    text.push_str("]}")?;
+    Ok(text)
+}
+
+/// A name as JSON.
+fn quoted(alloc: Global, name: &str) -> Result<String, OutOfMemory> {
+    Ok(Value::String(format!(in alloc; "{name}")?).to_string(alloc)?)
 }
 
 /// What the threads of a page share.
@@ -44,6 +67,7 @@ pub(crate) struct Desk {
     pub(crate) allowed: Allowed,
     pub(crate) greeting: String,
     pub(crate) record: Option<String>,
+    pub(crate) is_plant: bool,
     pub(crate) texts: PageEnd,
     pub(crate) input: SharedInput,
 }
@@ -83,8 +107,8 @@ pub struct SharedPage {
 }
 
 impl SharedPage {
-    /// A page that is not served. OutOfMemory is the only fault.
-    pub fn new(alloc: Global) -> Result<SharedPage, OutOfMemory> {
+    /// A page of so many devices that is not served. OutOfMemory is the only fault.
+    pub fn new(alloc: Global, devices: usize) -> Result<SharedPage, OutOfMemory> {
         let opening = PageOpening {
             setting: Mutex::new(None),
             more: Condvar::new(),
@@ -94,7 +118,7 @@ impl SharedPage {
             }),
             came: Condvar::new(),
         };
-        let texts = page_place(alloc)?;
+        let texts = page_place(alloc, devices)?;
         match Arc::new(alloc, opening) {
             Ok(opening) => Ok(SharedPage {
                 alloc,
@@ -118,9 +142,9 @@ impl SharedPage {
         }
     }
 
-    /// The end at which a station tells its page. OutOfMemory is the only fault.
-    pub fn feed_end(&self) -> Result<FeedEnd, OutOfMemory> {
-        self.texts.feed_end()
+    /// The end at which the station of this number, from 0, tells its page. OutOfMemory is the only fault.
+    pub fn feed_end(&self, device: usize) -> Result<FeedEnd, OutOfMemory> {
+        self.texts.feed_end(device)
     }
 
     /// Begins to serve.
@@ -168,6 +192,7 @@ impl SharedPage {
             allowed: setting.allowed,
             greeting: setting.greeting,
             record: setting.record,
+            is_plant: setting.is_plant,
             texts: self.texts.share().ok()?,
             input,
         };

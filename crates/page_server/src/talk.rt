@@ -1,7 +1,7 @@
 //! What is said to one browser. Each read and each write has a time, and so have the whole request and the whole answer, if it
 //! is no event stream.
 
-use crate::calls::is_page_call;
+use crate::calls::{behind_name, is_page_call};
 use crate::files::{send_capture, send_record};
 use crate::sent_answer::SentAnswer;
 use crate::server::Desk;
@@ -199,39 +199,59 @@ fn send_events<R: Wait + Clock>(
     send_part(stream, b"event: station\ndata: ")?;
     send_part(stream, desk.greeting.as_bytes())?;
     send_part(stream, b"\n\n")?;
-    let mut number = desk.texts.number(rt);
+    let mut seen = desk.texts.numbers(rt)?;
     // (a station that waits for its peers makes a turn, and with it a snapshot)
     desk.input.wake(rt);
     let mut text = Vec::new(desk.alloc);
+    let mut from = 0;
     for _ in rt.forever() {
         text.clear();
-        let came = next_event(rt, desk, number, &mut text)?;
-        if came == number {
-            send_part(stream, b":\n\n")?;
-        } else {
-            send_part(stream, text.as_slice())?;
+        match desk.texts.wait_for(rt, seen.as_slice(), from, BEAT_MS) {
+            None => text.extend_from_slice(b":\n\n")?,
+            Some(device) => {
+                let number = push_event(rt, desk, device, &mut text)?;
+                note_seen(&mut seen, device, number);
+                from = device.saturating_add(1);
+            }
         }
-        number = came;
+        send_part(stream, text.as_slice())?;
     }
     Ok(())
 }
 
-/// Waits for the snapshot behind the one of this number, and writes it as an event. Answers its number.
-fn next_event<R: Wait + Clock>(
+/// Writes the newest snapshot of a device as an event, whose id is the number of the device in its plant. Answers the
+/// number of the snapshot.
+fn push_event<R: Wait + Clock>(
     rt: &R,
     desk: &Desk,
-    number: u64,
+    device: usize,
     text: &mut Vec<u8>,
 ) -> Result<u64, Unheard> {
+    if desk.is_plant {
+        let id = format!(in desk.alloc; "id: {device}\n")?;
+        text.extend_from_slice(id.as_bytes())?;
+    }
     text.extend_from_slice(b"data: ")?;
-    let came = desk.texts.wait_for(rt, number, BEAT_MS, text)?;
+    let number = desk.texts.take(rt, device, text)?;
     text.extend_from_slice(b"\n\n")?;
-    Ok(came)
+    Ok(number)
+}
+
+/// Notes which snapshot of a device was seen.
+fn note_seen(seen: &mut Vec<u64>, device: usize, number: u64) {
+    if let Some(own) = seen.get_mut(device) {
+        *own = number;
+    }
 }
 
 /// Hands a call on to the station, as if it was typed.
 fn hand_on<R: Wait>(rt: &R, desk: &Desk, call: &[u8]) -> Result<(), Unheard> {
-    if !is_page_call(desk.alloc, call)? {
+    let own = if desk.is_plant {
+        behind_name(call)
+    } else {
+        call
+    };
+    if !is_page_call(desk.alloc, own)? {
         return Err(Unheard::Refused(PageRefusal::Bad));
     }
     let mut line = Vec::from_slice(desk.alloc, call)?;

@@ -50,10 +50,12 @@ form button { background: var(--blue); color: #fff; border: 0; cursor: pointer; 
 </head>
 <body>
 <header>
-  <h1 id='title'>station</h1><span id='contact' class='badge'>no contact yet</span><span id='clock'></span>
+  <h1 id='title'>station</h1><select id='device' hidden></select><span id='contact' class='badge'>no contact yet</span>
+  <span id='clock'></span>
   <span class='right' id='files'></span>
 </header>
 <main>
+  <section class='wide' id='plant' hidden><h2>Devices</h2><div class='scroll' id='devices'></div></section>
   <section class='wide'><h2>Points</h2><div class='scroll' id='points'></div></section>
   <section class='wide' id='rows'><h2 id='rows-title'>Connections</h2><div class='scroll' id='connections'></div></section>
   <section class='wide'><h2>The last three minutes</h2><canvas id='chart'></canvas><div class='key' id='key'></div></section>
@@ -75,8 +77,15 @@ const COLOURS = ['#2563c9', '#1a7f4b', '#c22f2f', '#8a3fc7', '#b26a00', '#0f8b8d
 const token = location.hash.slice(1);
 const byId = (id) => document.getElementById(id);
 const chosen = new Set();  // the bytes of the chart, as `150:0`, and `output 2:0` of what slot 2 sends
-let station = { writes: false, record: false, name: 'station' };
-let samples = [], last = null, contact = 0, known = new Map();
+let station = { writes: false, record: false, name: 'station', devices: [] };
+let contact = 0, shown = 0;
+// what is known of each device: one of a station
+const views = new Map();
+
+function viewOf(device) {
+  if (!views.has(device)) views.set(device, { samples: [], last: null, known: new Map() });
+  return views.get(device);
+}
 
 // ELEMENTS
 
@@ -118,7 +127,7 @@ function hexOf(bytes, point) {
     const key = `${point}:${at}`;
     const one = element('button', byte.toString(16).padStart(2, '0'), chosen.has(key) ? 'chosen' : '');
     one.title = `byte ${at} of point ${point}: ${byte}; a click draws it`;
-    one.onclick = () => { if (!chosen.delete(key)) chosen.add(key); if (last) render(last); };
+    one.onclick = () => { if (!chosen.delete(key)) chosen.add(key); renderShown(); };
     made.append(one, (at + 1) % 4 ? '' : ' ');
   });
   return made;
@@ -207,7 +216,7 @@ function renderTotals(snapshot) {
     ['datagrams whose data were applied', counts.applied], ['sequence numbers lost', counts.lost]]));
 }
 
-function renderEvents() {
+function renderEvents(known) {
   const made = document.createDocumentFragment();
   for (const [number, event] of [...known].sort((a, b) => b[0] - a[0])) {
     const line = made.appendChild(element('li'));
@@ -217,11 +226,39 @@ function renderEvents() {
   show('events', made);
 }
 
-function keepEvents(events) {
-  for (const event of events) known.set(event.number, event);
-  const kept = [...known.keys()].sort((a, b) => a - b).slice(-100);
-  known = new Map(kept.map((number) => [number, known.get(number)]));
+function keepEvents(view, events) {
+  for (const event of events) view.known.set(event.number, event);
+  const kept = [...view.known.keys()].sort((a, b) => a - b).slice(-100);
+  view.known = new Map(kept.map((number) => [number, view.known.get(number)]));
 }
+
+// a row of the devices of a plant: how many of its slots or connections are established
+function deviceRow(name, device) {
+  const { last } = viewOf(device);
+  const link = element('button', name, device === shown ? 'chosen' : '');
+  link.onclick = () => choose(device);
+  const place = element('span', undefined, 'bytes');
+  place.append(link);
+  if (!last) return [place, '', none('nothing yet'), '', ''];
+  const rows = last.slots || last.connections;
+  const up = rows.filter((it) => last.slots ? it.state === 'established' : it.established).length;
+  const state = badge(`${up} of ${rows.length}`, up === rows.length ? (up ? 'good' : '') : 'bad');
+  return [place, last.slots ? 'scanner' : 'adapter', state, `${last.counts.received}, ${last.counts.sent}`, last.counts.lost];
+}
+
+function renderDevices() {
+  if (!station.devices.length) return;
+  show('devices', table(['device', '', 'established', 'datagrams received, sent', 'lost'], station.devices.map(deviceRow)));
+}
+
+function choose(device) {
+  shown = device;
+  byId('device').value = String(device);
+  chosen.clear();
+  renderShown();
+}
+
+byId('device').onchange = () => choose(Number(byId('device').value));
 
 // THE CHART
 
@@ -231,16 +268,16 @@ function pointsOf(snapshot) {
   return [...points, ...slots];
 }
 
-function takeSample(snapshot, before) {
+function takeSample(view, snapshot, before) {
   const seconds = before ? (snapshot.ms - before.ms) / 1000 : 0;
   const rate = (name) => seconds > 0 ? (snapshot.counts[name] - before.counts[name]) / seconds : 0;
   const values = {};
   for (const [name, bytes] of pointsOf(snapshot)) bytesOf(bytes).forEach((byte, at) => { values[`${name}:${at}`] = byte; });
-  samples.push({ ms: snapshot.ms, received: rate('received'), sent: rate('sent'), lost: rate('lost'), values });
-  samples = samples.filter((it) => it.ms > snapshot.ms - KEPT_MS && it.ms <= snapshot.ms);
+  view.samples.push({ ms: snapshot.ms, received: rate('received'), sent: rate('sent'), lost: rate('lost'), values });
+  view.samples = view.samples.filter((it) => it.ms > snapshot.ms - KEPT_MS && it.ms <= snapshot.ms);
 }
 
-function drawChart() {
+function drawChart(samples) {
   const canvas = byId('chart'), scale = window.devicePixelRatio || 1;
   const width = canvas.clientWidth, height = canvas.clientHeight;
   canvas.width = width * scale;
@@ -290,7 +327,7 @@ function fillChoices(snapshot) {
   const senders = (snapshot.slots || []).filter((it) => it.output !== '-');
   const points = snapshot.slots ? senders.map((it) => it.slot) : snapshot.inputs.map((it) => it.point);
   for (const [id, values] of [['write-point', points], ['slot', (snapshot.slots || []).map((it) => it.slot)]]) {
-    if (byId(id).options.length === values.length) continue;
+    if ([...byId(id).options].map((it) => it.value).join() === values.join()) continue;
     byId(id).replaceChildren(...values.map((value) => element('option', value)));
   }
   for (const form of document.forms) {
@@ -304,7 +341,8 @@ function lineOf(form) {
   return `${byId('slot-call').value} ${byId('slot').value}`;
 }
 
-async function call(line) {
+async function call(own) {
+  const line = station.devices.length ? `${station.devices[shown]} ${own}` : own;
   const answer = await fetch('/call', { method: 'POST', headers: { 'X-Station-Token': token }, body: line });
   byId('said').textContent = answer.ok ? `${line}: handed over` : `${line}: refused, ${answer.status} ${await answer.text()}`;
 }
@@ -318,14 +356,20 @@ for (const form of document.forms) {
 
 // THE STREAM
 
-function render(snapshot) {
+function renderShown() {
+  renderDevices();
+  const view = viewOf(shown);
+  if (view.last) render(view, view.last);
+}
+
+function render(view, snapshot) {
   byId('clock').textContent = `event ${snapshot.number}, ${(snapshot.ms / 1000).toFixed(1)} s`;
   renderPoints(snapshot);
   renderConnections(snapshot);
   renderTotals(snapshot);
-  renderEvents();
+  renderEvents(view.known);
   fillChoices(snapshot);
-  drawChart();
+  drawChart(view.samples);
 }
 
 function showContact() {
@@ -338,6 +382,9 @@ function showStation() {
   byId('title').textContent = station.name;
   document.title = station.name;
   byId('writes').hidden = !(station.writes && token);
+  byId('plant').hidden = byId('device').hidden = !station.devices.length;
+  byId('device').replaceChildren(...station.devices.map((name, at) => new Option(name, at)));
+  byId('device').value = String(shown);
   byId('files').replaceChildren();
   if (!station.record) return;
   for (const [name, path] of [['record', '/record'], ['capture file', '/record.pcap']]) {
@@ -352,13 +399,14 @@ const stream = new EventSource('/events');
 stream.addEventListener('station', (event) => { station = JSON.parse(event.data); showStation(); });
 stream.onmessage = (event) => {
   contact = Date.now();
-  const snapshot = JSON.parse(event.data);
+  const device = Number(event.lastEventId), view = viewOf(device), snapshot = JSON.parse(event.data);
+  const { last } = view;
   const before = last && last.number <= snapshot.number && last.ms <= snapshot.ms ? last : null;
-  if (!before) { samples = []; known = new Map(); }
-  keepEvents(snapshot.events);
-  takeSample(snapshot, before);
-  last = snapshot;
-  render(snapshot);
+  if (!before) { view.samples = []; view.known = new Map(); }
+  keepEvents(view, snapshot.events);
+  takeSample(view, snapshot, before);
+  view.last = snapshot;
+  if (device === shown) renderShown();
   showContact();
 };
 setInterval(showContact, 500);
