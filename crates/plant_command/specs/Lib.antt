@@ -1,0 +1,5 @@
+pub mod Endings
+pub mod Lives
+pub mod Paths
+pub mod Seats
+pub mod Statuses

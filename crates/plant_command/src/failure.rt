@@ -1,0 +1,105 @@
+//! Why a plant fails.
+
+ghost use Rattle.std.specs.Prelude.{◌≡◌};
+ghost use Rattle.plant_command.specs.Statuses.{device_status, is_reported, status_of};
+
+use cip_types::OutOfMemory;
+use plant_rim::DeviceFailure;
+use station_port::SocketCause;
+use std::alloc::{AllocError, AllocFailed};
+use thiserror::Error;
+
+/// Why a plant fails.
+#[derive(Clone, Copy, Debug, PartialEq, Eq, Error)]
+pub enum PlantFailure {
+    /// The file of the plant cannot be read.
+    #[error("cannot be read")]
+    Unread,
+    /// The file of the plant or a profile is bad, of which a line has told.
+    #[error("is bad")]
+    Bad,
+    /// The folder of the records cannot be made.
+    #[error("the folder of the records cannot be made")]
+    Folder,
+    /// A device has failed, of which a line has told.
+    #[error("a device has failed: {0}")]
+    Device(DeviceFailure),
+    /// The clock cannot be read.
+    #[error("the clock cannot be read")]
+    Clock,
+    /// An allocation was refused.
+    #[error("no memory")]
+    OutOfMemory,
+}
+
+impl PlantFailure {
+    /// The status of the program.
+    pub fn status(self) -> u8
+        ensures { result ≡ status_of self }
+    {
+        match self {
+            PlantFailure::Unread => 3,
+            PlantFailure::Bad => 3,
+            PlantFailure::Folder => 6,
+            PlantFailure::Device(failure) => device_status(failure),
+            PlantFailure::Clock => 1,
+            PlantFailure::OutOfMemory => 7,
+        }
+    }
+
+    /// Whether a line has told it already.
+    pub fn is_reported(self) -> bool
+        ensures { result ≡ is_reported self }
+    {
+        match self {
+            PlantFailure::Bad => true,
+            PlantFailure::Device(_) => true,
+            _ => false,
+        }
+    }
+}
+
+/// The status of the program after a device has failed.
+fn device_status(failure: DeviceFailure) -> u8
+    ensures { result ≡ device_status failure }
+{
+    match failure {
+        DeviceFailure::Socket(_, SocketCause::NoAddress) => 4,
+        DeviceFailure::Socket(_, _) => 5,
+        DeviceFailure::Record => 6,
+        DeviceFailure::RecordEnd => 6,
+        DeviceFailure::Early(_) => 1,
+        DeviceFailure::Profile => 3,
+        DeviceFailure::OutOfMemory => 7,
+    }
+}
+
+impl From<OutOfMemory> for PlantFailure {
+    ghost use Rattle.plant_command.specs.declared.failure.PlantFailure.TheVariants as failure;
+
+    ghost from_gives = { λ _ given. given ≡ failure.OutOfMemory };
+
+    fn from(_refused: OutOfMemory) -> PlantFailure {
+        PlantFailure::OutOfMemory
+    }
+}
+
+impl From<AllocError> for PlantFailure {
+    ghost use Rattle.plant_command.specs.declared.failure.PlantFailure.TheVariants as failure;
+
+    ghost from_gives = { λ _ given. given ≡ failure.OutOfMemory };
+
+    fn from(_refused: AllocError) -> PlantFailure {
+        PlantFailure::OutOfMemory
+    }
+}
+
+impl<T: Drop> From<AllocFailed<T>> for PlantFailure {
+    ghost use Rattle.plant_command.specs.declared.failure.PlantFailure.TheVariants as failure;
+
+    ghost from_gives = { λ _ given. given ≡ failure.OutOfMemory };
+
+    fn from(_refused: AllocFailed<T>) -> PlantFailure {
+        PlantFailure::OutOfMemory
+    }
+}

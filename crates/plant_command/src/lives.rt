@@ -1,0 +1,350 @@
+//! The work of a plant's threads: the lives of its devices, and their records.
+
+ghost use Rattle.std.specs.Prelude.{◌≡◌, IfOk, string_bytes};
+ghost use Rattle.plant_command.specs.Lives.{described, life_config};
+
+use crate::paths::record_path;
+use cip_tables::{Config, Device};
+use cip_types::{Node, OutOfMemory};
+use command_lines::Options;
+use page_feed::PageFeed;
+use plant_rim::{
+    DeviceFailure, DeviceLines, DeviceSeat, LifeEnd, NameForm, NamedLines, PlantJob, SharedPlant,
+    incarnation_behind,
+};
+use plant_script::ScriptRun;
+use port_faults::FaultyPort;
+use port_orders::OrderPort;
+use socket_port::SystemClock;
+use station::{Station, StationObserver, Voice};
+use station_lines::LineSink;
+use station_opening::{FastDevice, OpenedPort, open_port, recorder_in, with_incarnation};
+use station_port::{StationFault, StationPort};
+use station_record::Recorder;
+use station_rim::{Entries, LineEntrance, SharedRecord};
+use station_setup::{rates_of, with_description};
+use std::alloc::Global;
+use std::fs::{self, File};
+use std::net::Net;
+use std::rt::{Clock, Files};
+use std::sync::Wait;
+use std::thread;
+use std::time::{Duration, Instant};
+
+/// The port of the next life is tried again so often, a tenth of a second apart.
+const MOST_TRIES: u32 = 50;
+
+const RETRY_MS: u64 = 100;
+
+/// A device has at most so many lives.
+const MOST_LIVES: u32 = 1_000_000;
+
+/// The port of a device of a plant.
+type PlantPort<R> = OrderPort<FaultyPort<StationPort<R>, SystemClock<R>>, R>;
+
+/// Takes one job of a plant after another, without end.
+pub fn work<R>(rt: R, plant: &SharedPlant)
+where
+    R: AllocGlobal + Files<File = File> + Net + Clock + Wait + Copy + Drop,
+{
+    for _ in rt.forever() {
+        match plant.next_job(&rt) {
+            Some(PlantJob::Serve(seat)) => serve(rt, plant, &seat),
+            Some(PlantJob::Write(record)) => {
+                record.write_files(&rt);
+                plant.leave_record(&rt, record.has_failed(&rt));
+            }
+            None => {}
+        }
+    }
+}
+
+/// A device lives, one life after another. Reports why it fails, if it does.
+fn serve<R>(rt: R, plant: &SharedPlant, seat: &DeviceSeat)
+where
+    R: AllocGlobal + Files<File = File> + Net + Clock + Wait + Copy + Drop,
+{
+    let mut lives = 0;
+    let ended = live_all(rt, plant, seat, &mut lives);
+    let failure = match ended {
+        Ok(()) => None,
+        Err(failure) => {
+            report(rt, plant, seat, failure);
+            Some(failure)
+        }
+    };
+    plant.leave(&rt, seat.scanner, failure, failure.is_some() && lives == 0);
+}
+
+/// Reports why a device fails.
+fn report<R>(rt: R, plant: &SharedPlant, seat: &DeviceSeat, failure: DeviceFailure)
+where
+    R: AllocGlobal + Wait + Copy + Drop,
+{
+    let name = seat.name.as_str();
+    let Ok(mut err) = plant.err.sink(rt) else {
+        return;
+    };
+    match format!(in rt.alloc(); "eip_station: {name}: {failure}\n") {
+        Ok(line) => err.line(line.as_bytes()),
+        Err(_) => err.line(b"eip_station: no memory\n"),
+    }
+}
+
+/// All lives of a device. Counts those that have begun.
+fn live_all<R>(
+    rt: R,
+    plant: &SharedPlant,
+    seat: &DeviceSeat,
+    lives: &mut u32,
+) -> Result<(), DeviceFailure>
+where
+    R: AllocGlobal + Files<File = File> + Net + Clock + Wait + Copy + Drop,
+{
+    let origin = now(&rt)?;
+    forget_lives(&rt, seat)?;
+    let mut run = ScriptRun::new();
+    let mut incarnation = seat.span.first;
+    for life in 1..MOST_LIVES {
+        let config = config_of(rt.alloc(), seat, incarnation)?;
+        let opened = opened(rt, seat, &config, life)?;
+        let begun_ms = passed_ms(&rt, origin);
+        let life = Life {
+            plant,
+            seat,
+            config: &config,
+            number: life,
+            begun_ms,
+        };
+        match life.live(rt, opened, &mut run, lives)? {
+            LifeEnd::Over => return Ok(()),
+            LifeEnd::Restart { same } => {
+                incarnation = incarnation_behind(seat.span, incarnation, same);
+            }
+        }
+    }
+    Ok(())
+}
+
+/// The clock of a plant.
+fn now<R: Clock>(rt: &R) -> Result<Instant, DeviceFailure> {
+    match Instant::now(rt) {
+        Ok(now) => Ok(now),
+        Err(_) => Err(DeviceFailure::Early(station::EarlyEnd::Clock)),
+    }
+}
+
+/// The milliseconds since a moment. A clock that cannot be read adds none.
+fn passed_ms<R: Clock>(rt: &R, origin: Instant) -> u64 {
+    match Instant::now(rt) {
+        Ok(now) => u64::try_from(now.duration_since(origin).as_millis()).unwrap_or(0),
+        Err(_) => 0,
+    }
+}
+
+/// Removes the records of an earlier run's lives behind the first one, so that none of them is taken for one of this run.
+fn forget_lives<R>(rt: &R, seat: &DeviceSeat) -> Result<(), OutOfMemory>
+where
+    R: AllocGlobal + Files<File = File>,
+{
+    let Some(folder) = &seat.folder else {
+        return Ok(());
+    };
+    for life in 2..MOST_LIVES {
+        let path = record_path(rt.alloc(), folder.as_str(), seat.name.as_str(), life)?;
+        if fs::remove_file(rt, path.as_str()).is_err() {
+            break;
+        }
+    }
+    Ok(())
+}
+
+/// The configuration of a life with this incarnation. OutOfMemory is the only fault.
+fn config_of(alloc: Global, seat: &DeviceSeat, incarnation: u8) -> Result<Config, OutOfMemory>
+    ensures { IfOk result (λ config.
+        config ≡ life_config seat.now.config seat.now.options (string_bytes seat.now.name) incarnation) }
+{
+    let config = with_incarnation(seat.config.copy(alloc)?, incarnation);
+    described(alloc, config, &seat.options, seat.name.as_bytes())
+}
+
+/// A configuration, in which an adapter has a description, so that inquiries find it: without one of its own, it has this name,
+/// and its address as its serial number. OutOfMemory is the only fault.
+fn described(
+    alloc: Global,
+    config: Config,
+    options: &Options,
+    name: &[u8],
+) -> Result<Config, OutOfMemory>
+    ensures { IfOk result (λ given. given ≡ described config options.now name.now) }
+{
+    match config {
+        Config::Adapter(profile) => {
+            let Node(serial) = profile.node;
+            let profile = with_description(alloc, profile, options, serial, name)?;
+            Ok(Config::Adapter(profile))
+        }
+        Config::Scanner(profile) => Ok(Config::Scanner(profile)),
+    }
+}
+
+/// The port of a life. That of a later life is tried again for a while: the system may not have given up the earlier one.
+fn opened<R>(
+    rt: R,
+    seat: &DeviceSeat,
+    config: &Config,
+    life: u32,
+) -> Result<OpenedPort<R>, StationFault>
+where
+    R: AllocGlobal + Net + Clock + Copy + Drop,
+{
+    if life > 1 {
+        for _ in 0..MOST_TRIES {
+            if let Ok(opened) = open_port(rt, &seat.options, config) {
+                return Ok(opened);
+            }
+            thread::sleep(&rt, Duration::from_millis(RETRY_MS));
+        }
+    }
+    open_port(rt, &seat.options, config)
+}
+
+/// A life of a device.
+#[derive(Clone, Copy)]
+struct Life<'a> {
+    plant: &'a SharedPlant,
+    seat: &'a DeviceSeat,
+    config: &'a Config,
+    number: u32,
+    /// When it began, in milliseconds since its plant began.
+    begun_ms: u64,
+}
+
+impl Life<'_> {
+    /// Lives to the end, and has the record written. The life counts once the device has begun.
+    fn live<R>(
+        &self,
+        rt: R,
+        opened: OpenedPort<R>,
+        run: &mut ScriptRun,
+        lives: &mut u32,
+    ) -> Result<LifeEnd, DeviceFailure>
+    where
+        R: AllocGlobal + Files<File = File> + Net + Clock + Wait + Copy + Drop,
+    {
+        let record = SharedRecord::new(rt.alloc())?;
+        let ended = self.live_recorded(rt, opened, run, &record, lives);
+        record.end(&rt);
+        ended
+    }
+
+    /// The recorder of the life, if it is recorded.
+    fn recorder<R>(
+        &self,
+        rt: R,
+        record: &SharedRecord,
+    ) -> Result<Recorder<Entries<R>>, DeviceFailure>
+    where
+        R: AllocGlobal + Files<File = File> + Clock + Wait + Copy + Drop,
+    {
+        let alloc = rt.alloc();
+        let Some(folder) = &self.seat.folder else {
+            return Ok(Recorder::idle(alloc));
+        };
+        let name = self.seat.name.as_str();
+        let path = record_path(alloc, folder.as_str(), name, self.number)?;
+        self.plant.write(&rt, record.share()?)?;
+        Ok(recorder_in(rt, record, self.config, path)?)
+    }
+
+    /// What a device of the life says on an output.
+    fn named<R>(
+        &self,
+        rt: R,
+        form: NameForm,
+        sink: LineEntrance<R>,
+    ) -> Result<NamedLines<LineEntrance<R>>, OutOfMemory>
+    where
+        R: AllocGlobal + Wait + Copy + Drop,
+    {
+        NamedLines::new(rt.alloc(), form, self.seat.name.as_str(), sink)
+    }
+
+    /// Says which device begins to live, and where.
+    fn report_start<R>(&self, rt: R, opened: &OpenedPort<R>) -> Result<(), DeviceFailure>
+    where
+        R: AllocGlobal + Clock + Wait + Copy + Drop,
+    {
+        if self.seat.options.quiet {
+            return Ok(());
+        }
+        let (name, place) = (self.seat.name.as_str(), &opened.place);
+        let mut line = format!(in rt.alloc(); "eip_station: {name}: ")?;
+        line.push_str(if self.seat.scanner {
+            "scanner at "
+        } else {
+            "adapter at "
+        })?;
+        trace_words::push_node(&mut line, place.address)?;
+        let (tcp, udp) = (place.tcp, place.udp);
+        let (life, incarnation) = (self.number, station_opening::incarnation_of(self.config));
+        write!(
+            line,
+            ", TCP {tcp}, UDP {udp}, life {life}, incarnation {incarnation}\n"
+        )?;
+        self.plant.err.sink(rt)?.line(line.as_bytes());
+        Ok(())
+    }
+
+    /// Lives to the end. A device that loses its power closes nothing.
+    fn live_recorded<R>(
+        &self,
+        rt: R,
+        opened: OpenedPort<R>,
+        run: &mut ScriptRun,
+        record: &SharedRecord,
+        lives: &mut u32,
+    ) -> Result<LifeEnd, DeviceFailure>
+    where
+        R: AllocGlobal + Files<File = File> + Net + Clock + Wait + Copy + Drop,
+    {
+        let alloc = rt.alloc();
+        let recorder = self.recorder(rt, record)?;
+        self.report_start(rt, &opened)?;
+        let OpenedPort { port, place, slots } = opened;
+        let waker = port.waker()?;
+        let out = self.named(rt, NameForm::Result, self.plant.out.sink(rt)?)?;
+        let err = self.named(rt, NameForm::Report, self.plant.err.sink(rt)?)?;
+        let mut observer = StationObserver::new(alloc, self.config, recorder, out, err)?;
+        if let Some(page) = &self.seat.page {
+            observer.feed(PageFeed::new(alloc, self.config.copy(alloc)?, page.share()?));
+        }
+        let device = FastDevice::new(alloc, self.config.copy(alloc)?)?;
+        let voice = Voice {
+            quiet: self.seat.options.quiet,
+            silent_s: place.inactivity_s,
+        };
+        let rates = rates_of(&self.seat.options);
+        let port = FaultyPort::new(alloc, port, SystemClock::new(rt), rates);
+        let port: PlantPort<R> = OrderPort::new(alloc, rt, port)?;
+        let clock = SystemClock::new(rt);
+        let mut station = Station::new(alloc, self.config, port, clock, device, observer, voice)?;
+        *lives = self.number;
+        let typed = self.seat.input.share()?.lines(rt, waker);
+        let script = self.seat.script.as_slice();
+        let mut lines = DeviceLines::new(alloc, script, *run, typed, self.begun_ms);
+        let lived = station.live(&mut lines, slots);
+        *run = lines.run();
+        let end = lines.end();
+        let closed = match end {
+            LifeEnd::Restart { same: _ } => Ok(()),
+            LifeEnd::Over => station.close(slots),
+        };
+        lived?;
+        closed?;
+        match station.record_fault() {
+            Some(_) => Err(DeviceFailure::RecordEnd),
+            None => Ok(end),
+        }
+    }
+}

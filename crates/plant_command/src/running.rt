@@ -1,0 +1,255 @@
+//! A plant from its beginning to its end.
+
+use crate::endings::{end_of, ends, is_late};
+use crate::failure::PlantFailure;
+use crate::opening::{PlantSetting, plant_of};
+use crate::paths::path_beside;
+use crate::seats::{Member, Seated, seats_of};
+use plant_file::PlantFile;
+use plant_rim::{PlantPhase, PlantView, SharedPlant, TypedLine, next_phase, read_typed};
+use station_lines::NextLine;
+use station_rim::{Rim, drain_lines, report_line};
+use std::rt::{Clock, Files};
+use std::sync::Wait;
+use std::time::{Duration, Instant};
+use std::{fs, thread};
+
+/// A plant looks for typed lines, and whether it is over, so often, in milliseconds.
+const CONSOLE_MS: u64 = 20;
+
+/// At most so many lines are taken at a time.
+const MOST_LINES: u32 = 64;
+
+/// Runs the plant of a file until its time is over, its input ends, or none of its devices lives. Threads that `work` are to
+/// take its jobs.
+pub fn run_plant<R>(
+    rt: R,
+    rim: &Rim,
+    plant: &SharedPlant,
+    setting: &PlantSetting<'_>,
+) -> Result<(), PlantFailure>
+where
+    R: AllocGlobal + Files + Clock + Wait + Copy + Drop,
+{
+    let ran = run_file(rt, rim, plant, setting);
+    drain_lines(&rt, rim);
+    ran
+}
+
+/// Runs the plant of a file.
+fn run_file<R>(
+    rt: R,
+    rim: &Rim,
+    plant: &SharedPlant,
+    setting: &PlantSetting<'_>,
+) -> Result<(), PlantFailure>
+where
+    R: AllocGlobal + Files + Clock + Wait + Copy + Drop,
+{
+    let said = plant_of(rt, rim, setting.file)?;
+    let seconds = setting.options.seconds.or(said.seconds);
+    let folder = folder_of(rt, setting, &said)?;
+    let folder = match &folder {
+        Some(folder) => Some(folder.as_str()),
+        None => None,
+    };
+    let seats = seats_of(rt, rim, setting, said, folder)?;
+    let members = begin_all(rt, plant, seats)?;
+    let mut console = Console {
+        rt,
+        rim,
+        plant,
+        members: members.as_slice(),
+        end_ms: end_of(seconds),
+        passed_ms: 0,
+        phase: PlantPhase::Running,
+        phase_ms: 0,
+        lines: 0,
+        has_ended: false,
+    };
+    console.run()?;
+    match plant.state(&rt).failure {
+        Some(failure) => Err(PlantFailure::Device(failure)),
+        None => Ok(()),
+    }
+}
+
+/// Has all devices begin to live, the adapters first, so that scanners find their targets.
+fn begin_all<R>(rt: R, plant: &SharedPlant, seats: Vec<Seated>) -> Result<Vec<Member>, PlantFailure>
+where
+    R: AllocGlobal + Wait + Copy + Drop,
+{
+    let mut members = Vec::new(rt.alloc());
+    let mut scanners = Vec::new(rt.alloc());
+    for Seated { seat, member } in seats {
+        members.push(member)?;
+        if seat.scanner {
+            scanners.push(seat)?;
+        } else {
+            plant.serve(&rt, seat)?;
+        }
+    }
+    for seat in scanners {
+        plant.serve(&rt, seat)?;
+    }
+    Ok(members)
+}
+
+/// The folder of the records, which is made if it is not there.
+fn folder_of<R>(
+    rt: R,
+    setting: &PlantSetting<'_>,
+    plant: &PlantFile,
+) -> Result<Option<String>, PlantFailure>
+where
+    R: AllocGlobal + Files + Copy + Drop,
+{
+    let alloc = rt.alloc();
+    let folder = match (setting.folder, &plant.record_path) {
+        (Some(folder), _) => format!(in alloc; "{folder}")?,
+        (None, Some(folder)) => path_beside(alloc, setting.file, folder.as_str())?,
+        (None, None) => return Ok(None),
+    };
+    if matches!(fs::metadata(&rt, folder.as_str()), Ok(found) if found.is_dir()) {
+        return Ok(Some(folder));
+    }
+    match fs::create_dir_all(&rt, folder.as_str()) {
+        Ok(()) => Ok(Some(folder)),
+        Err(_) => Err(PlantFailure::Folder),
+    }
+}
+
+/// A plant that runs, seen from its input.
+#[derive(Drop)]
+struct Console<'a, R> {
+    rt: R,
+    rim: &'a Rim,
+    plant: &'a SharedPlant,
+    members: &'a [Member],
+    end_ms: Option<u64>,
+    passed_ms: u64,
+    phase: PlantPhase,
+    phase_ms: u64,
+    lines: u64,
+    has_ended: bool,
+}
+
+impl<'a, R> Console<'a, R>
+where
+    R: AllocGlobal + Clock + Wait + Copy + Drop,
+{
+    /// Runs until the plant has ended.
+    fn run(&mut self) -> Result<(), PlantFailure> {
+        let rt = self.rt;
+        let Ok(origin) = Instant::now(&rt) else {
+            return Err(PlantFailure::Clock);
+        };
+        for _ in rt.forever() {
+            if self.phase == PlantPhase::Ended {
+                return Ok(());
+            }
+            if self.phase == PlantPhase::Running {
+                self.take_lines()?;
+            }
+            self.look(origin);
+            thread::sleep(&rt, Duration::from_millis(CONSOLE_MS));
+        }
+        Ok(())
+    }
+
+    /// Looks how it is, and goes on to the next phase if it is time.
+    fn look(&mut self, origin: Instant) {
+        if let Ok(now) = Instant::now(&self.rt) {
+            self.passed_ms = u64::try_from(now.duration_since(origin).as_millis()).unwrap_or(
+                self.passed_ms,
+            );
+        }
+        let state = self.plant.state(&self.rt);
+        let is_late = is_late(self.end_ms, self.passed_ms);
+        let view = PlantView {
+            counts: state.counts,
+            is_over: is_late || self.has_ended || state.is_stillborn,
+            waited_ms: self.passed_ms.saturating_sub(self.phase_ms),
+        };
+        let next = next_phase(self.phase, view);
+        if next != self.phase {
+            self.phase = next;
+            self.phase_ms = self.passed_ms;
+            self.begin_phase();
+        }
+    }
+
+    /// Ends the devices that a phase ends.
+    fn begin_phase(&self) {
+        for member in self.members {
+            if ends(self.phase, member.scanner) {
+                member.input.end(&self.rt);
+            }
+        }
+    }
+
+    /// Takes the lines that were typed.
+    fn take_lines(&mut self) -> Result<(), PlantFailure> {
+        for _ in 0..MOST_LINES {
+            let next = self.rim.input.next_line(&self.rt)?;
+            match next {
+                NextLine::Nothing => return Ok(()),
+                NextLine::End => {
+                    self.has_ended = true;
+                    return Ok(());
+                }
+                NextLine::Line(line) => self.hand_on(line.as_slice())?,
+            }
+        }
+        Ok(())
+    }
+
+    /// Hands a line on to the devices for which it is.
+    fn hand_on(&mut self, line: &[u8]) -> Result<(), PlantFailure> {
+        self.lines = self.lines.saturating_add(1);
+        let typed = read_typed(self.rt.alloc(), line)?;
+        match typed {
+            TypedLine::Skipped => Ok(()),
+            TypedLine::Status => {
+                for member in self.members {
+                    member.input.offer(&self.rt, b"status\n");
+                }
+                Ok(())
+            }
+            TypedLine::For(end) => {
+                let (name, rest) = line.split_at(end);
+                self.hand_to(name, rest.get(1..).unwrap_or(&[]))
+            }
+            TypedLine::NoCall => self.report(
+                "is no call: status, or NAME and write POINT HEX, read POINT, mode run, mode idle, start SLOT, stop SLOT, status, cut, pause MS, restart [same], send NODE HEX",
+            ),
+        }
+    }
+
+    /// Hands a call on to the device of a name.
+    fn hand_to(&mut self, name: &[u8], call: &[u8]) -> Result<(), PlantFailure> {
+        let Some(member) = self
+            .members
+            .iter()
+            .find(|member| member.name.as_bytes() == name)
+        else {
+            return self.report("names no device");
+        };
+        let mut line = Vec::from_slice(self.rt.alloc(), call)?;
+        line.push(b'\n')?;
+        if member.input.offer(&self.rt, line.as_slice()) {
+            return Ok(());
+        }
+        self.report("finds no room at its device")
+    }
+
+    /// Reports what is wrong with the line that was typed.
+    fn report(&self, wrong: &str) -> Result<(), PlantFailure> {
+        let number = self.lines;
+        let line = format!(in self.rt.alloc();
+            "eip_station: line {number} of standard input {wrong}\n"
+        )?;
+        report_line(self.rt, self.rim, line.as_bytes());
+        Ok(())
+    }
+}
