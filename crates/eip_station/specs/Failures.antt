@@ -1,11 +1,10 @@
 -- The status of the program after a failure.
 use Rattle.std.specs.Prelude.{ℕ, Bool, true, false}
-use Rattle.std.specs.declared.io.ErrorKind.{ErrorKind}
-use Rattle.std.specs.declared.io.ErrorKind.TheVariants.{OutOfMemory}
 use Rattle.station_port.specs.declared.fault.SocketCause.TheVariants as cause
 use Rattle.command_lines.specs.declared.station_options.StationMisuse.TheVariants as misuse
 use Rattle.identity_search.specs.declared.fault.SearchFault.{SearchFault}
 use Rattle.identity_search.specs.declared.fault.SearchFault.TheVariants as search
+use Rattle.plant_command.specs.Statuses.{is_reported as is_plant_reported, status_of as plant_status}
 use Rattle.settle_command.specs.Faults.{status_of as settle_status}
 use Rattle.trace_commands.specs.declared.fault.TracesFault.{TracesFault}
 use Rattle.trace_commands.specs.declared.fault.TracesFault.TheVariants as traces
@@ -30,11 +29,6 @@ search_status search.Output = 1
 search_status search.Socket = 5
 search_status search.OutOfMemory = 7
 
--- why the file of a profile is not read to its end
-abbrev pub unread_failure : ErrorKind → Failure
-unread_failure OutOfMemory = failure.OutOfMemory
-unread_failure _ = failure.Unread
-
 -- 1 after an early end, where the output takes nothing or no device answers, 2 after a wrong word, 3 after a bad profile or state, 4 after an
 -- address that is none, 5 where a socket cannot be made, 6 where the record or the state cannot be written, 7 where there is
 -- no memory
@@ -44,6 +38,7 @@ status_of failure.Output = 1
 status_of (failure.Traces fault) = traces_status fault
 status_of (failure.Settling fault) = settle_status fault
 status_of (failure.Search fault) = search_status fault
+status_of (failure.Plant why) = plant_status why
 status_of (failure.Words (misuse.BadAddress left)) = 4
 status_of (failure.Words other) = 2
 status_of failure.Unread = 3
@@ -65,4 +60,5 @@ is_reported (failure.Profile fault) = true
 is_reported failure.State = true
 is_reported failure.NoState = true
 is_reported failure.RecordEnd = true
+is_reported (failure.Plant why) = is_plant_reported why
 is_reported other = false

@@ -1,19 +1,19 @@
 //! Why the program fails: the line on standard error, and the status.
 
 ghost use Rattle.std.specs.Prelude.{◌≡◌};
-ghost use Rattle.eip_station.specs.Failures.{is_reported, search_status, status_of, traces_status, unread_failure};
+ghost use Rattle.eip_station.specs.Failures.{is_reported, search_status, status_of, traces_status};
 
 use cip_tables::NewFault;
 use cip_types::OutOfMemory;
 use command_lines::StationMisuse;
 use identity_search::SearchFault;
+use plant_command::PlantFailure;
 use settle_command::SettleFault;
 use station::EarlyEnd;
 use station_files::StateFault;
 use station_port::{SocketCause, StationFault, StationSocket};
 use station_record::RecordFault;
 use std::alloc::{AllocError, AllocFailed};
-use std::io::ErrorKind;
 use thiserror::Error;
 use trace_commands::TracesFault;
 use trace_text::TraceFault;
@@ -51,6 +51,9 @@ pub enum Failure {
     /// No device is found.
     #[error(transparent)]
     Search(SearchFault),
+    /// A plant fails.
+    #[error(transparent)]
+    Plant(PlantFailure),
     /// The file of the state cannot be read, or holds no state.
     #[error("holds no state of a station: --state FILE names another file, --incarnation N needs none")]
     State,
@@ -87,6 +90,7 @@ pub fn status_of(failure: Failure) -> u8
         Failure::Traces(fault) => traces_status(fault),
         Failure::Settling(fault) => fault.status(),
         Failure::Search(fault) => search_status(fault),
+        Failure::Plant(failure) => failure.status(),
         Failure::Words(StationMisuse::BadAddress(_)) => 4,
         Failure::Words(_) => 2,
         Failure::Unread => 3,
@@ -197,6 +201,12 @@ impl From<SearchFault> for Failure {
     }
 }
 
+impl From<PlantFailure> for Failure {
+    fn from(failure: PlantFailure) -> Failure {
+        Failure::Plant(failure)
+    }
+}
+
 impl From<EarlyEnd> for Failure {
     fn from(end: EarlyEnd) -> Failure {
         match end {
@@ -224,24 +234,18 @@ impl<T: Drop> From<AllocFailed<T>> for Failure {
     }
 }
 
-/// Why the file of a profile is not read to its end, by the kind of the system's error.
-pub fn unread(kind: ErrorKind) -> Failure
-    ensures { result ≡ unread_failure kind }
-{
-    match kind {
-        ErrorKind::OutOfMemory => Failure::OutOfMemory,
-        _ => Failure::Unread,
-    }
-}
-
 /// Whether a line has told the failure already.
 pub fn is_reported(failure: Failure) -> bool
     ensures { result ≡ is_reported failure }
 {
-    matches!(
-        failure,
-        Failure::Profile(_) | Failure::State | Failure::NoState | Failure::RecordEnd
-    )
+    match failure {
+        Failure::Plant(failure) => failure.is_reported(),
+        Failure::Profile(_) => true,
+        Failure::State => true,
+        Failure::NoState => true,
+        Failure::RecordEnd => true,
+        _ => false,
+    }
 }
 
 /// The words before a failure: the wrong word of the command line, or the file.
@@ -249,6 +253,7 @@ pub fn subject_of(words: &[String], failure: Failure) -> &str {
     match failure {
         Failure::Words(misuse) => wrong_word(words, misuse),
         Failure::Unread | Failure::Events | Failure::WrongKind => file_at(words, 0),
+        Failure::Plant(PlantFailure::Unread) => file_at(words, 0),
         Failure::Traces(TracesFault::Events | TracesFault::Scanner) => file_at(words, 0),
         Failure::Traces(TracesFault::Unread(place)) => file_at(words, place),
         Failure::Settling(fault) => match fault.file() {
@@ -271,7 +276,10 @@ fn file_at(words: &[String], place: usize) -> &str {
 /// The wrong word of a command line.
 fn wrong_word(words: &[String], misuse: StationMisuse) -> &str {
     let left = match misuse {
-        StationMisuse::NoCommand | StationMisuse::NoFile | StationMisuse::NoHost => return "",
+        StationMisuse::NoCommand
+        | StationMisuse::NoFile
+        | StationMisuse::NoHost
+        | StationMisuse::OneDevice => return "",
         StationMisuse::ThreeNames(left) => left,
         StationMisuse::BadName(left) => left,
         StationMisuse::NoSuchCommand(left) => left,

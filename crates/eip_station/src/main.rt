@@ -2,7 +2,6 @@
 #![tactic(auto)]
 
 mod failure;
-mod opening;
 mod paging;
 mod profiles;
 mod program;
@@ -10,12 +9,15 @@ mod stationing;
 
 use failure::{Failure, NO_MEMORY, status_of};
 use page_server::{PAGE_THREADS, SharedPage, begin_page};
+use plant_command::work;
+use plant_rim::SharedPlant;
 use port_alarm::Alarm;
 use program::Surroundings;
-use station_rim::{Rim, begin_output};
+use station_rim::{Rim, SharedRecord, begin_output};
+use std::fs::File;
 use std::io::Write;
 use std::process::ExitCode;
-use std::rt::Clock;
+use std::rt::{Clock, Files};
 use std::sync::Wait;
 use std::thread::{self, Threads};
 
@@ -25,37 +27,68 @@ fn main(rt: HostRuntime) -> ExitCode {
     let (Ok(rim), Ok(alarm)) = (Rim::new(rt.alloc()), Alarm::new(rt.alloc(), &rt)) else {
         return no_memory(rt.stderr());
     };
-    let Ok(page) = SharedPage::new(rt.alloc()) else {
+    let (Some(needs), Ok(input)) = (program::needs_of(&rt), rim.input.share()) else {
         return no_memory(rt.stderr());
     };
-    let (Ok(record), Ok(input)) = (rim.record.share(), rim.input.share()) else {
+    let Ok(plant) = SharedPlant::new(rt.alloc(), &rim.out, &rim.err) else {
         return no_memory(rt.stderr());
     };
-    let needs = program::needs_of(&rt);
-    let is_begun = !needs.station
-        || (begin_output(rt, &rim.out, rt.stdout())
-            && begin_output(rt, &rim.err, rt.stderr())
-            && begin_alarm(rt, &alarm));
-    if !is_begun || (needs.page && !begin_page(rt, &page, &rim.input)) {
+    let Ok(page) = SharedPage::new(rt.alloc(), needs.devices) else {
+        return no_memory(rt.stderr());
+    };
+    let has_outputs = !needs.outputs
+        || (begin_output(rt, &rim.out, rt.stdout()) && begin_output(rt, &rim.err, rt.stderr()));
+    let is_begun = has_outputs
+        && (!needs.alarm || begin_alarm(rt, &alarm))
+        && (!needs.record || begin_record(rt, &rim.record))
+        && (!needs.page || (begin_page(rt, &page, &rim.input) && begin_servers(rt, &page)));
+    if !is_begun
+        || (needs.input && thread::spawn(&rt, move || input.fill(&rt, rt.reader())).is_err())
+    {
         return no_memory(rt.stderr());
     }
-    if needs.record && thread::spawn(&rt, move || record.write_files(&rt)).is_err() {
-        return no_memory(rt.stderr());
-    }
-    if needs.input && thread::spawn(&rt, move || input.fill(&rt, rt.reader())).is_err() {
-        return no_memory(rt.stderr());
-    }
-    let page_threads = if needs.page { PAGE_THREADS } else { 0 };
-    for _ in 0..page_threads {
-        let Ok(page) = page.share() else {
+    for _ in 0..needs.plant {
+        let Ok(plant) = plant.share() else {
             return no_memory(rt.stderr());
         };
-        if thread::spawn(&rt, move || page.serve(&rt)).is_err() {
+        if thread::spawn(&rt, move || work(rt, &plant)).is_err() {
             return no_memory(rt.stderr());
         }
     }
-    let shared = Surroundings { rim, page, alarm };
+    let shared = Surroundings {
+        rim,
+        page,
+        alarm,
+        plant,
+    };
     program::run(rt, shared, rt.stdout(), rt.stderr())
+}
+
+/// Begins the thread that writes the record of a station. Whether it could begin.
+fn begin_record<R>(rt: R, record: &SharedRecord) -> bool
+where
+    R: Threads + Wait + Files<File = File> + Copy + Send + Drop + 'static,
+{
+    match record.share() {
+        Ok(record) => thread::spawn(&rt, move || record.write_files(&rt)).is_ok(),
+        Err(_) => false,
+    }
+}
+
+/// Begins the threads that serve a page to browsers. Whether they could begin.
+fn begin_servers<R>(rt: R, page: &SharedPage) -> bool
+where
+    R: Threads + Wait + Clock + AllocGlobal + Files<File = File> + Copy + Send + Drop + 'static,
+{
+    for _ in 0..PAGE_THREADS {
+        let Ok(page) = page.share() else {
+            return false;
+        };
+        if thread::spawn(&rt, move || page.serve(&rt)).is_err() {
+            return false;
+        }
+    }
+    true
 }
 
 /// Begins the thread that rings the alarm of a station. Whether it could begin.

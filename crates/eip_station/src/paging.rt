@@ -1,10 +1,9 @@
 //! The page of a station: where it is served, its token, and the line that names it.
 
 use crate::failure::Failure;
-use crate::stationing::{Stationed, station_name, word_from_end};
-use cip_tables::Config;
+use crate::program::Surroundings;
 use cip_types::Node;
-use page_feed::PageFeed;
+use command_lines::Options;
 use page_server::{PageSetting, greeting_text};
 use station_page::{Allowed, OwnNames};
 use station_port::page_listener;
@@ -27,49 +26,61 @@ pub trait HostNet: Net<Listener = TcpListener, Stream = TcpStream> {}
 
 impl<R: Net<Listener = TcpListener, Stream = TcpStream>> HostNet for R {}
 
-/// Begins to serve the page of a station at a port, and answers what tells it of the device.
+/// What a page shows: the name of its station or plant, the first file of a record, and the devices of a plant.
+#[derive(Clone, Copy)]
+pub struct PageSubject<'a> {
+    pub name: &'a str,
+    pub record: Option<&'a str>,
+    pub devices: Option<&'a [&'a str]>,
+}
+
+/// Begins to serve a page at a port.
 pub fn begin_page<R>(
-    setting: &Stationed<'_, R>,
-    config: &Config,
+    rt: R,
+    shared: &Surroundings,
+    options: &Options,
     port: u16,
-) -> Result<PageFeed, Failure>
+    subject: PageSubject<'_>,
+) -> Result<(), Failure>
 where
     R: AllocGlobal + Files<File = File> + Clock + HostNet + RandomSource + Wait + Copy + Drop,
 {
-    let rt = setting.rt;
     let alloc = rt.alloc();
-    let address = setting.options.page_address.unwrap_or(LOCAL);
+    let address = options.page_address.unwrap_or(LOCAL);
     let listener = page_listener(&rt, address, port)?;
-    let token = token_of(setting)?;
-    let record = record_of(setting)?;
+    let token = token_of(&rt, options)?;
+    let record = record_of(&rt, subject.record)?;
     let allowed = Allowed {
-        writes: setting.options.page_writes,
+        writes: options.page_writes,
         record: record.is_some(),
     };
+    let devices = subject.devices.unwrap_or(&[]);
     let page = PageSetting {
         listener,
         names: OwnNames::new(alloc, address, port, token.as_bytes())?,
         allowed,
-        greeting: greeting_text(alloc, station_name(setting), allowed)?,
+        greeting: greeting_text(alloc, subject.name, allowed, devices)?,
         record,
+        is_plant: subject.devices.is_some(),
     };
-    setting.page.open(&rt, page);
-    report_page(setting, address, port, token.as_str())?;
-    let end = setting.page.feed_end()?;
-    Ok(PageFeed::new(alloc, config.copy(alloc)?, end))
+    shared.page.open(&rt, page);
+    if !options.quiet || !token.is_empty() {
+        report_page(rt, shared, address, port, token.as_str())?;
+    }
+    Ok(())
 }
 
 /// A token that nobody can guess, if the page takes calls; else none.
-fn token_of<R>(setting: &Stationed<'_, R>) -> Result<String, Failure>
+fn token_of<R>(rt: &R, options: &Options) -> Result<String, Failure>
 where
     R: AllocGlobal + RandomSource,
 {
-    let mut token = String::new(setting.rt.alloc());
-    if !setting.options.page_writes {
+    let mut token = String::new(rt.alloc());
+    if !options.page_writes {
         return Ok(token);
     }
     let mut bytes = [0u8; TOKEN_BYTES];
-    if setting.rt.fill_bytes(&mut bytes).is_err() {
+    if rt.fill_bytes(&mut bytes).is_err() {
         return Err(Failure::Token);
     }
     push_digits(&mut token, &bytes)?;
@@ -77,23 +88,23 @@ where
 }
 
 /// The name of the record's first file, if that is a file that can be read again.
-fn record_of<R>(setting: &Stationed<'_, R>) -> Result<Option<String>, Failure>
+fn record_of<R>(rt: &R, path: Option<&str>) -> Result<Option<String>, Failure>
 where
     R: AllocGlobal + Files<File = File>,
 {
-    let Some(left) = setting.options.record_from_end else {
+    let Some(path) = path else {
         return Ok(None);
     };
-    let path = word_from_end(setting.words, left);
-    if matches!(fs::metadata(&setting.rt, path), Ok(found) if found.is_file()) {
-        return Ok(Some(format!(in setting.rt.alloc(); "{path}")?));
+    if matches!(fs::metadata(rt, path), Ok(found) if found.is_file()) {
+        return Ok(Some(format!(in rt.alloc(); "{path}")?));
     }
     Ok(None)
 }
 
 /// Reports where the page is. Only who reads this line has the token.
 fn report_page<R>(
-    setting: &Stationed<'_, R>,
+    rt: R,
+    shared: &Surroundings,
     address: Node,
     port: u16,
     token: &str,
@@ -101,16 +112,13 @@ fn report_page<R>(
 where
     R: AllocGlobal + Wait + Copy + Drop,
 {
-    if setting.options.quiet && token.is_empty() {
-        return Ok(());
-    }
-    let mut line = format!(in setting.rt.alloc(); "eip_station: page at http://")?;
+    let mut line = format!(in rt.alloc(); "eip_station: page at http://")?;
     push_node(&mut line, address)?;
     write!(line, ":{port}/")?;
     if !token.is_empty() {
         write!(line, "#{token}")?;
     }
     line.push_str("\n")?;
-    report_line(setting.rt, setting.rim, line.as_bytes());
+    report_line(rt, &shared.rim, line.as_bytes());
     Ok(())
 }

@@ -1,19 +1,12 @@
-//! Profiles in files.
+//! The profile of a station, and what is reported of one that is bad.
 
-use crate::failure::{Failure, unread};
-use adapter_engine::FastAdapter;
-use cip_tables::{AnyDevice, Config};
+use crate::failure::Failure;
+use cip_tables::Config;
 use cip_types::OutOfMemory;
-use scanner_engine::FastScanner;
+use station_opening::{UnusableProfile, is_scanner, profile_in};
 use station_rim::{Rim, report_line};
-use std::fs;
 use std::rt::Files;
 use std::sync::Wait;
-use trace_faults::explain_fault;
-use trace_text::{Trace, TraceFault, read_trace};
-
-/// The device of a profile of either kind.
-pub type FastDevice = AnyDevice<FastAdapter, FastScanner>;
 
 /// The profile of a file, which is to have no events, and to be that of a scanner or not. A bad profile is reported with its
 /// file, its line and its word.
@@ -23,26 +16,17 @@ pub fn profile_of<R: Files + AllocGlobal + Wait + Copy + Drop>(
     path: &str,
     scanner: bool,
 ) -> Result<Config, Failure> {
-    let alloc = rt.alloc();
-    let text = match fs::read(&rt, path) {
-        Ok(text) => text,
-        Err(error) => return Err(unread(error.kind())),
-    };
-    let Trace { config, events } = match read_trace(alloc, text.as_slice()) {
-        Ok(trace) => trace,
-        Err(TraceFault::OutOfMemory) => return Err(Failure::OutOfMemory),
-        Err(fault) => {
-            report_fault(rt, rim, path, text.as_slice(), fault)?;
-            return Err(Failure::from(fault));
+    match profile_in(&rt, path) {
+        Ok(config) if is_scanner(&config) == scanner => Ok(config),
+        Ok(_) => Err(Failure::WrongKind),
+        Err(UnusableProfile::Unread) => Err(Failure::Unread),
+        Err(UnusableProfile::Events) => Err(Failure::Events),
+        Err(UnusableProfile::OutOfMemory) => Err(Failure::OutOfMemory),
+        Err(UnusableProfile::Bad(fault, sentence)) => {
+            report_fault(rt, rim, path, sentence.as_str())?;
+            Err(Failure::from(fault))
         }
-    };
-    if !events.as_slice().is_empty() {
-        return Err(Failure::Events);
     }
-    if is_scanner(&config) != scanner {
-        return Err(Failure::WrongKind);
-    }
-    Ok(config)
 }
 
 /// Reports why a file holds no profile.
@@ -50,41 +34,9 @@ fn report_fault<R: AllocGlobal + Wait + Copy + Drop>(
     rt: R,
     rim: &Rim,
     path: &str,
-    text: &[u8],
-    fault: TraceFault,
+    sentence: &str,
 ) -> Result<(), OutOfMemory> {
-    let sentence = explain_fault(rt.alloc(), text, fault)?;
     let line = format!(in rt.alloc(); "eip_station: {path}: {sentence}")?;
     report_line(rt, rim, line.as_bytes());
     Ok(())
-}
-
-/// Whether a configuration is that of a scanner.
-fn is_scanner(config: &Config) -> bool {
-    match config {
-        Config::Adapter(_) => false,
-        Config::Scanner(_) => true,
-    }
-}
-
-/// The incarnation of a profile.
-pub fn incarnation_of(config: &Config) -> u8 {
-    match config {
-        Config::Adapter(profile) => profile.incarnation,
-        Config::Scanner(profile) => profile.incarnation,
-    }
-}
-
-/// A profile with this incarnation in place of its own.
-pub fn with_incarnation(config: Config, incarnation: u8) -> Config {
-    match config {
-        Config::Adapter(mut profile) => {
-            profile.incarnation = incarnation;
-            Config::Adapter(profile)
-        }
-        Config::Scanner(mut profile) => {
-            profile.incarnation = incarnation;
-            Config::Scanner(profile)
-        }
-    }
 }

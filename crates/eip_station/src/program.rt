@@ -1,14 +1,17 @@
 //! The program, at its command line and its streams.
 
 use crate::failure::{Failure, NO_MEMORY, is_reported, status_of, subject_of};
-use crate::paging::HostNet;
-use crate::stationing::run_task;
-use command_lines::{ProgramTask, SheetTask, USAGE, VERSION, read_station_task};
+use crate::paging::{HostNet, PageSubject, begin_page};
+use crate::stationing::{file_of, report_end, run_task, word_from_end};
+use command_lines::{Options, ProgramTask, SheetTask, USAGE, VERSION, read_station_task};
 use eds_text::SheetNames;
 use identity_search::search;
 use page_server::SharedPage;
+use plant_command::{PlantSetting, names_in, run_plant};
+use plant_rim::SharedPlant;
 use port_alarm::Alarm;
 use settle_command::settle_files;
+use station_files::stem_of;
 use station_rim::Rim;
 use std::alloc::Global;
 use std::env::{self, Env};
@@ -20,25 +23,32 @@ use std::rt::{Clock, Files};
 use std::sync::Wait;
 use trace_commands::{data_sheet, explain, pcap, replay};
 
-/// What a station shares with its threads.
+/// What a station or a plant shares with its threads.
 #[derive(Drop)]
 pub struct Surroundings {
     pub rim: Rim,
     pub page: SharedPage,
     pub alarm: Alarm,
+    pub plant: SharedPlant,
 }
 
 /// The threads that a command line needs.
 #[derive(Clone, Copy, Default)]
 pub struct Needs {
-    /// Those of a station's outputs and of its alarm.
-    pub station: bool,
+    /// Those of outputs.
+    pub outputs: bool,
+    /// That of the alarm of a station.
+    pub alarm: bool,
     /// That of its input.
     pub input: bool,
     /// That of its record.
     pub record: bool,
     /// Those of its page.
     pub page: bool,
+    /// Two for each device of a plant, which take its jobs.
+    pub plant: usize,
+    /// The devices whose snapshots a page shows.
+    pub devices: usize,
 }
 
 /// Performs what the command line requests, and answers the status. A failure is one line on `err`.
@@ -59,19 +69,37 @@ where
     }
 }
 
-/// The threads that the command line needs.
-pub fn needs_of<R: AllocGlobal + Env>(rt: &R) -> Needs {
-    let Some(words) = words_of(rt) else {
-        return Needs::default();
-    };
+/// The threads that the command line needs. None without memory.
+pub fn needs_of<R: AllocGlobal + Env + Files>(rt: &R) -> Option<Needs> {
+    let words = words_of(rt)?;
     match read_station_task(words.as_slice()) {
-        Ok(ProgramTask::Station(task)) => Needs {
-            station: true,
+        Ok(ProgramTask::Station(task)) => Some(Needs {
+            outputs: true,
+            alarm: true,
             input: !task.options.no_input,
             record: task.options.record_from_end.is_some(),
             page: task.options.page.is_some(),
-        },
-        _ => Needs::default(),
+            plant: 0,
+            devices: 1,
+        }),
+        Ok(ProgramTask::Plant(options)) => {
+            let devices = names_in(rt, file_of(words.as_slice())).ok()?.len();
+            Some(plant_needs(&options, devices))
+        }
+        _ => Some(Needs::default()),
+    }
+}
+
+/// The threads that a plant of so many devices needs. A file that is no plant has none.
+fn plant_needs(options: &Options, devices: usize) -> Needs {
+    Needs {
+        outputs: true,
+        alarm: false,
+        input: !options.no_input,
+        record: false,
+        page: options.page.is_some(),
+        plant: devices.saturating_mul(2),
+        devices,
     }
 }
 
@@ -95,12 +123,81 @@ where
 {
     match read_station_task(words) {
         Ok(ProgramTask::Station(task)) => run_task(rt, words, task, shared),
+        Ok(ProgramTask::Plant(options)) => plant(rt, words, &options, shared),
         Ok(task) => {
             let done = write(&rt, words, task, out);
             report(rt.alloc(), words, done, err)
         }
         Err(misuse) => report(rt.alloc(), words, Err(Failure::Words(misuse)), err),
     }
+}
+
+/// Runs a plant to its end, and reports its failure.
+fn plant<R>(
+    rt: R,
+    words: &[String],
+    options: &Options,
+    shared: &Surroundings,
+) -> Result<(), Failure>
+where
+    R: AllocGlobal + Files<File = File> + Clock + HostNet + RandomSource + Wait + Copy + Drop,
+{
+    let done = run_devices(rt, words, options, shared);
+    report_end(rt, words, shared, done)
+}
+
+/// Serves the page of a plant, if it has one, and runs the plant.
+fn run_devices<R>(
+    rt: R,
+    words: &[String],
+    options: &Options,
+    shared: &Surroundings,
+) -> Result<(), Failure>
+where
+    R: AllocGlobal + Files<File = File> + Clock + HostNet + RandomSource + Wait + Copy + Drop,
+{
+    let setting = PlantSetting {
+        file: file_of(words),
+        options,
+        folder: match options.record_from_end {
+            Some(left) => Some(word_from_end(words, left)),
+            None => None,
+        },
+        page: match options.page {
+            Some(_) => Some(&shared.page),
+            None => None,
+        },
+    };
+    if let Some(port) = options.page {
+        begin_plant_page(rt, shared, &setting, port)?;
+    }
+    Ok(run_plant(rt, &shared.rim, &shared.plant, &setting)?)
+}
+
+/// Serves the page of a plant. A file that is no plant has none.
+fn begin_plant_page<R>(
+    rt: R,
+    shared: &Surroundings,
+    setting: &PlantSetting<'_>,
+    port: u16,
+) -> Result<(), Failure>
+where
+    R: AllocGlobal + Files<File = File> + Clock + HostNet + RandomSource + Wait + Copy + Drop,
+{
+    let devices = names_in(&rt, setting.file)?;
+    let mut names: Vec<&str> = Vec::new(rt.alloc());
+    for device in devices.as_slice() {
+        names.push(device.as_str())?;
+    }
+    if names.is_empty() {
+        return Ok(());
+    }
+    let subject = PageSubject {
+        name: stem_of(setting.file),
+        record: None,
+        devices: Some(names.as_slice()),
+    };
+    begin_page(rt, shared, setting.options, port, subject)
 }
 
 /// Performs a task that writes a text or a capture file.
@@ -124,7 +221,7 @@ where
             Ok(data_sheet(rt, profile_of(words), &names_of(words, sheet), out)?)
         }
         ProgramTask::Search(task) => Ok(search(rt, task.host, task.seconds, &mut out)?),
-        ProgramTask::Station(_) => Ok(()),
+        ProgramTask::Station(_) | ProgramTask::Plant(_) => Ok(()),
     }
 }
 

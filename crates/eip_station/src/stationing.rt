@@ -1,23 +1,24 @@
 //! A station from its words to its end.
 
 use crate::failure::{Failure, NO_MEMORY};
-use crate::opening::scanner_port;
-use crate::paging::{HostNet, begin_page};
-use crate::profiles::{FastDevice, incarnation_of, profile_of, with_incarnation};
+use crate::paging::{HostNet, PageSubject, begin_page};
+use crate::profiles::profile_of;
 use crate::program::{Surroundings, line_of};
 use cip_tables::{Config, Device};
-use command_lines::{Options, StationTask, VERSION};
-use page_server::SharedPage;
-use port_alarm::Alarm;
+use command_lines::{Options, StationTask};
+use page_feed::PageFeed;
 use port_faults::FaultyPort;
 use socket_port::SystemClock;
 use station::{Station, StationObserver, Voice};
-use station_files::{begin_in_file, name_of, place_of_record, push_moment, stem_of};
+use station_files::{begin_in_file, name_of, stem_of};
 use station_lines::NoLines;
+use station_opening::{
+    FastDevice, OpenedPort, incarnation_of, is_scanner, open_port, recorder_in, with_incarnation,
+};
 use station_port::{StationPlace, StationPort};
 use station_record::Recorder;
 use station_rim::{Entries, Rim, drain_lines, drain_record, report_line};
-use station_setup::{adapter_place, ending_of, rates_of, scanner_place, with_description};
+use station_setup::{ending_of, rates_of, with_description};
 use station_state::StationState;
 use std::fs::File;
 use std::random::RandomSource;
@@ -31,8 +32,7 @@ pub struct Stationed<'a, R> {
     pub words: &'a [String],
     pub options: &'a Options,
     pub rim: &'a Rim,
-    pub page: &'a SharedPage,
-    pub alarm: &'a Alarm,
+    pub shared: &'a Surroundings,
 }
 
 /// Runs a station to its end, and reports its failure.
@@ -50,11 +50,23 @@ where
         words,
         options: &task.options,
         rim: &shared.rim,
-        page: &shared.page,
-        alarm: &shared.alarm,
+        shared,
     };
     let ran = begin(&setting, task.scanner);
     let done = with_record(&setting, ran);
+    report_end(rt, words, shared, done)
+}
+
+/// Reports a failure, and waits a bounded time for the outputs.
+pub fn report_end<R>(
+    rt: R,
+    words: &[String],
+    shared: &Surroundings,
+    done: Result<(), Failure>,
+) -> Result<(), Failure>
+where
+    R: AllocGlobal + Clock + Wait + Copy + Drop,
+{
     if let Err(failure) = done {
         match line_of(rt.alloc(), words, failure) {
             Ok(line) => report_line(rt, &shared.rim, line.as_bytes()),
@@ -132,33 +144,15 @@ fn open<R>(setting: &Stationed<'_, R>, config: Config, state: StationState) -> R
 where
     R: AllocGlobal + Files<File = File> + Clock + HostNet + RandomSource + Wait + Copy + Drop,
 {
-    let options = setting.options;
     let config = described(setting, config, &state)?;
-    match &config {
-        Config::Adapter(profile) => {
-            let place = adapter_place(options, profile);
-            let port = StationPort::adapter(setting.rt.alloc(), setting.rt, &place)?;
-            let start = start_line(setting, "adapter", &place, state.incarnation)?;
-            serve(
-                setting,
-                &config,
-                port,
-                &Start::of(start.as_str(), &place, 0),
-            )
-        }
-        Config::Scanner(profile) => {
-            let place = scanner_place(options, profile);
-            let port = scanner_port(setting.rt, &place, profile)?;
-            let slots = u32::try_from(profile.slots.as_slice().len()).unwrap_or(0);
-            let start = start_line(setting, "scanner", &place, state.incarnation)?;
-            serve(
-                setting,
-                &config,
-                port,
-                &Start::of(start.as_str(), &place, slots),
-            )
-        }
-    }
+    let kind = if is_scanner(&config) {
+        "scanner"
+    } else {
+        "adapter"
+    };
+    let opened = open_port(setting.rt, setting.options, &config)?;
+    let start = start_line(setting, kind, &opened.place, state.incarnation)?;
+    serve(setting, &config, opened, start.as_str())
 }
 
 /// The configuration of a station: an adapter's has a description, so that inquiries find it.
@@ -181,27 +175,8 @@ where
     }
 }
 
-/// What a station that starts has: its first line, its slots, and the seconds for which an adapter's stream may be silent.
-#[derive(Clone, Copy)]
-struct Start<'a> {
-    line: &'a str,
-    slots: u32,
-    silent_s: u16,
-}
-
-impl<'a> Start<'a> {
-    /// What a station at this place has.
-    fn of(line: &'a str, place: &StationPlace, slots: u32) -> Start<'a> {
-        Start {
-            line,
-            slots,
-            silent_s: place.inactivity_s,
-        }
-    }
-}
-
 /// The name of a station: that of its options, or that of its profile's file.
-pub fn station_name<'a, R>(setting: &Stationed<'a, R>) -> &'a str {
+fn station_name<'a, R>(setting: &Stationed<'a, R>) -> &'a str {
     match setting.options.name_from_end {
         Some(left) => word_from_end(setting.words, left),
         None => stem_of(file_of(setting.words)),
@@ -238,35 +213,40 @@ where
 fn serve<R>(
     setting: &Stationed<'_, R>,
     config: &Config,
-    mut port: StationPort<R>,
-    start: &Start<'_>,
+    opened: OpenedPort<R>,
+    start: &str,
 ) -> Result<(), Failure>
 where
     R: AllocGlobal + Files<File = File> + Clock + HostNet + RandomSource + Wait + Copy + Drop,
 {
     let rt = setting.rt;
     let alloc = rt.alloc();
-    port.set_alarm(setting.alarm.share()?)?;
+    let OpenedPort {
+        mut port,
+        place,
+        slots,
+    } = opened;
+    port.set_alarm(setting.shared.alarm.share()?)?;
     seed_delays(&rt, &mut port);
     let waker = port.waker()?;
     let recorder = recorder_of(setting, config)?;
     if !setting.options.quiet {
-        report_line(rt, setting.rim, start.line.as_bytes());
+        report_line(rt, setting.rim, start.as_bytes());
     }
     let (out, err) = (setting.rim.out.sink(rt)?, setting.rim.err.sink(rt)?);
     let mut observer = StationObserver::new(alloc, config, recorder, out, err)?;
     if let Some(port) = setting.options.page {
-        observer.feed(begin_page(setting, config, port)?);
+        observer.feed(page_of(setting, config, port)?);
     }
     let device = FastDevice::new(alloc, config.copy(alloc)?)?;
     let clock = SystemClock::new(rt);
     let voice = Voice {
         quiet: setting.options.quiet,
-        silent_s: start.silent_s,
+        silent_s: place.inactivity_s,
     };
     let port = FaultyPort::new(alloc, port, SystemClock::new(rt), rates_of(setting.options));
     let mut station = Station::new(alloc, config, port, clock, device, observer, voice)?;
-    let ending = ending_of(setting.options, start.slots);
+    let ending = ending_of(setting.options, slots);
     let ended = if setting.options.no_input && !setting.options.page_writes {
         station.run(&mut NoLines, ending)
     } else {
@@ -278,6 +258,26 @@ where
         Some(_) => Err(Failure::RecordEnd),
         None => Ok(()),
     }
+}
+
+/// Begins the page of a station, and answers what tells it of the device.
+fn page_of<R>(setting: &Stationed<'_, R>, config: &Config, port: u16) -> Result<PageFeed, Failure>
+where
+    R: AllocGlobal + Files<File = File> + Clock + HostNet + RandomSource + Wait + Copy + Drop,
+{
+    let alloc = setting.rt.alloc();
+    let record = match setting.options.record_from_end {
+        Some(left) => Some(word_from_end(setting.words, left)),
+        None => None,
+    };
+    let subject = PageSubject {
+        name: station_name(setting),
+        record,
+        devices: None,
+    };
+    begin_page(setting.rt, setting.shared, setting.options, port, subject)?;
+    let end = setting.shared.page.feed_end(0)?;
+    Ok(PageFeed::new(alloc, config.copy(alloc)?, end))
 }
 
 /// Has the system draw the seed of a port's delays. Where it draws none, the port's address is the seed.
@@ -305,28 +305,11 @@ where
         return Ok(Recorder::idle(alloc));
     };
     let path = format!(in alloc; "{}", word_from_end(setting.words, left))?;
-    let Ok(place) = place_of_record(&rt, alloc, path) else {
-        return Err(Failure::Record);
-    };
-    let entries = setting.rim.record.entries(rt, place)?;
-    let head = head_of(&rt)?;
-    Ok(Recorder::begin(alloc, config, head.as_str(), entries)?)
-}
-
-/// The first line of a record: when it begins, and which program writes it.
-fn head_of<R: AllocGlobal + Clock>(rt: &R) -> Result<String, Failure> {
-    let ms = match rt.since_1970() {
-        Ok(time) => u64::try_from(time.as_millis()).unwrap_or(0),
-        Err(_) => 0,
-    };
-    let mut head = format!(in rt.alloc(); "# recorded from ")?;
-    push_moment(&mut head, ms)?;
-    write!(head, " by eip_station {VERSION}\n")?;
-    Ok(head)
+    Ok(recorder_in(rt, &setting.rim.record, config, path)?)
 }
 
 /// The file that the words name.
-fn file_of(words: &[String]) -> &str {
+pub fn file_of(words: &[String]) -> &str {
     word_from_end(words, words.len().saturating_sub(2))
 }
 
