@@ -13,16 +13,16 @@ use plant_command::work;
 use plant_rim::SharedPlant;
 use port_alarm::Alarm;
 use program::Surroundings;
-use station_rim::{Rim, SharedRecord, begin_output};
-use std::fs::File;
+use station_rim::{Rim, begin_output};
 use std::io::Write;
 use std::process::ExitCode;
-use std::rt::{Clock, Files};
+use std::rt::Clock;
 use std::sync::Wait;
 use std::thread::{self, Threads};
 
 /// Performs what the command line requests, and ends with its status. A station has threads of their own for its input, its
-/// outputs, its record, its page and its alarm; they are not joined, and end with the program.
+/// outputs, its record, its page and its alarm; they are not joined, and end with the program. Those of the record, the input,
+/// the page and a plant begin here: of a generic function that begins them the prover has no account.
 fn main(rt: HostRuntime) -> ExitCode {
     let (Ok(rim), Ok(alarm)) = (Rim::new(rt.alloc()), Alarm::new(rt.alloc(), &rt)) else {
         return no_memory(rt.stderr());
@@ -33,19 +33,32 @@ fn main(rt: HostRuntime) -> ExitCode {
     let Ok(plant) = SharedPlant::new(rt.alloc(), &rim.out, &rim.err) else {
         return no_memory(rt.stderr());
     };
-    let Ok(page) = SharedPage::new(rt.alloc(), needs.devices) else {
+    let (Ok(page), Ok(record)) = (
+        SharedPage::new(rt.alloc(), needs.devices),
+        rim.record.share(),
+    ) else {
         return no_memory(rt.stderr());
     };
     let has_outputs = !needs.outputs
         || (begin_output(rt, &rim.out, rt.stdout()) && begin_output(rt, &rim.err, rt.stderr()));
-    let is_begun = has_outputs
-        && (!needs.alarm || begin_alarm(rt, &alarm))
-        && (!needs.record || begin_record(rt, &rim.record))
-        && (!needs.page || (begin_page(rt, &page, &rim.input) && begin_servers(rt, &page)));
-    if !is_begun
-        || (needs.input && thread::spawn(&rt, move || input.fill(&rt, rt.reader())).is_err())
-    {
+    let is_begun = has_outputs && (!needs.alarm || begin_alarm(rt, &alarm));
+    if !is_begun || (needs.page && !begin_page(rt, &page, &rim.input)) {
         return no_memory(rt.stderr());
+    }
+    if needs.record && thread::spawn(&rt, move || record.write_files(&rt)).is_err() {
+        return no_memory(rt.stderr());
+    }
+    if needs.input && thread::spawn(&rt, move || input.fill(&rt, rt.reader())).is_err() {
+        return no_memory(rt.stderr());
+    }
+    let page_threads = if needs.page { PAGE_THREADS } else { 0 };
+    for _ in 0..page_threads {
+        let Ok(page) = page.share() else {
+            return no_memory(rt.stderr());
+        };
+        if thread::spawn(&rt, move || page.serve(&rt)).is_err() {
+            return no_memory(rt.stderr());
+        }
     }
     for _ in 0..needs.plant {
         let Ok(plant) = plant.share() else {
@@ -62,33 +75,6 @@ fn main(rt: HostRuntime) -> ExitCode {
         plant,
     };
     program::run(rt, shared, rt.stdout(), rt.stderr())
-}
-
-/// Begins the thread that writes the record of a station. Whether it could begin.
-fn begin_record<R>(rt: R, record: &SharedRecord) -> bool
-where
-    R: Threads + Wait + Files<File = File> + Copy + Send + Drop + 'static,
-{
-    match record.share() {
-        Ok(record) => thread::spawn(&rt, move || record.write_files(&rt)).is_ok(),
-        Err(_) => false,
-    }
-}
-
-/// Begins the threads that serve a page to browsers. Whether they could begin.
-fn begin_servers<R>(rt: R, page: &SharedPage) -> bool
-where
-    R: Threads + Wait + Clock + AllocGlobal + Files<File = File> + Copy + Send + Drop + 'static,
-{
-    for _ in 0..PAGE_THREADS {
-        let Ok(page) = page.share() else {
-            return false;
-        };
-        if thread::spawn(&rt, move || page.serve(&rt)).is_err() {
-            return false;
-        }
-    }
-    true
 }
 
 /// Begins the thread that rings the alarm of a station. Whether it could begin.
