@@ -2,3 +2,5 @@ pub mod MessageLaws
 pub mod StreamLaws
 pub mod PacketLaws
 pub mod Samples
+mod ConnectedLaws
+mod ConnectedSamples

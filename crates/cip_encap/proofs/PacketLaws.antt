@@ -105,13 +105,13 @@ passes_some : (test : List ℕ → Bool) (r : Option (List ℕ)) → passes test
 passes_some test None e = absurd (false≢true e)
 passes_some test (Some x) e = (x, refl, e)
 
-sockets_again : (n : ℕ) (text : List ℕ) → AreSocketItems n text → are_sockets n text ≡ true
+pub sockets_again : (n : ℕ) (text : List ℕ) → AreSocketItems n text → are_sockets n text ≡ true
 unfolding are_sockets
 sockets_again zero text e = eq-eqb (length text) 0 (ap length e)
 sockets_again (suc n) text s =
     ap (λ (x : List ℕ). passes (are_sockets n) (behind_socket x)) s.1.4 ∙ ap (passes (are_sockets n)) (socket_again s.0 s.1.0 s.1.1 s.1.2 s.1.3) ∙ sockets_again n s.1.1 s.1.5
 
-sockets_taken : (n : ℕ) (bs : List ℕ) → IsBytes bs → are_sockets n bs ≡ true → AreSocketItems n bs
+pub sockets_taken : (n : ℕ) (bs : List ℕ) → IsBytes bs → are_sockets n bs ≡ true → AreSocketItems n bs
 unfolding are_sockets
 sockets_taken zero bs fits e = nil_if bs (eqb-true (length bs) 0 e)
 sockets_taken (suc n) bs fits e =

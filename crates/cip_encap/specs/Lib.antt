@@ -4,4 +4,7 @@ pub mod PacketHeader
 pub mod Stream
 pub mod Packet
 pub mod PacketReading
+pub mod Connected
+pub mod ConnectedReading
+pub mod ConnectedHeader
 pub mod ReadsBack

@@ -16,3 +16,6 @@ pub const UNREGISTER_SESSION: u16 = 0x0066;
 
 /// Carries a request to the message router, or its reply.
 pub const SEND_RR_DATA: u16 = 0x006F;
+
+/// Carries a message of a class 3 connection: a request to the message router, or its reply.
+pub const SEND_UNIT_DATA: u16 = 0x0070;

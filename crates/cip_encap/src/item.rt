@@ -5,6 +5,12 @@
 /// The null address item.
 pub const NULL_ADDRESS: u16 = 0x0000;
 
+/// The connected address item: the id of a connection.
+pub const CONNECTED_ADDRESS: u16 = 0x00A1;
+
+/// The connected data item: a sequence count, and a message of the connection.
+pub const CONNECTED_TRANSPORT: u16 = 0x00B1;
+
 /// The unconnected data item: a request or a reply.
 pub const UNCONNECTED_DATA: u16 = 0x00B2;
 

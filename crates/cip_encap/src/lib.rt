@@ -5,6 +5,8 @@
 #![tactic(auto)]
 
 pub mod command;
+mod connected;
+mod connected_header;
 mod header;
 pub mod item;
 mod laws;
@@ -15,6 +17,7 @@ mod read;
 mod splitter;
 mod write;
 
+pub use connected::{ConnectedPacket, connected_len, put_connected_header, read_connected_items};
 pub use header::{MessageHeader, read_message_header};
 pub use laws::reads_back;
 pub use message::{EncapFault, MessageView};

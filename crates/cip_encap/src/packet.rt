@@ -59,7 +59,7 @@ fn after_socket(bytes: &[u8]) -> Option<&[u8]>
 }
 
 /// Whether the bytes are this number of socket address items.
-fn are_sockets(count: u16, bytes: &[u8]) -> bool
+pub fn are_sockets(count: u16, bytes: &[u8]) -> bool
     ensures { result ≡ sockets_test count bytes.now }
 {
     let mut rest = bytes;

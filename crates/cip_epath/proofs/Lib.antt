@@ -1,3 +1,4 @@
 pub mod Walks
 pub mod Samples
 pub mod Parts
+mod MessageWalk

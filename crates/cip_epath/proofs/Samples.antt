@@ -7,6 +7,7 @@ use Rattle.cip_epath.specs.declared.path.Target.{Target}
 use Rattle.cip_epath.specs.ElectronicKey.{key_fault}
 use Rattle.cip_epath.specs.Path.{PathFields}
 use Rattle.cip_epath.specs.Reading.{data_at, key_fields_at, key_at, value_at, logical_at, segment_at, segments_at, path_reading, target_reading}
+use Rattle.cip_epath.specs.MessagePath.{message_path_reading}
 use Rattle.cip_epath.specs.Written.{path_text, target_text}
 
 -- ---- connection paths
@@ -127,6 +128,63 @@ attribute_written = refl
 pub points_are_no_target : target_reading points ≡ Err fault.Shape
 unfolding target_reading segments_at segment_at logical_at value_at
 points_are_no_target = refl
+
+-- ---- the paths of class 3 connections
+
+-- class 2, instance 1
+abbrev to_router : List ℕ
+to_router = 0x20 ∷ 2 ∷ 0x24 ∷ 1 ∷ []
+
+pub router_read : message_path_reading to_router ≡ Ok None
+unfolding message_path_reading segments_at segment_at logical_at value_at
+router_read = refl
+
+pub keyed_router_read : message_path_reading (key_bytes ++ to_router) ≡ Ok (Some (record { vendor = 1; device_type = 12; product = 7; compatible = true; major = 2; minor = 2 }))
+unfolding message_path_reading segments_at segment_at logical_at value_at key_at key_fields_at
+keyed_router_read = refl
+
+-- a value may have more bytes than it needs
+pub wide_router_read : message_path_reading (0x21 ∷ 0 ∷ 2 ∷ 0 ∷ 0x26 ∷ 0 ∷ 1 ∷ 0 ∷ 0 ∷ 0 ∷ []) ≡ Ok None
+unfolding message_path_reading segments_at segment_at logical_at value_at
+wide_router_read = refl
+
+pub to_other_class : message_path_reading (0x20 ∷ 6 ∷ 0x24 ∷ 1 ∷ []) ≡ Err fault.Shape
+unfolding message_path_reading segments_at segment_at logical_at value_at
+to_other_class = refl
+
+pub to_other_instance : message_path_reading (0x20 ∷ 2 ∷ 0x24 ∷ 2 ∷ []) ≡ Err fault.Shape
+unfolding message_path_reading segments_at segment_at logical_at value_at
+to_other_instance = refl
+
+pub to_a_point : message_path_reading (0x20 ∷ 2 ∷ 0x2C ∷ 1 ∷ []) ≡ Err fault.Shape
+unfolding message_path_reading segments_at segment_at logical_at value_at
+to_a_point = refl
+
+pub router_class_alone : message_path_reading (take 2 to_router) ≡ Err fault.Shape
+unfolding message_path_reading segments_at segment_at logical_at value_at
+router_class_alone = refl
+
+pub no_router_bytes : message_path_reading [] ≡ Err fault.Shape
+unfolding message_path_reading segments_at
+no_router_bytes = refl
+
+pub segment_behind : message_path_reading (to_router ++ 0x30 ∷ 1 ∷ []) ≡ Err fault.Shape
+unfolding message_path_reading segments_at segment_at logical_at value_at
+segment_behind = refl
+
+-- an inhibit time belongs to cyclic productions
+pub inhibited_router : message_path_reading (0x43 ∷ 5 ∷ to_router) ≡ Err fault.Shape
+unfolding message_path_reading segments_at segment_at logical_at value_at
+inhibited_router = refl
+
+pub key_behind : message_path_reading (to_router ++ key_bytes) ≡ Err fault.Shape
+unfolding message_path_reading segments_at segment_at logical_at value_at key_at key_fields_at
+key_behind = refl
+
+-- what does not read goes before a wrong arrangement
+pub router_cut : message_path_reading (to_router ++ 0x30 ∷ []) ≡ Err fault.Truncated
+unfolding message_path_reading segments_at segment_at logical_at value_at
+router_cut = refl
 
 -- ---- keys
 

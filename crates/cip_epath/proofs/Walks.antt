@@ -21,7 +21,7 @@ use Rattle.cip_epath.specs.Laws.Cuts.{behind, at_end, at_segment, at_fault, segm
 
 -- ---- one step of a reading, whatever the segments are to make
 
-same_bind : {A B : Type 0} (r : Result A PathFault) (f g : A → Result B PathFault) → ((x : A) → f x ≡ g x) → (r >>= f) ≡ (r >>= g)
+pub same_bind : {A B : Type 0} (r : Result A PathFault) (f g : A → Result B PathFault) → ((x : A) → f x ≡ g x) → (r >>= f) ≡ (r >>= g)
 same_bind (Ok x) f g h = h x
 same_bind (Err e) f g h = refl
 

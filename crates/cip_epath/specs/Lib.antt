@@ -3,6 +3,8 @@ pub mod Segment
 pub mod Path
 pub mod Reading
 pub mod PathBuilder
+pub mod MessagePath
+pub mod MessageBuilder
 pub mod Written
 pub mod ReadsBack
 pub mod Laws

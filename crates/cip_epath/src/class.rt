@@ -1,5 +1,10 @@
 //! The classes of the objects that this line serves or addresses.
 
+/// The Message Router object.
+///
+/// Volume 1, chapter 5, Message Router object.
+pub const MESSAGE_ROUTER: u32 = 2;
+
 /// The Connection Manager object.
 ///
 /// Volume 1, chapter 3, Connection Manager object.

@@ -3,7 +3,7 @@ use Rattle.std.specs.Prelude.{◌≡◌, Bool, true, false, Option, Some, None, 
 use Rattle.cip_events.specs.declared.event.NewFault.{NewFault}
 use Rattle.cip_events.specs.declared.event.NewFault.TheVariants as fault
 use Rattle.cip_events.specs.declared.profile_fault.ProfileFault.{ProfileFault}
-use Rattle.cip_events.specs.declared.profile_fault.ProfileFault.TheVariants.{Incarnation, Address, Points, SameInstance, Length, Timing, Identity as IdentityFault, Description as DescriptionFault, Limits}
+use Rattle.cip_events.specs.declared.profile_fault.ProfileFault.TheVariants.{Incarnation, Address, Points, SameInstance, Length, Timing, Identity as IdentityFault, Description as DescriptionFault, Limits, Objects}
 
 -- a fault of the configuration precedes one of its kind; out of memory comes only where neither is so
 abbrev pub IsRefusedAs : Option ProfileFault → Bool → NewFault → Type 0
@@ -21,3 +21,4 @@ fault_number Timing = 6
 fault_number IdentityFault = 7
 fault_number DescriptionFault = 8
 fault_number Limits = 9
+fault_number Objects = 10

@@ -7,6 +7,16 @@ use crate::event::Event;
 use cip_types::{Items, Node, OutOfMemory};
 use std::alloc::Global;
 
+/// A request of a peer with a copy of its bytes.
+fn request_copy(alloc: Global, peer: Node, bytes: &[u8]) -> Result<Event, OutOfMemory>
+    ensures { IfOk result (λ copy. copy ≡ event.Request peer bytes.now) }
+{
+    Ok(Event::Request {
+        peer,
+        bytes: Items::copy_of(alloc, bytes)?,
+    })
+}
+
 /// An explicit request with a copy of its bytes.
 fn explicit_copy(
     alloc: Global,
@@ -23,16 +33,24 @@ fn explicit_copy(
     })
 }
 
+/// An answer of the application with a copy of its bytes.
+fn respond_copy(alloc: Global, number: u64, status: u8, bytes: &[u8]) -> Result<Event, OutOfMemory>
+    ensures { IfOk result (λ copy. copy ≡ event.Respond number status bytes.now) }
+{
+    Ok(Event::Respond {
+        number,
+        status,
+        bytes: Items::copy_of(alloc, bytes)?,
+    })
+}
+
 impl Event {
     /// A copy of the event.
     pub fn copy(&self, alloc: Global) -> Result<Event, OutOfMemory>
         ensures { IfOk result (λ copy. copy ≡ self.now) }
     {
         Ok(match self {
-            Event::Request { peer, bytes } => Event::Request {
-                peer: *peer,
-                bytes: Items::copy_of(alloc, bytes.as_slice())?,
-            },
+            Event::Request { peer, bytes } => request_copy(alloc, *peer, bytes.as_slice())?,
             Event::StreamOpened { stream, peer } => Event::StreamOpened {
                 stream: *stream,
                 peer: *peer,
@@ -64,6 +82,11 @@ impl Event {
                 number,
                 bytes,
             } => explicit_copy(alloc, *target, *number, bytes.as_slice())?,
+            Event::Respond {
+                number,
+                status,
+                bytes,
+            } => respond_copy(alloc, *number, *status, bytes.as_slice())?,
         })
     }
     /// Whether the other event is the same. Takes no memory.

@@ -71,6 +71,12 @@ pub enum Event {
         number: u32,
         bytes: Items<u8>,
     },
+    /// The application answers the request that the device gave it with this number: general status, and data.
+    Respond {
+        number: u64,
+        status: u8,
+        bytes: Items<u8>,
+    },
 }
 
 /// The recipient of a frame.
@@ -98,9 +104,10 @@ pub struct OutgoingDatagram {
 }
 
 /// The result of a received datagram, tested in this order: `Malformed`, `UnknownId`, `WrongSize`, `Old`;
-/// otherwise it is accepted.
+/// otherwise it is accepted. `UnknownId`, `WrongSize` and `Duplicate`, tested in this order, are also the results of a
+/// connected message that is not executed.
 ///
-/// Volume 1, chapter 3, class 1 transport and run/idle; Volume 2, chapter 2, sequenced address item.
+/// Volume 1, chapter 3, class 1 transport, class 3 transport and run/idle; Volume 2, chapter 2, sequenced address item.
 #[derive(Clone, Copy, Debug, PartialEq, Eq)]
 pub enum Delivery {
     /// Accepted: its run-mode data is applied to the output.
@@ -109,13 +116,15 @@ pub enum Delivery {
     Idle,
     /// Accepted: its connection has no O->T data.
     Heartbeat,
-    /// Accepted: its sequence count repeats that of the last accepted datagram, so its data is not new.
+    /// Accepted: its sequence count repeats that of the last accepted datagram, so its data is not new. A connected
+    /// message repeats the count of the last executed one of its connection, so it gets the same reply again.
     Duplicate,
     /// Its sequence number is not newer than the last accepted one.
     Old,
-    /// No established connection of the peer has its connection id.
+    /// No established connection of the peer has its connection id. For a connected message: no class 3 connection of
+    /// its stream has it.
     UnknownId,
-    /// Its size is not the connection's.
+    /// Its size is not the connection's. A connected message is longer than its connection's size.
     WrongSize,
     /// Its bytes are no datagram.
     Malformed,
@@ -142,6 +151,19 @@ pub enum Verdict {
         number: u32,
         status: u8,
         additional: Items<u8>,
+        data: Items<u8>,
+    },
+    /// A request to an object of the maker's own: the application is to answer the request of this number
+    /// (`Event::Respond`). Service code, class, instance and attribute are those of the request, and the data is what
+    /// follows them.
+    ///
+    /// Volume 1, chapter 2, message router request.
+    Asked {
+        number: u64,
+        service: u8,
+        class: u32,
+        instance: u32,
+        attribute: Option<u32>,
         data: Items<u8>,
     },
 }
@@ -187,9 +209,10 @@ pub enum Notice {
     Opened(Triad, ConnId),
     /// A connection was closed by its originator, or by another peer.
     Closed(Triad),
-    /// A connection expired: no datagram of its originator arrived before its deadline.
+    /// A connection expired: no datagram, or no connected message, of its originator arrived before its deadline.
     Expired(Triad),
-    /// A listen-only connection was dropped, because no other connection supports it any more.
+    /// A listen-only connection was dropped, because no other connection supports it any more; or a class 3 connection
+    /// ended with its stream.
     Dropped(Triad),
     /// A timed-out connection was removed to free its place for a new one.
     Replaced(Triad),

@@ -35,6 +35,9 @@ pub enum ProfileFault {
     /// A limit that the maker states is out of range.
     #[error("a limit of the maker's is out of range")]
     Limits,
+    /// A class of the maker's own is that of another object, or named twice, or there are more than 16.
+    #[error("a class of the maker's own is out of range")]
+    Objects,
 }
 
 impl ProfileFault {
@@ -52,6 +55,7 @@ impl ProfileFault {
             ProfileFault::Identity => 7,
             ProfileFault::Description => 8,
             ProfileFault::Limits => 9,
+            ProfileFault::Objects => 10,
         }
     }
 }

@@ -5,7 +5,7 @@ use Rattle.cip_netparams.specs.declared.Priority.TheVariants.{Low, Scheduled, Ur
 use Rattle.cip_netparams.specs.declared.ConnectionType.TheVariants.{Null, Multicast, PointToPoint, Reserved}
 use Rattle.cip_netparams.specs.declared.Trigger.TheVariants.{Cyclic, ChangeOfState}
 use Rattle.cip_netparams.specs.Rate.{is_interval, interval_ms, timeout}
-use Rattle.cip_netparams.specs.Word.{word16, word32, params16, params32, trigger_of, trigger_byte}
+use Rattle.cip_netparams.specs.Word.{word16, word32, params16, params32, trigger_of, trigger_byte, is_message_trigger}
 
 -- ten bytes of fixed size, scheduled, point to point
 abbrev scheduled : NetParams
@@ -89,3 +89,20 @@ class_3 = refl
 
 pub on_change_written : trigger_byte ChangeOfState ≡ 0x11
 on_change_written = refl
+
+-- class 3, application object, server
+pub message_trigger : is_message_trigger 0xA3 ≡ true
+message_trigger = refl
+
+-- the direction bit is judged, and so are the class and the trigger
+pub message_of_a_client : is_message_trigger 0x23 ≡ false
+message_of_a_client = refl
+
+pub class_2_message : is_message_trigger 0xA2 ≡ false
+class_2_message = refl
+
+pub cyclic_message : is_message_trigger 0x83 ≡ false
+cyclic_message = refl
+
+pub message_is_not_class_1 : trigger_of 0xA3 ≡ None
+message_is_not_class_1 = refl

@@ -9,7 +9,7 @@
 --   redundant       15        31
 --
 -- The other bits are spare.
-use Rattle.std.specs.Prelude.{◌≡◌, ◌==◌, ℕ, ◌+◌, ◌*◌, ◌/◌, ◌%◌, ◌<◌, ◌^◌, Option, Some, None, if◌then◌else◌}
+use Rattle.std.specs.Prelude.{◌≡◌, ◌==◌, Bool, ℕ, ◌+◌, ◌*◌, ◌/◌, ◌%◌, ◌<◌, ◌^◌, Option, Some, None, if◌then◌else◌}
 use Rattle.std.specs.Int.{from_bool}
 use Rattle.cip_netparams.specs.declared.NetParams.{NetParams}
 use Rattle.cip_netparams.specs.declared.Priority.{Priority}
@@ -93,3 +93,7 @@ trigger_of byte = if byte % 2 ^ 7 == 0x01 then Some Cyclic else if byte % 2 ^ 7 
 -- class 1, the trigger, and direction 0
 abbrev pub trigger_byte : Trigger → ℕ
 trigger_byte t = 1 + 2 ^ 4 * trigger_code t
+
+-- the byte of a class 3 connection: class 3, the application object's trigger, and the direction bit of a server
+abbrev pub is_message_trigger : ℕ → Bool
+is_message_trigger byte = byte == 0xA3

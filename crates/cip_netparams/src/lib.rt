@@ -1,5 +1,5 @@
 //! The network connection parameters, triggers, packet intervals and watchdogs of class 1
-//! connections.
+//! connections, and the trigger of class 3 connections.
 #![tactic(auto)]
 
 mod laws;
@@ -9,6 +9,7 @@ mod word;
 
 pub use laws::reads_back;
 pub use rate::{api_of, timeout_of};
+pub use trigger_byte::is_message_trigger;
 pub use word::{read16, read32, write16, write32};
 
 /// The priority of a connection's datagrams.

@@ -2,9 +2,22 @@
 
 ghost use Rattle.std.specs.Prelude.{◌≡◌, Some, IfSome, IfNone};
 ghost use Rattle.cip_netparams.specs.declared.Trigger.{Trigger};
-ghost use Rattle.cip_netparams.specs.Word.{IsTriggerByte, trigger_of, trigger_byte};
+ghost use Rattle.cip_netparams.specs.Word.{IsTriggerByte, trigger_of, trigger_byte, is_message_trigger as message_test};
 
 use crate::Trigger;
+
+/// The class and trigger byte of a class 3 connection: class 3, the application object's trigger, and the direction bit
+/// of a server.
+const MESSAGE_TRIGGER: u8 = 0xA3;
+
+/// Whether the class and trigger byte of a request is that of a class 3 connection. The direction bit is judged.
+///
+/// Volume 1, chapter 3, transport class and trigger.
+pub fn is_message_trigger(byte: u8) -> bool
+    ensures { result ≡ message_test byte }
+{
+    byte == MESSAGE_TRIGGER
+}
 
 impl Trigger {
     /// Reads the class and trigger byte of a request. The direction bit is not judged. None where the class is

@@ -6,7 +6,7 @@ use Rattle.cip_fwdopen.specs.declared.reply.Opened.{Opened}
 use Rattle.cip_fwdopen.specs.Reply.{opened_text, refused_text, extended_text, failure_text}
 use Rattle.cip_fwdopen.specs.Close.{closed_text}
 use Rattle.cip_router.specs.declared.object_service.ObjectService.{ObjectService}
-use Rattle.cip_router.specs.Replies.{object_reply_text}
+use Rattle.cip_router.specs.Replies.{object_reply_text, own_reply_text}
 
 pub opened_len : (large : Bool) (opened : Opened) → length (opened_text large opened) ≡ 30
 unfolding opened_text
@@ -23,3 +23,7 @@ object_reply_len service value = omega arith
 pub refused_len : (service : ℕ) (fault : Fault) (triad : Option Triad) → length (refused_text service fault triad) ≡ 3 + (length (extended_text fault.extended) + length (failure_text triad))
 unfolding refused_text
 refused_len service fault triad = omega (arith, length-append (extended_text fault.extended) (failure_text triad))
+
+pub own_reply_len : (service status : ℕ) (content : List ℕ) → length (own_reply_text service status content) ≡ 4 + length content
+unfolding own_reply_text
+own_reply_len service status content = omega arith

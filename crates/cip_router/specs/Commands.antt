@@ -15,6 +15,7 @@ command_of code = first_case_or command.Other (
     ∷ (code == 0x0065, command.RegisterSession)
     ∷ (code == 0x0066, command.UnregisterSession)
     ∷ (code == 0x006F, command.SendRrData)
+    ∷ (code == 0x0070, command.SendUnitData)
     ∷ [])
 
 -- the commands that never have a reply
@@ -24,6 +25,7 @@ is_silent command.ListServices = false
 is_silent command.RegisterSession = false
 is_silent command.UnregisterSession = true
 is_silent command.SendRrData = false
+is_silent command.SendUnitData = false
 is_silent command.Other = false
 
 -- the status of a refusal

@@ -11,6 +11,7 @@ use Rattle.cip_encap.specs.declared.packet.SocketAddress.{SocketAddress}
 use Rattle.cip_encap.specs.Message.{MessageFields, header_widths}
 use Rattle.cip_encap.specs.Reading.{message_reading}
 use Rattle.cip_encap.specs.Packet.{packet_text}
+use Rattle.cip_encap.specs.Connected.{connected_text}
 use Rattle.cip_router.specs.declared.command.EncapStatus.{EncapStatus}
 use Rattle.cip_router.specs.declared.command.EncapStatus.TheVariants as status
 use Rattle.cip_router.specs.Replies.{ReplyFields, reply_text}
@@ -52,13 +53,15 @@ unfoldable pub frame_reading : List ℕ → FrameFields
 frame_reading bytes = frame_fields (fields_at header_widths bytes) (message_reading bytes)
 
 -- the reply to a frame: the services of the device, a session with its handle, the served protocol version in
--- place of another, the message router's reply with the multicast address of an opened connection, or a refusal
+-- place of another, the message router's reply with the multicast address of an opened connection, a refusal, or the
+-- message router's reply over a class 3 connection (its T->O id, the sequence count of the request, the reply's text)
 pub data FrameReply : Type 0 where
   services : FrameReply
   registered : ℕ → FrameReply
   other_version : FrameReply
   router_reply : ReplyFields → Option Node → FrameReply
   refused : EncapStatus → FrameReply
+  connected : (connection count : ℕ) → (text : List ℕ) → FrameReply
 
 -- One service item: the number of items, its type, the length of the rest, its version, the flags for
 -- encapsulation over TCP and for class 1 datagrams over UDP, and its name, padded to 16 bytes.
@@ -88,6 +91,22 @@ headed_reply request_header session status payload = record {
   payload = payload;
 }
 
+-- the command SendUnitData
+abbrev pub send_unit_data : ℕ
+send_unit_data = 0x70
+
+-- The message of a reply over a class 3 connection. It has the session of its request's stream, and no sender context,
+-- since the sequence count names the request.
+abbrev pub connected_message : RequestHeader → (connection count : ℕ) → List ℕ → MessageFields
+connected_message request_header connection count text = record {
+  command = send_unit_data;
+  session = request_header.session;
+  status = 0;
+  context = 0;
+  options = 0;
+  payload = connected_text connection count text;
+}
+
 -- The message of a reply. A refusal has no data, except for another protocol version, which has data and session
 -- handle 0. A new session has its own handle. All others have the request's.
 abbrev pub reply_message : RequestHeader → FrameReply → MessageFields
@@ -96,3 +115,4 @@ reply_message request_header (registered session) = headed_reply request_header 
 reply_message request_header other_version = headed_reply request_header 0 (encap_code status.UnsupportedVersion) protocol_text
 reply_message request_header (router_reply reply address) = headed_reply request_header request_header.session 0 (packet_text (reply_text reply) (option_map socket_of address))
 reply_message request_header (refused why) = headed_reply request_header request_header.session (encap_code why) []
+reply_message request_header (connected connection count text) = connected_message request_header connection count text

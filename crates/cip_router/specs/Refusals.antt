@@ -18,6 +18,9 @@ status_code status.NotSettable = 0x0E
 status_code status.PrivilegeViolation = 0x0F
 status_code status.StateConflict = 0x10
 status_code status.InvalidParameter = 0x20
+status_code status.ResourceUnavailable = 0x02
+status_code status.ReplyTooLarge = 0x11
+status_code status.VendorSpecific = 0x1F
 
 -- the message router's refusal
 abbrev pub status_fault : Status → Fault

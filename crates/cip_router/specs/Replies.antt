@@ -22,24 +22,31 @@ object_service_code service.GetSingle = 0x0E
 unfoldable pub object_reply_text : ObjectService → List ℕ → List ℕ
 object_reply_text service value = reply_service (object_service_code service) ∷ 0 ∷ 0 ∷ 0 ∷ value
 
+-- the reply of an object of the maker's own, as the application answers: any general status, and data
+unfoldable pub own_reply_text : (service status : ℕ) → List ℕ → List ℕ
+own_reply_text service status content = reply_service service ∷ 0 ∷ status ∷ 0 ∷ content
+
 -- the contents of a reply
 pub data ReplyFields : Type 0 where
   opened : Bool → Opened → ReplyFields
   closed : Triad → ReplyFields
   object_reply : ObjectService → List ℕ → ReplyFields
   refused : ℕ → Fault → Option Triad → ReplyFields
+  own : ℕ → ℕ → List ℕ → ReplyFields
 
 abbrev pub view_reply : Reply → ReplyFields
 view_reply (reply.Opened service o) = opened (is_large_open service) o
 view_reply (reply.Closed triad) = closed triad
 view_reply (reply.Object service lent) = object_reply service lent.now
 view_reply (reply.Refused service fault triad) = refused service fault triad
+view_reply (reply.Own service status lent) = own service status lent.now
 
 abbrev pub reply_text : ReplyFields → List ℕ
 reply_text (opened large o) = opened_text large o
 reply_text (closed triad) = closed_text triad
 reply_text (object_reply service value) = object_reply_text service value
 reply_text (refused service fault triad) = refused_text service fault triad
+reply_text (own service status content) = own_reply_text service status content
 
 -- a refusal has a general status that is not 0
 abbrev pub HasStatus : ReplyFields → Type 0
@@ -47,10 +54,12 @@ HasStatus (opened large o) = Unit {0}
 HasStatus (closed triad) = Unit {0}
 HasStatus (object_reply service value) = Unit {0}
 HasStatus (refused service fault triad) = fault.general ≢ 0
+HasStatus (own service status content) = Unit {0}
 
--- a replied value has at most 1,400 bytes, the limit of a point
+-- a replied value, or the data of an own object's reply, has at most 1,400 bytes, the limit of a point
 abbrev pub GetsFew : ReplyFields → Type 0
 GetsFew (opened large o) = Unit {0}
 GetsFew (closed triad) = Unit {0}
 GetsFew (object_reply service value) = length value ≤ 1400
 GetsFew (refused service fault triad) = Unit {0}
+GetsFew (own service status content) = length content ≤ 1400

@@ -8,8 +8,9 @@ use Rattle.cip_fwdopen.specs.declared.reply.Opened.{Opened}
 use Rattle.cip_fwdopen.specs.Reply.{reply_service, extended_text, failure_text, opened_text, refused_text}
 use Rattle.cip_encap.specs.declared.packet.SocketAddress.{SocketAddress}
 use Rattle.cip_encap.specs.Packet.{packet_widths, packet_numbers, socket_count, socket_items, packet_text}
+use Rattle.cip_encap.specs.Connected.{connected_widths, written_connected, connected_text}
 use Rattle.cip_router.specs.declared.object_service.ObjectService.{ObjectService}
-use Rattle.cip_router.specs.Replies.{ReplyFields, opened, closed, object_reply, refused, reply_text, object_reply_text, GetsFew}
+use Rattle.cip_router.specs.Replies.{ReplyFields, opened, closed, object_reply, refused, own, reply_text, object_reply_text, own_reply_text, GetsFew}
 
 -- ---- a reply and its items
 
@@ -40,11 +41,16 @@ short_refused : (service : ℕ) (fault : Fault) (triad : Option Triad) → IsSho
 unfolding refused_text
 short_refused service fault triad = refusal_short service fault.general fault.extended triad
 
+short_own : (service status : ℕ) (content : List ℕ) → length content ≤ 1400 → IsShort (own_reply_text service status content)
+unfolding own_reply_text
+short_own service status content few = record { some = omega arith; few = omega (arith, few) }
+
 pub reply_is_short : (reply : ReplyFields) → GetsFew reply → IsShort (reply_text reply)
 reply_is_short (opened large o) few = short_opened large o
 reply_is_short (closed triad) few = short_closed triad
 reply_is_short (object_reply service value) few = short_object_reply service value few
 reply_is_short (refused service fault triad) few = short_refused service fault triad
+reply_is_short (own service status content) few = short_own service status content few
 
 -- a reply has bytes for an item
 pub reply_some : (reply : ReplyFields) → GetsFew reply → 1 ≤ length (reply_text reply)
@@ -68,3 +74,15 @@ items_length payload socket =
 -- the items are within the length field of their message
 pub items_fit : (reply : ReplyFields) (socket : Option SocketAddress) → GetsFew reply → length (packet_text (reply_text reply) socket) ≤ 65535
 items_fit reply socket few = omega (arith, items_length (reply_text reply) socket, (reply_is_short reply few).few)
+
+-- ---- a reply of a class 3 connection
+
+pub connected_length : (connection count : ℕ) (message : List ℕ) → length (connected_text connection count message) ≡ 22 + length message
+connected_length connection count message =
+    let front = fields_text connected_widths (written_connected connection count (length message)) in
+    let front_len : length front ≡ 22 = refl in
+    omega (arith, length-append front message, front_len)
+
+-- the items of a short reply are within the length field of their message
+pub connected_fits : (connection count : ℕ) (message : List ℕ) → length message ≤ 1404 → length (connected_text connection count message) ≤ 65535
+connected_fits connection count message few = omega (arith, connected_length connection count message, few)

@@ -20,6 +20,8 @@ pub enum Command {
     UnregisterSession,
     /// Carries a request to the message router.
     SendRrData,
+    /// Carries a message of a class 3 connection.
+    SendUnitData,
     /// Any command that is not served.
     Other,
 }
@@ -35,6 +37,7 @@ impl Command {
             command::REGISTER_SESSION => Command::RegisterSession,
             command::UNREGISTER_SESSION => Command::UnregisterSession,
             command::SEND_RR_DATA => Command::SendRrData,
+            command::SEND_UNIT_DATA => Command::SendUnitData,
             _ => Command::Other,
         }
     }
@@ -48,6 +51,7 @@ impl Command {
             Command::ListServices
             | Command::RegisterSession
             | Command::SendRrData
+            | Command::SendUnitData
             | Command::Other => false,
         }
     }

@@ -124,6 +124,12 @@ pub enum Status {
     StateConflict,
     /// A parameter of the service has no such value.
     InvalidParameter,
+    /// The device has no room for another request that waits for its application.
+    ResourceUnavailable,
+    /// The reply is longer than a message of its connection may be.
+    ReplyTooLarge,
+    /// The application did not answer in time.
+    VendorSpecific,
 }
 
 impl Status {
@@ -142,6 +148,9 @@ impl Status {
             Status::PrivilegeViolation => 0x0F,
             Status::StateConflict => 0x10,
             Status::InvalidParameter => 0x20,
+            Status::ResourceUnavailable => 0x02,
+            Status::ReplyTooLarge => 0x11,
+            Status::VendorSpecific => 0x1F,
         }
     }
 

@@ -2,9 +2,10 @@
 
 ghost use Rattle.std.specs.Prelude.{◌≡◌, ◌++◌, IfOk, OnOk, length};
 ghost use Rattle.cip_fwdopen.specs.Reply.{extended_text, failure_text};
-ghost use Rattle.cip_router.specs.Replies.{view_reply, reply_text, object_reply_text, HasStatus};
+ghost use Rattle.cip_router.specs.Replies.{view_reply, reply_text, object_reply_text, own_reply_text, HasStatus};
 
 use crate::object_service::ObjectService;
+use cip_fwdopen::service::REPLY;
 use cip_fwdopen::{
     OpenService, Opened, put_closed, put_opened, put_refused, write_closed, write_opened,
     write_refused,
@@ -26,6 +27,8 @@ pub enum Reply<'a> {
     Object(ObjectService, &'a [u8]),
     /// A request of this service was refused. A refused connection has its triad.
     Refused(u8, Fault, Option<Triad>),
+    /// An object of the maker's own answers a request of this service: with this general status, and data.
+    Own(u8, u8, &'a [u8]),
 }
 
 /// The number of bytes of an extended status, with its size.
@@ -75,6 +78,35 @@ fn write_object_reply(
     Ok(out)
 }
 
+/// Appends the reply of an object of the maker's own: the service, a reserved byte, the general status, no extended
+/// status, and the data.
+#[tactic(auto, unfolding(crate::specs::Replies::own_reply_text))]
+fn put_own_reply(
+    out: &mut Vec<u8>,
+    service: u8,
+    status: u8,
+    content: &[u8],
+) -> Result<(), OutOfMemory>
+    ensures { OnOk result (out.new.items ≡ out.old.items ++ own_reply_text service status content.now) }
+{
+    put_bytes(out, &[REPLY + service % REPLY, 0, status, 0])?;
+    put_bytes(out, content)
+}
+
+/// Writes the same.
+fn write_own_reply(
+    alloc: Global,
+    service: u8,
+    status: u8,
+    content: &[u8],
+) -> Result<Vec<u8>, OutOfMemory>
+    ensures { IfOk result (λ bytes. bytes.items ≡ own_reply_text service status content.now) }
+{
+    let mut out = Vec::with_capacity(alloc, 4usize.saturating_add(content.len()))?;
+    put_own_reply(&mut out, service, status, content)?;
+    Ok(out)
+}
+
 impl Reply<'_> {
     /// The number of bytes of the reply. Takes no memory.
     pub fn len(&self) -> usize
@@ -87,6 +119,7 @@ impl Reply<'_> {
             Reply::Refused(_, fault, triad) => {
                 3 + extended_len(fault.extended) + failure_len(*triad)
             }
+            Reply::Own(_, _, content) => 4 + content.len(),
         }
     }
 
@@ -99,6 +132,7 @@ impl Reply<'_> {
             Reply::Closed(triad) => put_closed(out, *triad),
             Reply::Object(service, value) => put_object_reply(out, *service, value),
             Reply::Refused(service, fault, triad) => put_refused(out, *service, *fault, *triad),
+            Reply::Own(service, status, content) => put_own_reply(out, *service, *status, content),
         }
     }
 
@@ -112,6 +146,9 @@ impl Reply<'_> {
             Reply::Closed(triad) => write_closed(alloc, *triad),
             Reply::Object(service, value) => write_object_reply(alloc, *service, value),
             Reply::Refused(service, fault, triad) => write_refused(alloc, *service, *fault, *triad),
+            Reply::Own(service, status, content) => {
+                write_own_reply(alloc, *service, *status, content)
+            }
         }
     }
 }
