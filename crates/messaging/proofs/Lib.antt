@@ -1,0 +1,4 @@
+mod Changing
+mod Deadlines
+mod Ordering
+mod Samples

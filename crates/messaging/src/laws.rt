@@ -1,0 +1,47 @@
+//! Laws of class 3 connections and of requests to the application. A law call does nothing; its contract states the
+//! law.
+
+ghost use Rattle.std.specs.Prelude.{◌≡◌, ◌<◌, ℕ, List, Some, find, not, true};
+ghost use Rattle.cip_types.specs.declared.names.ConnId.{ConnId};
+ghost use Rattle.cip_types.specs.declared.names.Ms.{Ms};
+ghost use Rattle.messaging.specs.declared.dialogue.Dialogue.{Dialogue};
+ghost use Rattle.messaging.specs.declared.table.Messaging.{Messaging};
+ghost use Rattle.messaging.specs.Changes.{answered, executed, has_request_number, repeated};
+ghost use Rattle.messaging.specs.Dialogues.{executed_dialogue, is_dialogue, repeated_dialogue};
+ghost use Rattle.messaging.specs.Lemmas.IdleLemmas.{IsCalm};
+ghost use Rattle.messaging.specs.Sound.{EachOf, IsSoundMessaging};
+ghost use Rattle.messaging.specs.Times.{first_moment, is_idle};
+
+/// A message that was executed is from then on the last one of its connection, and its count repeats it. The
+/// connection has the reply.
+pub fn executed_messages_are_last()
+    ensures { (incarnation next_id : ℕ) (m : Messaging) (stream : ℕ) (id : ConnId) (count : ℕ) (reply : List ℕ)
+        (deadline : Ms) (d : Dialogue) → IsSoundMessaging incarnation next_id m
+        → find (is_dialogue stream id) m.dialogues ≡ Some d
+        → find (is_dialogue stream id) (executed m id count reply deadline).dialogues
+        ≡ Some (executed_dialogue count reply deadline d) }
+{}
+
+/// A message that is repeated changes nothing of its connection but the deadline.
+pub fn repetitions_move_deadlines()
+    ensures { (incarnation next_id : ℕ) (m : Messaging) (stream : ℕ) (id : ConnId) (deadline : Ms) (d : Dialogue)
+        → IsSoundMessaging incarnation next_id m → find (is_dialogue stream id) m.dialogues ≡ Some d
+        → find (is_dialogue stream id) (repeated m id deadline).dialogues ≡ Some (repeated_dialogue deadline d) }
+{}
+
+/// A request that was answered waits no more.
+pub fn answered_requests_wait_no_more()
+    ensures { (m : Messaging) (number : ℕ)
+        → EachOf (λ w. not (has_request_number number w) ≡ true) (answered m number).waiting }
+{}
+
+/// At a time at which no deadline has come nothing ends, and nothing changes.
+pub fn idle_times_change_nothing()
+    ensures { (incarnation next_id : ℕ) (clock : Ms) (m : Messaging)
+        → IsSoundMessaging incarnation next_id m → is_idle clock m ≡ true → IsCalm clock m }
+{}
+
+/// Before the first of the deadlines none has come.
+pub fn earlier_times_are_idle()
+    ensures { (clock : Ms) (m : Messaging) → clock.0 < first_moment m → is_idle clock m ≡ true }
+{}
