@@ -22,6 +22,14 @@ use Rattle.adapter_table.specs.declared.profile.Profile.{Profile}
 use Rattle.adapter_table.specs.declared.table.PointValue.{PointValue}
 use Rattle.adapter_table.specs.declared.table.Stream.{Stream}
 use Rattle.adapter_table.specs.declared.table.AdapterTable.{AdapterTable}
+use Rattle.messaging.specs.declared.dialogue.Dialogue.{Dialogue}
+use Rattle.messaging.specs.declared.requests.Requester.{Requester}
+use Rattle.messaging.specs.declared.requests.Waiting.{Waiting}
+use Rattle.messaging.specs.declared.table.Messaging.{Messaging}
+use Rattle.messaging.specs.contracts.dialogue.DialoguePartialEq.TheImpl as dialogue
+use Rattle.messaging.specs.contracts.requests.RequesterPartialEq.TheImpl as asker
+use Rattle.messaging.specs.contracts.requests.WaitingPartialEq.TheImpl as waiting
+use Rattle.messaging.specs.contracts.table.MessagingPartialEq.TheImpl as messaging
 use Rattle.cip_types.specs.contracts.names.IdentityPartialEq.TheImpl as identity
 use Rattle.adapter_table.specs.contracts.maker_limits.PlacesPartialEq.TheImpl as places
 use Rattle.adapter_table.specs.contracts.maker_limits.MakerLimitsPartialEq.TheImpl as limits
@@ -135,10 +143,52 @@ profile_decides a b =
     (Decides-and _ _ (Decides-eqb a.input_only b.input_only)
     (Decides-and _ _ (Decides-eqb a.listen_only b.listen_only)
     (Decides-and _ _ (described_decides a.description b.description)
-    (limits_decide a.limits b.limits)))))))))))
+    (Decides-and _ _ (limits_decide a.limits b.limits)
+    (pointwise_decides Decides-eqb a.objects b.objects))))))))))))
 
 stream_decides : (a b : Stream) → Decides ((stream.ghosts).eq a b) (a ≡ b)
 stream_decides a b = search rules
+
+-- ---- class 3 connections, and requests that wait
+
+last_count_decides : (a b : Option ℕ) → Decides (option_eq ◌==◌ a b) (a ≡ b)
+last_count_decides a b = search (rules, Decides-eqb)
+
+dialogue_decides : (a b : Dialogue) → Decides ((dialogue.ghosts).eq a b) (a ≡ b)
+dialogue_decides a b =
+    Decides-like ((dialogue.ghosts).eq a b) (λ p. search rules) (λ e. search rules)
+    (Decides-and _ _ (triad_decides a.triad b.triad)
+    (Decides-and _ _ (node_decides a.peer b.peer)
+    (Decides-and _ _ (Decides-eqb a.stream b.stream)
+    (Decides-and _ _ (id_decides a.o_t_id b.o_t_id)
+    (Decides-and _ _ (id_decides a.t_o_id b.t_o_id)
+    (Decides-and _ _ (Decides-eqb a.o_t_api_ms b.o_t_api_ms)
+    (Decides-and _ _ (Decides-eqb a.t_o_api_ms b.t_o_api_ms)
+    (Decides-and _ _ (Decides-eqb a.o_t_size b.o_t_size)
+    (Decides-and _ _ (Decides-eqb a.t_o_size b.t_o_size)
+    (Decides-and _ _ (ms_decides a.watchdog b.watchdog)
+    (Decides-and _ _ (Decides-eqb a.opening b.opening)
+    (Decides-and _ _ (last_count_decides a.last b.last)
+    (Decides-and _ _ (pointwise_decides Decides-eqb a.reply b.reply)
+    (ms_decides a.deadline b.deadline))))))))))))))
+
+asker_decides : (a b : Requester) → Decides ((asker.ghosts).eq a b) (a ≡ b)
+asker_decides a b = search (rules, node_decides, id_decides)
+
+waiting_decides : (a b : Waiting) → Decides ((waiting.ghosts).eq a b) (a ≡ b)
+waiting_decides a b =
+    Decides-like ((waiting.ghosts).eq a b) (λ p. search rules) (λ e. search rules)
+    (Decides-and _ _ (Decides-eqb a.number b.number)
+    (Decides-and _ _ (asker_decides a.asker b.asker)
+    (Decides-and _ _ (Decides-eqb a.service b.service)
+    (ms_decides a.deadline b.deadline))))
+
+messaging_decides : (a b : Messaging) → Decides ((messaging.ghosts).eq a b) (a ≡ b)
+messaging_decides a b =
+    Decides-like ((messaging.ghosts).eq a b) (λ p. search rules) (λ e. search rules)
+    (Decides-and _ _ (pointwise_decides dialogue_decides a.dialogues b.dialogues)
+    (Decides-and _ _ (pointwise_decides waiting_decides a.waiting b.waiting)
+    (Decides-eqb a.next_number b.next_number)))
 
 -- two tables that pass the test are equal, and equal tables pass it
 pub adapter_decides : (a b : AdapterTable) → Decides ((adapter.ghosts).eq a b) (a ≡ b)
@@ -149,4 +199,5 @@ adapter_decides a b =
     (Decides-and _ _ (pointwise_decides value_decides a.values b.values)
     (Decides-and _ _ (ms_decides a.clock b.clock)
     (Decides-and _ _ (Decides-eqb a.next_id b.next_id)
-    (pointwise_decides stream_decides a.streams b.streams))))))
+    (Decides-and _ _ (pointwise_decides stream_decides a.streams b.streams)
+    (messaging_decides a.messaging b.messaging)))))))

@@ -49,7 +49,7 @@ count_expired clock place (row ∷ rows) =
     rw (drives_faded (has_expired clock row) place row, drivers_among (has_expired clock row) place row (filter (has_expired clock) rows))
     (count_step (has_expired clock row) (drives place row) row (expired_row clock row) (drivers place (expired_rows clock rows)) (drivers place (filter (has_expired clock) rows)) (drivers place rows) (count_expired clock place rows))
 
-any_triad_expired : (clock : Ms) (triad : Triad) (rows : List Row) → list_any (has_triad triad) (expired_rows clock rows) ≡ list_any (has_triad triad) rows
+pub any_triad_expired : (clock : Ms) (triad : Triad) (rows : List Row) → list_any (has_triad triad) (expired_rows clock rows) ≡ list_any (has_triad triad) rows
 any_triad_expired clock triad [] = refl
 any_triad_expired clock triad (row ∷ rows) = rw (same_triad_faded (has_expired clock row) row) (ap (λ b. has_triad triad row || b) (any_triad_expired clock triad rows))
 
@@ -57,7 +57,7 @@ pub triads_expired : (clock : Ms) (rows : List Row) → TriadsDiffer rows → Tr
 triads_expired clock [] differ = tt
 triads_expired clock (row ∷ rows) differ = (rw (same_triad_faded (has_expired clock row) row) (any_triad_expired clock row.triad rows ∙ differ.0), triads_expired clock rows differ.1)
 
-any_id_expired : (clock : Ms) (id : ConnId) (rows : List Row) → list_any (has_o_t_id id) (expired_rows clock rows) ≡ list_any (has_o_t_id id) rows
+pub any_id_expired : (clock : Ms) (id : ConnId) (rows : List Row) → list_any (has_o_t_id id) (expired_rows clock rows) ≡ list_any (has_o_t_id id) rows
 any_id_expired clock id [] = refl
 any_id_expired clock id (row ∷ rows) = rw (same_id_faded (has_expired clock row) row) (ap (λ b. has_o_t_id id row || b) (any_id_expired clock id rows))
 

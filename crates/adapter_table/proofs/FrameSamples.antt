@@ -1,6 +1,7 @@
 -- Frames and their answers at a small adapter, byte for byte.
 use Rattle.std.proofs.Common.{◌≡◌, ℕ, Bool, true, false, List, [], ◌∷◌, Option, Some, None, Result, Ok, Err, refl, take}
 use Rattle.cip_types.specs.declared.names.Node.{Node}
+use Rattle.messaging.specs.Changes as changes
 use Rattle.cip_encap.specs.Reading as messages
 use Rattle.cip_encap.specs.PacketReading as packets
 use Rattle.cip_epath.specs.Reading as paths
@@ -48,6 +49,7 @@ profile = record {
   listen_only = 153;
   description = None;
   limits = no_limits;
+  objects = [];
 }
 
 -- its peer, at 192.168.1.20
@@ -92,7 +94,7 @@ unfolding stream_opened
 an_open_stream_opens_not_again = refl
 
 a_stream_is_cut : adapter_step registered (StreamCut 0) ≡ Ok (plain_answer Done, adapter_table profile)
-unfolding stream_cut without_stream
+unfolding stream_cut without_stream changes.without_stream
 a_stream_is_cut = refl
 
 no_other_stream_is_cut : adapter_step registered (StreamCut 1) ≡ Err NotAllowedNow
@@ -153,7 +155,7 @@ abbrev unregister_other : List ℕ
 unregister_other = 0x66 ∷ 0x00 ∷ 0x00 ∷ 0x00 ∷ 0x02 ∷ 0x00 ∷ 0x00 ∷ 0x00 ∷ 0x00 ∷ 0x00 ∷ 0x00 ∷ 0x00 ∷ 0x01 ∷ 0x02 ∷ 0x03 ∷ 0x04 ∷ 0x05 ∷ 0x06 ∷ 0x07 ∷ 0x08 ∷ 0x00 ∷ 0x00 ∷ 0x00 ∷ 0x00 ∷ []
 
 a_session_and_its_stream_end : after registered unregister ≡ Ok (record (plain_answer Done) { notices = StreamClosed 0 ∷ [] }, adapter_table profile)
-unfolding frame inquiry_reply frame_reading handled messages.message_reading without_stream
+unfolding frame inquiry_reply frame_reading handled messages.message_reading without_stream changes.without_stream
 a_session_and_its_stream_end = refl
 
 not_by_another_session : after registered unregister_other ≡ Ok (plain_answer Done, registered)

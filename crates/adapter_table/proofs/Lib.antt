@@ -4,6 +4,7 @@ pub mod ProducerLemmas
 pub mod StreamLemmas
 pub mod FrameSamples
 pub mod OrderLemmas
+pub mod PlaceLemmas
 pub mod StepLemmas
 pub mod WholeLemmas
 pub mod WholeSteps
@@ -14,5 +15,7 @@ pub mod ScratchSteps
 pub mod EqLemmas
 pub mod NewestSteps
 pub mod LimitSteps
+pub mod OnceLemmas
 mod NewestSamples
 mod LimitSamples
+mod DialogueSamples

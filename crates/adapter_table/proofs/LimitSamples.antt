@@ -50,6 +50,7 @@ profile limits = record {
   listen_only = 153;
   description = None;
   limits = limits;
+  objects = [];
 }
 
 abbrev least_of : ℕ → MakerLimits

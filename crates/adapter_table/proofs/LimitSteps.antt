@@ -32,7 +32,10 @@ use Rattle.adapter_table.specs.Streams.{with_stream, without_stream, registered_
 use Rattle.adapter_table.specs.Datagrams.{is_for, row_delivery, accepted_row, accepted_if_for, accepted_table, delivered, found_datagram, datagram_of, received}
 use Rattle.adapter_table.specs.Productions.{produced_state, produced_row, changed_state, changed_row}
 use Rattle.adapter_table.specs.Requests.{Next}
-use Rattle.adapter_table.specs.Ticks.{has_expired, expired_row, expired_rows, clocked_table, expired_table, produced_table}
+use Rattle.messaging.specs.declared.table.Messaging.{Messaging}
+use Rattle.messaging.specs.Times.{aged}
+use Rattle.adapter_table.specs.Messages.{messages_table}
+use Rattle.adapter_table.specs.Ticks.{has_expired, expired_row, expired_rows, clocked_table, expired_table, produced_table, advanced}
 use Rattle.adapter_table.specs.Step.{adapter_table, written_table, changed_table}
 use Rattle.adapter_table.specs.Shaping.{all_pass}
 use Rattle.adapter_table.specs.Laws.{StepsKeep}
@@ -240,6 +243,10 @@ within_registered : (t : AdapterTable) (number : ℕ) → IsWithinLimits t → I
 unfolding registered_table
 within_registered t number within = record { places = within.places; nodes = within.nodes }
 
+within_messaged : (t : AdapterTable) (next_id : ℕ) (m : Messaging) → IsWithinLimits t → IsWithinLimits (messages_table t next_id m)
+unfolding messages_table
+within_messaged t next_id m within = record { places = within.places; nodes = within.nodes }
+
 requests_are_within : LimitedDo (λ t next. IsWithinLimits t → IsWithinLimits next)
 requests_are_within = record {
   stays = λ t within. within;
@@ -247,6 +254,7 @@ requests_are_within = record {
   closed = λ t triad row found within. within_closed t row within;
   unstreamed = within_without;
   registered = within_registered;
+  messaged = λ t next_id m goes within. within_messaged t next_id m within;
 }
 
 -- ---- an event
@@ -269,7 +277,9 @@ pub steps_are_within : StepsKeep IsWithinLimits
 unfolding received
 steps_are_within t (Datagram peer bytes) next is within = subst (λ (n : Next). IsWithinLimits n.1) (next_is _ _ is) (within_datagram t peer (datagram_reading bytes) within)
 steps_are_within t (Write point bytes) next is within = subst (λ (n : Next). IsWithinLimits n.1) (write_is t point bytes next is).said (within_written t point bytes within)
-steps_are_within t (Tick ms) next is within = subst (λ (n : Next). IsWithinLimits n.1) (tick_is t ms next is).said (within_advanced t ms within)
+steps_are_within t (Tick ms) next is within =
+    let later = (advanced (clocked_table t ms)).1 in
+    subst (λ (n : Next). IsWithinLimits n.1) (tick_is t ms next is).said (within_messaged later later.next_id (aged later.clock later.messaging) (within_advanced t ms within))
 steps_are_within t other next is within =
     limited_control (λ t next. IsWithinLimits t → IsWithinLimits next) requests_are_within (λ t number peer free. within_with t number peer) t other next refl is within
 

@@ -24,6 +24,7 @@ profile = record {
   listen_only = 153;
   description = None;
   limits = no_limits;
+  objects = [];
 }
 
 -- a connection of the fifth opening that accepted number 7 with count 3; its state is not looked at here

@@ -34,7 +34,10 @@ use Rattle.adapter_table.specs.StatedLimits.{is_near, accepts_number}
 use Rattle.adapter_table.specs.Datagrams.{is_for, expected_len, run_bit, moded, accepted_delivery, row_delivery, accepted_row, accepted_if_for, accepted_table, delivered, found_datagram, datagram_of, received}
 use Rattle.adapter_table.specs.Productions.{produced_row, changed_state, changed_row}
 use Rattle.adapter_table.specs.Requests.{Next}
-use Rattle.adapter_table.specs.Ticks.{has_expired, expired_row, expired_rows, clocked_table, expired_table, produced_table}
+use Rattle.messaging.specs.declared.table.Messaging.{Messaging}
+use Rattle.messaging.specs.Times.{aged}
+use Rattle.adapter_table.specs.Messages.{messages_table}
+use Rattle.adapter_table.specs.Ticks.{has_expired, expired_row, expired_rows, clocked_table, expired_table, produced_table, advanced}
 use Rattle.adapter_table.specs.Step.{written_table, changed_table}
 use Rattle.adapter_table.specs.Sound.{IdsAreDrawn, IsSound, OpensBefore}
 use Rattle.adapter_table.specs.Newest.{Acceptance, is_applied, acceptance_of, accepted_found, accepted_read, EachAfter, last_accepted, HasNewerNumber, HasOtherCount, IsAppliedNew, IsNotAgain, RemembersLast, TableRemembers}
@@ -149,6 +152,10 @@ remembers_registered : (opening : ℕ) (last : Option Accepted) (t : AdapterTabl
 unfolding registered_table
 remembers_registered opening last t number remembers = record { there = remembers.there; unopened = remembers.unopened }
 
+remembers_messaged : (opening : ℕ) (last : Option Accepted) (t : AdapterTable) (next_id : ℕ) (m : Messaging) → t.next_id ≤ next_id → TableRemembers opening last t → TableRemembers opening last (messages_table t next_id m)
+unfolding messages_table
+remembers_messaged opening last t next_id m later remembers = remembers_rows opening last t (messages_table t next_id m) later remembers.there remembers
+
 -- requests and frames change no connection's last datagram
 requests_remember : (opening : ℕ) (last : Option Accepted) → RequestsDo (λ t next. TableRemembers opening last t → TableRemembers opening last next)
 requests_remember opening last = record {
@@ -157,6 +164,7 @@ requests_remember opening last = record {
   closed = λ t triad row found remembers. remembers_closed opening last t row remembers;
   unstreamed = λ t number remembers. remembers_without opening last t number remembers;
   registered = λ t number remembers. remembers_registered opening last t number remembers;
+  messaged = λ t next_id m goes remembers. remembers_messaged opening last t next_id m goes.later remembers;
 }
 
 -- ---- a datagram is accepted
@@ -281,7 +289,10 @@ goes_read R holds opening last t peer (Ok d) sound remembers = goes_found R hold
 -- ---- an event
 
 remembers_tick : (opening : ℕ) (last : Option Accepted) (t : AdapterTable) (ms : ℕ) (next : Next) → IsTick t ms next → TableRemembers opening last t → TableRemembers opening last next.1
-remembers_tick opening last t ms next is remembers = subst (λ (n : Next). TableRemembers opening last n.1) is.said (remembers_advanced opening last t ms remembers)
+remembers_tick opening last t ms next is remembers =
+    let later = (advanced (clocked_table t ms)).1 in
+    subst (λ (n : Next). TableRemembers opening last n.1) is.said
+    (remembers_messaged opening last later later.next_id (aged later.clock later.messaging) (omega arith) (remembers_advanced opening last t ms remembers))
 
 remembers_write : (opening : ℕ) (last : Option Accepted) (t : AdapterTable) (point : ℕ) (bytes : List ℕ) (next : Next) → IsWrite t point bytes next → TableRemembers opening last t → TableRemembers opening last next.1
 remembers_write opening last t point bytes next is remembers = subst (λ (n : Next). TableRemembers opening last n.1) is.said (remembers_written opening last t point bytes remembers)

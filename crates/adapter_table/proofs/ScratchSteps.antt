@@ -20,7 +20,10 @@ use Rattle.adapter_table.specs.Rows.{written_row}
 use Rattle.adapter_table.specs.Requests.{Next}
 use Rattle.adapter_table.specs.Datagrams.{is_for, row_delivery, accepted_if_for, accepted_table, judged_datagram, found_datagram, datagram_of, received}
 use Rattle.adapter_table.specs.Productions.{changed_row}
-use Rattle.adapter_table.specs.Ticks.{clocked_table, expired, expired_table, produced_table}
+use Rattle.messaging.specs.declared.table.Messaging.{Messaging}
+use Rattle.messaging.specs.Times.{aged}
+use Rattle.adapter_table.specs.Messages.{messages_table}
+use Rattle.adapter_table.specs.Ticks.{clocked_table, expired, expired_table, produced_table, advanced}
 use Rattle.adapter_table.specs.Step.{adapter_step, written_table, changed_table}
 use Rattle.adapter_table.specs.Shapes.{IsShaped}
 use Rattle.adapter_table.specs.Whole.{IsWhole}
@@ -66,8 +69,14 @@ leaves_advanced t ms whole = λ point output point_bytes is holds.
     let one = whole.sound.one_owner point in
     rw (owner_expired clock t.rows point one) (expired_value t.profile (expired clock t.rows) t.values point output point_bytes (one_expired clock t.rows point one) whole.shaped is holds)
 
+leaves_messaged : (t : AdapterTable) (ms : ℕ) (later : AdapterTable) (next_id : ℕ) (m : Messaging) → LeavesBytes t (Tick ms) later → LeavesBytes t (Tick ms) (messages_table later next_id m)
+unfolding messages_table
+leaves_messaged t ms later next_id m leaves = leaves
+
 leaves_tick : (t : AdapterTable) (ms : ℕ) (next : Next) → IsTick t ms next → IsWhole t → LeavesBytes t (Tick ms) next.1
-leaves_tick t ms next is whole = subst (λ (n : Next). LeavesBytes t (Tick ms) n.1) is.said (leaves_advanced t ms whole)
+leaves_tick t ms next is whole =
+    let later = (advanced (clocked_table t ms)).1 in
+    subst (λ (n : Next). LeavesBytes t (Tick ms) n.1) is.said (leaves_messaged t ms later later.next_id (aged later.clock later.messaging) (leaves_advanced t ms whole))
 
 -- ---- a datagram
 

@@ -19,6 +19,8 @@ use Rattle.cip_productions.specs.Kinds.{is_owner}
 use Rattle.adapter_table.specs.Checks.{Admitted, admission}
 use Rattle.adapter_table.specs.Opening.{is_replaced, opened_row, configured, opened_table}
 use Rattle.adapter_table.specs.Closing.{without_triad, staying, closed_values, closed_table}
+use Rattle.messaging.specs.declared.table.Messaging.{Messaging}
+use Rattle.adapter_table.specs.Messages.{messages_table}
 use Rattle.adapter_table.specs.Streams.{with_stream, without_stream, registered_table}
 use Rattle.adapter_table.specs.Shapes.{IsShaped}
 use Rattle.adapter_table.specs.Whole.{IsWhole}
@@ -119,6 +121,10 @@ loses_registered : (t : AdapterTable) (number : ℕ) → LosesOnly t (registered
 unfolding registered_table
 loses_registered t number = loses_nothing t
 
+loses_messaged : (t : AdapterTable) (next_id : ℕ) (m : Messaging) → LosesOnly t (messages_table t next_id m)
+unfolding messages_table
+loses_messaged t next_id m = loses_nothing t
+
 -- ---- requests and frames
 
 -- each of them loses owners at most
@@ -129,4 +135,5 @@ requests_lose = record {
   closed = λ t triad row found whole. loses_closed t triad row found whole;
   unstreamed = λ t number whole. loses_without t number;
   registered = λ t number whole. loses_registered t number;
+  messaged = λ t next_id m goes whole. loses_messaged t next_id m;
 }

@@ -26,6 +26,10 @@ use Rattle.adapter_table.specs.Datagrams.{accepted_if_for, accepted_values, acce
 use Rattle.adapter_table.specs.Productions.{producer_of, produced_row, changed_row}
 use Rattle.adapter_table.specs.Ticks.{clocked_table, expired_row, expired_rows, expired_table, produced_table}
 use Rattle.adapter_table.specs.Step.{adapter_table, written_table, changed_table}
+use Rattle.messaging.specs.declared.table.Messaging.{Messaging}
+use Rattle.messaging.specs.Changes as messages
+use Rattle.adapter_table.specs.Messages.{messages_table}
+use Rattle.adapter_table.specs.MessagesSound.{MessagesGoOn}
 use Rattle.adapter_table.specs.Sound.{IsSound, StreamsDiffer}
 use Rattle.adapter_table.specs.Lemmas.CheckLemmas.{HasSameApi, IsAdmitted, admitted_is, draws_some}
 use Rattle.adapter_table.specs.Laws.{EffectsKeep}
@@ -33,9 +37,9 @@ use Rattle.adapter_table.specs.Lemmas.GroupLemmas.{Joins, is_single, is_first, i
 use Rattle.adapter_table.specs.Lemmas.SupportLemmas.{listeners_opened, listeners_staying}
 use Rattle.adapter_table.specs.Lemmas.LikeLemmas.{Keeps, count_kept, triads_kept, ids_kept, drawn_kept, listeners_kept, groups_kept, written_keeps, fed_keeps, due_keeps, changed_keeps}
 use Rattle.adapter_table.proofs.FadeLemmas.{count_expired, triads_expired, ids_expired, drawn_expired, groups_expired}
-use Rattle.adapter_table.proofs.ProducerLemmas.{Produces, is_single as is_alone, is_first as is_leader, is_joiner as is_follower, producers_opened, producers_filter, producers_kept, producers_expired}
+use Rattle.adapter_table.proofs.ProducerLemmas.{Produces, is_single as is_alone, is_first as is_leader, is_joiner as is_follower, producers_opened, producers_filter, producers_kept, producers_expired, producers_later}
 use Rattle.adapter_table.proofs.StreamLemmas.{has_capacity, few_with, few_left, differ_with, differ_left, differ_registered}
-use Rattle.adapter_table.specs.Lemmas.SoundLemmas.{length_opened, any_opened, drivers_opened, filter_none, triads_append, ids_append, IsDrawn, drawn_new, drawn_append, length_filter_le, count_filter, triads_filter, ids_filter, drawn_filter}
+use Rattle.adapter_table.specs.Lemmas.SoundLemmas.{length_opened, any_opened, drivers_opened, filter_none, triads_append, ids_append, IsDrawn, drawn_new, drawn_append, drawn_later, length_filter_le, count_filter, triads_filter, ids_filter, drawn_filter}
 
 free_output : (rows : List Row) (kind : Kind) (consumed point : ℕ) → (is_owner kind && list_any (drives consumed) rows) ≡ false → (is_owner kind && consumed == point) ≡ true → drivers point rows ≡ []
 free_output rows kind consumed point free drives_it =
@@ -225,8 +229,8 @@ sound_advanced t ms sound = sound_produced (expired_table (clocked_table t ms)) 
 
 -- ---- streams
 
-sound_streams : (t : AdapterTable) (streams : List Stream) → length streams ≤ 16 → StreamsDiffer streams → IsSound t → IsSound (record t { streams = streams })
-sound_streams t streams few differ sound = record {
+sound_streams : (t : AdapterTable) (streams : List Stream) (m : Messaging) → length streams ≤ 16 → StreamsDiffer streams → IsSound t → IsSound (record t { streams = streams; messaging = m })
+sound_streams t streams m few differ sound = record {
   few = sound.few;
   one_owner = sound.one_owner;
   triads_differ = sound.triads_differ;
@@ -244,17 +248,35 @@ pub sound_with : (t : AdapterTable) (number : ℕ) (peer : Node) → is_taken t.
 unfolding with_stream
 sound_with t number peer free sound =
     let has = has_capacity t.streams number free in
-    sound_streams t (t.streams ++ new_stream number peer ∷ []) (few_with t.streams (new_stream number peer) has.capacity) (differ_with t.streams (new_stream number peer) sound.streams_differ has.free) sound
+    sound_streams t (t.streams ++ new_stream number peer ∷ []) t.messaging (few_with t.streams (new_stream number peer) has.capacity) (differ_with t.streams (new_stream number peer) sound.streams_differ has.free) sound
 
 pub sound_without : (t : AdapterTable) (number : ℕ) → IsSound t → IsSound (without_stream t number)
 unfolding without_stream
 sound_without t number sound =
-    sound_streams t (filter (is_other_stream number) t.streams) (omega (arith, few_left (is_other_stream number) t.streams, sound.few_streams)) (differ_left (is_other_stream number) t.streams sound.streams_differ) sound
+    sound_streams t (filter (is_other_stream number) t.streams) (messages.without_stream t.messaging number) (omega (arith, few_left (is_other_stream number) t.streams, sound.few_streams)) (differ_left (is_other_stream number) t.streams sound.streams_differ) sound
 
 pub sound_registered : (t : AdapterTable) (number : ℕ) → IsSound t → IsSound (registered_table t number)
 unfolding registered_table
 sound_registered t number sound =
-    sound_streams t (map (registered_stream number) t.streams) (rw length-map sound.few_streams) (differ_registered number t.streams sound.streams_differ) sound
+    sound_streams t (map (registered_stream number) t.streams) t.messaging (rw length-map sound.few_streams) (differ_registered number t.streams sound.streams_differ) sound
+
+-- ---- class 3 connections
+
+pub sound_messaged : (t : AdapterTable) (next_id : ℕ) (m : Messaging) → MessagesGoOn t next_id m → IsSound t → IsSound (messages_table t next_id m)
+unfolding messages_table
+sound_messaged t next_id m goes sound = record {
+  few = sound.few;
+  one_owner = sound.one_owner;
+  triads_differ = sound.triads_differ;
+  ids_differ = sound.ids_differ;
+  ids_are_drawn = drawn_later t.profile t.next_id next_id t.rows goes.later sound.ids_are_drawn;
+  listeners_are_supported = sound.listeners_are_supported;
+  groups_agree = sound.groups_agree;
+  producers = producers_later t.profile t.next_id next_id t.rows goes.later sound.producers;
+  ids_are_left = goes.left sound.ids_are_left;
+  few_streams = sound.few_streams;
+  streams_differ = sound.streams_differ;
+}
 
 -- ---- each effect
 
@@ -268,6 +290,7 @@ sound_effects = record {
   streamed = sound_with;
   unstreamed = sound_without;
   registered = sound_registered;
+  messaged = sound_messaged;
 }
 
 pub sound_fresh : (profile : Profile) → IsSound (adapter_table profile)

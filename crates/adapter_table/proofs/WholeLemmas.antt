@@ -1,5 +1,5 @@
 -- Connections stay within the limits of their adapter.
-use Rattle.std.proofs.Common.{◌≡◌, ◌≤◌, ◌<◌, ℕ, ◌+◌, ◌^◌, ◌==◌, nat_lt, nat_le, Bool, true, false, cond, not, List, [], ◌∷◌, length, Option, Some, None, Ok, refl, sym, ap, ◌∙◌, arith, leb-true}
+use Rattle.std.proofs.Common.{◌≡◌, ◌≤◌, ℕ, ◌+◌, ◌^◌, ◌==◌, nat_lt, nat_le, Bool, true, false, cond, not, List, length, Option, Some, None, Ok, refl, sym, ap, ◌∙◌, arith, leb-true}
 use Rattle.std.specs.Prelude.{IsTrue}
 use Rattle.std.specs.Option.{option_map}
 use Rattle.std.proofs.lemmas.Bool.{not-false, and_parts, or_parts}
@@ -13,7 +13,6 @@ use Rattle.cip_netparams.specs.Timeouts.{timeout_fits}
 use Rattle.cip_datagram.specs.Datagram.{DatagramFields}
 use Rattle.cip_fwdopen.specs.Open.{OpenFields}
 use Rattle.adapter_table.specs.declared.profile.InputPoint.{InputPoint}
-use Rattle.adapter_table.specs.declared.profile.Profile.{Profile}
 use Rattle.cip_productions.specs.declared.production.Production.{Production}
 use Rattle.adapter_table.specs.Connections.{Row}
 use Rattle.adapter_table.specs.declared.row.State.{State}
@@ -26,10 +25,11 @@ use Rattle.adapter_table.specs.Datagrams.{is_for, accepted_row, accepted_if_for}
 use Rattle.adapter_table.specs.Productions.{due_of, produced_state, produced_row, changed_state, changed_row}
 use Rattle.cip_productions.specs.Productions.{due_again, produced, is_free, sooner_due, deferred, changed_by}
 use Rattle.adapter_table.specs.Shapes.{len_in}
-use Rattle.adapter_table.specs.Sound.{IdsAreDrawn}
 use Rattle.adapter_table.specs.Whole.{FitsRow, RowsFit, IsWhole}
 use Rattle.adapter_table.specs.Laws.{IsTimed}
 use Rattle.adapter_table.specs.Lemmas.CheckLemmas.{admitted_is, draws_some}
+use Rattle.adapter_table.specs.Lemmas.SoundLemmas.{drawn_later}
+use Rattle.adapter_table.proofs.PlaceLemmas.{messages_later}
 use Rattle.adapter_table.proofs.ProducerLemmas.{producers_later}
 use Rattle.adapter_table.specs.RowLimits.{fits_stated, fits_chosen}
 use Rattle.adapter_table.specs.EachLemmas.{each_found}
@@ -149,12 +149,6 @@ stored_fits t request admitted e bytes is =
 
 -- ---- ids are passed over
 
-drawn_later : (profile : Profile) (next_id later : ℕ) (rows : List Row) → next_id ≤ later → IdsAreDrawn profile next_id rows → IdsAreDrawn profile later rows
-drawn_later profile next_id later [] more drawn = tt
-drawn_later profile next_id later (row ∷ rows) more drawn =
-    let below : row.opening < next_id = drawn.1 in
-    (drawn.0, omega arith, drawn_later profile next_id later rows more drawn.2)
-
 pub whole_later : (t : AdapterTable) (counter : ℕ) → t.next_id ≤ counter → counter ≤ 16777216 → IsWhole t → IsWhole (record t { next_id = counter })
 whole_later t counter later last whole =
     let sound = whole.sound in
@@ -172,6 +166,7 @@ whole_later t counter later last whole =
         few_streams = sound.few_streams;
         streams_differ = sound.streams_differ;
       };
+      messages = messages_later t counter later whole.messages;
       shaped = whole.shaped;
       consume = whole.consume;
       fits = whole.fits;

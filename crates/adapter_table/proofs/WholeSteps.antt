@@ -12,13 +12,17 @@ use Rattle.adapter_table.specs.Connections.{Row}
 use Rattle.adapter_table.specs.declared.table.AdapterTable.{AdapterTable}
 use Rattle.adapter_table.specs.Profiles.{is_at, profile_fault}
 use Rattle.adapter_table.specs.Rows.{has_triad, others, written_row}
-use Rattle.adapter_table.specs.Checks.{Admitted, admission}
-use Rattle.adapter_table.specs.Opening.{is_replaced, opened_row, opened_table}
-use Rattle.adapter_table.specs.Closing.{without_triad, stays, staying, closed_table}
+use Rattle.messaging.specs.declared.table.Messaging.{Messaging}
+use Rattle.adapter_table.specs.Messages.{messages_table}
+use Rattle.adapter_table.specs.MessagesSound.{MessagesGoOn}
+use Rattle.adapter_table.specs.Points.{put_value}
+use Rattle.adapter_table.specs.Checks.{Admitted, admission, drawn_ids}
+use Rattle.adapter_table.specs.Opening.{is_replaced, opened_row, configured, opened_table}
+use Rattle.adapter_table.specs.Closing.{without_triad, stays, staying, closed_values, closed_table}
 use Rattle.adapter_table.specs.Streams.{is_taken, with_stream, without_stream, registered_table}
-use Rattle.adapter_table.specs.Datagrams.{is_for, row_delivery, accepted_if_for, accepted_table}
+use Rattle.adapter_table.specs.Datagrams.{is_for, row_delivery, accepted_if_for, accepted_values, accepted_table}
 use Rattle.adapter_table.specs.Productions.{produced_row, changed_row}
-use Rattle.adapter_table.specs.Ticks.{clocked_table, expired, expired_row, expired_rows, expired_table, produced_table}
+use Rattle.adapter_table.specs.Ticks.{clocked_table, expired, expired_row, expired_rows, expired_values, expired_table, produced_table}
 use Rattle.adapter_table.specs.Requests.{Next}
 use Rattle.adapter_table.specs.Step.{adapter_step, adapter_table, written_table, changed_table}
 use Rattle.adapter_table.specs.Whole.{ConsumesOutput, FitsRow, IsWhole}
@@ -30,8 +34,9 @@ use Rattle.adapter_table.proofs.ConsumerLemmas.{consume_kept, consume_expired, a
 use Rattle.adapter_table.specs.Lemmas.FedLemmas.{shaped_fed}
 use Rattle.adapter_table.specs.Laws.{EffectsKeep}
 use Rattle.adapter_table.specs.Lemmas.EffectLemmas.{adapter_keeps}
-use Rattle.adapter_table.proofs.StepLemmas.{sound_fresh, sound_opened, sound_closed, sound_written, sound_fed, sound_advanced, sound_with, sound_without, sound_registered}
+use Rattle.adapter_table.proofs.StepLemmas.{sound_fresh, sound_opened, sound_closed, sound_written, sound_fed, sound_advanced, sound_with, sound_without, sound_registered, sound_messaged}
 use Rattle.adapter_table.specs.RowLimits.{fits_written, fits_expired}
+use Rattle.adapter_table.proofs.PlaceLemmas.{names_left, names_kept, names_expired, names_then, messages_beside, messages_opened, messages_with, messages_without, messages_registered, messages_fresh}
 use Rattle.adapter_table.proofs.WholeLemmas.{fits_due, fits_changed, fits_fed, fits_opened}
 
 pub whole_opened : (t : AdapterTable) (peer : Node) (request : OpenFields) (admitted : Admitted) → admission t request ≡ Ok admitted → IsWhole t → IsWhole (opened_table t (opened_row t peer request admitted) admitted)
@@ -43,6 +48,7 @@ whole_opened t peer request admitted e whole =
     let left = others (is_replaced t.rows request.triad) t.rows in
     record {
       sound = sound_opened t peer request admitted e whole.sound;
+      messages = messages_opened t left row (configured t.profile.config admitted.segment t.values) (t.next_id + drawn_ids admitted.multicast admitted.group) (omega arith) (names_left stays_there t.rows) is.triad_is_new refl whole.messages;
       shaped =
           shaped_configured t.profile t.profile.config admitted.segment t.values refl
           (λ point bytes known stands. stored_len t.profile.config is.config is.segment point bytes known (sym is.segment_is ∙ stands) is.segment_fits) whole.shaped;
@@ -58,6 +64,7 @@ whole_closed t row whole =
     let stays_there : Row → Bool = λ r. not (has_triad row.triad r) in
     record {
       sound = sound_closed t row whole.sound;
+      messages = messages_beside t (staying left) (closed_values t.profile row t.values) t.clock (names_then t.rows left (staying left) (names_left stays_there t.rows) (names_left (stays left) left)) whole.messages;
       shaped = shaped_closed t.profile row t.values whole.shaped;
       consume = each_filter (ConsumesOutput t.profile) (stays left) left (each_filter (ConsumesOutput t.profile) stays_there t.rows whole.consume);
       fits = each_filter FitsRow (stays left) left (each_filter FitsRow stays_there t.rows whole.fits);
@@ -70,6 +77,7 @@ whole_written t point bytes input is long whole =
     let rows = map (written_row point) t.rows in
     record {
       sound = sound_written t point bytes whole.sound;
+      messages = messages_beside t (map (changed_row t.clock point) rows) (put_value point bytes t.values) t.clock (names_then t.rows rows _ (names_kept (written_row point) (written_keeps point) t.rows) (names_kept (changed_row t.clock point) (changed_keeps t.clock point) rows)) whole.messages;
       shaped = shaped_put t.profile t.values point bytes whole.shaped (input_fits t.profile point input (length bytes) whole.shaped.faultless is long);
       consume = consume_kept (changed_row t.clock point) (changed_keeps t.clock point) t.profile rows (consume_kept (written_row point) (written_keeps point) t.profile t.rows whole.consume);
       fits = each_map FitsRow (changed_row t.clock point) (fits_changed t.clock point whole.clock) rows (each_map FitsRow (written_row point) (fits_written point) t.rows whole.fits);
@@ -80,6 +88,7 @@ pub whole_fed : (t : AdapterTable) (peer : Node) (d : DatagramFields) (row : Row
 unfolding accepted_table
 whole_fed t peer d row delivery is found whole = record {
   sound = sound_fed t peer d row delivery whole.sound;
+  messages = messages_beside t (map (accepted_if_for t.clock peer d) t.rows) (accepted_values t.profile row.consumed d delivery t.values) t.clock (names_kept (accepted_if_for t.clock peer d) (fed_keeps t.clock peer d) t.rows) whole.messages;
   shaped = shaped_fed t.profile row d delivery t.values is (each_found (ConsumesOutput t.profile) (is_for peer d.connection) t.rows row found whole.consume) whole.shaped;
   consume = consume_kept (accepted_if_for t.clock peer d) (fed_keeps t.clock peer d) t.profile t.rows whole.consume;
   fits = each_map FitsRow (accepted_if_for t.clock peer d) (fits_fed t.clock peer d) t.rows whole.fits;
@@ -93,6 +102,10 @@ whole_advanced t ms in_time whole =
     let left = expired_rows clock t.rows in
     record {
       sound = sound_advanced t ms whole.sound;
+      messages =
+          messages_beside t (map (produced_row clock) (staying left)) (expired_values t.profile (expired clock t.rows) t.values) clock
+          (names_then t.rows left _ (names_expired clock t.rows)
+          (names_then left (staying left) _ (names_left (stays left) left) (names_kept (produced_row clock) (due_keeps clock) (staying left)))) whole.messages;
       shaped = shaped_expired t.profile (expired clock t.rows) t.values whole.shaped;
       consume = consume_kept (produced_row clock) (due_keeps clock) t.profile (staying left) (each_filter (ConsumesOutput t.profile) (stays left) left (consume_expired clock t.profile t.rows whole.consume));
       fits = each_map FitsRow (produced_row clock) (fits_due clock in_time) (staying left) (each_filter FitsRow (stays left) left (each_map FitsRow (expired_row clock) (fits_expired clock) t.rows whole.fits));
@@ -101,15 +114,19 @@ whole_advanced t ms in_time whole =
 
 pub whole_with : (t : AdapterTable) (number : ℕ) (peer : Node) → is_taken t.streams number ≡ false → IsWhole t → IsWhole (with_stream t number peer)
 unfolding with_stream
-whole_with t number peer free whole = record { sound = sound_with t number peer free whole.sound; shaped = whole.shaped; consume = whole.consume; fits = whole.fits; clock = whole.clock }
+whole_with t number peer free whole = record { sound = sound_with t number peer free whole.sound; messages = messages_with t number peer whole.messages; shaped = whole.shaped; consume = whole.consume; fits = whole.fits; clock = whole.clock }
 
 pub whole_without : (t : AdapterTable) (number : ℕ) → IsWhole t → IsWhole (without_stream t number)
 unfolding without_stream
-whole_without t number whole = record { sound = sound_without t number whole.sound; shaped = whole.shaped; consume = whole.consume; fits = whole.fits; clock = whole.clock }
+whole_without t number whole = record { sound = sound_without t number whole.sound; messages = messages_without t number whole.messages; shaped = whole.shaped; consume = whole.consume; fits = whole.fits; clock = whole.clock }
 
 pub whole_registered : (t : AdapterTable) (number : ℕ) → IsWhole t → IsWhole (registered_table t number)
 unfolding registered_table
-whole_registered t number whole = record { sound = sound_registered t number whole.sound; shaped = whole.shaped; consume = whole.consume; fits = whole.fits; clock = whole.clock }
+whole_registered t number whole = record { sound = sound_registered t number whole.sound; messages = messages_registered t number whole.messages; shaped = whole.shaped; consume = whole.consume; fits = whole.fits; clock = whole.clock }
+
+pub whole_messaged : (t : AdapterTable) (next_id : ℕ) (m : Messaging) → MessagesGoOn t next_id m → IsWhole t → IsWhole (messages_table t next_id m)
+unfolding messages_table
+whole_messaged t next_id m goes whole = record { sound = sound_messaged t next_id m goes whole.sound; messages = goes.sound whole.sound whole.messages; shaped = whole.shaped; consume = whole.consume; fits = whole.fits; clock = whole.clock }
 
 pub whole_effects : EffectsKeep IsWhole
 whole_effects = record {
@@ -121,10 +138,11 @@ whole_effects = record {
   streamed = whole_with;
   unstreamed = whole_without;
   registered = whole_registered;
+  messaged = whole_messaged;
 }
 
 pub whole_step : (t : AdapterTable) (event : Event) (next : Next) → adapter_step t event ≡ Ok next → IsWhole t → IsWhole next.1
 whole_step t event next is whole = adapter_keeps IsWhole whole_effects t event next is whole
 
 pub whole_fresh : (profile : Profile) → profile_fault profile ≡ None → IsWhole (adapter_table profile)
-whole_fresh profile none = record { sound = sound_fresh profile; shaped = shaped_opening profile none; consume = tt; fits = tt; clock = omega arith }
+whole_fresh profile none = record { sound = sound_fresh profile; messages = messages_fresh profile; shaped = shaped_opening profile none; consume = tt; fits = tt; clock = omega arith }

@@ -27,6 +27,7 @@ use Rattle.cip_router.specs.declared.refusal.Refusal.TheVariants as refusal
 use Rattle.cip_productions.specs.declared.kind.Kind.{Kind}
 use Rattle.cip_productions.specs.declared.kind.Kind.TheVariants.{ExclusiveOwner, InputOnly, ListenOnly}
 use Rattle.cip_productions.specs.Kinds.{is_owner, is_listener}
+use Rattle.messaging.specs.Dialogues.{has_dialogue_triad}
 use Rattle.adapter_table.specs.declared.profile.InputPoint.{InputPoint}
 use Rattle.adapter_table.specs.declared.profile.OutputPoint.{OutputPoint}
 use Rattle.adapter_table.specs.declared.profile.Profile.{Profile}
@@ -67,7 +68,7 @@ pub record View : Type 0 where
   pub profile : Profile
   -- the bytes of the configuration
   pub config : Option (List ℕ)
-  -- an established connection has the triad of the request
+  -- an established connection, or one of class 3, has the triad of the request
   pub in_use : Bool
   -- some connection is established
   pub established : Bool
@@ -84,12 +85,12 @@ pub record View : Type 0 where
   -- of an input: a listen-only connection is supported there
   pub supported : ℕ → Bool
 
--- the same, looked up in the connections
-abbrev pub view_at : Profile → Option (List ℕ) → List Row → ℕ → Triad → View
-view_at profile config rows next_id triad = record {
+-- the same, looked up in the connections, beside those of class 3, of which one may have the triad
+abbrev pub view_at : Profile → Option (List ℕ) → List Row → ℕ → (talks : Bool) → Triad → View
+view_at profile config rows next_id talks triad = record {
   profile = profile;
   config = config;
-  in_use = list_any (holds_triad triad) rows;
+  in_use = list_any (holds_triad triad) rows || talks;
   established = list_any is_established rows;
   count = length rows;
   timed_out = list_any is_timed_out rows;
@@ -106,12 +107,13 @@ config_bytes values (Some config) = bytes_at values config.instance
 
 -- the same, looked up in a table
 abbrev pub view_of : AdapterTable → Triad → View
-view_of t triad = view_at t.profile (config_bytes t.values t.profile.config) t.rows t.next_id triad
+view_of t triad =
+    view_at t.profile (config_bytes t.values t.profile.config) t.rows t.next_id (list_any (has_dialogue_triad triad) t.messaging.dialogues) triad
 
 -- SEGMENTS AND KEY
 
 -- A segment does not read. Segments in a wrong order fail a later check.
-abbrev pub segment_check : Result PathFields PathFault → Check
+abbrev pub segment_check : {P : Type 0} → Result P PathFault → Check
 segment_check (Ok path) = None
 segment_check (Err path_fault.Shape) = None
 segment_check (Err path_fault.Truncated) = Some refusal.Segment
@@ -374,7 +376,7 @@ checks view request path points =
     --    request (`read_open`)
     -- 2: a segment of the path does not read (0x0315)
     segment_check path
-    -- 3: an established connection has the triad (0x0100)
+    -- 3: an established connection, or one of class 3, has the triad (0x0100)
     ∷ check view.in_use refusal.InUse
     -- 4: the key is of another vendor or product (0x0114), device type (0x0115), revision (0x0116)
     ∷ key_check view.profile.identity (key_of (result_ok path))

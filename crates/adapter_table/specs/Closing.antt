@@ -4,10 +4,13 @@ use Rattle.std.specs.Prelude.{not, Bool, if◌then◌else◌, List, ◌∷◌, m
 use Rattle.cip_types.specs.declared.names.Triad.{Triad}
 use Rattle.cip_events.specs.declared.event.Notice.{Notice}
 use Rattle.cip_events.specs.declared.event.Notice.TheVariants as notice
+use Rattle.messaging.specs.declared.dialogue.Dialogue.{Dialogue}
+use Rattle.messaging.specs.Changes.{without_dialogue}
 use Rattle.adapter_table.specs.declared.profile.Profile.{Profile}
 use Rattle.adapter_table.specs.Connections.{Row}
 use Rattle.adapter_table.specs.declared.table.PointValue.{PointValue}
 use Rattle.adapter_table.specs.declared.table.AdapterTable.{AdapterTable}
+use Rattle.adapter_table.specs.Messages.{with_messages}
 use Rattle.adapter_table.specs.Points.{lost_values}
 use Rattle.adapter_table.specs.Rows.{has_triad, drives, is_unsupported, others}
 
@@ -42,3 +45,7 @@ dropped_notice row = notice.Dropped row.triad
 
 abbrev pub closed_notices : List Row → Row → List Notice
 closed_notices rows row = notice.Closed row.triad ∷ map dropped_notice (unsupported (without_triad row.triad rows))
+
+-- the class 3 connection is removed, and what it asked waits no more
+abbrev pub dialogue_closed_table : AdapterTable → Dialogue → AdapterTable
+dialogue_closed_table t d = with_messages t (without_dialogue t.messaging d.triad)

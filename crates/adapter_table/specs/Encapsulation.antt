@@ -1,10 +1,11 @@
 -- Encapsulation messages that an adapter receives over a stream: the commands, the replies, and the table after
 -- each (Volume 2, chapter 2, encapsulation messages, commands and common packet format).
-use Rattle.std.specs.Prelude.{ℕ, ◌==◌, not, if◌then◌else◌, List, [], ◌∷◌, length, Option, Some, None, Result, Ok, Err, find}
+use Rattle.std.specs.Prelude.{ℕ, ◌+◌, ◌==◌, not, nat_lt, if◌then◌else◌, List, [], ◌∷◌, length, Option, Some, None, Result, Ok, Err, find}
 use Rattle.std.specs.Str.{bytes_eq}
 use Rattle.cip_types.specs.Cases.{first_case_or}
-use Rattle.cip_types.specs.declared.names.Node.{Node}
 use Rattle.cip_encap.specs.declared.packet.ItemFault.{ItemFault}
+use Rattle.cip_encap.specs.Connected.{ConnectedFields}
+use Rattle.cip_encap.specs.ConnectedReading.{connected_reading}
 use Rattle.cip_encap.specs.Message.{message_text}
 use Rattle.cip_encap.specs.Packet.{PacketFields}
 use Rattle.cip_encap.specs.PacketReading.{packet_reading}
@@ -12,38 +13,50 @@ use Rattle.cip_router.specs.declared.command.Command.{Command}
 use Rattle.cip_router.specs.declared.command.Command.TheVariants as command
 use Rattle.cip_router.specs.declared.command.EncapStatus.{EncapStatus}
 use Rattle.cip_router.specs.declared.command.EncapStatus.TheVariants as status
+use Rattle.cip_router.specs.declared.refusal.Status.TheVariants as router_status
+use Rattle.cip_events.specs.declared.event.Delivery.{Delivery}
+use Rattle.cip_events.specs.declared.event.Delivery.TheVariants.{Duplicate, UnknownId, WrongSize}
 use Rattle.cip_events.specs.declared.event.Frame.{Frame}
 use Rattle.cip_events.specs.declared.event.Notice.{Notice}
 use Rattle.cip_events.specs.declared.event.Notice.TheVariants.{StreamClosed}
 use Rattle.cip_events.specs.declared.event.Recipient.TheVariants as recipient
 use Rattle.cip_events.specs.declared.event.StepFault.{StepFault}
 use Rattle.cip_events.specs.declared.event.StepFault.TheVariants.{NotAllowedNow}
-use Rattle.cip_events.specs.declared.event.Verdict.TheVariants.{Done, BadFrame}
+use Rattle.cip_events.specs.declared.event.Verdict.{Verdict}
+use Rattle.cip_events.specs.declared.event.Verdict.TheVariants.{Done, BadFrame, Delivered}
+use Rattle.messaging.specs.declared.dialogue.Dialogue.{Dialogue}
+use Rattle.messaging.specs.declared.requests.Requester.TheVariants as asker
+use Rattle.messaging.specs.Dialogues.{is_dialogue, repeats_last}
+use Rattle.messaging.specs.Changes.{lacks_room}
 use Rattle.adapter_table.specs.declared.table.Stream.{Stream}
 use Rattle.adapter_table.specs.declared.table.AdapterTable.{AdapterTable}
-use Rattle.cip_router.specs.Requests.{router_request_reading}
+use Rattle.cip_router.specs.Requests.{RouterRequestFields, router_request_reading}
+use Rattle.adapter_table.specs.Own.{OwnRequest, own_of, referred_verdict, referred_table}
+use Rattle.adapter_table.specs.DialogueOpening.{stream_served}
+use Rattle.adapter_table.specs.Connected.{service_in, fitted_text, connected_served, repeated_table, executed_table, asking_table}
 use Rattle.adapter_table.specs.Inquiries.{frame_alone, inquiry_reply}
-use Rattle.adapter_table.specs.Requests.{Next, Served, served}
+use Rattle.adapter_table.specs.Requests.{Next, Served, router_refusal}
 use Rattle.cip_events.specs.Answers.{plain_answer}
 use Rattle.cip_router.specs.Commands.{command_of, is_silent}
-use Rattle.adapter_table.specs.Streams.{is_stream, session_of, has_session, without_stream, registered_table}
-use Rattle.cip_router.specs.Frames.{RequestHeader, FrameFields, without_header, wrong_length, whole, frame_reading, FrameReply, services, registered, other_version, router_reply, refused, protocol_text, reply_message}
+use Rattle.adapter_table.specs.Streams.{is_stream, session_of, has_session, without_stream, ended_notices, registered_table}
+use Rattle.cip_router.specs.Frames.{RequestHeader, FrameFields, without_header, wrong_length, whole, frame_reading, FrameReply, services, registered, other_version, router_reply, connected, refused, protocol_text, reply_message}
 
 -- THE REPLY TO A MESSAGE
 
--- the reply, if there is one, the notices, and the table after it
+-- the reply, if there is one, the verdict, the notices, and the table after it
 pub record Handled : Type 0 where
   pub reply : Option FrameReply
+  pub verdict : Verdict
   pub notices : List Notice
   pub table : AdapterTable
 
 -- no reply, and nothing has changed
 abbrev pub unanswered : AdapterTable → Handled
-unanswered t = record { reply = None; notices = []; table = t }
+unanswered t = record { reply = None; verdict = Done; notices = []; table = t }
 
 -- a reply, and nothing has changed
 abbrev pub reply_only : AdapterTable → FrameReply → Handled
-reply_only t reply = record { reply = Some reply; notices = []; table = t }
+reply_only t reply = record { reply = Some reply; verdict = Done; notices = []; table = t }
 
 -- a refusal, and nothing has changed
 abbrev pub refusal : AdapterTable → EncapStatus → Handled
@@ -51,7 +64,7 @@ refusal t why = reply_only t (refused why)
 
 -- a session begins on the stream
 abbrev pub session_begun : AdapterTable → Stream → Handled
-session_begun t stream = record { reply = Some (registered (session_of stream)); notices = []; table = registered_table t stream.number }
+session_begun t stream = record { reply = Some (registered (session_of stream)); verdict = Done; notices = []; table = registered_table t stream.number }
 
 -- RegisterSession: four bytes of data, of the version that is served, and one session on a stream
 abbrev pub register_session : AdapterTable → Stream → List ℕ → Handled
@@ -61,9 +74,14 @@ register_session t stream body = first_case_or (session_begun t stream) (
     ∷ (stream.registered, refusal t status.InvalidCommand)
     ∷ [])
 
--- the session ends, and with it the stream
+-- the session ends, and with it the stream and its class 3 connections
 abbrev pub session_ended : AdapterTable → Stream → Handled
-session_ended t stream = record { reply = None; notices = StreamClosed stream.number ∷ []; table = without_stream t stream.number }
+session_ended t stream = record {
+  reply = None;
+  verdict = Done;
+  notices = StreamClosed stream.number ∷ ended_notices t stream.number;
+  table = without_stream t stream.number;
+}
 
 -- UnRegisterSession: only by the stream's own session
 abbrev pub unregister_session : AdapterTable → Stream → ℕ → Handled
@@ -72,17 +90,99 @@ unregister_session t stream session = if has_session stream session then session
 -- the reply to the request; data without a request are refused
 abbrev pub request_replied : AdapterTable → Option Served → Handled
 request_replied t None = refusal t status.IncorrectData
-request_replied t (Some s) = record { reply = Some (router_reply s.reply s.address); notices = s.notices; table = s.table }
+request_replied t (Some s) = record { reply = Some (router_reply s.reply s.address); verdict = Done; notices = s.notices; table = s.table }
 
--- items with a request of a peer, or other data
-abbrev pub packet_replied : AdapterTable → Node → Result PacketFields ItemFault → Handled
-packet_replied t peer (Err fault) = refusal t status.IncorrectData
-packet_replied t peer (Ok packet) = request_replied t (served t peer (router_request_reading packet.payload))
+-- a request to an object of the maker's own is refused (0x02) where no more can wait, else it waits
+abbrev pub own_replied : AdapterTable → Stream → (context : ℕ) → OwnRequest → Handled
+own_replied t stream context own =
+    if lacks_room t.messaging then request_replied t (Some (router_refusal t own.service router_status.ResourceUnavailable))
+    else record { reply = None; verdict = referred_verdict t own; notices = []; table = referred_table t (asker.Stream stream.number context) own }
 
--- SendRRData: within its session, a request of the stream's peer to the message router
-abbrev pub send_rr_data : AdapterTable → Stream → ℕ → List ℕ → Handled
-send_rr_data t stream session body =
-    if has_session stream session then packet_replied t stream.peer (packet_reading body) else refusal t status.InvalidSession
+-- a request of the stream's peer
+abbrev pub request_handled : AdapterTable → Stream → (context : ℕ) → RouterRequestFields → Option OwnRequest → Handled
+request_handled t stream context request None = request_replied t (stream_served t stream request)
+request_handled t stream context request (Some own) = own_replied t stream context own
+
+-- items with a request, or other data
+abbrev pub packet_replied : AdapterTable → Stream → (context : ℕ) → Result PacketFields ItemFault → Handled
+packet_replied t stream context (Err fault) = refusal t status.IncorrectData
+packet_replied t stream context (Ok packet) =
+    request_handled t stream context (router_request_reading packet.payload) (own_of t.profile.objects (router_request_reading packet.payload))
+
+-- SendRRData: within its session, a request to the message router
+abbrev pub send_rr_data : AdapterTable → Stream → (session context : ℕ) → List ℕ → Handled
+send_rr_data t stream session context body =
+    if has_session stream session then packet_replied t stream context (packet_reading body) else refusal t status.InvalidSession
+
+-- THE REPLY TO A CONNECTED MESSAGE
+
+-- a message that is not executed, and has no reply
+abbrev pub undelivered : AdapterTable → Delivery → Handled
+undelivered t why = record { reply = None; verdict = Delivered why; notices = []; table = t }
+
+-- the reply that the connection keeps, if it has one yet
+abbrev pub kept_reply : Dialogue → (count : ℕ) → List ℕ → Option FrameReply
+kept_reply d count [] = None
+kept_reply d count (first ∷ rest) = Some (connected d.t_o_id.0 count (first ∷ rest))
+
+-- the last message again: its reply again, and nothing is executed
+abbrev pub message_repeated : AdapterTable → Dialogue → (count : ℕ) → Handled
+message_repeated t d count = record {
+  reply = kept_reply d count d.reply;
+  verdict = Delivered Duplicate;
+  notices = [];
+  table = repeated_table t d;
+}
+
+-- a message was served: the reply goes out, and the connection keeps it
+abbrev pub message_replied : Dialogue → (count service : ℕ) → Served → Handled
+message_replied d count service s = record {
+  reply = Some (connected d.t_o_id.0 count (fitted_text d service s.reply));
+  verdict = Done;
+  notices = s.notices;
+  table = executed_table s.table d count (fitted_text d service s.reply);
+}
+
+-- a message to an object of the maker's own is refused (0x02) where no more can wait, else it waits
+abbrev pub own_message : AdapterTable → Dialogue → (count : ℕ) → OwnRequest → Handled
+own_message t d count own =
+    if lacks_room t.messaging then message_replied d count own.service (router_refusal t own.service router_status.ResourceUnavailable)
+    else record { reply = None; verdict = referred_verdict t own; notices = []; table = asking_table t d count own }
+
+-- a message without a request is refused
+abbrev pub message_served : AdapterTable → Dialogue → (count service : ℕ) → Option Served → Handled
+message_served t d count service None = refusal t status.IncorrectData
+message_served t d count service (Some s) = message_replied d count service s
+
+-- a message with a new count
+abbrev pub message_executed : AdapterTable → Dialogue → (count service : ℕ) → RouterRequestFields → Option OwnRequest → Handled
+message_executed t d count service request None = message_served t d count service (connected_served t d.peer request)
+message_executed t d count service request (Some own) = own_message t d count own
+
+-- a message of a class 3 connection: longer than its O->T size, or the last one again, or new
+abbrev pub message_handled : AdapterTable → Dialogue → (count : ℕ) → List ℕ → Handled
+message_handled t d count message = first_case_or (
+    message_executed t d count (service_in message) (router_request_reading message) (own_of t.profile.objects (router_request_reading message))
+    ) (
+    (nat_lt d.o_t_size (2 + length message), undelivered t WrongSize)
+    ∷ (repeats_last d count, message_repeated t d count)
+    ∷ [])
+
+-- the same of the connection that is found, if one is
+abbrev pub message_found : AdapterTable → (count : ℕ) → List ℕ → Option Dialogue → Handled
+message_found t count message None = undelivered t UnknownId
+message_found t count message (Some d) = message_handled t d count message
+
+-- items with a message of a class 3 connection that lives on the stream, or other data
+abbrev pub unit_replied : AdapterTable → Stream → Result ConnectedFields ItemFault → Handled
+unit_replied t stream (Err fault) = refusal t status.IncorrectData
+unit_replied t stream (Ok unit) =
+    message_found t unit.count unit.message (find (is_dialogue stream.number (record { 0 = unit.connection })) t.messaging.dialogues)
+
+-- SendUnitData: within its session, a connected message; outside it is refused as an unknown command is
+abbrev pub send_unit_data : AdapterTable → Stream → (session : ℕ) → List ℕ → Handled
+send_unit_data t stream session body =
+    if has_session stream session then unit_replied t stream (connected_reading body) else refusal t status.InvalidCommand
 
 -- a message by its command
 unfoldable pub handled : AdapterTable → Stream → RequestHeader → List ℕ → Command → Handled
@@ -90,7 +190,8 @@ handled t stream request_header body command.Nop = unanswered t
 handled t stream request_header body command.ListServices = reply_only t services
 handled t stream request_header body command.RegisterSession = register_session t stream body
 handled t stream request_header body command.UnregisterSession = unregister_session t stream request_header.session
-handled t stream request_header body command.SendRrData = send_rr_data t stream request_header.session body
+handled t stream request_header body command.SendRrData = send_rr_data t stream request_header.session request_header.context body
+handled t stream request_header body command.SendUnitData = send_unit_data t stream request_header.session body
 handled t stream request_header body command.Other = refusal t status.InvalidCommand
 
 -- THE ANSWER
@@ -106,7 +207,7 @@ framed number request_header done = (
   record {
     frames = reply_frames number request_header done.reply;
     datagrams = [];
-    verdict = Done;
+    verdict = done.verdict;
     notices = done.notices;
   },
   done.table,

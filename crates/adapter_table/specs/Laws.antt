@@ -11,6 +11,7 @@ use Rattle.cip_events.specs.declared.event.Delivery.TheVariants.{Applied}
 use Rattle.cip_events.specs.declared.event.Event.{Event}
 use Rattle.cip_events.specs.declared.event.StepFault.{StepFault}
 use Rattle.cip_productions.specs.declared.acceptance.Accepted.{Accepted}
+use Rattle.messaging.specs.declared.table.Messaging.{Messaging}
 use Rattle.adapter_table.specs.declared.profile.InputPoint.{InputPoint}
 use Rattle.adapter_table.specs.declared.profile.OutputPoint.{OutputPoint}
 use Rattle.adapter_table.specs.declared.profile.Profile.{Profile}
@@ -27,6 +28,8 @@ use Rattle.adapter_table.specs.Ticks.{clocked_table, expired_table, produced_tab
 use Rattle.adapter_table.specs.Points.{bytes_at}
 use Rattle.adapter_table.specs.Requests.{Next}
 use Rattle.adapter_table.specs.Step.{adapter_step, adapter_table, written_table, changed_table}
+use Rattle.adapter_table.specs.Messages.{messages_table}
+use Rattle.adapter_table.specs.MessagesSound.{MessagesGoOn}
 use Rattle.adapter_table.specs.Sound.{IsSound}
 use Rattle.adapter_table.specs.Whole.{ConsumesOutput, IsWhole}
 use Rattle.adapter_table.specs.Scratch.{left_at, Leaves}
@@ -63,7 +66,7 @@ abbrev pub RefusalsAcceptNothing : Type 0
 RefusalsAcceptNothing = (opening : ℕ) (t : AdapterTable) (event : Event) (fault : StepFault) → adapter_step t event ≡ Err fault → accepted_at opening t event ≡ []
 
 -- each effect keeps it: a connection is opened, closed, an input written, a datagram accepted, time passes, a stream
--- begins, ends, a session is registered
+-- begins, ends, a session is registered, class 3 connections and waiting requests change
 pub record EffectsKeep (P : AdapterTable → Type 0) : Type 0 where
   pub opened : (t : AdapterTable) (peer : Node) (request : OpenFields) (admitted : Admitted) → admission t request ≡ Ok admitted → P t → P (opened_table t (opened_row t peer request admitted) admitted)
   pub closed : (t : AdapterTable) (row : Row) → P t → P (closed_table t row)
@@ -73,6 +76,7 @@ pub record EffectsKeep (P : AdapterTable → Type 0) : Type 0 where
   pub streamed : (t : AdapterTable) (number : ℕ) (peer : Node) → is_taken t.streams number ≡ false → P t → P (with_stream t number peer)
   pub unstreamed : (t : AdapterTable) (number : ℕ) → P t → P (without_stream t number)
   pub registered : (t : AdapterTable) (number : ℕ) → P t → P (registered_table t number)
+  pub messaged : (t : AdapterTable) (next_id : ℕ) (m : Messaging) → MessagesGoOn t next_id m → P t → P (messages_table t next_id m)
 
 -- the times and the id of an admitted request
 pub record IsTimed (t : AdapterTable) (request : OpenFields) (admitted : Admitted) : Type 0 where

@@ -5,6 +5,7 @@ pub mod GroupLemmas
 pub mod SupportLemmas
 pub mod LikeLemmas
 pub mod LimitLemmas
+pub mod MessageLemmas
 pub mod RequestLemmas
 pub mod PassiveLemmas
 pub mod PlainLemmas

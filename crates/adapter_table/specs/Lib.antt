@@ -1,10 +1,17 @@
+pub mod Answering
 pub mod Checks
 pub mod Closing
+pub mod Connected
 pub mod Connections
 pub mod Datagrams
+pub mod DialogueOpening
 pub mod Encapsulation
 pub mod Judging
+pub mod MessageLaws
+pub mod Messages
+pub mod MessagesSound
 pub mod Opening
+pub mod Own
 pub mod Objects
 pub mod Inquiries
 pub mod Points

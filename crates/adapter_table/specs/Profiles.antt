@@ -12,7 +12,7 @@ use Rattle.adapter_table.specs.declared.maker_limits.Places.{Places}
 use Rattle.adapter_table.specs.declared.maker_limits.MakerLimits.{MakerLimits}
 use Rattle.adapter_table.specs.declared.profile.Profile.{Profile}
 use Rattle.cip_events.specs.declared.profile_fault.ProfileFault.{ProfileFault}
-use Rattle.cip_events.specs.declared.profile_fault.ProfileFault.TheVariants.{Incarnation, Address, Points, SameInstance, Length, Identity as IdentityFault, Description as DescriptionFault, Limits}
+use Rattle.cip_events.specs.declared.profile_fault.ProfileFault.TheVariants.{Incarnation, Address, Points, SameInstance, Length, Identity as IdentityFault, Description as DescriptionFault, Limits, Objects}
 
 -- ADDRESSES
 
@@ -119,6 +119,28 @@ abbrev pub are_limits : MakerLimits → Bool
 are_limits limits =
     is_from 1 10000000 limits.least_rpi && (are_few_places limits.places && (is_from 1 64 limits.node_connections && is_from 2 (2 ^ 31) limits.newer))
 
+-- OBJECTS OF THE MAKER'S OWN
+
+abbrev pub is_class : ℕ → ℕ → Bool
+is_class class other = other == class
+
+-- the classes of other objects that a device has
+abbrev pub served_classes : List ℕ
+served_classes = 0x01 ∷ 0x02 ∷ 0x04 ∷ 0x06 ∷ 0xF5 ∷ 0xF6 ∷ []
+
+-- 1 to 65,535, and not the class of another object
+abbrev pub is_free_class : ℕ → Bool
+is_free_class class = nat_le 1 class && (nat_le class 65535 && not (list_any (is_class class) served_classes))
+
+-- each is free, and no two are equal
+abbrev pub are_own_classes : List ℕ → Bool
+are_own_classes [] = true
+are_own_classes (class ∷ classes) = is_free_class class && (not (list_any (is_class class) classes) && are_own_classes classes)
+
+-- at most 16
+abbrev pub are_objects : List ℕ → Bool
+are_objects classes = nat_le (length classes) 16 && are_own_classes classes
+
 -- THE FIRST FAULT
 
 -- the faults of a profile, in the order in which they are looked for
@@ -132,6 +154,7 @@ profile_tests profile =
     ∷ (not (is_revision profile.identity), IdentityFault)
     ∷ (not (is_described profile.description), DescriptionFault)
     ∷ (not (are_limits profile.limits), Limits)
+    ∷ (not (are_objects profile.objects), Objects)
     ∷ []
 
 -- the first fault

@@ -17,7 +17,7 @@ use Rattle.adapter_table.specs.Connections.{Row}
 use Rattle.adapter_table.specs.Rows.{has_triad}
 use Rattle.cip_router.specs.declared.object_service.ObjectService.TheVariants.{Reset as ResetService}
 use Rattle.adapter_table.specs.Objects.{ObjectAnswer, said, denied, resetting, object_answer}
-use Rattle.adapter_table.specs.Closing.{closed_table, closed_notices}
+use Rattle.adapter_table.specs.Closing.{closed_table, closed_notices, dialogue_closed_table}
 use Rattle.cip_router.specs.declared.refusal.Refusal.TheVariants as refusal
 use Rattle.cip_router.specs.Replies.{ReplyFields, opened, closed, object_reply, reply_text}
 use Rattle.cip_router.specs.Replies as replies
@@ -26,7 +26,12 @@ use Rattle.cip_router.specs.declared.refusal.Status.{Status}
 use Rattle.cip_router.specs.declared.refusal.Status.TheVariants as status
 use Rattle.cip_router.specs.Refusals.{refusal_fault, status_fault}
 use Rattle.adapter_table.specs.Checks.{Admitted}
-use Rattle.adapter_table.specs.StatedLimits.{limited_admission, is_wrong_closer}
+use Rattle.messaging.specs.declared.dialogue.Dialogue.{Dialogue}
+use Rattle.messaging.specs.declared.requests.Requester.TheVariants as asker
+use Rattle.messaging.specs.Dialogues.{has_dialogue_triad}
+use Rattle.messaging.specs.Changes.{lacks_room}
+use Rattle.adapter_table.specs.Own.{OwnRequest, own_of, referred_verdict, referred_table}
+use Rattle.adapter_table.specs.StatedLimits.{limited_admission, is_wrong_closer, is_wrong_ender}
 use Rattle.adapter_table.specs.Opening.{opened_row, opened_table, opened_reply, opened_address, opened_notices}
 use Rattle.cip_events.specs.Answers.{plain_answer}
 
@@ -102,9 +107,32 @@ abbrev pub close_of : AdapterTable → Node → CloseFields → Option Row → S
 close_of t peer request None = unknown_close t request
 close_of t peer request (Some row) = found_close t peer request row
 
--- a Forward_Close, of a connection in any state
+-- a Forward_Close, of a connection of class 1 in any state
 unfoldable pub served_close : AdapterTable → Node → CloseFields → Served
 served_close t peer request = close_of t peer request (find (has_triad request.triad) t.rows)
+
+-- the close of a class 3 connection
+abbrev pub known_dialogue_close : AdapterTable → Dialogue → Served
+known_dialogue_close t d = record {
+  reply = closed d.triad;
+  address = None;
+  notices = notice.Closed d.triad ∷ [];
+  table = dialogue_closed_table t d;
+}
+
+-- only its own node may close it, if the maker says so
+abbrev pub found_dialogue_close : AdapterTable → Node → CloseFields → Dialogue → Served
+found_dialogue_close t peer request d =
+    if is_wrong_ender t.profile.limits peer d then refused_close t request (status_fault status.PrivilegeViolation) else known_dialogue_close t d
+
+-- a class 3 connection of the triad is looked for first
+abbrev pub end_of : AdapterTable → Node → CloseFields → Option Dialogue → Served
+end_of t peer request None = served_close t peer request
+end_of t peer request (Some d) = found_dialogue_close t peer request d
+
+-- a Forward_Close, of a connection of any class
+unfoldable pub served_end : AdapterTable → Node → CloseFields → Served
+served_end t peer request = end_of t peer request (find (has_dialogue_triad request.triad) t.messaging.dialogues)
 
 abbrev pub router_refusal : AdapterTable → ℕ → Status → Served
 router_refusal t service why = record { reply = replies.refused service (status_fault why) None; address = None; notices = []; table = t }
@@ -123,7 +151,7 @@ served_object t service class instance attribute body = object_served t service 
 abbrev pub served : AdapterTable → Node → RouterRequestFields → Option Served
 served t peer nothing = None
 served t peer (refused service why) = Some (router_refusal t service why)
-served t peer (closing request) = Some (served_close t peer request)
+served t peer (closing request) = Some (served_end t peer request)
 served t peer (object service class instance attribute body) = Some (served_object t service class instance attribute body)
 served t peer (opening large request) = Some (served_open t peer large request)
 
@@ -152,6 +180,16 @@ abbrev pub answered : AdapterTable → Node → Option Served → Next
 answered t peer None = (plain_answer BadFrame, t)
 answered t peer (Some s) = replied peer s
 
+-- a request to an object of the maker's own is refused (0x02) where no more can wait, else it waits
+abbrev pub own_answered : AdapterTable → Node → OwnRequest → Next
+own_answered t peer own =
+    if lacks_room t.messaging then replied peer (router_refusal t own.service status.ResourceUnavailable)
+    else (plain_answer (referred_verdict t own), referred_table t (asker.Peer peer) own)
+
+abbrev pub requested_by : AdapterTable → Node → RouterRequestFields → Option OwnRequest → Next
+requested_by t peer request None = answered t peer (served t peer request)
+requested_by t peer request (Some own) = own_answered t peer own
+
 -- a request of a peer
 unfoldable pub requested : AdapterTable → Node → List ℕ → Next
-requested t peer bytes = answered t peer (served t peer (router_request_reading bytes))
+requested t peer bytes = requested_by t peer (router_request_reading bytes) (own_of t.profile.objects (router_request_reading bytes))

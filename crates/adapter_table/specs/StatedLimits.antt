@@ -12,6 +12,7 @@ use Rattle.cip_productions.specs.declared.kind.Kind.{Kind}
 use Rattle.cip_productions.specs.declared.kind.Kind.TheVariants.{ExclusiveOwner, InputOnly, ListenOnly}
 use Rattle.cip_productions.specs.declared.acceptance.Accepted.{Accepted}
 use Rattle.cip_productions.specs.Acceptance.{accepts_sequence}
+use Rattle.messaging.specs.declared.dialogue.Dialogue.{Dialogue}
 use Rattle.adapter_table.specs.declared.maker_limits.Places.{Places}
 use Rattle.adapter_table.specs.declared.maker_limits.MakerLimits.{MakerLimits}
 use Rattle.adapter_table.specs.Connections.{Row}
@@ -57,6 +58,10 @@ limited_admission t peer request = limited t.profile.limits t.rows peer (admissi
 -- only the node that opened the connection closes it, and this is another
 abbrev pub is_wrong_closer : MakerLimits → Node → Row → Bool
 is_wrong_closer limits peer row = limits.own_closers && not (row.peer.0 == peer.0)
+
+-- the same of a class 3 connection
+abbrev pub is_wrong_ender : MakerLimits → Node → Dialogue → Bool
+is_wrong_ender limits peer d = limits.own_closers && not (d.peer.0 == peer.0)
 
 -- NUMBERS
 

@@ -1,11 +1,12 @@
 -- One event at a device's table.
 use Rattle.std.specs.Prelude.{ℕ, ◌==◌, length, map, find, if◌then◌else◌, List, [], Option, Some, None, Result, Ok, Err}
 use Rattle.cip_events.specs.declared.event.Event.{Event}
-use Rattle.cip_events.specs.declared.event.Event.TheVariants.{Request, StreamOpened, Frame, StreamCut, Datagram, Inquiry, Write, Read, Tick, Mode, Start, Stop, Explicit}
+use Rattle.cip_events.specs.declared.event.Event.TheVariants.{Request, StreamOpened, Frame, StreamCut, Datagram, Inquiry, Write, Read, Tick, Mode, Start, Stop, Explicit, Respond}
 use Rattle.cip_events.specs.declared.event.Answer.{Answer}
 use Rattle.cip_events.specs.declared.event.StepFault.{StepFault}
 use Rattle.cip_events.specs.declared.event.StepFault.TheVariants as fault
 use Rattle.cip_events.specs.declared.event.Verdict.TheVariants.{Done}
+use Rattle.messaging.specs.Changes.{fresh_messaging}
 use Rattle.adapter_table.specs.declared.profile.InputPoint.{InputPoint}
 use Rattle.adapter_table.specs.declared.profile.Profile.{Profile}
 use Rattle.adapter_table.specs.declared.table.AdapterTable.{AdapterTable}
@@ -17,6 +18,7 @@ use Rattle.adapter_table.specs.Requests.{Next, requested}
 use Rattle.cip_events.specs.Answers.{plain_answer, value_answer}
 use Rattle.adapter_table.specs.Streams.{stream_opened, stream_cut}
 use Rattle.adapter_table.specs.Encapsulation.{frame}
+use Rattle.adapter_table.specs.Answering.{respond}
 use Rattle.adapter_table.specs.Datagrams.{received}
 use Rattle.cip_productions.specs.Productions.{sent}
 use Rattle.adapter_table.specs.Productions.{productions_on_change, changed_row}
@@ -72,8 +74,9 @@ adapter_step t (Mode run) = Err fault.NotAllowedNow
 adapter_step t (Start slot) = Err fault.NotAllowedNow
 adapter_step t (Stop slot) = Err fault.NotAllowedNow
 adapter_step t (Explicit target number bytes) = Err fault.NotAllowedNow
+adapter_step t (Respond number status bytes) = respond t number status bytes
 
--- the table of a fresh adapter: no connections, zeros at all points, clock 0, the first id, no streams
+-- the table of a fresh adapter: no connections, zeros at all points, clock 0, the first id, no streams, no messages
 abbrev pub adapter_table : Profile → AdapterTable
 adapter_table profile = record {
   profile = profile;
@@ -82,4 +85,5 @@ adapter_table profile = record {
   clock = record { 0 = 0 };
   next_id = 1;
   streams = [];
+  messaging = fresh_messaging;
 }

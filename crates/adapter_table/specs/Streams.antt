@@ -3,9 +3,13 @@
 use Rattle.std.specs.Prelude.{ℕ, ◌+◌, ◌==◌, ◌&&◌, ◌||◌, not, nat_le, Bool, true, false, if◌then◌else◌, List, [], ◌∷◌, ◌++◌, length, map, filter, find, Option, Some, None, Result, Ok, Err}
 use Rattle.std.specs.List.{list_any}
 use Rattle.cip_types.specs.declared.names.Node.{Node}
+use Rattle.cip_events.specs.declared.event.Notice.{Notice}
+use Rattle.cip_events.specs.declared.event.Notice.TheVariants.{Dropped}
 use Rattle.cip_events.specs.declared.event.StepFault.{StepFault}
 use Rattle.cip_events.specs.declared.event.StepFault.TheVariants.{NotAllowedNow}
 use Rattle.cip_events.specs.declared.event.Verdict.TheVariants.{Done}
+use Rattle.messaging.specs.declared.dialogue.Dialogue.{Dialogue}
+use Rattle.messaging.specs.Changes as messages
 use Rattle.adapter_table.specs.declared.table.Stream.{Stream}
 use Rattle.adapter_table.specs.declared.table.AdapterTable.{AdapterTable}
 use Rattle.adapter_table.specs.Requests.{Next}
@@ -37,9 +41,20 @@ new_stream number peer = record { number = number; peer = peer; registered = fal
 unfoldable pub with_stream : AdapterTable → ℕ → Node → AdapterTable
 with_stream t number peer = record t { streams = t.streams ++ new_stream number peer ∷ [] }
 
--- the stream is not open any more; connections stay
+-- The stream is not open any more. Its class 3 connections end with it, and no answer goes over it or them; all other
+-- connections stay.
 unfoldable pub without_stream : AdapterTable → ℕ → AdapterTable
-without_stream t number = record t { streams = filter (is_other_stream number) t.streams }
+without_stream t number = record t {
+  streams = filter (is_other_stream number) t.streams;
+  messaging = messages.without_stream t.messaging number;
+}
+
+abbrev pub ended_notice : Dialogue → Notice
+ended_notice d = Dropped d.triad
+
+-- a notice for each class 3 connection of the stream
+abbrev pub ended_notices : AdapterTable → ℕ → List Notice
+ended_notices t number = map ended_notice (messages.stream_dialogues t.messaging number)
 
 -- SESSIONS
 
@@ -68,7 +83,7 @@ stream_opened t number peer = if is_taken t.streams number then Err NotAllowedNo
 -- the same of the stream that is found, if one is
 abbrev pub cut_of : AdapterTable → Option Stream → Result Next StepFault
 cut_of t None = Err NotAllowedNow
-cut_of t (Some stream) = Ok (plain_answer Done, without_stream t stream.number)
+cut_of t (Some stream) = Ok (record (plain_answer Done) { notices = ended_notices t stream.number }, without_stream t stream.number)
 
 -- a stream breaks, or its peer ends it
 unfoldable pub stream_cut : AdapterTable → ℕ → Result Next StepFault

@@ -1,14 +1,22 @@
 -- Time at an adapter. A tick advances the clock; then connections whose deadline has passed time out; then
--- listeners that lost their support are dropped; then the producers that are due produce
+-- listeners that lost their support are dropped; then class 3 connections whose deadline has passed end; then requests that
+-- the application did not answer in time are refused; then the producers that are due produce
 -- (Volume 1, chapter 3, connection timeouts, inactivity watchdog, application connection types).
 use Rattle.std.specs.Prelude.{ℕ, ◌+◌, ◌==◌, ◌&&◌, ◌||◌, nat_lt, nat_le, Bool, if◌then◌else◌, List, [], ◌∷◌, ◌++◌, map, filter, Result, Ok, Err}
+use Rattle.std.specs.List.{flat_map}
 use Rattle.cip_types.specs.declared.names.Ms.{Ms}
 use Rattle.cip_events.specs.declared.event.Answer.{Answer}
+use Rattle.cip_events.specs.declared.event.Frame.{Frame}
 use Rattle.cip_events.specs.declared.event.Notice.{Notice}
 use Rattle.cip_events.specs.declared.event.Notice.TheVariants as notice
 use Rattle.cip_events.specs.declared.event.StepFault.{StepFault}
 use Rattle.cip_events.specs.declared.event.StepFault.TheVariants as fault
 use Rattle.cip_events.specs.declared.event.Verdict.TheVariants.{Done}
+use Rattle.cip_router.specs.Replies.{own}
+use Rattle.messaging.specs.declared.dialogue.Dialogue.{Dialogue}
+use Rattle.messaging.specs.declared.requests.Waiting.{Waiting}
+use Rattle.messaging.specs.declared.table.Messaging.{Messaging}
+use Rattle.messaging.specs.Times.{late_dialogues, without_late_dialogues, late_waiting, aged}
 use Rattle.adapter_table.specs.declared.profile.Profile.{Profile}
 use Rattle.adapter_table.specs.Connections.{Row}
 use Rattle.adapter_table.specs.declared.row.State.TheVariants.{TimedOut}
@@ -21,6 +29,8 @@ use Rattle.cip_types.specs.Order.{in_order}
 use Rattle.cip_productions.specs.Productions.{sent}
 use Rattle.adapter_table.specs.Productions.{due_productions, produced_row}
 use Rattle.adapter_table.specs.Requests.{Next}
+use Rattle.adapter_table.specs.Answering.{route_frames}
+use Rattle.adapter_table.specs.Messages.{with_messages}
 use Rattle.cip_events.specs.Clock.{longest_tick, clock_end}
 
 -- THE CLOCK
@@ -87,9 +97,32 @@ advanced clocked =
     let left = expired_table clocked in
     (tick_answer clocked left.rows, produced_table left)
 
+-- CLASS 3 CONNECTIONS, AND REQUESTS THAT WAIT
+
+abbrev pub late_notice : Dialogue → Notice
+late_notice d = notice.Expired d.triad
+
+-- the reply to a request that the application did not answer in time: general status 0x1F, no data
+abbrev pub late_frames : Messaging → Waiting → List Frame
+late_frames m w = route_frames m w.asker w.service (own w.service 0x1F [])
+
+-- a notice for each class 3 connection that ends, behind those of the other connections; then a reply to each request that
+-- the application did not answer in time, but for those that such a connection brought
+abbrev pub aged_answer : Ms → Messaging → Answer → Answer
+aged_answer clock m answer =
+    let left = without_late_dialogues clock m in
+    record answer {
+      frames = flat_map (late_frames left) (late_waiting clock left);
+      notices = answer.notices ++ map late_notice (late_dialogues clock m);
+    }
+
+-- what time does to all other connections, and to these
+abbrev pub aged_next : Next → Next
+aged_next next = (aged_answer next.1.clock next.1.messaging next.0, with_messages next.1 (aged next.1.clock next.1.messaging))
+
 -- some milliseconds pass: at most those of the longest tick, and not past the end of the clock
 unfoldable pub tick : AdapterTable → ℕ → Result Next StepFault
-tick t ms = first_case_or (Ok (advanced (clocked_table t ms))) (
+tick t ms = first_case_or (Ok (aged_next (advanced (clocked_table t ms)))) (
     (nat_lt longest_tick ms, Err fault.TickTooLong)
     ∷ (nat_lt clock_end (t.clock.0 + ms), Err fault.ClockEnd)
     ∷ [])

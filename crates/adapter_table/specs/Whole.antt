@@ -1,5 +1,5 @@
--- The invariant of every table that events lead to from a faultless profile: the laws of `Sound`, points with
--- their bytes, owners that consume outputs, and numbers within their limits.
+-- The invariant of every table that events lead to from a faultless profile: the laws of `Sound` and `MessagesSound`, points
+-- with their bytes, owners that consume outputs, and numbers within their limits.
 use Rattle.std.specs.Prelude.{◌≡◌, ◌≤◌, ◌+◌, ◌^◌, true, List, find, is_some}
 use Rattle.adapter_table.specs.declared.profile.Profile.{Profile}
 use Rattle.adapter_table.specs.Connections.{Row}
@@ -10,6 +10,7 @@ use Rattle.adapter_table.specs.Productions.{due_of}
 use Rattle.cip_productions.specs.Kinds.{is_owner}
 use Rattle.adapter_table.specs.Shapes.{IsShaped}
 use Rattle.adapter_table.specs.Sound.{IsSound}
+use Rattle.adapter_table.specs.MessagesSound.{AreMessagesSound}
 
 -- a connection within the limits of an adapter: packet intervals and time-out in milliseconds, when its producer is
 -- due
@@ -32,6 +33,7 @@ OwnersConsume profile rows = Each (ConsumesOutput profile) rows
 
 pub record IsWhole (t : AdapterTable) : Type 0 where
   pub sound : IsSound t
+  pub messages : AreMessagesSound t
   pub shaped : IsShaped t.profile t.values
   pub consume : OwnersConsume t.profile t.rows
   pub fits : RowsFit t.rows

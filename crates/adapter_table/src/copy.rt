@@ -48,6 +48,7 @@ impl Profile {
         let outputs = Items::copy_of(alloc, self.outputs.as_slice())?;
         let inputs = Items::copy_of(alloc, self.inputs.as_slice())?;
         let description = copy_description(alloc, &self.description)?;
+        let objects = Items::copy_of(alloc, self.objects.as_slice())?;
         Ok(Profile {
             incarnation: self.incarnation,
             node: self.node,
@@ -60,6 +61,7 @@ impl Profile {
             listen_only: self.listen_only,
             description,
             limits: self.limits,
+            objects,
         })
     }
 }

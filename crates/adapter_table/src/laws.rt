@@ -4,7 +4,10 @@
 ghost use Rattle.std.specs.Prelude.{ℕ, ◌≡◌, ◌≤◌, None};
 ghost use Rattle.adapter_table.specs.declared.profile.Profile.{Profile};
 ghost use Rattle.adapter_table.specs.Profiles.{profile_fault};
+ghost use Rattle.adapter_table.specs.declared.table.AdapterTable.{AdapterTable};
 ghost use Rattle.adapter_table.specs.Step.{adapter_table};
+ghost use Rattle.adapter_table.specs.MessagesSound.{IsSettled};
+ghost use Rattle.adapter_table.specs.MessageLaws.{MessagesExecuteOnce, AnswersSettle, SettledAreRefused, StreamsCarry, NamesDiffer};
 ghost use Rattle.adapter_table.specs.Sound.{IsSound};
 ghost use Rattle.adapter_table.specs.Whole.{IsWhole};
 ghost use Rattle.adapter_table.specs.StatedLimits.{IsWithinLimits, PlacesAreKept};
@@ -72,4 +75,25 @@ pub fn places_are_kept()
     ensures fresh { (profile : Profile) → IsWithinLimits (adapter_table profile) }
     ensures steps { StepsKeep IsWithinLimits }
     ensures places { PlacesAreKept }
+{}
+
+/// A message of a class 3 connection is executed at most once for each count that follows another: whatever became of
+/// it, once more it gets the same reply, executes nothing, and leaves all but the deadline of its connection.
+pub fn messages_are_executed_once()
+    ensures { MessagesExecuteOnce }
+{}
+
+/// A request to an object of the maker's own is answered at most once: an answer that is given settles it, a settled
+/// request stays so, and is not answered.
+pub fn requests_are_answered_once()
+    ensures answers { AnswersSettle }
+    ensures steps { (number : ℕ) → StepsKeep (λ t. IsSettled number t.messaging) }
+    ensures refusals { SettledAreRefused }
+{}
+
+/// The stream of each class 3 connection is open, and has a session; and no two connections of any class have one triad
+/// or one O->T id.
+pub fn dialogues_live_on_streams()
+    ensures streams { StreamsCarry }
+    ensures names { (t : AdapterTable) → IsWhole t → NamesDiffer t }
 {}

@@ -22,7 +22,10 @@ pub use expiry::{by_deadline, expired_row, has_expired};
 pub use maker_limits::{MakerLimits, Places};
 pub use objects::IoState;
 pub use profile::{Action, Description, InputPoint, OutputPoint, Profile};
-pub use profile_check::{FARTHEST_NUMBER, LONGEST_INACTIVITY, PHYSICAL_ADDRESS};
+pub use profile_check::{
+    FARTHEST_NUMBER, LARGEST_CLASS, LONGEST_INACTIVITY, MOST_OWN_CLASSES, PHYSICAL_ADDRESS,
+    is_free_class,
+};
 pub use report::{ConnectionReport, ConsumerCounts, consumes, report_of};
 pub use row::{Connection, Mode, Row, State};
 pub use rows::{

@@ -1,11 +1,12 @@
 //! The limits that the maker of an adapter states.
 
 ghost use Rattle.std.specs.Prelude.{◌≡◌};
-ghost use Rattle.adapter_table.specs.StatedLimits.{places_of, is_wrong_closer};
+ghost use Rattle.adapter_table.specs.StatedLimits.{places_of, is_wrong_closer, is_wrong_ender};
 
 use crate::row::Row;
 use cip_productions::Kind;
 use cip_types::Node;
+use messaging::Dialogue;
 
 /// How many connections of each application type can be established at one time: exclusive owners, input-only and
 /// listen-only ones. Each is at most 64, and their sum is 1 to 64.
@@ -65,5 +66,14 @@ impl MakerLimits {
         ensures { result ≡ is_wrong_closer self.now peer row.now }
     {
         self.own_closers && row.peer.0 != peer.0
+    }
+
+    /// The same of a class 3 connection. Takes no memory.
+    ///
+    /// Volume 1, chapter 3, Forward_Close service.
+    pub fn is_wrong_ender(&self, peer: Node, dialogue: &Dialogue) -> bool
+        ensures { result ≡ is_wrong_ender self.now peer dialogue.now }
+    {
+        self.own_closers && dialogue.peer.0 != peer.0
     }
 }

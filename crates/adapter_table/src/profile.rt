@@ -1,6 +1,7 @@
 //! The profile of an adapter: its identity, its address and its connection points.
 
 ghost use Rattle.std.specs.Prelude.{◌≡◌, find};
+ghost use Rattle.adapter_table.specs.Own.{is_own_class};
 ghost use Rattle.adapter_table.specs.Profiles.{is_at, is_output_at};
 
 use crate::maker_limits::MakerLimits;
@@ -52,8 +53,9 @@ pub struct Description {
 
 /// An adapter: the byte that begins its connection ids (its incarnation), its address and network mask, its
 /// identity, its points, the two points without data that input-only and listen-only connections consume, its
-/// description, and the limits that its maker states. A device without a description is found by no inquiry, and has
-/// no objects but its Connection Manager and its assemblies.
+/// description, the limits that its maker states, and the classes of the maker's own objects, whose requests its
+/// application answers. A device without a description is found by no inquiry, and has no objects but its Connection
+/// Manager, its assemblies and the maker's own.
 #[derive(PartialEq, Drop)]
 pub struct Profile {
     pub incarnation: u8,
@@ -67,9 +69,19 @@ pub struct Profile {
     pub listen_only: u32,
     pub description: Option<Description>,
     pub limits: MakerLimits,
+    pub objects: Items<u32>,
 }
 
 impl Profile {
+    /// Whether the class is one of the maker's own. Takes no memory.
+    ///
+    /// Volume 1, chapter 5, object library.
+    pub fn is_own_class(&self, class: u32) -> bool
+        ensures { result ≡ is_own_class self.now.objects class }
+    {
+        self.objects.as_slice().iter().any(|own| *own == class)
+    }
+
     /// The output of an instance. Takes no memory.
     ///
     /// Volume 1, chapter 3, connection points.

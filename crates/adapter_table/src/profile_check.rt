@@ -2,7 +2,7 @@
 
 ghost use Rattle.std.specs.Prelude.{◌≡◌, ◌↔◌, ◌++◌, Some, None, IsOk, IfErr, map};
 ghost use Rattle.std.specs.List.{list_any, list_all};
-ghost use Rattle.adapter_table.specs.Profiles.{is_address, is_at, is_output_at, as_point, points_beside, are_distinct, are_few, has_output_len, has_input_len, has_config_len, are_long_enough, is_revision, is_described, is_point_len, is_from, are_few_places, are_limits, profile_fault};
+ghost use Rattle.adapter_table.specs.Profiles.{is_address, is_at, is_output_at, as_point, points_beside, are_distinct, are_few, has_output_len, has_input_len, has_config_len, are_long_enough, is_revision, is_described, is_point_len, is_from, are_few_places, are_limits, is_class, is_free_class, are_own_classes, are_objects, profile_fault};
 
 use crate::maker_limits::{MakerLimits, Places};
 use crate::profile::{Description, InputPoint, OutputPoint, Profile};
@@ -23,6 +23,12 @@ pub const LONGEST_INACTIVITY: u16 = 3600;
 ///
 /// Volume 2, chapter 2, sequenced address item.
 pub const FARTHEST_NUMBER: u32 = 1 << 31;
+
+/// The most classes of the maker's own objects.
+pub const MOST_OWN_CLASSES: usize = 16;
+
+/// The largest class of an object.
+pub const LARGEST_CLASS: u32 = 0xFFFF;
 
 fn is_address(node: Node, mask: u32) -> bool
     ensures { result ≡ is_address node.0 mask }
@@ -204,6 +210,39 @@ fn are_limits(limits: &MakerLimits) -> bool
         && is_from(2, FARTHEST_NUMBER, limits.newer)
 }
 
+/// Whether a class is none of those of other objects, and a class of the maker's own can have it.
+pub fn is_free_class(class: u32) -> bool
+    ensures { result ≡ is_free_class class }
+{
+    match class {
+        0x01 | 0x02 | 0x04 | 0x06 | 0xF5 | 0xF6 => false,
+        _ => 1 <= class && class <= LARGEST_CLASS,
+    }
+}
+
+fn has_class(classes: &[u32], class: u32) -> bool
+    ensures { result ≡ list_any (is_class class) classes.now }
+{
+    classes.iter().any(|other| *other == class)
+}
+
+fn are_own_classes(classes: &[u32]) -> bool
+    ensures { result ≡ are_own_classes classes.now }
+{
+    match classes {
+        [] => true,
+        [class, rest @ ..] => {
+            is_free_class(*class) && !has_class(rest, *class) && are_own_classes(rest)
+        }
+    }
+}
+
+fn are_objects(classes: &[u32]) -> bool
+    ensures { result ≡ are_objects classes.now }
+{
+    classes.len() <= MOST_OWN_CLASSES && are_own_classes(classes)
+}
+
 /// The first fault of a profile.
 #[tactic(auto, unfolding(crate::specs::Profiles::profile_fault))]
 fn fault_of(profile: &Profile) -> Option<ProfileFault>
@@ -233,13 +272,16 @@ fn fault_of(profile: &Profile) -> Option<ProfileFault>
     if !are_limits(&profile.limits) {
         return Some(ProfileFault::Limits);
     }
+    if !are_objects(profile.objects.as_slice()) {
+        return Some(ProfileFault::Objects);
+    }
     None
 }
 
 impl Profile {
     /// Checks the profile: its incarnation, its address, how many points it has, that their instances
-    /// differ, their lengths, its revision, its description, and the limits that its maker states, in this order. Takes
-    /// no memory.
+    /// differ, their lengths, its revision, its description, the limits that its maker states, and the classes of the
+    /// maker's own objects, in this order. Takes no memory.
     ///
     /// Answers the first fault.
     pub fn check(&self) -> Result<(), ProfileFault>

@@ -3,6 +3,7 @@
 use crate::profile::Profile;
 use crate::row::Row;
 use cip_types::{Items, Ms, Node};
+use messaging::Messaging;
 use open_streams::Numbered;
 
 /// The bytes of a point.
@@ -31,7 +32,8 @@ impl Numbered for Stream {
 }
 
 /// An adapter: its profile, its connections in opening order, the bytes of its points, its clock, the counter
-/// part of the next connection id, and its open streams in the order in which they were opened.
+/// part of the next connection id, its open streams in the order in which they were opened, and its class 3 connections
+/// with the requests that wait for its application.
 #[derive(PartialEq, Drop)]
 pub struct AdapterTable {
     pub profile: Profile,
@@ -40,4 +42,5 @@ pub struct AdapterTable {
     pub clock: Ms,
     pub next_id: u32,
     pub streams: Items<Stream>,
+    pub messaging: Messaging,
 }

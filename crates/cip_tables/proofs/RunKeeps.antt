@@ -12,6 +12,8 @@ use Rattle.adapter_table.specs.Step.{adapter_step, adapter_table}
 use Rattle.adapter_table.specs.Sound.{IsSound}
 use Rattle.adapter_table.specs.Whole.{IsWhole}
 use Rattle.adapter_table.specs.Laws.{StepsKeep}
+use Rattle.adapter_table.specs.MessagesSound.{IsSettled}
+use Rattle.adapter_table.specs.MessageLaws.{AnswersSettle, SettledAreRefused}
 use Rattle.adapter_table.specs.StatedLimits.{IsWithinLimits, PlacesAreKept}
 use Rattle.scanner_table.specs.declared.profile.ScannerProfile.{ScannerProfile}
 use Rattle.scanner_table.specs.declared.table.ScannerTable.{ScannerTable}
@@ -26,6 +28,7 @@ use Rattle.cip_tables.specs.declared.table.Config.TheVariants as config
 use Rattle.cip_tables.specs.declared.table.DeviceTable.{DeviceTable}
 use Rattle.cip_tables.specs.declared.table.DeviceTable.TheVariants.{Adapter, Scanner}
 use Rattle.cip_tables.specs.Step.{DeviceNext, as_adapter, as_scanner, step, opening_table}
+use Rattle.cip_tables.specs.Messages.{OverEveryWholeRun, AnswersAreOnce}
 use Rattle.cip_tables.specs.Run.{Runs}
 use Rattle.cip_tables.specs.Sound.{IsSoundDevice, OverEveryRun, StepsCountOn, RunsCountOn}
 use Rattle.cip_tables.specs.StatedLimits.{RunsStayWithin, FreshDevicesStayWithin, TypesHavePlaces}
@@ -174,6 +177,20 @@ LaterScanners = (t : ScannerTable) (counter : ℕ) → t.next_id ≤ counter →
 pub later_scanner : LaterScanners → (d : DeviceTable) (t : ScannerTable) (counter : ℕ) → d ≡ Scanner t → next_id_of d ≤ counter → counter ≤ 16777216 → IsWholeDevice d → IsWholeScanner (record t { next_id = counter })
 later_scanner law d t counter is later last whole =
     law t counter (subst (λ d. next_id_of d ≤ counter) is later) last (subst IsWholeDevice is whole)
+
+-- ---- class 3 connections, and requests to the application
+
+-- what whole tables have holds of every whole run
+pub over_whole : TablesAreWhole → RunsKeepWhole → (P : AdapterTable → Type 0) → ((t : AdapterTable) → IsWhole t → P t) → OverEveryWholeRun P
+over_whole fresh run P follows = record {
+  whole = λ old events outcomes t whole ran. follows t (run old (Adapter t) events outcomes whole ran);
+  fresh = λ made events outcomes t none ran. follows t (fresh made events outcomes t none ran);
+}
+
+pub answers_are_once : AnswersSettle → ((number : ℕ) → StepsKeep (λ t. IsSettled number t.messaging)) → SettledAreRefused → AnswersAreOnce
+answers_are_once settles steps refuses old t number status bytes next events outcomes whole is ran = λ other others.
+    refuses t number other others
+    (run_keeps (λ t. IsSettled number t.messaging) (λ t. Unit {0}) (steps number) all_keep (Adapter next.1) events outcomes (Adapter t) ran (settles old number status bytes next whole is))
 
 -- ---- limits that a maker states
 

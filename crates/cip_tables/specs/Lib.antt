@@ -4,6 +4,7 @@ pub mod Scratch
 pub mod Step
 pub mod AnyDevices
 pub mod Wakes
+pub mod Messages
 pub mod Run
 pub mod Newest
 pub mod FollowLaws

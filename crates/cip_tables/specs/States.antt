@@ -30,17 +30,19 @@ abbrev pub slot_in : DeviceTable → ℕ → Option SlotReport
 slot_in (Adapter t) number = None
 slot_in (Scanner t) number = report_at t number
 
--- streams, sessions, connections, and connection ids that are left
+-- streams, sessions, connections of class 1 and of class 3, and connection ids that are left
 abbrev pub totals_of : DeviceTable → DeviceTotals
 totals_of (Adapter t) = record {
   streams = length t.streams;
   sessions = length (filter is_registered t.streams);
   connections = length t.rows;
+  dialogues = length t.messaging.dialogues;
   ids_left = 16777216 - t.next_id;
 }
 totals_of (Scanner t) = record {
   streams = length t.streams;
   sessions = length (filter is_up t.streams);
   connections = length (filter is_open t.slots);
+  dialogues = 0;
   ids_left = 16777216 - t.next_id;
 }

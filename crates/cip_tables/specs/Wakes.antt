@@ -7,6 +7,7 @@ use Rattle.cip_events.specs.declared.event.Event.TheVariants.{Tick}
 use Rattle.cip_events.specs.declared.event.Verdict.TheVariants.{Done}
 use Rattle.cip_events.specs.Answers.{plain_answer}
 use Rattle.cip_events.specs.Clock.{longest_tick, clock_end}
+use Rattle.messaging.specs.Times.{first_moment}
 use Rattle.adapter_table.specs.Connections.{Row}
 use Rattle.adapter_table.specs.declared.row.State.{State}
 use Rattle.adapter_table.specs.declared.row.State.TheVariants as row_state
@@ -83,7 +84,7 @@ explicit_due (pending ∷ rest) = min pending.deadline.0 (explicit_due rest)
 
 -- the time at which something is due at a device, if only time passes
 abbrev pub due_at : DeviceTable → ℕ
-due_at (Adapter t) = connections_due t.rows
+due_at (Adapter t) = min (connections_due t.rows) (first_moment t.messaging)
 due_at (Scanner t) = min (slots_due t.streams (indexed_slots t)) (explicit_due t.explicit)
 
 -- in how many milliseconds something is due at a device, at most the longest tick; 0 if it is due now

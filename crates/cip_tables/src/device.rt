@@ -99,7 +99,8 @@ pub trait Device {
     fn slot(&self, number: u32) -> Option<SlotReport>
         ensures { result ≡ slot_in (table self.now) number };
 
-    /// How many streams, sessions and connections there are, and how many connection ids are left. Takes no memory.
+    /// How many streams, sessions, and connections of class 1 and 3 there are, and how many connection ids are left. Takes
+    /// no memory.
     fn totals(&self) -> DeviceTotals
         ensures { result ≡ totals_of (table self.now) };
 

@@ -5,6 +5,10 @@
 //! a run from a fresh device of any configuration.
 
 ghost use Rattle.std.specs.Prelude.{◌≤◌, length};
+ghost use Rattle.messaging.specs.Sound.{EachOf};
+ghost use Rattle.adapter_table.specs.MessagesSound.{IsCarried};
+ghost use Rattle.adapter_table.specs.MessageLaws.{NamesDiffer};
+ghost use Rattle.cip_tables.specs.Messages.{OverEveryWholeRun, AnswersAreOnce};
 ghost use Rattle.cip_tables.specs.Newest.{OverEveryConnection};
 ghost use Rattle.cip_tables.specs.Scratch.{OutputsAreFromScratch, FreshOutputsAreFromScratch};
 ghost use Rattle.cip_tables.specs.StatedLimits.{RunsStayWithin, FreshDevicesStayWithin, TypesHavePlaces};
@@ -215,4 +219,27 @@ pub fn places_are_kept()
 {
     laws::places_are_kept();
     tables_are_whole();
+}
+
+/// The stream of each class 3 connection is open, and has a session: none outlives its stream.
+pub fn dialogues_live_on_streams()
+    ensures { OverEveryWholeRun (λ t. EachOf (λ d. IsCarried t.streams d.stream) t.messaging.dialogues) }
+{
+    laws::dialogues_live_on_streams();
+    tables_are_whole();
+}
+
+/// No two connections of any class have one triad or one O->T id.
+pub fn names_are_distinct()
+    ensures { OverEveryWholeRun NamesDiffer }
+{
+    laws::dialogues_live_on_streams();
+    tables_are_whole();
+}
+
+/// A request to an object of the maker's own is answered at most once, in every run.
+pub fn requests_are_answered_once()
+    ensures { AnswersAreOnce }
+{
+    laws::requests_are_answered_once();
 }

@@ -3,6 +3,8 @@ use Rattle.std.proofs.Common.{◌≡◌, ◌≤◌, ℕ, ◌+◌, nat_lt, nat_le
 use Rattle.std.specs.List.{list_any}
 use Rattle.std.specs.Result.{result_ok}
 use Rattle.std.proofs.lemmas.Bool.Decides.{nat_tests}
+use Rattle.std.proofs.lemmas.Bool.{or_parts}
+use Rattle.messaging.specs.Dialogues.{has_dialogue_triad}
 use Rattle.base_lemmas.specs.Numbers.{same_if_not}
 use Rattle.cip_router.specs.declared.refusal.Refusal.{Refusal}
 use Rattle.cip_router.specs.declared.refusal.Refusal.TheVariants as refusal
@@ -118,6 +120,7 @@ HasSameApi api (Some member) = api ≡ member.t_o_api_ms
 -- what an opening relies on
 pub record IsAdmitted (t : AdapterTable) (request : OpenFields) (admitted : Admitted) : Type 0 where
   pub triad_is_free : list_any (holds_triad request.triad) t.rows ≡ false
+  pub triad_is_new : list_any (has_dialogue_triad request.triad) t.messaging.dialogues ≡ false
   pub is_served : is_unserved request ≡ false
   pub are_intervals : not (are_intervals request) ≡ false
   pub o_t_api_ms : admitted.o_t_api_ms ≡ interval_ms request.o_t_rpi
@@ -161,8 +164,10 @@ admitted_is t request admitted e =
     let second = first.1.1.1.1.1.1.1.1.1.1.1 in
     let third = second.1.1.1.1.1.1.1 in
     let points = j.points in
+    let free = or_parts (list_any (holds_triad request.triad) t.rows) _ (check_passes _ _ first.1.0) in
     let made : IsAdmitted t request (admitted_at request j.points) = record {
-      triad_is_free = check_passes _ _ first.1.0;
+      triad_is_free = free.0;
+      triad_is_new = free.1;
       is_served = check_passes _ _ first.1.1.1.1.1.1.0;
       are_intervals = check_passes _ _ first.1.1.1.1.1.1.1.0;
       o_t_api_ms = refl;

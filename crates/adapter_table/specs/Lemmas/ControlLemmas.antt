@@ -1,17 +1,16 @@
--- Events that bring neither data nor time: requests, streams, and all that leave the table as it is. What one open, one close
--- and each change of a stream do, each such event does.
+-- Events that bring neither data nor time: requests and their answers, streams, and all that leave the table as it is. What one
+-- open, one close and each change of a stream and of class 3 connections do, each such event does.
 use Rattle.std.proofs.Common.{◌≡◌, ℕ, Bool, true, false, List, Option, Some, None, Ok, refl, subst}
 use Rattle.cip_types.specs.declared.names.Node.{Node}
 use Rattle.cip_events.specs.declared.event.Event.{Event}
-use Rattle.cip_events.specs.declared.event.Event.TheVariants.{Request, StreamOpened, Frame, StreamCut, Datagram, Inquiry, Write, Tick}
-use Rattle.cip_router.specs.Requests.{router_request_reading}
+use Rattle.cip_events.specs.declared.event.Event.TheVariants.{Request, StreamOpened, Frame, StreamCut, Datagram, Inquiry, Write, Tick, Respond}
 use Rattle.adapter_table.specs.declared.table.AdapterTable.{AdapterTable}
-use Rattle.adapter_table.specs.Requests.{Next, requested}
+use Rattle.adapter_table.specs.Requests.{Next}
 use Rattle.adapter_table.specs.Inquiries.{inquiry_reply, inquired_by, inquired}
 use Rattle.adapter_table.specs.Streams.{is_taken, with_stream}
 use Rattle.adapter_table.specs.Step.{adapter_step}
 use Rattle.adapter_table.specs.Lemmas.PassiveLemmas.{passive_is}
-use Rattle.adapter_table.specs.Lemmas.RequestLemmas.{RequestsDo, LimitedDo, limited_do, answered_does, frame_does, next_is, streamed_is, cut_does}
+use Rattle.adapter_table.specs.Lemmas.RequestLemmas.{RequestsDo, LimitedDo, limited_do, requested_does, frame_does, respond_does, next_is, streamed_is, cut_does}
 
 -- the event brings data or time: a datagram, a write or a tick
 abbrev pub brings_data : Event → Bool
@@ -29,8 +28,8 @@ inquired_does R does t peer None = does.stays t
 inquired_does R does t peer (Some text) = does.stays t
 
 pub limited_control : (R : AdapterTable → AdapterTable → Type 0) → LimitedDo R → StreamsDo R → (t : AdapterTable) (event : Event) (next : Next) → brings_data event ≡ false → adapter_step t event ≡ Ok next → R t next.1
-unfolding requested inquired
-limited_control R does streams t (Request peer bytes) next none is = subst (λ (n : Next). R t n.1) (next_is _ _ is) (answered_does R does t peer (router_request_reading bytes))
+unfolding inquired
+limited_control R does streams t (Request peer bytes) next none is = subst (λ (n : Next). R t n.1) (next_is _ _ is) (requested_does R does t peer bytes)
 limited_control R does streams t (StreamOpened number peer) next none is =
     let streamed = streamed_is t number peer next is in
     subst (λ (n : Next). R t n.1) streamed.said (streams t number peer streamed.free)
@@ -40,6 +39,7 @@ limited_control R does streams t (Datagram peer bytes) next none is = absurd (le
 limited_control R does streams t (Inquiry peer bytes) next none is = subst (λ (n : Next). R t n.1) (next_is _ _ is) (inquired_does R does t peer (inquiry_reply t bytes))
 limited_control R does streams t (Write point bytes) next none is = absurd (let e = none in cc)
 limited_control R does streams t (Tick ms) next none is = absurd (let e = none in cc)
+limited_control R does streams t (Respond number status bytes) next none is = respond_does R does t number status bytes next is
 limited_control R does streams t other next none is = subst (λ (n : Next). R t n.1) (passive_is t other next refl is).said (does.stays t)
 
 -- what every opening that is admitted does, one within the limits does

@@ -8,6 +8,7 @@ use Rattle.adapter_table.specs.Streams.{with_stream, without_stream, registered_
 use Rattle.adapter_table.specs.Datagrams.{accepted_table}
 use Rattle.adapter_table.specs.Ticks.{clocked_table, expired_table, produced_table}
 use Rattle.adapter_table.specs.Step.{written_table, changed_table}
+use Rattle.adapter_table.specs.Messages.{messages_table}
 use Rattle.adapter_table.specs.Laws.{StepsKeep}
 use Rattle.adapter_table.specs.Laws.{EffectsKeep}
 use Rattle.adapter_table.specs.Lemmas.EffectLemmas.{adapter_keeps}
@@ -17,7 +18,7 @@ abbrev Counts : ℕ → AdapterTable → Type 0
 Counts n t = n ≤ t.next_id
 
 counter_effects : (n : ℕ) → EffectsKeep (Counts n)
-unfolding opened_table closed_table written_table changed_table accepted_table clocked_table expired_table produced_table with_stream without_stream registered_table
+unfolding opened_table closed_table written_table changed_table accepted_table clocked_table expired_table produced_table with_stream without_stream registered_table messages_table
 counter_effects n = record {
   opened = λ t peer request admitted is le. omega arith;
   closed = λ t row le. le;
@@ -27,6 +28,7 @@ counter_effects n = record {
   streamed = λ t number peer free le. le;
   unstreamed = λ t number le. le;
   registered = λ t number le. le;
+  messaged = λ t next_id m goes le. omega (arith, goes.later, le);
 }
 
 pub steps_count : (n : ℕ) → StepsKeep (λ t. n ≤ t.next_id)
@@ -37,7 +39,7 @@ abbrev HasProfile : Profile → AdapterTable → Type 0
 HasProfile profile t = t.profile ≡ profile
 
 profile_effects : (profile : Profile) → EffectsKeep (HasProfile profile)
-unfolding opened_table closed_table written_table changed_table accepted_table clocked_table expired_table produced_table with_stream without_stream registered_table
+unfolding opened_table closed_table written_table changed_table accepted_table clocked_table expired_table produced_table with_stream without_stream registered_table messages_table
 profile_effects profile = record {
   opened = λ t peer request admitted is same. same;
   closed = λ t row same. same;
@@ -47,6 +49,7 @@ profile_effects profile = record {
   streamed = λ t number peer free same. same;
   unstreamed = λ t number same. same;
   registered = λ t number same. same;
+  messaged = λ t next_id m goes same. same;
 }
 
 pub profile_stays : (profile : Profile) → StepsKeep (λ t. t.profile ≡ profile)

@@ -18,11 +18,12 @@ use Rattle.adapter_table.specs.Requests.{Next}
 use Rattle.adapter_table.specs.Datagrams.{delivered, found_datagram, datagram_of, received, row_delivery, accepted_table, is_for}
 use Rattle.cip_events.specs.Answers.{is_accepted}
 use Rattle.cip_events.specs.Clock.{longest_tick, clock_end}
-use Rattle.adapter_table.specs.Ticks.{clocked_table, advanced, tick}
+use Rattle.adapter_table.specs.Ticks.{clocked_table, advanced, aged_next, tick}
 use Rattle.adapter_table.specs.Step.{adapter_step, write, write_of, written_table, written}
 use Rattle.adapter_table.specs.Laws.{EffectsKeep}
 use Rattle.adapter_table.specs.Lemmas.RequestLemmas.{RequestsDo, next_is}
 use Rattle.adapter_table.specs.Lemmas.ControlLemmas.{control_does}
+use Rattle.adapter_table.specs.Lemmas.MessageLemmas.{goes_aged}
 
 -- ---- a step that gives an answer
 
@@ -47,9 +48,9 @@ write_is t point bytes next is = write_by t point bytes (find (is_at point) t.pr
 -- a tick that is done does not pass the end of the clock
 pub record IsTick (t : AdapterTable) (ms : ℕ) (next : Next) : Type 0 where
   pub in_time : t.clock.0 + ms ≤ 2 ^ 48
-  pub said : advanced (clocked_table t ms) ≡ next
+  pub said : aged_next (advanced (clocked_table t ms)) ≡ next
 
-tick_step : (a b : Bool) (t : AdapterTable) (ms : ℕ) (next : Next) → nat_lt clock_end (t.clock.0 + ms) ≡ b → ◌≡◌ {A = Result Next StepFault} (cond a (Err TickTooLong) (cond b (Err ClockEnd) (Ok (advanced (clocked_table t ms))))) (Ok next) → IsTick t ms next
+tick_step : (a b : Bool) (t : AdapterTable) (ms : ℕ) (next : Next) → nat_lt clock_end (t.clock.0 + ms) ≡ b → ◌≡◌ {A = Result Next StepFault} (cond a (Err TickTooLong) (cond b (Err ClockEnd) (Ok (aged_next (advanced (clocked_table t ms)))))) (Ok next) → IsTick t ms next
 tick_step true b t ms next late is = absurd cc
 tick_step false true t ms next late is = absurd cc
 tick_step false false t ms next late is = record { in_time = ltb-false clock_end (t.clock.0 + ms) late; said = next_is _ _ is }
@@ -67,6 +68,7 @@ requests_keep P keep = record {
   closed = λ t triad row found holds. keep.closed t row holds;
   unstreamed = keep.unstreamed;
   registered = keep.registered;
+  messaged = keep.messaged;
 }
 
 keeps_judged : (P : AdapterTable → Type 0) (b : Bool) (t fed : AdapterTable) (delivery : Delivery) → P t → P fed → P (cond b (delivered delivery fed) (delivered delivery t)).1
@@ -87,7 +89,9 @@ keeps_write : (P : AdapterTable → Type 0) → EffectsKeep P → (t : AdapterTa
 keeps_write P keep t point bytes next is holds = subst (λ (n : Next). P n.1) is.said (keep.written t point bytes is.input is.found is.long holds)
 
 keeps_tick : (P : AdapterTable → Type 0) → EffectsKeep P → (t : AdapterTable) (ms : ℕ) (next : Next) → IsTick t ms next → P t → P next.1
-keeps_tick P keep t ms next is holds = subst (λ (n : Next). P n.1) is.said (keep.advanced t ms is.in_time holds)
+keeps_tick P keep t ms next is holds =
+    let later = (advanced (clocked_table t ms)).1 in
+    subst (λ (n : Next). P n.1) is.said (keep.messaged later later.next_id _ (goes_aged later) (keep.advanced t ms is.in_time holds))
 
 pub adapter_keeps : (P : AdapterTable → Type 0) → EffectsKeep P → (t : AdapterTable) (event : Event) (next : Next) → adapter_step t event ≡ Ok next → P t → P next.1
 unfolding received

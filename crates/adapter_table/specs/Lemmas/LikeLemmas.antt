@@ -62,7 +62,7 @@ pub any_driver_kept : (f : Row → Row) → Keeps f → (place : ℕ) (rows : Li
 any_driver_kept f keeps place [] = refl
 any_driver_kept f keeps place (row ∷ rows) = rw (drives_like place row (f row) (keeps.like row)) (ap (λ b. drives place row || b) (any_driver_kept f keeps place rows))
 
-any_triad_kept : (f : Row → Row) → Keeps f → (triad : Triad) (rows : List Row) → list_any (has_triad triad) (map f rows) ≡ list_any (has_triad triad) rows
+pub any_triad_kept : (f : Row → Row) → Keeps f → (triad : Triad) (rows : List Row) → list_any (has_triad triad) (map f rows) ≡ list_any (has_triad triad) rows
 any_triad_kept f keeps triad [] = refl
 any_triad_kept f keeps triad (row ∷ rows) = rw ((keeps.like row).triad) (ap (λ b. has_triad triad row || b) (any_triad_kept f keeps triad rows))
 
@@ -70,7 +70,7 @@ pub triads_kept : (f : Row → Row) → Keeps f → (rows : List Row) → Triads
 triads_kept f keeps [] differ = tt
 triads_kept f keeps (row ∷ rows) differ = (rw ((keeps.like row).triad) (any_triad_kept f keeps row.triad rows ∙ differ.0), triads_kept f keeps rows differ.1)
 
-any_id_kept : (f : Row → Row) → Keeps f → (id : ConnId) (rows : List Row) → list_any (has_o_t_id id) (map f rows) ≡ list_any (has_o_t_id id) rows
+pub any_id_kept : (f : Row → Row) → Keeps f → (id : ConnId) (rows : List Row) → list_any (has_o_t_id id) (map f rows) ≡ list_any (has_o_t_id id) rows
 any_id_kept f keeps id [] = refl
 any_id_kept f keeps id (row ∷ rows) = rw ((keeps.like row).o_t_id) (ap (λ b. has_o_t_id id row || b) (any_id_kept f keeps id rows))
 

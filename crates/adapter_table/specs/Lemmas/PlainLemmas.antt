@@ -1,6 +1,6 @@
--- Events that a table answers by a verdict alone, if it takes them: streams that open or end, datagrams, and all that leave the
--- table as it is.
-use Rattle.std.proofs.Common.{◌≡◌, Bool, true, false, find, Option, Some, None, Result, Ok, Err, refl}
+-- Events that a table answers by a verdict and notices alone, if it takes them: streams that open or end, datagrams, and all that
+-- leave the table as it is.
+use Rattle.std.proofs.Common.{◌≡◌, Bool, true, false, List, [], find, Option, Some, None, Result, Ok, Err, refl}
 use Rattle.base_lemmas.specs.Booleans.{either}
 use Rattle.cip_types.specs.declared.names.Node.{Node}
 use Rattle.cip_datagram.specs.declared.datagram.DatagramFault.{DatagramFault}
@@ -8,7 +8,8 @@ use Rattle.cip_datagram.specs.Datagram.{DatagramFields}
 use Rattle.cip_datagram.specs.Reading.{datagram_reading}
 use Rattle.cip_events.specs.declared.event.Delivery.TheVariants.{UnknownId, Malformed}
 use Rattle.cip_events.specs.declared.event.Event.{Event}
-use Rattle.cip_events.specs.declared.event.Event.TheVariants.{Request, StreamOpened, Frame, StreamCut, Datagram, Inquiry, Write, Tick}
+use Rattle.cip_events.specs.declared.event.Event.TheVariants.{Request, StreamOpened, Frame, StreamCut, Datagram, Inquiry, Write, Tick, Respond}
+use Rattle.cip_events.specs.declared.event.Notice.{Notice}
 use Rattle.cip_events.specs.declared.event.StepFault.{StepFault}
 use Rattle.cip_events.specs.declared.event.StepFault.TheVariants.{NotAllowedNow}
 use Rattle.cip_events.specs.declared.event.Verdict.{Verdict}
@@ -18,48 +19,50 @@ use Rattle.adapter_table.specs.Connections.{Row}
 use Rattle.adapter_table.specs.declared.table.AdapterTable.{AdapterTable}
 use Rattle.adapter_table.specs.declared.table.Stream.{Stream}
 use Rattle.adapter_table.specs.Requests.{Next}
-use Rattle.adapter_table.specs.Streams.{is_stream, is_taken, with_stream, without_stream, stream_opened, cut_of, stream_cut}
+use Rattle.adapter_table.specs.Streams.{is_stream, is_taken, with_stream, without_stream, ended_notices, stream_opened, cut_of, stream_cut}
 use Rattle.adapter_table.specs.Datagrams.{is_for, row_delivery, accepted_table, delivered, found_datagram, datagram_of, received}
 use Rattle.adapter_table.specs.Step.{adapter_step}
 use Rattle.adapter_table.specs.Lemmas.PassiveLemmas.{passive_holds}
 
--- what holds of each table with each verdict alone
+-- what holds of each table with each verdict and notices alone
 abbrev pub HoldsPlainly : (Next → Type 0) → Type 0
-HoldsPlainly P = (verdict : Verdict) (u : AdapterTable) → P (plain_answer verdict, u)
+HoldsPlainly P = (verdict : Verdict) (notices : List Notice) (u : AdapterTable) → P (record (plain_answer verdict) { notices = notices }, u)
 
 cut_plain : (Q : Result Next StepFault → Type 0) (t : AdapterTable) → ((why : StepFault) → Q (Err why)) → HoldsPlainly (λ next. Q (Ok next)) → (found : Option Stream) → Q (cut_of t found)
 cut_plain Q t refused holds None = refused NotAllowedNow
-cut_plain Q t refused holds (Some stream) = holds Done (without_stream t stream.number)
+cut_plain Q t refused holds (Some stream) = holds Done (ended_notices t stream.number) (without_stream t stream.number)
 
 found_plain : (P : Next → Type 0) (t : AdapterTable) → HoldsPlainly P → (peer : Node) (d : DatagramFields) (found : Option Row) → P (found_datagram t peer d found)
-found_plain P t holds peer d None = holds (Delivered UnknownId) t
+found_plain P t holds peer d None = holds (Delivered UnknownId) [] t
 found_plain P t holds peer d (Some row) =
     let delivery = row_delivery t.profile row d in
     either P (is_accepted (row_delivery t.profile row d)) (delivered delivery (accepted_table t peer d row delivery)) (delivered delivery t)
-    (holds (Delivered delivery) (accepted_table t peer d row delivery)) (holds (Delivered delivery) t)
+    (holds (Delivered delivery) [] (accepted_table t peer d row delivery)) (holds (Delivered delivery) [] t)
 
 datagram_plain : (P : Next → Type 0) (t : AdapterTable) → HoldsPlainly P → (peer : Node) (reading : Result DatagramFields DatagramFault) → P (datagram_of t peer reading)
-datagram_plain P t holds peer (Err why) = holds (Delivered Malformed) t
+datagram_plain P t holds peer (Err why) = holds (Delivered Malformed) [] t
 datagram_plain P t holds peer (Ok d) = found_plain P t holds peer d (find (is_for peer d.connection) t.rows)
 
--- the event can be answered by frames, datagrams or notices
+-- the event can be answered by frames or datagrams
 abbrev pub answers_more : Event → Bool
 answers_more (Request peer bytes) = true
 answers_more (Frame stream bytes) = true
 answers_more (Inquiry peer bytes) = true
 answers_more (Write point bytes) = true
 answers_more (Tick ms) = true
+answers_more (Respond number status bytes) = true
 answers_more other = false
 
 pub plain_holds : (Q : Result Next StepFault → Type 0) (t : AdapterTable) → ((why : StepFault) → Q (Err why)) → HoldsPlainly (λ next. Q (Ok next)) → (event : Event) → answers_more event ≡ false → Q (adapter_step t event)
 unfolding received stream_opened stream_cut
 plain_holds Q t refused holds (Request peer bytes) more = absurd (let e = more in cc)
 plain_holds Q t refused holds (StreamOpened number peer) more =
-    either Q (is_taken t.streams number) (Err NotAllowedNow) (Ok (plain_answer Done, with_stream t number peer)) (refused NotAllowedNow) (holds Done (with_stream t number peer))
+    either Q (is_taken t.streams number) (Err NotAllowedNow) (Ok (plain_answer Done, with_stream t number peer)) (refused NotAllowedNow) (holds Done [] (with_stream t number peer))
 plain_holds Q t refused holds (Frame stream bytes) more = absurd (let e = more in cc)
 plain_holds Q t refused holds (StreamCut number) more = cut_plain Q t refused holds (find (is_stream number) t.streams)
 plain_holds Q t refused holds (Datagram peer bytes) more = datagram_plain (λ next. Q (Ok next)) t holds peer (datagram_reading bytes)
 plain_holds Q t refused holds (Inquiry peer bytes) more = absurd (let e = more in cc)
 plain_holds Q t refused holds (Write point bytes) more = absurd (let e = more in cc)
 plain_holds Q t refused holds (Tick ms) more = absurd (let e = more in cc)
-plain_holds Q t refused holds other more = passive_holds Q t refused (λ verdict. holds verdict t) other refl
+plain_holds Q t refused holds (Respond number status bytes) more = absurd (let e = more in cc)
+plain_holds Q t refused holds other more = passive_holds Q t refused (λ verdict. holds verdict [] t) other refl

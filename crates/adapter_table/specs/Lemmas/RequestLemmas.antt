@@ -1,49 +1,69 @@
 -- What a peer's requests and frames do to a table: nothing, or one of few things.
-use Rattle.std.proofs.Common.{◌≡◌, ℕ, ◌==◌, Bool, true, false, cond, not, List, length, find, Option, Some, None, Result, Ok, Err, refl, subst}
+use Rattle.std.proofs.Common.{◌≡◌, ℕ, ◌+◌, ◌==◌, ◌&&◌, nat_lt, Bool, true, false, cond, not, List, [], length, find, Option, Some, None, Result, Ok, Err, refl, subst}
+use Rattle.std.specs.List.{list_any}
 use Rattle.std.specs.Str.{bytes_eq}
+use Rattle.std.proofs.lemmas.Bool.{and_parts}
 use Rattle.cip_types.specs.declared.names.Node.{Node}
 use Rattle.cip_types.specs.declared.names.Triad.{Triad}
 use Rattle.cip_fwdopen.specs.Open.{OpenFields}
 use Rattle.cip_fwdopen.specs.Close.{CloseFields}
 use Rattle.cip_encap.specs.declared.packet.ItemFault.{ItemFault}
+use Rattle.cip_encap.specs.Connected.{ConnectedFields}
+use Rattle.cip_encap.specs.ConnectedReading.{connected_reading}
 use Rattle.cip_encap.specs.Packet.{PacketFields}
 use Rattle.cip_encap.specs.PacketReading.{packet_reading}
 use Rattle.cip_router.specs.declared.command.Command.{Command}
 use Rattle.cip_router.specs.declared.command.Command.TheVariants as command
 use Rattle.cip_router.specs.declared.command.EncapStatus.TheVariants as encap
 use Rattle.cip_events.specs.declared.event.StepFault.{StepFault}
-use Rattle.cip_events.specs.declared.event.StepFault.TheVariants.{NotAllowedNow}
+use Rattle.cip_events.specs.declared.event.StepFault.TheVariants.{NotAllowedNow, WrongLength}
 use Rattle.cip_events.specs.declared.event.Verdict.TheVariants.{Done, BadFrame}
 use Rattle.cip_router.specs.declared.refusal.Refusal.{Refusal}
 use Rattle.cip_router.specs.declared.refusal.Status.TheVariants as status
 use Rattle.cip_router.specs.Refusals.{status_fault}
+use Rattle.cip_netparams.specs.Word.{is_message_trigger}
+use Rattle.cip_router.specs.Replies.{ReplyFields, own}
+use Rattle.messaging.specs.declared.dialogue.Dialogue as kept
+use Rattle.messaging.specs.declared.requests.Requester.TheVariants as asker
+use Rattle.messaging.specs.declared.requests.Waiting.{Waiting}
+use Rattle.messaging.specs.declared.table.Messaging.{Messaging}
+use Rattle.messaging.specs.Dialogues.{has_dialogue_triad, has_dialogue_id, is_dialogue, repeats_last}
+use Rattle.messaging.specs.Changes.{longest_answer, has_request_number, lacks_room}
 use Rattle.adapter_table.specs.Connections.{Row}
 use Rattle.adapter_table.specs.declared.table.Stream.{Stream}
 use Rattle.adapter_table.specs.declared.table.AdapterTable.{AdapterTable}
 use Rattle.adapter_table.specs.Rows.{has_triad}
-use Rattle.adapter_table.specs.Checks.{Admitted, admission}
-use Rattle.adapter_table.specs.StatedLimits.{limited_admission, is_wrong_closer}
+use Rattle.adapter_table.specs.Checks.{Check, Admitted, admission}
+use Rattle.adapter_table.specs.StatedLimits.{limited_admission, is_wrong_closer, is_wrong_ender}
+use Rattle.adapter_table.specs.Messages.{messages_table}
+use Rattle.adapter_table.specs.MessagesSound.{carries, IsCarried, MessagesGoOn}
+use Rattle.adapter_table.specs.Own.{OwnRequest, own_of, referred_verdict, referred_table}
+use Rattle.adapter_table.specs.DialogueOpening.{dialogue_view, dialogue_refusal, judged_dialogue, served_dialogue, stream_served}
+use Rattle.adapter_table.specs.Connected.{service_in, fitted_text, connected_served, next_deadline, executed_table, asking_table}
+use Rattle.adapter_table.specs.Answering.{responded, respond_of, respond}
 use Rattle.adapter_table.specs.Opening.{opened_row, opened_table}
 use Rattle.adapter_table.specs.Closing.{closed_table}
 use Rattle.adapter_table.specs.Objects.{ObjectAnswer, said, denied, resetting, object_answer}
 use Rattle.cip_router.specs.Requests.{RouterRequestFields, nothing, refused, closing, object, opening, router_request_reading}
-use Rattle.adapter_table.specs.Requests.{Next, Served, served_open, judged_open, admitted_open, served_close, close_of, refused_close, known_close, object_served, served_object, served, answered}
+use Rattle.adapter_table.specs.Requests.{Next, Served, open_service, served_open, judged_open, admitted_open, served_close, close_of, refused_close, known_close, known_dialogue_close, end_of, served_end, router_refusal, object_served, served_object, served, replied, answered, requested_by, requested}
 use Rattle.cip_events.specs.Answers.{plain_answer}
 use Rattle.adapter_table.specs.Streams.{is_stream, is_taken, with_stream, without_stream, has_session, registered_table, stream_opened, cut_of, stream_cut}
 use Rattle.cip_router.specs.Commands.{command_of, is_silent}
 use Rattle.cip_router.specs.Frames.{RequestHeader, FrameFields, without_header, wrong_length, whole, frame_reading, protocol_text}
-use Rattle.adapter_table.specs.Encapsulation.{Handled, refusal, session_begun, register_session, request_replied, packet_replied, handled, framed, frame_answer, stream_answer, frame_of, frame}
+use Rattle.adapter_table.specs.Encapsulation.{Handled, refusal, session_begun, register_session, request_replied, request_handled, packet_replied, message_replied, message_served, message_executed, message_found, unit_replied, handled, framed, frame_answer, stream_answer, frame_of, frame}
 use Rattle.adapter_table.specs.Inquiries.{inquiry_reply}
 use Rattle.adapter_table.specs.Lemmas.LimitLemmas.{limited_is}
+use Rattle.adapter_table.specs.Lemmas.MessageLemmas.{found_any, same_number, fitted_short, goes_closed, goes_repeated, goes_executed, goes_referred, goes_referred_over, goes_answered, goes_opened}
 
--- a request changes nothing, opens a connection, or closes one; a frame may also end a stream, or register a
--- session on one
+-- a request changes nothing, opens a connection, or closes one; a frame may also end a stream, or register a session on one;
+-- either may change class 3 connections and waiting requests
 pub record RequestsDo (R : AdapterTable → AdapterTable → Type 0) : Type 0 where
   pub stays : (t : AdapterTable) → R t t
   pub opened : (t : AdapterTable) (peer : Node) (request : OpenFields) (admitted : Admitted) → admission t request ≡ Ok admitted → R t (opened_table t (opened_row t peer request admitted) admitted)
   pub closed : (t : AdapterTable) (triad : Triad) (row : Row) → find (has_triad triad) t.rows ≡ Some row → R t (closed_table t row)
   pub unstreamed : (t : AdapterTable) (number : ℕ) → R t (without_stream t number)
   pub registered : (t : AdapterTable) (number : ℕ) → R t (registered_table t number)
+  pub messaged : (t : AdapterTable) (next_id : ℕ) (m : Messaging) → MessagesGoOn t next_id m → R t (messages_table t next_id m)
 
 -- the same, where each connection that is opened is within the limits that the maker states
 pub record LimitedDo (R : AdapterTable → AdapterTable → Type 0) : Type 0 where
@@ -52,6 +72,7 @@ pub record LimitedDo (R : AdapterTable → AdapterTable → Type 0) : Type 0 whe
   pub closed : (t : AdapterTable) (triad : Triad) (row : Row) → find (has_triad triad) t.rows ≡ Some row → R t (closed_table t row)
   pub unstreamed : (t : AdapterTable) (number : ℕ) → R t (without_stream t number)
   pub registered : (t : AdapterTable) (number : ℕ) → R t (registered_table t number)
+  pub messaged : (t : AdapterTable) (next_id : ℕ) (m : Messaging) → MessagesGoOn t next_id m → R t (messages_table t next_id m)
 
 pub limited_do : (R : AdapterTable → AdapterTable → Type 0) → RequestsDo R → LimitedDo R
 limited_do R does = record {
@@ -60,7 +81,11 @@ limited_do R does = record {
   closed = does.closed;
   unstreamed = does.unstreamed;
   registered = does.registered;
+  messaged = does.messaged;
 }
+
+pub next_is : (x y : Next) → ◌≡◌ {A = Result Next StepFault} (Ok x) (Ok y) → x ≡ y
+next_is x y h = cc
 
 -- ---- requests
 
@@ -77,6 +102,17 @@ does_close : (R : AdapterTable → AdapterTable → Type 0) → LimitedDo R → 
 does_close R does t peer request None is = does.stays t
 does_close R does t peer request (Some row) is = does_found R does t peer request row (is_wrong_closer t.profile.limits peer row) is
 
+-- a class 3 connection is closed
+
+does_ended : (R : AdapterTable → AdapterTable → Type 0) → LimitedDo R → (t : AdapterTable) (request : CloseFields) (d : kept.Dialogue) (b : Bool) → R t (cond b (refused_close t request (status_fault status.PrivilegeViolation)) (known_dialogue_close t d)).table
+does_ended R does t request d true = does.stays t
+does_ended R does t request d false = does.messaged t t.next_id _ (goes_closed t d)
+
+does_end : (R : AdapterTable → AdapterTable → Type 0) → LimitedDo R → (t : AdapterTable) (peer : Node) (request : CloseFields) (found : Option kept.Dialogue) → R t (end_of t peer request found).table
+unfolding served_close
+does_end R does t peer request None = does_close R does t peer request (find (has_triad request.triad) t.rows) refl
+does_end R does t peer request (Some d) = does_ended R does t request d (is_wrong_ender t.profile.limits peer d)
+
 does_object : (R : AdapterTable → AdapterTable → Type 0) → LimitedDo R → (t : AdapterTable) (service : ℕ) (answer : ObjectAnswer) → R t (object_served t service answer).table
 does_object R does t service (said by value) = does.stays t
 does_object R does t service (denied why) = does.stays t
@@ -88,10 +124,10 @@ served_table t None = t
 served_table t (Some s) = s.table
 
 served_does : (R : AdapterTable → AdapterTable → Type 0) → LimitedDo R → (t : AdapterTable) (peer : Node) (router_request : RouterRequestFields) → R t (served_table t (served t peer router_request))
-unfolding served_open served_close served_object
+unfolding served_open served_end served_object
 served_does R does t peer nothing = does.stays t
 served_does R does t peer (refused service why) = does.stays t
-served_does R does t peer (closing request) = does_close R does t peer request (find (has_triad request.triad) t.rows) refl
+served_does R does t peer (closing request) = does_end R does t peer request (find (has_dialogue_triad request.triad) t.messaging.dialogues)
 served_does R does t peer (object service class instance attribute body) = does_object R does t service (object_answer t service class instance attribute body)
 served_does R does t peer (opening large request) = does_judged R does t peer large request (limited_admission t peer request) refl
 
@@ -101,6 +137,19 @@ answered_by P t peer (Some s) does = does
 
 pub answered_does : (R : AdapterTable → AdapterTable → Type 0) → LimitedDo R → (t : AdapterTable) (peer : Node) (router_request : RouterRequestFields) → R t (answered t peer (served t peer router_request)).1
 answered_does R does t peer router_request = answered_by (R t) t peer (served t peer router_request) (served_does R does t peer router_request)
+
+does_own : (R : AdapterTable → AdapterTable → Type 0) → LimitedDo R → (t : AdapterTable) (peer : Node) (asks : OwnRequest) (b : Bool) → lacks_room t.messaging ≡ b → R t (cond b (replied peer (router_refusal t asks.service status.ResourceUnavailable)) (plain_answer (referred_verdict t asks), referred_table t (asker.Peer peer) asks)).1
+does_own R does t peer asks true room = does.stays t
+does_own R does t peer asks false room = does.messaged t t.next_id _ (goes_referred t (asker.Peer peer) asks.service room refl tt)
+
+requested_by_does : (R : AdapterTable → AdapterTable → Type 0) → LimitedDo R → (t : AdapterTable) (peer : Node) (router_request : RouterRequestFields) (asks : Option OwnRequest) → R t (requested_by t peer router_request asks).1
+requested_by_does R does t peer router_request None = answered_does R does t peer router_request
+requested_by_does R does t peer router_request (Some asks) = does_own R does t peer asks (lacks_room t.messaging) refl
+
+-- each request of a peer
+pub requested_does : (R : AdapterTable → AdapterTable → Type 0) → LimitedDo R → (t : AdapterTable) (peer : Node) (bytes : List ℕ) → R t (requested t peer bytes).1
+unfolding requested
+requested_does R does t peer bytes = requested_by_does R does t peer (router_request_reading bytes) (own_of t.profile.objects (router_request_reading bytes))
 
 -- ---- frames
 
@@ -119,43 +168,139 @@ replied_by : (P : AdapterTable → Type 0) (t : AdapterTable) (s : Option Served
 replied_by P t None does = does
 replied_by P t (Some s) does = does
 
-does_packet : (R : AdapterTable → AdapterTable → Type 0) → LimitedDo R → (t : AdapterTable) (peer : Node) (reading : Result PacketFields ItemFault) → R t (packet_replied t peer reading).table
-does_packet R does t peer (Err fault) = does.stays t
-does_packet R does t peer (Ok packet) = replied_by (R t) t (served t peer (router_request_reading packet.payload)) (served_does R does t peer (router_request_reading packet.payload))
+-- the stream of a session is open, and has the session
+abbrev pub IsOpenStream : AdapterTable → Stream → Type 0
+IsOpenStream t stream = stream.registered ≡ true → IsCarried t.streams stream.number
 
-pub handled_does : (R : AdapterTable → AdapterTable → Type 0) → LimitedDo R → (t : AdapterTable) (stream : Stream) (request_header : RequestHeader) (body : List ℕ) (router_request : Command) → R t (handled t stream request_header body router_request).table
+-- what becomes of a message within its session
+within_session : (P : AdapterTable → Type 0) (stream : Stream) (session : ℕ) (b : Bool) (x y : Handled) → has_session stream session ≡ b → (stream.registered ≡ true → P x.table) → P y.table → P (cond b x y).table
+within_session P stream session true x y has first second = first (and_parts stream.registered _ has).0
+within_session P stream session false x y has first second = second
+
+does_dialogue : (R : AdapterTable → AdapterTable → Type 0) → LimitedDo R → (t : AdapterTable) (stream : Stream) (large : Bool) (request : OpenFields) (c : Check) → dialogue_refusal (dialogue_view t stream.peer request.triad) request ≡ c → IsCarried t.streams stream.number → R t (judged_dialogue t stream large request c).table
+does_dialogue R does t stream large request (Some why) is carried = does.stays t
+does_dialogue R does t stream large request None is carried = does.messaged t (t.next_id + 1) _ (goes_opened t stream request is carried)
+
+does_stream_open : (R : AdapterTable → AdapterTable → Type 0) → LimitedDo R → (t : AdapterTable) (stream : Stream) (large : Bool) (request : OpenFields) (b : Bool) → IsCarried t.streams stream.number → R t (served_table t (cond b (Some (served_dialogue t stream large request)) (served t stream.peer (opening large request))))
+unfolding served_dialogue
+does_stream_open R does t stream large request true carried = does_dialogue R does t stream large request (dialogue_refusal (dialogue_view t stream.peer request.triad) request) refl carried
+does_stream_open R does t stream large request false carried = served_does R does t stream.peer (opening large request)
+
+stream_served_does : (R : AdapterTable → AdapterTable → Type 0) → LimitedDo R → (t : AdapterTable) (stream : Stream) (router_request : RouterRequestFields) → IsCarried t.streams stream.number → R t (served_table t (stream_served t stream router_request))
+stream_served_does R does t stream (opening large request) carried = does_stream_open R does t stream large request (is_message_trigger request.trigger) carried
+stream_served_does R does t stream other carried = served_does R does t stream.peer other
+
+does_own_over : (R : AdapterTable → AdapterTable → Type 0) → LimitedDo R → (t : AdapterTable) (stream : Stream) (context : ℕ) (asks : OwnRequest) (b : Bool) → lacks_room t.messaging ≡ b → IsCarried t.streams stream.number → R t (cond b (request_replied t (Some (router_refusal t asks.service status.ResourceUnavailable))) (record { reply = None; verdict = referred_verdict t asks; notices = []; table = referred_table t (asker.Stream stream.number context) asks })).table
+does_own_over R does t stream context asks true room carried = does.stays t
+does_own_over R does t stream context asks false room carried = does.messaged t t.next_id _ (goes_referred t (asker.Stream stream.number context) asks.service room refl carried)
+
+does_request : (R : AdapterTable → AdapterTable → Type 0) → LimitedDo R → (t : AdapterTable) (stream : Stream) (context : ℕ) (router_request : RouterRequestFields) (asks : Option OwnRequest) → IsCarried t.streams stream.number → R t (request_handled t stream context router_request asks).table
+does_request R does t stream context router_request None carried = replied_by (R t) t (stream_served t stream router_request) (stream_served_does R does t stream router_request carried)
+does_request R does t stream context router_request (Some asks) carried = does_own_over R does t stream context asks (lacks_room t.messaging) refl carried
+
+does_packet : (R : AdapterTable → AdapterTable → Type 0) → LimitedDo R → (t : AdapterTable) (stream : Stream) (context : ℕ) (reading : Result PacketFields ItemFault) → IsCarried t.streams stream.number → R t (packet_replied t stream context reading).table
+does_packet R does t stream context (Err fault) carried = does.stays t
+does_packet R does t stream context (Ok packet) carried = does_request R does t stream context (router_request_reading packet.payload) (own_of t.profile.objects (router_request_reading packet.payload)) carried
+
+-- ---- connected messages
+
+executed_does : (R : AdapterTable → AdapterTable → Type 0) → LimitedDo R → (t : AdapterTable) (d : kept.Dialogue) (count service : ℕ) (reply : ReplyFields) → R t (executed_table t d count (fitted_text d service reply))
+executed_does R does t d count service reply = does.messaged t t.next_id _ (goes_executed t d.o_t_id count (fitted_text d service reply) (next_deadline t d) (fitted_short d service reply))
+
+message_object : (R : AdapterTable → AdapterTable → Type 0) → LimitedDo R → (t : AdapterTable) (d : kept.Dialogue) (count first service : ℕ) (answer : ObjectAnswer) → R t (message_replied d count first (object_served t service answer)).table
+message_object R does t d count first service (said by value) = executed_does R does t d count first (object_served t service (said by value)).reply
+message_object R does t d count first service (denied why) = executed_does R does t d count first (object_served t service (denied why)).reply
+message_object R does t d count first service (resetting kind) = executed_does R does t d count first (object_served t service (resetting kind)).reply
+
+message_served_does : (R : AdapterTable → AdapterTable → Type 0) → LimitedDo R → (t : AdapterTable) (d : kept.Dialogue) (count first : ℕ) (router_request : RouterRequestFields) → R t (message_served t d count first (connected_served t d.peer router_request)).table
+unfolding served_object
+message_served_does R does t d count first nothing = does.stays t
+message_served_does R does t d count first (refused service why) = executed_does R does t d count first (router_refusal t service why).reply
+message_served_does R does t d count first (closing request) = executed_does R does t d count first (router_refusal t 0x4E status.Service).reply
+message_served_does R does t d count first (object service class instance attribute body) = message_object R does t d count first service (object_answer t service class instance attribute body)
+message_served_does R does t d count first (opening large request) = executed_does R does t d count first (router_refusal t (open_service large) status.Service).reply
+
+does_own_message : (R : AdapterTable → AdapterTable → Type 0) → LimitedDo R → (t : AdapterTable) (d : kept.Dialogue) (count : ℕ) (asks : OwnRequest) (b : Bool) → lacks_room t.messaging ≡ b → list_any (has_dialogue_id d.o_t_id) t.messaging.dialogues ≡ true → R t (cond b (message_replied d count asks.service (router_refusal t asks.service status.ResourceUnavailable)) (record { reply = None; verdict = referred_verdict t asks; notices = []; table = asking_table t d count asks })).table
+does_own_message R does t d count asks true room there = executed_does R does t d count asks.service (router_refusal t asks.service status.ResourceUnavailable).reply
+does_own_message R does t d count asks false room there = does.messaged t t.next_id _ (goes_referred_over t d.o_t_id count asks.service (next_deadline t d) there room)
+
+message_executed_does : (R : AdapterTable → AdapterTable → Type 0) → LimitedDo R → (t : AdapterTable) (d : kept.Dialogue) (count first : ℕ) (router_request : RouterRequestFields) (asks : Option OwnRequest) → list_any (has_dialogue_id d.o_t_id) t.messaging.dialogues ≡ true → R t (message_executed t d count first router_request asks).table
+message_executed_does R does t d count first router_request None there = message_served_does R does t d count first router_request
+message_executed_does R does t d count first router_request (Some asks) there = does_own_message R does t d count asks (lacks_room t.messaging) refl there
+
+message_found_does : (R : AdapterTable → AdapterTable → Type 0) → LimitedDo R → (t : AdapterTable) (count : ℕ) (message : List ℕ) (p : kept.Dialogue → Bool) (found : Option kept.Dialogue) → find p t.messaging.dialogues ≡ found → R t (message_found t count message found).table
+message_found_does R does t count message p None is = does.stays t
+message_found_does R does t count message p (Some d) is =
+    either_does (R t) (nat_lt d.o_t_size (2 + length message)) _ _ (does.stays t)
+    (either_does (R t) (repeats_last d count) _ (message_executed t d count (service_in message) (router_request_reading message) (own_of t.profile.objects (router_request_reading message)))
+    (does.messaged t t.next_id _ (goes_repeated t d.o_t_id (next_deadline t d)))
+    (message_executed_does R does t d count (service_in message) (router_request_reading message) (own_of t.profile.objects (router_request_reading message))
+    (found_any p (has_dialogue_id d.o_t_id) t.messaging.dialogues d is (same_number d.o_t_id.0))))
+
+does_unit : (R : AdapterTable → AdapterTable → Type 0) → LimitedDo R → (t : AdapterTable) (stream : Stream) (reading : Result ConnectedFields ItemFault) → R t (unit_replied t stream reading).table
+does_unit R does t stream (Err fault) = does.stays t
+does_unit R does t stream (Ok unit) =
+    message_found_does R does t unit.count unit.message (is_dialogue stream.number (record { 0 = unit.connection }))
+    (find (is_dialogue stream.number (record { 0 = unit.connection })) t.messaging.dialogues) refl
+
+-- ---- messages
+
+pub handled_does : (R : AdapterTable → AdapterTable → Type 0) → LimitedDo R → (t : AdapterTable) (stream : Stream) (request_header : RequestHeader) (body : List ℕ) (router_request : Command) → IsOpenStream t stream → R t (handled t stream request_header body router_request).table
 unfolding handled
-handled_does R does t stream request_header body command.Nop = does.stays t
-handled_does R does t stream request_header body command.ListServices = does.stays t
-handled_does R does t stream request_header body command.RegisterSession = does_register R does t stream body
-handled_does R does t stream request_header body command.UnregisterSession = either_does (R t) (has_session stream request_header.session) _ _ (does.unstreamed t stream.number) (does.stays t)
-handled_does R does t stream request_header body command.SendRrData = either_does (R t) (has_session stream request_header.session) _ _ (does_packet R does t stream.peer (packet_reading body)) (does.stays t)
-handled_does R does t stream request_header body command.Other = does.stays t
+handled_does R does t stream request_header body command.Nop opens = does.stays t
+handled_does R does t stream request_header body command.ListServices opens = does.stays t
+handled_does R does t stream request_header body command.RegisterSession opens = does_register R does t stream body
+handled_does R does t stream request_header body command.UnregisterSession opens = either_does (R t) (has_session stream request_header.session) _ _ (does.unstreamed t stream.number) (does.stays t)
+handled_does R does t stream request_header body command.SendRrData opens =
+    within_session (R t) stream request_header.session (has_session stream request_header.session) _ _ refl (λ registered. does_packet R does t stream request_header.context (packet_reading body) (opens registered)) (does.stays t)
+handled_does R does t stream request_header body command.SendUnitData opens =
+    either_does (R t) (has_session stream request_header.session) _ _ (does_unit R does t stream (connected_reading body)) (does.stays t)
+handled_does R does t stream request_header body command.Other opens = does.stays t
 
 does_misfit : (b : Bool) (R : AdapterTable → AdapterTable → Type 0) → LimitedDo R → (t : AdapterTable) (number : ℕ) (request_header : RequestHeader) → R t (cond b (plain_answer BadFrame, t) (framed number request_header (refusal t encap.InvalidLength))).1
 does_misfit true R does t number request_header = does.stays t
 does_misfit false R does t number request_header = does.stays t
 
-does_frame : (R : AdapterTable → AdapterTable → Type 0) → LimitedDo R → (t : AdapterTable) (stream : Stream) (fields : FrameFields) → R t (frame_answer t stream fields).1
-does_frame R does t stream without_header = does.stays t
-does_frame R does t stream (wrong_length request_header) = does_misfit (is_silent (command_of request_header.command)) R does t stream.number request_header
-does_frame R does t stream (whole request_header body) = handled_does R does t stream request_header body (command_of request_header.command)
+does_frame : (R : AdapterTable → AdapterTable → Type 0) → LimitedDo R → (t : AdapterTable) (stream : Stream) (fields : FrameFields) → IsOpenStream t stream → R t (frame_answer t stream fields).1
+does_frame R does t stream without_header opens = does.stays t
+does_frame R does t stream (wrong_length request_header) opens = does_misfit (is_silent (command_of request_header.command)) R does t stream.number request_header
+does_frame R does t stream (whole request_header body) opens = handled_does R does t stream request_header body (command_of request_header.command) opens
 
-pub next_is : (x y : Next) → ◌≡◌ {A = Result Next StepFault} (Ok x) (Ok y) → x ≡ y
-next_is x y h = cc
+does_message : (R : AdapterTable → AdapterTable → Type 0) → LimitedDo R → (t : AdapterTable) (stream : Stream) (bytes : List ℕ) (inquiry : Option (List ℕ)) → IsOpenStream t stream → R t (stream_answer t stream bytes inquiry).1
+does_message R does t stream bytes None opens = does_frame R does t stream (frame_reading bytes) opens
+does_message R does t stream bytes (Some text) opens = does.stays t
 
-does_message : (R : AdapterTable → AdapterTable → Type 0) → LimitedDo R → (t : AdapterTable) (stream : Stream) (bytes : List ℕ) (inquiry : Option (List ℕ)) → R t (stream_answer t stream bytes inquiry).1
-does_message R does t stream bytes None = does_frame R does t stream (frame_reading bytes)
-does_message R does t stream bytes (Some text) = does.stays t
+both_hold : (a b : Bool) → a ≡ true → b ≡ true → (a && b) ≡ true
+both_hold true b first second = second
+both_hold false b first second = absurd cc
 
-frame_by : (R : AdapterTable → AdapterTable → Type 0) → LimitedDo R → (t : AdapterTable) (bytes : List ℕ) (found : Option Stream) (next : Next) → frame_of t bytes found ≡ Ok next → R t next.1
-frame_by R does t bytes None next is = absurd cc
-frame_by R does t bytes (Some stream) next is = subst (λ (n : Next). R t n.1) (next_is _ _ is) (does_message R does t stream bytes (inquiry_reply t bytes))
+pub found_open : (t : AdapterTable) (number : ℕ) (stream : Stream) → find (is_stream number) t.streams ≡ Some stream → IsOpenStream t stream
+found_open t number stream is = λ registered.
+    found_any (is_stream number) (carries stream.number) t.streams stream is (both_hold (stream.number == stream.number) stream.registered (same_number stream.number) registered)
+
+frame_by : (R : AdapterTable → AdapterTable → Type 0) → LimitedDo R → (t : AdapterTable) (number : ℕ) (bytes : List ℕ) (found : Option Stream) (next : Next) → find (is_stream number) t.streams ≡ found → frame_of t bytes found ≡ Ok next → R t next.1
+frame_by R does t number bytes None next found is = absurd cc
+frame_by R does t number bytes (Some stream) next found is = subst (λ (n : Next). R t n.1) (next_is _ _ is) (does_message R does t stream bytes (inquiry_reply t bytes) (found_open t number stream found))
 
 -- each frame that is dealt with
 pub frame_does : (R : AdapterTable → AdapterTable → Type 0) → LimitedDo R → (t : AdapterTable) (number : ℕ) (bytes : List ℕ) (next : Next) → frame t number bytes ≡ Ok next → R t next.1
 unfolding frame
-frame_does R does t number bytes next is = frame_by R does t bytes (find (is_stream number) t.streams) next is
+frame_does R does t number bytes next is = frame_by R does t number bytes (find (is_stream number) t.streams) next refl is
+
+-- ---- answers of the application
+
+responded_by : (R : AdapterTable → AdapterTable → Type 0) → LimitedDo R → (t : AdapterTable) (status : ℕ) (bytes : List ℕ) (w : Waiting) (b : Bool) (next : Next) → ◌≡◌ {A = Result Next StepFault} (cond b (Err WrongLength) (Ok (responded t w (own w.service status bytes)))) (Ok next) → R t next.1
+responded_by R does t status bytes w true next is = absurd cc
+responded_by R does t status bytes w false next is = subst (λ (n : Next). R t n.1) (next_is _ _ is) (does.messaged t t.next_id _ (goes_answered t w (own w.service status bytes)))
+
+respond_by : (R : AdapterTable → AdapterTable → Type 0) → LimitedDo R → (t : AdapterTable) (status : ℕ) (bytes : List ℕ) (found : Option Waiting) (next : Next) → respond_of t status bytes found ≡ Ok next → R t next.1
+respond_by R does t status bytes None next is = absurd cc
+respond_by R does t status bytes (Some w) next is = responded_by R does t status bytes w (nat_lt longest_answer (length bytes)) next is
+
+-- each answer that is given
+pub respond_does : (R : AdapterTable → AdapterTable → Type 0) → LimitedDo R → (t : AdapterTable) (number status : ℕ) (bytes : List ℕ) (next : Next) → respond t number status bytes ≡ Ok next → R t next.1
+unfolding respond
+respond_does R does t number status bytes next is = respond_by R does t status bytes (find (has_request_number number) t.messaging.waiting) next is
 
 -- ---- streams
 

@@ -64,7 +64,7 @@ filter_none q (row ∷ rows) none =
 
 -- ---- triads
 
-same_sym : (a b : Triad) → same_triad a b ≡ false → same_triad b a ≡ false
+pub same_sym : (a b : Triad) → same_triad a b ≡ false → same_triad b a ≡ false
 same_sym a b h = grind (arith, nat_tests)
 
 left_step : (b : Bool) (p : Row → Bool) (row : Row) (left : List Row) → p row ≡ b → list_any p left ≡ false → list_any p (cond (not b) (row ∷ left) left) ≡ false
@@ -85,7 +85,7 @@ triads_append (row ∷ rows) new differ none =
 -- ---- ids
 
 -- the next id is that of no row
-next_is_new : (profile : Profile) (next_id : ℕ) (rows : List Row) → IdsAreDrawn profile next_id rows → list_any (has_o_t_id (connection_id profile.incarnation next_id)) rows ≡ false
+pub next_is_new : (profile : Profile) (next_id : ℕ) (rows : List Row) → IdsAreDrawn profile next_id rows → list_any (has_o_t_id (connection_id profile.incarnation next_id)) rows ≡ false
 next_is_new profile next_id [] drawn = refl
 next_is_new profile next_id (row ∷ rows) drawn =
     let rest = next_is_new profile next_id rows drawn.2 in
@@ -102,6 +102,12 @@ ids_append [] new differ none = (refl, tt)
 ids_append (row ∷ rows) new differ none =
     let parts = or_parts (has_o_t_id new.o_t_id row) (list_any (has_o_t_id new.o_t_id) rows) none in
     (rw (list_any-append (has_o_t_id row.o_t_id) rows (new ∷ []), differ.0, other_id row.o_t_id new.o_t_id parts.0) refl, ids_append rows new differ.1 parts.1)
+
+pub drawn_later : (profile : Profile) (next_id later : ℕ) (rows : List Row) → next_id ≤ later → IdsAreDrawn profile next_id rows → IdsAreDrawn profile later rows
+drawn_later profile next_id later [] more drawn = tt
+drawn_later profile next_id later (row ∷ rows) more drawn =
+    let below : row.opening < next_id = drawn.1 in
+    (drawn.0, omega arith, drawn_later profile next_id later rows more drawn.2)
 
 -- a row with the next id
 pub record IsDrawn (profile : Profile) (next_id : ℕ) (new : Row) : Type 0 where
