@@ -4,7 +4,7 @@ use Rattle.std.proofs.Common.{◌≡◌, ◌≤◌, ℕ, ◌==◌, Bool, true, f
 use Rattle.std.proofs.lemmas.Bool.{eqb-true}
 use Rattle.std.proofs.lemmas.List.{length-map}
 use Rattle.std.specs.Option.{IfSome}
-use Rattle.std.specs.List.{filter_map}
+use Rattle.std.specs.List.{filter_map, flat_map}
 use Rattle.cip_types.specs.declared.names.Ms.{Ms}
 use Rattle.cip_types.specs.Order.{in_order}
 use Rattle.cip_events.specs.declared.event.StepFault.TheVariants as fault
@@ -12,6 +12,11 @@ use Rattle.cip_events.specs.declared.event.Verdict.TheVariants.{Done}
 use Rattle.cip_events.specs.Clock.{longest_tick, clock_end}
 use Rattle.cip_productions.specs.declared.production.Producer.{Producer}
 use Rattle.cip_productions.specs.Productions.{Produced, same_producer, by_number, by_due, sent}
+use Rattle.cip_router.specs.Replies.{own}
+use Rattle.messaging.specs.declared.table.Messaging.{Messaging}
+use Rattle.messaging.specs.Changes.{most_waiting, can_be_answered}
+use Rattle.messaging.specs.Lemmas.EachOfLemmas.{few_left as few_left_of}
+use Rattle.messaging.specs.Times.{on_time, without_late_dialogues, is_late_request, late_waiting}
 use Rattle.adapter_table.specs.declared.profile.InputPoint.{InputPoint}
 use Rattle.adapter_table.specs.declared.profile.Profile.{Profile}
 use Rattle.adapter_table.specs.Connections.{Row}
@@ -22,12 +27,15 @@ use Rattle.adapter_table.specs.Limits.{bytes_short, input_len_short}
 use Rattle.adapter_table.specs.Points.{bytes_at}
 use Rattle.adapter_table.specs.Productions.{producer_in, producers, production_of, is_due, due_producers, input_of, due_productions, produces_on_change, producers_on_change, productions_on_change}
 use Rattle.adapter_table.specs.Profiles.{is_at}
+use Rattle.adapter_table.specs.Requests.{Next}
 use Rattle.adapter_table.specs.Rows.{written_row}
 use Rattle.adapter_table.specs.Shapes.{IsShaped}
 use Rattle.adapter_table.specs.Step.{written_table, write_answer, written, write_of, write}
-use Rattle.adapter_table.specs.Ticks.{clocked_table, expired_row, expired_rows, expired_table, expiry_notices, advanced, tick}
+use Rattle.adapter_table.specs.Ticks.{clocked_table, expired_row, expired_rows, expired_table, produced_table, expiry_notices, advanced, late_frames, aged_next, tick}
+use Rattle.adapter_table.specs.Whole.{IsWhole}
 use Rattle.answer_sizes.specs.Sizes.{IsShortFrame, IsShortDatagram, IsSmall}
-use Rattle.answer_sizes.proofs.Few.{Few, Any, few_none, few_any, few_filtered, few_ordered, few_firsts, few_mapped, few_made, either}
+use Rattle.answer_sizes.proofs.AdapterFrames.{route_small}
+use Rattle.answer_sizes.proofs.Few.{Few, Any, few_none, few_most, few_any, few_filtered, few_ordered, few_firsts, few_mapped, few_made, few_flat, either}
 use Rattle.answer_sizes.proofs.Answers.{datagram_short, both_small, AnswersSmall}
 
 -- ---- producers
@@ -76,12 +84,36 @@ advanced_small t ms shaped few =
     both_small [] (map sent (due_productions clocked.clock rows clocked.values)) Done (expiry_notices clocked.clock clocked.rows) (few_none 64 IsShortFrame)
     (sent_few rows (input_of clocked.values) (inputs_short t.profile t.values shaped) (due_producers clocked.clock rows) (passing_producers (is_due clocked.clock) by_due rows (few_left clocked.clock t.rows few)))
 
+-- no more requests wait than before
+few_waiting : (clock : Ms) (m : Messaging) → length m.waiting ≤ most_waiting → length (late_waiting clock (without_late_dialogues clock m)) ≤ 64
+unfolding without_late_dialogues
+few_waiting clock m few =
+    let left = filter (can_be_answered (on_time clock m.dialogues)) m.waiting in
+    omega (arith, few_left_of (is_late_request clock) left, few_left_of (can_be_answered (on_time clock m.dialogues)) m.waiting, few)
+
+late_small : (clock : Ms) (m : Messaging) → length m.waiting ≤ most_waiting → Few 64 IsShortFrame (flat_map (late_frames (without_late_dialogues clock m)) (late_waiting clock (without_late_dialogues clock m)))
+late_small clock m few =
+    let left = without_late_dialogues clock m in
+    few_most 64 (length (late_waiting clock left)) IsShortFrame (flat_map (late_frames left) (late_waiting clock left)) (few_waiting clock m few)
+    (few_flat IsShortFrame (late_frames left) (λ w. route_small left w.asker w.service (own w.service 0x1F []) (omega arith)) (late_waiting clock left))
+
+-- a tick leaves requests as they are, until they are answered late
+tick_waiting : (t : AdapterTable) (ms : ℕ) → length t.messaging.waiting ≤ most_waiting → length (advanced (clocked_table t ms)).1.messaging.waiting ≤ most_waiting
+unfolding clocked_table expired_table produced_table
+tick_waiting t ms few = few
+
+aged_small : (next : Next) → IsSmall next.0 → length next.1.messaging.waiting ≤ most_waiting → IsSmall (aged_next next).0
+aged_small next small few =
+    let late = late_small next.1.clock next.1.messaging few in
+    record { few_frames = late.count; short_frames = late.each; few_datagrams = small.few_datagrams; short_datagrams = small.short_datagrams }
+
 -- the answer to a tick
-pub tick_small : (t : AdapterTable) (ms : ℕ) → IsShaped t.profile t.values → length t.rows ≤ 64 → AnswersSmall (tick t ms)
+pub tick_small : (t : AdapterTable) (ms : ℕ) → IsWhole t → AnswersSmall (tick t ms)
 unfolding tick
-tick_small t ms shaped few =
+tick_small t ms whole =
     either (AnswersSmall {T = AdapterTable}) (nat_lt longest_tick ms) _ _ tt
-    (either (AnswersSmall {T = AdapterTable}) (nat_lt clock_end (t.clock.0 + ms)) (Err fault.ClockEnd) (Ok (advanced (clocked_table t ms))) tt (advanced_small t ms shaped few))
+    (either (AnswersSmall {T = AdapterTable}) (nat_lt clock_end (t.clock.0 + ms)) (Err fault.ClockEnd) (Ok (aged_next (advanced (clocked_table t ms)))) tt
+    (aged_small (advanced (clocked_table t ms)) (advanced_small t ms whole.shaped whole.sound.few) (tick_waiting t ms whole.messages.own.few_waiting)))
 
 -- ---- a write
 

@@ -1,5 +1,5 @@
 -- Short texts, and small answers.
-use Rattle.std.proofs.Common.{◌≡◌, ◌≤◌, List, length, Result, Ok, Err, refl, arith, length-append}
+use Rattle.std.proofs.Common.{◌≡◌, ◌≤◌, List, [], length, Result, Ok, Err, refl, arith, length-append}
 use Rattle.cip_types.specs.Fields.{fields_text}
 use Rattle.cip_datagram.specs.Datagram.{DatagramFields, datagram_widths, datagram_numbers, datagram_text}
 use Rattle.cip_encap.specs.Message.{MessageFields, header_widths, header_numbers, message_text}
@@ -11,7 +11,7 @@ use Rattle.cip_events.specs.declared.event.StepFault.{StepFault}
 use Rattle.cip_events.specs.declared.event.Verdict.{Verdict}
 use Rattle.cip_events.specs.Answers.{plain_answer}
 use Rattle.answer_sizes.specs.Sizes.{IsShortFrame, IsShortDatagram, IsSmall}
-use Rattle.answer_sizes.proofs.Few.{Few}
+use Rattle.answer_sizes.proofs.Few.{Few, few_none}
 
 -- ---- texts
 
@@ -38,6 +38,10 @@ both_small frames datagrams verdict notices few sent =
 
 pub plain_small : (verdict : Verdict) → IsSmall (plain_answer verdict)
 plain_small verdict = record { few_frames = omega arith; short_frames = tt; few_datagrams = omega arith; short_datagrams = tt }
+
+-- an answer of notices alone
+pub noted_small : (verdict : Verdict) (notices : List Notice) → IsSmall (record (plain_answer verdict) { notices = notices })
+noted_small verdict notices = both_small [] [] verdict notices (few_none 64 IsShortFrame) (few_none 64 IsShortDatagram)
 
 -- ---- steps
 

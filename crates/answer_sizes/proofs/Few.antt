@@ -1,6 +1,6 @@
 -- Few elements, each of which has a property: what filters, orders and maps keep of that.
 use Rattle.std.proofs.Common.{◌≡◌, ◌≤◌, ◌+◌, ℕ, zero, suc, Bool, true, false, cond, List, [], ◌∷◌, ◌++◌, length, map, filter, find, Option, Some, None, refl, arith, length-append}
-use Rattle.std.specs.List.{AllByRecursion, filter_map}
+use Rattle.std.specs.List.{AllByRecursion, filter_map, flat_map}
 use Rattle.std.specs.Option.{IfSome}
 use Rattle.cip_types.specs.Order.{inserted, in_order, differs, first_of_each}
 
@@ -104,3 +104,10 @@ own_made P Q f makes (x ∷ xs) each = made_step (f x) Q f x xs refl (makes x ea
 -- what is made of some
 pub few_made : {X Y : Type 0} (most : ℕ) (P : X → Type 0) (Q : Y → Type 0) (f : X → Option Y) → ((x : X) → P x → IfSome (f x) Q) → (xs : List X) → Few most P xs → Few most Q (filter_map f xs)
 few_made most P Q f makes xs few = few_most most (length xs) Q (filter_map f xs) few.count (own_made P Q f makes xs few.each)
+
+-- ---- lists of lists
+
+-- what each gives has one element at most
+pub few_flat : {X Y : Type 0} (Q : Y → Type 0) (f : X → List Y) → ((x : X) → Few 1 Q (f x)) → (xs : List X) → Few (length xs) Q (flat_map f xs)
+few_flat Q f gives [] = few_none 0 Q
+few_flat Q f gives (x ∷ xs) = few_most (suc (length xs)) (1 + length xs) Q (f x ++ flat_map f xs) (omega arith) (few_both 1 (length xs) Q (f x) (flat_map f xs) (gives x) (few_flat Q f gives xs))

@@ -2,6 +2,7 @@ mod Few
 mod Answers
 mod ObjectAnswers
 mod AdapterFrames
+mod AdapterReplies
 mod AdapterDatagrams
 mod AdapterAnswers
 mod ScannerRequests

@@ -1,9 +1,11 @@
 -- A tick of an adapter that does nothing ends before anything is due.
-use Rattle.std.proofs.Common.{◌≡◌, ◌≤◌, ◌<◌, ◌+◌, ℕ, true, false, ◌&&◌, List, [], ◌∷◌, map, filter, Result, Ok, refl, sym, ap, subst, ◌∙◌, arith}
+use Rattle.std.proofs.Common.{◌≡◌, ◌≤◌, ◌<◌, ◌+◌, ℕ, Bool, true, false, cond, not, ◌&&◌, min, List, [], ◌∷◌, length, map, filter, Result, Ok, refl, sym, ap, subst, ◌∙◌, arith}
 use Rattle.std.specs.Prelude.{nat_lt, nat_le}
 use Rattle.std.specs.List.{filter_map}
 use Rattle.std.specs.Option.{is_some}
+use Rattle.std.proofs.lemmas.Bool.{not-true}
 use Rattle.std.proofs.lemmas.Bool.Decides.{nat_tests}
+use Rattle.cip_types.specs.declared.names.ConnId.{ConnId}
 use Rattle.cip_types.specs.declared.names.Ms.{Ms}
 use Rattle.cip_events.specs.declared.event.Answer.{Answer}
 use Rattle.cip_events.specs.declared.event.Event.TheVariants.{Tick}
@@ -12,6 +14,16 @@ use Rattle.cip_events.specs.declared.event.Verdict.TheVariants.{Done}
 use Rattle.cip_events.specs.Answers.{plain_answer}
 use Rattle.cip_events.specs.Clock.{longest_tick, clock_end}
 use Rattle.cip_productions.specs.Productions.{sent, same_producer, by_due}
+use Rattle.messaging.specs.declared.dialogue.Dialogue.{Dialogue}
+use Rattle.messaging.specs.declared.requests.Requester.{Requester}
+use Rattle.messaging.specs.declared.requests.Requester.TheVariants as asker
+use Rattle.messaging.specs.declared.requests.Waiting.{Waiting}
+use Rattle.messaging.specs.declared.table.Messaging.{Messaging}
+use Rattle.messaging.specs.Changes.{can_be_answered, replied}
+use Rattle.messaging.specs.Lemmas.EachOfLemmas.{few_left}
+use Rattle.messaging.specs.Sound.{EachOf}
+use Rattle.messaging.specs.Times.{is_late_dialogue, by_dialogue_deadline, late_dialogues, on_time, without_late_dialogues, is_late_request, late_waiting, late_text, late_reply, late_replies, without_late_waiting, aged, first_of, dialogue_end, request_end, first_moment}
+use Rattle.adapter_table.specs.Messages.{messages_table}
 use Rattle.adapter_table.specs.Connections.{Row}
 use Rattle.adapter_table.specs.declared.row.State.{State}
 use Rattle.adapter_table.specs.declared.row.State.TheVariants.{Established, TimedOut}
@@ -20,7 +32,7 @@ use Rattle.adapter_table.specs.declared.table.PointValue.{PointValue}
 use Rattle.adapter_table.specs.Closing.{dropped_notice, unsupported, stays, staying}
 use Rattle.adapter_table.specs.Productions.{is_due, state_is_due, producer_in, state_producer, producers, due_producers, due_production, due_productions}
 use Rattle.adapter_table.specs.Rows.{lives, is_unsupported}
-use Rattle.adapter_table.specs.Ticks.{has_expired, by_deadline, expired, expired_rows, expired_notice, expiry_notices, clocked_table, expired_table, advanced, tick}
+use Rattle.adapter_table.specs.Ticks.{has_expired, by_deadline, expired, expired_rows, expired_notice, expiry_notices, clocked_table, expired_table, produced_table, advanced, late_notice, aged_next, tick}
 use Rattle.cip_tables.specs.declared.table.DeviceTable.{DeviceTable}
 use Rattle.cip_tables.specs.declared.table.DeviceTable.TheVariants.{Adapter}
 use Rattle.cip_tables.specs.Step.{step, as_adapter}
@@ -86,7 +98,7 @@ quiet_rows clock rows values below notices datagrams =
 
 -- ---- the tick
 
-ticked : (t : AdapterTable) (ms : ℕ) → ms ≤ longest_tick → t.clock.0 + ms ≤ clock_end → tick t ms ≡ Ok (advanced (clocked_table t ms))
+ticked : (t : AdapterTable) (ms : ℕ) → ms ≤ longest_tick → t.clock.0 + ms ≤ clock_end → tick t ms ≡ Ok (aged_next (advanced (clocked_table t ms)))
 unfolding tick
 ticked t ms short inside =
     let first : nat_lt longest_tick ms ≡ false = grind (arith, nat_tests) in
@@ -96,13 +108,89 @@ ticked t ms short inside =
 pub answer_of : (answer other : Answer) (table next : DeviceTable) → ◌≡◌ {A = Result (Answer × DeviceTable) StepFault} (Ok (answer, table)) (Ok (other, next)) → answer ≡ other
 answer_of answer other table next is = let pair : ◌≡◌ {A = Answer × DeviceTable} (answer, table) (other, next) = cc in ap (λ (p : Answer × DeviceTable). p.0) pair
 
-quiet_answer : (t : AdapterTable) (ms : ℕ) → t.clock.0 + ms < never → (advanced (clocked_table t ms)).0 ≡ plain_answer Done → t.clock.0 + ms < connections_due t.rows
-unfolding clocked_table expired_table
-quiet_answer t ms below is =
-    quiet_rows (record { 0 = t.clock.0 + ms }) t.rows t.values below (ap (λ (a : Answer). a.notices) is) (ap (λ (a : Answer). a.datagrams) is)
+pub table_of : (answer other : Answer) (table next : DeviceTable) → ◌≡◌ {A = Result (Answer × DeviceTable) StepFault} (Ok (answer, table)) (Ok (other, next)) → table ≡ next
+table_of answer other table next is = let pair : ◌≡◌ {A = Answer × DeviceTable} (answer, table) (other, next) = cc in ap (λ (p : Answer × DeviceTable). p.1) pair
 
-pub adapter_waits : (t : AdapterTable) (ms : ℕ) → ms ≤ longest_tick → t.clock.0 + ms ≤ clock_end → step (Adapter t) (Tick ms) ≡ Ok (plain_answer Done, clocked (Adapter t) ms) → t.clock.0 + ms < connections_due t.rows
+adapter_same : (t u : AdapterTable) → Adapter t ≡ Adapter u → t ≡ u
+adapter_same t u is = cc
+
+-- ---- class 3 connections and requests that wait
+
+dialogues_wait : (clock : Ms) (dialogues : List Dialogue) → clock.0 < never → filter (is_late_dialogue clock) dialogues ≡ [] → clock.0 < first_of dialogue_end dialogues
+dialogues_wait clock [] below none = below
+dialogues_wait clock (d ∷ dialogues) below none =
+    let parts = none_kept (is_late_dialogue clock) d dialogues none in
+    let here = later clock.0 d.deadline.0 parts.0 in
+    let rest = dialogues_wait clock dialogues below parts.1 in
+    omega (arith, here, rest)
+
+-- no more are left than there were, so where as many are left each passes both tests
+kept_step : (a b : Bool) (p : Waiting → Bool) (x : Waiting) (rest xs : List Waiting) → p x ≡ a → length rest ≤ length xs → length (x ∷ xs) ≤ length (filter p (cond b (x ∷ rest) rest)) → (length xs ≤ length (filter p rest) → EachOf (λ (w : Waiting). p w ≡ true) xs) → EachOf (λ (w : Waiting). p w ≡ true) (x ∷ xs)
+kept_step true true p x rest xs is few le on = let less : length xs ≤ length (filter p rest) = drop_one is le in (is, on less) where
+  drop_one : p x ≡ true → length (x ∷ xs) ≤ length (filter p (x ∷ rest)) → length xs ≤ length (filter p rest)
+  drop_one passes more = counted (p x) passes more where
+    counted : (b : Bool) → b ≡ true → length (x ∷ xs) ≤ length (cond b (x ∷ filter p rest) (filter p rest)) → length xs ≤ length (filter p rest)
+    counted true is_so le2 = omega (arith, le2)
+    counted false is_so le2 = absurd (let e : false ≡ true = is_so in cc)
+kept_step false true p x rest xs is few le on = absurd (too_few is le) where
+  too_few : p x ≡ false → length (x ∷ xs) ≤ length (filter p (x ∷ rest)) → ⊥
+  too_few fails more = counted (p x) fails more where
+    counted : (b : Bool) → b ≡ false → length (x ∷ xs) ≤ length (cond b (x ∷ filter p rest) (filter p rest)) → ⊥
+    counted true is_not le2 = absurd (let e : true ≡ false = is_not in cc)
+    counted false is_not le2 = let left = few_left p rest in omega (arith, le2, left, few)
+kept_step a false p x rest xs is few le on = absurd (let left = few_left p rest in omega (arith, le, left, few))
+
+all_pass_both : (p q : Waiting → Bool) (xs : List Waiting) → length xs ≤ length (filter p (filter q xs)) → EachOf (λ (w : Waiting). p w ≡ true) xs
+all_pass_both p q [] le = tt
+all_pass_both p q (x ∷ xs) le = kept_step (p x) (q x) p x (filter q xs) xs refl (few_left q xs) le (all_pass_both p q xs)
+
+requests_wait : (clock : Ms) (waiting : List Waiting) → clock.0 < never → EachOf (λ (w : Waiting). not (is_late_request clock w) ≡ true) waiting → clock.0 < first_of request_end waiting
+requests_wait clock [] below all = below
+requests_wait clock (w ∷ waiting) below all =
+    let here = later clock.0 w.deadline.0 (not-true (is_late_request clock w) all.0) in
+    let rest = requests_wait clock waiting below all.1 in
+    omega (arith, here, rest)
+
+replied_waiting : (m : Messaging) (id : ConnId) (count : ℕ) (reply : List ℕ) → (replied m id count reply).waiting ≡ m.waiting
+unfolding replied
+replied_waiting m id count reply = refl
+
+late_reply_waiting : (from : Requester) (service : ℕ) (m : Messaging) → (late_reply from service m).waiting ≡ m.waiting
+late_reply_waiting (asker.Peer node) service m = refl
+late_reply_waiting (asker.Stream number context) service m = refl
+late_reply_waiting (asker.Dialogue id count) service m = replied_waiting m id count (late_text service)
+
+late_replies_waiting : (waiting : List Waiting) (m : Messaging) → (late_replies waiting m).waiting ≡ m.waiting
+late_replies_waiting [] m = refl
+late_replies_waiting (w ∷ waiting) m = late_replies_waiting waiting (late_reply w.asker w.service m) ∙ late_reply_waiting w.asker w.service m
+
+aged_waiting : (clock : Ms) (m : Messaging) → (aged clock m).waiting ≡ filter (λ w. not (is_late_request clock w)) (filter (can_be_answered (on_time clock m.dialogues)) m.waiting)
+unfolding aged without_late_waiting without_late_dialogues
+aged_waiting clock m =
+    late_replies_waiting (late_waiting clock (without_late_dialogues clock m)) (record (without_late_dialogues clock m) { waiting = filter (λ w. not (is_late_request clock w)) (without_late_dialogues clock m).waiting })
+
+messages_wait : (clock : Ms) (m : Messaging) → clock.0 < never → late_dialogues clock m ≡ [] → length (aged clock m).waiting ≡ length m.waiting → clock.0 < first_moment m
+unfolding first_moment
+messages_wait clock m below none same =
+    let first = dialogues_wait clock m.dialogues below (none_ordered by_dialogue_deadline (filter (is_late_dialogue clock) m.dialogues) none) in
+    let left = ap (length {A = Waiting}) (aged_waiting clock m) in
+    let all = all_pass_both (λ w. not (is_late_request clock w)) (can_be_answered (on_time clock m.dialogues)) m.waiting (omega (arith, left, same)) in
+    let second = requests_wait clock m.waiting below all in
+    omega (arith, first, second)
+
+quiet_answer : (t : AdapterTable) (ms : ℕ) → t.clock.0 + ms < never → (aged_next (advanced (clocked_table t ms))).0 ≡ plain_answer Done → (aged_next (advanced (clocked_table t ms))).1 ≡ clocked_table t ms → t.clock.0 + ms < min (connections_due t.rows) (first_moment t.messaging)
+unfolding clocked_table expired_table produced_table messages_table
+quiet_answer t ms below is same =
+    let clock : Ms = record { 0 = t.clock.0 + ms } in
+    let parts = none_joined (expiry_notices (record { 0 = t.clock.0 + ms }) t.rows) (map late_notice (late_dialogues (record { 0 = t.clock.0 + ms }) t.messaging)) (ap (λ (a : Answer). a.notices) is) in
+    let rows = quiet_rows (record { 0 = t.clock.0 + ms }) t.rows t.values below parts.0 (ap (λ (a : Answer). a.datagrams) is) in
+    let messages = messages_wait (record { 0 = t.clock.0 + ms }) t.messaging below (none_mapped late_notice (late_dialogues (record { 0 = t.clock.0 + ms }) t.messaging) parts.1) (ap (λ (u : AdapterTable). length u.messaging.waiting) same) in
+    omega (arith, rows, messages)
+
+pub adapter_waits : (t : AdapterTable) (ms : ℕ) → ms ≤ longest_tick → t.clock.0 + ms ≤ clock_end → step (Adapter t) (Tick ms) ≡ Ok (plain_answer Done, clocked (Adapter t) ms) → t.clock.0 + ms < min (connections_due t.rows) (first_moment t.messaging)
 unfolding step
 adapter_waits t ms short inside is =
-    let next = advanced (clocked_table t ms) in
-    quiet_answer t ms (omega (arith, inside)) (answer_of next.0 (plain_answer Done) (Adapter next.1) (clocked (Adapter t) ms) (sym (ap as_adapter (ticked t ms short inside)) ∙ is))
+    let next = aged_next (advanced (clocked_table t ms)) in
+    let said = sym (ap as_adapter (ticked t ms short inside)) ∙ is in
+    quiet_answer t ms (omega (arith, inside)) (answer_of next.0 (plain_answer Done) (Adapter next.1) (clocked (Adapter t) ms) said)
+    (adapter_same next.1 (clocked_table t ms) (table_of next.0 (plain_answer Done) (Adapter next.1) (clocked (Adapter t) ms) said))

@@ -129,12 +129,12 @@ scanner_carries G P (Ok n) a next is holds small =
 
 pub steps_carry : ItemsReadBack → AnswersAreSmall → StepsCarryIds
 unfolding step
-steps_carry back few ids openings (Adapter t) happens a next is whole fits zero_passes drawn numbers event_ids table =
+steps_carry back few ids openings (Adapter t) happens a next is whole fits zero_passes drawn numbers event_ids answered table =
     let small = few (Adapter t) happens a next whole is in
     let done = adapter_carries (Passes ids) (Passes openings) t (adapter_step t happens) a next is
-    (adapter_holds back (Passes ids) (Passes openings) (cuts_passing ids fits) (next_id_of next) t happens (drawn, numbers) event_ids table) small in
+    (adapter_holds back (Passes ids) (Passes openings) (cuts_passing ids fits) (next_id_of next) t happens (drawn, numbers) event_ids answered table) small in
     (subst (TableIds ids openings) (sym done.1) done.3, done.2)
-steps_carry back few ids openings (Scanner t) happens a next is whole fits zero_passes drawn numbers event_ids table =
+steps_carry back few ids openings (Scanner t) happens a next is whole fits zero_passes drawn numbers event_ids answered table =
     let small = few (Scanner t) happens a next whole is in
     let done = scanner_carries (ById (Passes ids)) (Passes ids) (scanner_step t happens) a next is
     (scanner_holds back (ById (Passes ids)) (Passes ids) (cuts_passing ids fits) (λ number config c link. link.0) (next_id_of next) t happens

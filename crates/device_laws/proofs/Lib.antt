@@ -9,6 +9,9 @@ pub mod AdapterDue
 pub mod ScannerDue
 pub mod Framing
 pub mod Answering
+mod PlainTexts
+mod ScannerPlain
+mod PlainSteps
 pub mod Requests
 pub mod OwnIds
 pub mod RequestedRows
@@ -29,3 +32,4 @@ mod OwnerReports
 mod OwnerDataSteps
 mod OwnerDataRuns
 mod StatedLimits
+mod ExecutedSteps

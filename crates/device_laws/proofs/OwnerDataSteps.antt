@@ -33,6 +33,8 @@ use Rattle.adapter_table.specs.declared.row.State.TheVariants.{TimedOut}
 use Rattle.adapter_table.specs.declared.table.AdapterTable.{AdapterTable}
 use Rattle.adapter_table.specs.Checks.{Admitted}
 use Rattle.adapter_table.specs.Closing.{without_triad, stays, closed_table}
+use Rattle.messaging.specs.declared.table.Messaging.{Messaging}
+use Rattle.adapter_table.specs.Messages.{messages_table}
 use Rattle.adapter_table.specs.Connections.{Row}
 use Rattle.adapter_table.specs.Datagrams.{is_for, expected_len, run_bit, moded, accepted_delivery, row_delivery, mode_after, accepted_row, accepted_if_for, accepted_table, judged_datagram, found_datagram, datagram_of, received}
 use Rattle.adapter_table.specs.Newest.{Acceptance, acceptance_of, accepted_found, accepted_read, accepted_at, was_opened_as}
@@ -45,7 +47,7 @@ use Rattle.adapter_table.specs.Scratch.{or_else, left_accepted, accepted_by, rea
 use Rattle.adapter_table.specs.Sound.{IdsAreDrawn, IsSound, OpensBefore}
 use Rattle.adapter_table.specs.Step.{adapter_step, written_table, changed_table}
 use Rattle.adapter_table.specs.Streams.{with_stream, without_stream, registered_table}
-use Rattle.adapter_table.specs.Ticks.{has_expired, expired_row, expired_rows, clocked_table, expired_table, produced_table}
+use Rattle.adapter_table.specs.Ticks.{has_expired, expired_row, expired_rows, clocked_table, expired_table, produced_table, advanced}
 use Rattle.adapter_table.specs.EachLemmas.{each_found, two_weak, two_found}
 use Rattle.adapter_table.specs.Lemmas.ControlLemmas.{control_does}
 use Rattle.adapter_table.specs.Lemmas.EffectLemmas.{IsWrite, write_is, IsTick, tick_is}
@@ -175,6 +177,10 @@ unowned_registered : (o : Ownership) (t : AdapterTable) (number : ℕ) → Unown
 unfolding registered_table
 unowned_registered o t number none = none
 
+unowned_messaged : (o : Ownership) (t : AdapterTable) (next_id : ℕ) (m : Messaging) → Unowned o t → Unowned o (messages_table t next_id m)
+unfolding messages_table
+unowned_messaged o t next_id m none = none
+
 requests_leave_none : (o : Ownership) → RequestsDo (λ t next. Unowned o t → Unowned o next)
 requests_leave_none o = record {
   stays = λ t none. none;
@@ -182,6 +188,7 @@ requests_leave_none o = record {
   closed = λ t triad row found none. unowned_closed o t row none;
   unstreamed = λ t number none. unowned_without o t number none;
   registered = λ t number none. unowned_registered o t number none;
+  messaged = λ t next_id m goes none. unowned_messaged o t next_id m none;
 }
 
 found_step : (b : Bool) (p q : Row → Bool) (first row : Row) (rows : List Row) → cond b (Some first) (find p rows) ≡ Some row → q row ≡ true → (find p rows ≡ Some row → list_any q rows ≡ true) → (q first || list_any q rows) ≡ true
@@ -540,7 +547,7 @@ write_keeps : (o : Ownership) (t : AdapterTable) (point : ℕ) (bytes : List ℕ
 write_keeps o t point bytes next is none = subst (λ (n : Next). Unowned o n.1) is.said (unowned_written o t point bytes none)
 
 tick_keeps : (o : Ownership) (t : AdapterTable) (ms : ℕ) (next : Next) → IsTick t ms next → Unowned o t → Unowned o next.1
-tick_keeps o t ms next is none = subst (λ (n : Next). Unowned o n.1) is.said (unowned_advanced o t ms none)
+tick_keeps o t ms next is none = subst (λ (n : Next). Unowned o n.1) is.said (unowned_messaged o (advanced (clocked_table t ms)).1 _ _ (unowned_advanced o t ms none))
 
 -- an event after which the output has that owner: the owner was there before it, or it brought the newest data
 pub event_goes : (o : Ownership) (t : AdapterTable) (event : Event) (next : Next) → adapter_step t event ≡ Ok next → IsSound t → is_owned o next.1 ≡ true → EventGoes o t event next.1

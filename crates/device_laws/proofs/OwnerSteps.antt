@@ -1,5 +1,6 @@
 -- Each step leaves an output its owner, unless a notice of its answer reports that the owner has ended.
-use Rattle.std.proofs.Common.{◌≡◌, ℕ, ◌+◌, ◌==◌, nat_lt, Bool, true, false, not, List, [], ◌∷◌, length, find, Option, Some, None, Result, Ok, Err, refl, subst}
+use Rattle.std.proofs.Common.{◌≡◌, ℕ, ◌+◌, ◌==◌, ◌||◌, nat_lt, Bool, true, false, not, List, [], ◌∷◌, ◌++◌, length, map, find, Option, Some, None, Result, Ok, Err, refl, sym, subst}
+use Rattle.std.proofs.lemmas.Bool.{or_parts}
 use Rattle.std.specs.List.{list_any}
 use Rattle.std.specs.Result.{result_ok}
 use Rattle.std.specs.Str.{bytes_eq}
@@ -8,12 +9,14 @@ use Rattle.cip_datagram.specs.declared.datagram.DatagramFault.{DatagramFault}
 use Rattle.cip_datagram.specs.Datagram.{DatagramFields}
 use Rattle.cip_datagram.specs.Reading.{datagram_reading}
 use Rattle.cip_encap.specs.declared.packet.ItemFault.{ItemFault}
+use Rattle.cip_encap.specs.ConnectedReading.{connected_reading}
 use Rattle.cip_encap.specs.Packet.{PacketFields}
 use Rattle.cip_encap.specs.PacketReading.{packet_reading}
 use Rattle.cip_epath.specs.Reading.{path_reading}
 use Rattle.cip_events.specs.declared.event.Event.{Event}
-use Rattle.cip_events.specs.declared.event.Event.TheVariants.{Request, StreamOpened, Frame, StreamCut, Datagram, Inquiry, Write, Tick}
-use Rattle.cip_events.specs.declared.event.Notice.TheVariants.{StreamClosed, Reset}
+use Rattle.cip_events.specs.declared.event.Event.TheVariants.{Request, StreamOpened, Frame, StreamCut, Datagram, Inquiry, Write, Tick, Respond}
+use Rattle.cip_events.specs.declared.event.Notice.{Notice}
+use Rattle.cip_events.specs.declared.event.Notice.TheVariants.{Opened, Closed, StreamClosed, Reset}
 use Rattle.cip_events.specs.declared.event.StepFault.{StepFault}
 use Rattle.cip_events.specs.declared.event.StepFault.TheVariants.{NotAllowedNow, TickTooLong, ClockEnd, WrongLength}
 use Rattle.cip_events.specs.declared.event.Verdict.TheVariants.{Done}
@@ -24,11 +27,18 @@ use Rattle.cip_fwdopen.specs.Close.{CloseFields}
 use Rattle.cip_router.specs.declared.command.Command.{Command}
 use Rattle.cip_router.specs.declared.command.Command.TheVariants as command
 use Rattle.cip_router.specs.declared.command.EncapStatus.TheVariants as encap
+use Rattle.cip_netparams.specs.Word.{is_message_trigger}
 use Rattle.cip_router.specs.declared.refusal.Refusal.{Refusal}
+use Rattle.cip_router.specs.declared.refusal.Status.TheVariants as status
 use Rattle.cip_router.specs.declared.refusal.Refusal.TheVariants.{InUse}
 use Rattle.cip_router.specs.Requests.{RouterRequestFields, nothing, refused, closing, object, opening, router_request_reading}
 use Rattle.cip_router.specs.Commands.{command_of, is_silent}
 use Rattle.cip_router.specs.Frames.{RequestHeader, FrameFields, without_header, wrong_length, whole, frame_reading, protocol_text}
+use Rattle.messaging.specs.declared.dialogue.Dialogue.{Dialogue}
+use Rattle.messaging.specs.declared.table.Messaging.{Messaging}
+use Rattle.messaging.specs.Changes.{lacks_room}
+use Rattle.messaging.specs.Times.{late_dialogues, aged}
+use Rattle.messaging.specs.Dialogues.{has_dialogue_triad}
 use Rattle.adapter_table.specs.declared.profile.InputPoint.{InputPoint}
 use Rattle.adapter_table.specs.Connections.{Row}
 use Rattle.adapter_table.specs.declared.table.AdapterTable.{AdapterTable}
@@ -38,16 +48,21 @@ use Rattle.adapter_table.specs.Objects.{ObjectAnswer, said, denied, resetting, o
 use Rattle.adapter_table.specs.Inquiries.{inquiry_reply, inquired_by, inquired}
 use Rattle.adapter_table.specs.Rows.{has_triad, holds_triad}
 use Rattle.adapter_table.specs.Checks.{Check, check, first_of, segment_check, points_of, Points, judged, view_of, verdict, Admitted, admission}
-use Rattle.adapter_table.specs.StatedLimits.{limited_admission, is_wrong_closer}
+use Rattle.adapter_table.specs.DialogueOpening.{dialogue_view, dialogue_refusal, opened_dialogue, judged_dialogue, served_dialogue, stream_served}
+use Rattle.adapter_table.specs.Messages.{messages_table}
+use Rattle.adapter_table.specs.Own.{OwnRequest, own_of}
+use Rattle.adapter_table.specs.StatedLimits.{limited_admission, is_wrong_closer, is_wrong_ender}
 use Rattle.adapter_table.specs.Opening.{opened_row, opened_table, opened_notices}
-use Rattle.adapter_table.specs.Requests.{Next, Served, judged_open, admitted_open, served_open, close_of, served_close, object_served, served_object, served, answered, requested}
-use Rattle.adapter_table.specs.Streams.{is_stream, is_taken, with_stream, without_stream, has_session, registered_table, stream_opened, cut_of, stream_cut}
-use Rattle.adapter_table.specs.Encapsulation.{Handled, refusal, unanswered, session_begun, session_ended, register_session, request_replied, packet_replied, handled, frame_answer, stream_answer, frame_of, frame}
+use Rattle.adapter_table.specs.Requests.{Next, Served, judged_open, admitted_open, served_open, close_of, served_close, end_of, served_end, router_refusal, object_served, served_object, served, replied, answered, requested_by, requested}
+use Rattle.adapter_table.specs.Streams.{is_stream, is_taken, with_stream, without_stream, has_session, registered_table, ended_notices, stream_opened, cut_of, stream_cut}
+use Rattle.adapter_table.specs.Encapsulation.{Handled, refusal, unanswered, session_begun, session_ended, register_session, request_replied, request_handled, packet_replied, unit_replied, handled, frame_answer, stream_answer, frame_of, frame}
 use Rattle.adapter_table.specs.Datagrams.{is_for, row_delivery, accepted_table, delivered, found_datagram, datagram_of, received}
-use Rattle.adapter_table.specs.Ticks.{clocked_table, advanced, tick}
+use Rattle.adapter_table.specs.Ticks.{clocked_table, expiry_notices, advanced, late_notice, aged_next, tick}
 use Rattle.adapter_table.specs.Step.{adapter_step, write, write_of, written, written_table}
 use Rattle.adapter_table.specs.Whole.{IsWhole}
 use Rattle.adapter_table.specs.Laws.{EffectsKeep}
+use Rattle.device_laws.specs.Lemmas.MessageSteps.{IsOfMessages, unit_of, respond_holds}
+use Rattle.device_laws.specs.Turns.{reports_end}
 use Rattle.device_laws.proofs.OwnerEffects.{KeepsOwner, unchanged, keeps_fed, keeps_written, keeps_closed, keeps_opened, keeps_advanced}
 use Rattle.adapter_table.specs.Lemmas.LimitLemmas.{limited_is}
 use Rattle.adapter_table.specs.Lemmas.PassiveLemmas.{passive_holds}
@@ -69,7 +84,9 @@ triad_is_free : (t : AdapterTable) (request : OpenFields) (admitted : Admitted) 
 unfolding verdict
 triad_is_free t request admitted is =
     let points = points_of (view_of t request.triad) request (result_ok (path_reading request.path)) in
-    second_passes (segment_check (path_reading request.path)) (list_any (holds_triad request.triad) t.rows) InUse _ (judged_passes request points _ admitted is)
+    let talks = list_any (has_dialogue_triad request.triad) t.messaging.dialogues in
+    let free = second_passes (segment_check (path_reading request.path)) (list_any (holds_triad request.triad) t.rows || list_any (has_dialogue_triad request.triad) t.messaging.dialogues) InUse _ (judged_passes request points _ admitted is) in
+    (or_parts (list_any (holds_triad request.triad) t.rows) talks free).0
 
 -- each opening that is admitted keeps the owner
 abbrev OpeningsKeep : ℕ → AdapterTable → Type 0
@@ -96,6 +113,17 @@ keeps_close : (point : ℕ) (t : AdapterTable) (peer : Node) (request : CloseFie
 keeps_close point t peer request None = unchanged point t []
 keeps_close point t peer request (Some row) = either (ServedKeeps point t) (is_wrong_closer t.profile.limits peer row) _ _ (unchanged point t []) (keeps_closed point t row)
 
+-- other class 3 connections and requests that wait
+keeps_messages : (point : ℕ) (t : AdapterTable) (next_id : ℕ) (m : Messaging) (notices : List Notice) → KeepsOwner point t notices (messages_table t next_id m)
+unfolding messages_table
+keeps_messages point t next_id m notices = unchanged point t notices
+
+keeps_end : (point : ℕ) (t : AdapterTable) (peer : Node) (request : CloseFields) (found : Option Dialogue) → ServedKeeps point t (end_of t peer request found)
+unfolding served_close
+keeps_end point t peer request None = keeps_close point t peer request (find (has_triad request.triad) t.rows)
+keeps_end point t peer request (Some d) =
+    either (ServedKeeps point t) (is_wrong_ender t.profile.limits peer d) _ _ (unchanged point t []) (keeps_messages point t t.next_id _ (Closed d.triad ∷ []))
+
 keeps_object : (point : ℕ) (t : AdapterTable) (service : ℕ) (answer : ObjectAnswer) → ServedKeeps point t (object_served t service answer)
 keeps_object point t service (said by value) = unchanged point t []
 keeps_object point t service (denied why) = unchanged point t []
@@ -107,10 +135,10 @@ AnyKeeps point t None = Unit {0}
 AnyKeeps point t (Some s) = ServedKeeps point t s
 
 keeps_served : (point : ℕ) (t : AdapterTable) → OpeningsKeep point t → (peer : Node) (request : RouterRequestFields) → AnyKeeps point t (served t peer request)
-unfolding served_open served_close served_object
+unfolding served_open served_end served_object
 keeps_served point t opens peer nothing = tt
 keeps_served point t opens peer (refused service why) = unchanged point t []
-keeps_served point t opens peer (closing request) = keeps_close point t peer request (find (has_triad request.triad) t.rows)
+keeps_served point t opens peer (closing request) = keeps_end point t peer request (find (has_dialogue_triad request.triad) t.messaging.dialogues)
 keeps_served point t opens peer (object service class instance attribute body) = keeps_object point t service (object_answer t service class instance attribute body)
 keeps_served point t opens peer (opening large request) = keeps_judged point t opens peer large request (limited_admission t peer request) refl
 
@@ -121,6 +149,11 @@ NextKeeps point t next = KeepsOwner point t next.0.notices next.1
 keeps_answered : (point : ℕ) (t : AdapterTable) (peer : Node) (s : Option Served) → AnyKeeps point t s → NextKeeps point t (answered t peer s)
 keeps_answered point t peer None keeps = unchanged point t []
 keeps_answered point t peer (Some s) keeps = keeps
+
+keeps_requested : (point : ℕ) (t : AdapterTable) → OpeningsKeep point t → (peer : Node) (request : RouterRequestFields) (asks : Option OwnRequest) → NextKeeps point t (requested_by t peer request asks)
+keeps_requested point t opens peer request None = keeps_answered point t peer (served t peer request) (keeps_served point t opens peer request)
+keeps_requested point t opens peer request (Some own) =
+    either (NextKeeps point t) (lacks_room t.messaging) (replied peer (router_refusal t own.service status.ResourceUnavailable)) _ (unchanged point t []) (keeps_messages point t t.next_id _ [])
 
 -- ---- frames
 
@@ -139,17 +172,43 @@ keeps_replied : (point : ℕ) (t : AdapterTable) (s : Option Served) → AnyKeep
 keeps_replied point t None keeps = unchanged point t []
 keeps_replied point t (Some s) keeps = keeps
 
-keeps_packet : (point : ℕ) (t : AdapterTable) → OpeningsKeep point t → (peer : Node) (reading : Result PacketFields ItemFault) → HandledKeeps point t (packet_replied t peer reading)
-keeps_packet point t opens peer (Err fault) = unchanged point t []
-keeps_packet point t opens peer (Ok packet) = keeps_replied point t (served t peer (router_request_reading packet.payload)) (keeps_served point t opens peer (router_request_reading packet.payload))
+keeps_dialogue : (point : ℕ) (t : AdapterTable) (stream : Stream) (large : Bool) (request : OpenFields) (c : Check) → ServedKeeps point t (judged_dialogue t stream large request c)
+keeps_dialogue point t stream large request (Some why) = unchanged point t []
+keeps_dialogue point t stream large request None =
+    keeps_messages point t (t.next_id + 1) _ (Opened (opened_dialogue t stream request).triad (opened_dialogue t stream request).o_t_id ∷ [])
+
+keeps_over : (point : ℕ) (t : AdapterTable) → OpeningsKeep point t → (stream : Stream) (request : RouterRequestFields) → AnyKeeps point t (stream_served t stream request)
+unfolding served_dialogue
+keeps_over point t opens stream (opening large request) =
+    either (AnyKeeps point t) (is_message_trigger request.trigger) (Some (served_dialogue t stream large request)) (served t stream.peer (opening large request))
+    (keeps_dialogue point t stream large request (dialogue_refusal (dialogue_view t stream.peer request.triad) request)) (keeps_served point t opens stream.peer (opening large request))
+keeps_over point t opens stream nothing = keeps_served point t opens stream.peer nothing
+keeps_over point t opens stream (refused service why) = keeps_served point t opens stream.peer (refused service why)
+keeps_over point t opens stream (closing request) = keeps_served point t opens stream.peer (closing request)
+keeps_over point t opens stream (object service class instance attribute body) = keeps_served point t opens stream.peer (object service class instance attribute body)
+
+keeps_referred : (point : ℕ) (t : AdapterTable) → OpeningsKeep point t → (stream : Stream) (context : ℕ) (request : RouterRequestFields) (asks : Option OwnRequest) → HandledKeeps point t (request_handled t stream context request asks)
+keeps_referred point t opens stream context request None = keeps_replied point t (stream_served t stream request) (keeps_over point t opens stream request)
+keeps_referred point t opens stream context request (Some own) =
+    either (HandledKeeps point t) (lacks_room t.messaging) (request_replied t (Some (router_refusal t own.service status.ResourceUnavailable))) _ (unchanged point t []) (keeps_messages point t t.next_id _ [])
+
+keeps_packet : (point : ℕ) (t : AdapterTable) → OpeningsKeep point t → (stream : Stream) (context : ℕ) (reading : Result PacketFields ItemFault) → HandledKeeps point t (packet_replied t stream context reading)
+keeps_packet point t opens stream context (Err fault) = unchanged point t []
+keeps_packet point t opens stream context (Ok packet) = keeps_referred point t opens stream context (router_request_reading packet.payload) (own_of t.profile.objects (router_request_reading packet.payload))
+
+keeps_unit : (point : ℕ) (t : AdapterTable) (done : Handled) → IsOfMessages t done → HandledKeeps point t done
+keeps_unit point t done is = subst (KeepsOwner point t done.notices) (sym is.table) (keeps_messages point t t.next_id is.messages done.notices)
 
 keeps_handled : (point : ℕ) (t : AdapterTable) → OpeningsKeep point t → (stream : Stream) (request_header : RequestHeader) (body : List ℕ) (kind : Command) → HandledKeeps point t (handled t stream request_header body kind)
 unfolding handled without_stream
 keeps_handled point t opens stream request_header body command.RegisterSession = keeps_register point t stream body
 keeps_handled point t opens stream request_header body command.UnregisterSession =
-    either (HandledKeeps point t) (has_session stream request_header.session) (session_ended t stream) (unanswered t) (unchanged point t (StreamClosed stream.number ∷ [])) (unchanged point t [])
+    either (HandledKeeps point t) (has_session stream request_header.session) (session_ended t stream) (unanswered t) (unchanged point t (StreamClosed stream.number ∷ ended_notices t stream.number)) (unchanged point t [])
 keeps_handled point t opens stream request_header body command.SendRrData =
-    either (HandledKeeps point t) (has_session stream request_header.session) _ _ (keeps_packet point t opens stream.peer (packet_reading body)) (unchanged point t [])
+    either (HandledKeeps point t) (has_session stream request_header.session) _ _ (keeps_packet point t opens stream request_header.context (packet_reading body)) (unchanged point t [])
+keeps_handled point t opens stream request_header body command.SendUnitData =
+    either (HandledKeeps point t) (has_session stream request_header.session) (unit_replied t stream (connected_reading body)) (refusal t encap.InvalidCommand)
+    (keeps_unit point t (unit_replied t stream (connected_reading body)) (unit_of t stream (connected_reading body))) (unchanged point t [])
 keeps_handled point t opens stream request_header body _ = unchanged point t []
 
 keeps_frame : (point : ℕ) (t : AdapterTable) → OpeningsKeep point t → (stream : Stream) (fields : FrameFields) → NextKeeps point t (frame_answer t stream fields)
@@ -192,22 +251,36 @@ ok_framed point t opens bytes (Some stream) = keeps_stream point t opens stream 
 ok_cut : (point : ℕ) (t : AdapterTable) (found : Option Stream) → OkKeeps point t (cut_of t found)
 unfolding without_stream
 ok_cut point t None = tt
-ok_cut point t (Some stream) = unchanged point t []
+ok_cut point t (Some stream) = unchanged point t (ended_notices t stream.number)
 
 ok_written : (point : ℕ) (t : AdapterTable) (input : ℕ) (bytes : List ℕ) (found : Option InputPoint) → OkKeeps point t (write_of t input bytes found)
 ok_written point t input bytes None = tt
 ok_written point t input bytes (Some there) =
     either (OkKeeps point t) (length bytes == there.len) (Ok (written (written_table t input bytes) input bytes)) (Err WrongLength) (keeps_written point t input bytes []) tt
 
+-- more notices, and other messages
+keeps_more : (point : ℕ) (t next : AdapterTable) (notices more : List Notice) (next_id : ℕ) (m : Messaging) → KeepsOwner point t notices next → KeepsOwner point t (notices ++ more) (messages_table next next_id m)
+unfolding messages_table
+keeps_more point t next notices more next_id m keeps = λ row alone lasts. keeps row alone (any_front (reports_end row.triad) notices more lasts) where
+  any_front : (test : Notice → Bool) (xs ys : List Notice) → list_any test (xs ++ ys) ≡ false → list_any test xs ≡ false
+  any_front test [] ys none = refl
+  any_front test (x ∷ xs) ys none = let parts = or_parts (test x) (list_any test (xs ++ ys)) none in both_none (test x) (list_any test xs) parts.0 (any_front test xs ys parts.1)
+    where
+      both_none : (a b : Bool) → a ≡ false → b ≡ false → (a || b) ≡ false
+      both_none true b first second = first
+      both_none false b first second = second
+
 ok_ticked : (point : ℕ) (t : AdapterTable) (ms : ℕ) → OkKeeps point t (tick t ms)
 unfolding tick
 ok_ticked point t ms =
+    let later = (advanced (clocked_table t ms)).1 in
     either (OkKeeps point t) (nat_lt longest_tick ms) (Err TickTooLong) _ tt
-    (either (OkKeeps point t) (nat_lt clock_end (t.clock.0 + ms)) (Err ClockEnd) (Ok (advanced (clocked_table t ms))) tt (keeps_advanced point t ms))
+    (either (OkKeeps point t) (nat_lt clock_end (t.clock.0 + ms)) (Err ClockEnd) (Ok (aged_next (advanced (clocked_table t ms)))) tt
+    (keeps_more point t later (expiry_notices (clocked_table t ms).clock (clocked_table t ms).rows) (map late_notice (late_dialogues later.clock later.messaging)) later.next_id (aged later.clock later.messaging) (keeps_advanced point t ms)))
 
 ok_step : (point : ℕ) (t : AdapterTable) → OpeningsKeep point t → (event : Event) → OkKeeps point t (adapter_step t event)
 unfolding requested received inquired write frame stream_cut stream_opened with_stream
-ok_step point t opens (Request peer bytes) = keeps_answered point t peer (served t peer (router_request_reading bytes)) (keeps_served point t opens peer (router_request_reading bytes))
+ok_step point t opens (Request peer bytes) = keeps_requested point t opens peer (router_request_reading bytes) (own_of t.profile.objects (router_request_reading bytes))
 ok_step point t opens (StreamOpened number peer) =
     either (OkKeeps point t) (is_taken t.streams number) (Err NotAllowedNow) (Ok (plain_answer Done, with_stream t number peer)) tt (unchanged point t [])
 ok_step point t opens (Frame number bytes) = ok_framed point t opens bytes (find (is_stream number) t.streams)
@@ -216,6 +289,7 @@ ok_step point t opens (Datagram peer bytes) = keeps_datagram point t peer (datag
 ok_step point t opens (Inquiry peer bytes) = keeps_inquired point t peer (inquiry_reply t bytes)
 ok_step point t opens (Write input bytes) = ok_written point t input bytes (find (is_at input) t.profile.inputs)
 ok_step point t opens (Tick ms) = ok_ticked point t ms
+ok_step point t opens (Respond number general bytes) = respond_holds (OkKeeps point t) t number general bytes (λ why. tt) (λ w found few. keeps_messages point t t.next_id _ [])
 ok_step point t opens other = passive_holds (OkKeeps point t) t (λ why. tt) (λ verdict. unchanged point t []) other refl
 
 -- each step from a whole table that gives an answer keeps the owner, unless the answer reports its end

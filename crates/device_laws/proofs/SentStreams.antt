@@ -35,7 +35,7 @@ use Rattle.cip_tables.specs.declared.table.DeviceTable.TheVariants.{Adapter, Sca
 use Rattle.cip_tables.specs.Step.{DeviceNext, as_adapter, as_scanner, step}
 use Rattle.device_laws.specs.Lemmas.Lists.{all_both, all_more}
 use Rattle.device_laws.specs.Lemmas.Texts.{either}
-use Rattle.device_laws.specs.Replies.{IsAnswerTo, RepliesCarryOpenedIds}
+use Rattle.device_laws.specs.Replies.{IsLateReply, IsAnswerTo, RepliesCarryOpenedIds}
 use Rattle.device_laws.specs.OwnStreams.{GoesOverItsOwn, DevicesSendOverTheirStreams}
 use Rattle.device_laws.specs.Lemmas.ScannerEffects.{SameStreams, EffectsDo, NextDoes, OkDoes, event_does}
 
@@ -149,6 +149,13 @@ came_over t number bytes next is = was_found t number bytes next (find (adapter_
 never_peer : {X : Type 0} (peer : Node) (number : ℕ) → recipient.Peer peer ≡ recipient.Stream number → X
 never_peer peer number e = absurd cc
 
+late_goes : (t : AdapterTable) (happens : Event) (frame : Frame) → IsLateReply t frame → GoesOverItsOwn (Adapter t) happens frame
+late_goes t happens frame (inl is) = λ number to. never_peer is.peer number (sym is.to ∙ to)
+late_goes t happens frame (inr is) = λ n to.
+    let same : n ≡ is.number = same_number n is.number (sym to ∙ is.to) in
+    let there : list_any (adapter_streams.is_stream n) t.streams ≡ true = ap (λ (m : ℕ). list_any (adapter_streams.is_stream m) t.streams) same ∙ is.over in
+    rw there refl
+
 answer_goes : (t next : AdapterTable) (happens : Event) (answer : Answer) → adapter_step t happens ≡ Ok (answer, next) → (frame : Frame) → IsAnswerTo t next happens frame → GoesOverItsOwn (Adapter t) happens frame
 answer_goes t next (event.Request peer bytes) answer said frame is = λ number to. never_peer peer number (sym is ∙ to)
 answer_goes t next (event.Frame number bytes) answer said frame is = λ n to.
@@ -156,6 +163,8 @@ answer_goes t next (event.Frame number bytes) answer said frame is = λ n to.
     let there : list_any (adapter_streams.is_stream n) t.streams ≡ true = ap (λ (m : ℕ). list_any (adapter_streams.is_stream m) t.streams) same ∙ came_over t number bytes (answer, next) said in
     rw there refl
 answer_goes t next (event.Inquiry peer bytes) answer said frame is = λ number to. never_peer peer number (sym is.to ∙ to)
+answer_goes t next (event.Respond number status bytes) answer said frame is = late_goes t (event.Respond number status bytes) frame is
+answer_goes t next (event.Tick ms) answer said frame is = late_goes t (event.Tick ms) frame is
 answer_goes t next other answer said frame is = absurd is
 
 -- ---- a device

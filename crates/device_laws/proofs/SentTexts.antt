@@ -2,7 +2,7 @@
 use Rattle.std.proofs.Common.{◌≡◌, ℕ, Bool, true, false, cond, List, [], ◌∷◌, map, find, nat_lt, ◌+◌, Option, Some, None, Result, Ok, Err, IfOk, refl, ap, subst}
 use Rattle.cip_events.specs.declared.event.Answer.{Answer}
 use Rattle.cip_events.specs.declared.event.Event.{Event}
-use Rattle.cip_events.specs.declared.event.Event.TheVariants.{Request, Frame, Inquiry, Write, Tick}
+use Rattle.cip_events.specs.declared.event.Event.TheVariants.{Request, Frame, Inquiry, Write, Tick, Respond}
 use Rattle.cip_events.specs.declared.event.StepFault.{StepFault}
 use Rattle.cip_productions.specs.declared.production.Producer.{Producer}
 use Rattle.cip_productions.specs.Productions.{sent}
@@ -11,7 +11,13 @@ use Rattle.cip_events.specs.Answers.{plain_answer}
 use Rattle.cip_events.specs.Clock.{longest_tick, clock_end}
 use Rattle.cip_events.specs.declared.event.StepFault.TheVariants as fault
 use Rattle.cip_events.specs.declared.event.Verdict.TheVariants.{BadFrame}
-use Rattle.cip_router.specs.Requests.{router_request_reading}
+use Rattle.cip_router.specs.declared.refusal.Status.TheVariants as refusal_status
+use Rattle.cip_router.specs.Requests.{RouterRequestFields, router_request_reading}
+use Rattle.messaging.specs.Changes.{lacks_room}
+use Rattle.adapter_table.specs.Answering.{respond}
+use Rattle.adapter_table.specs.Own.{OwnRequest, own_of}
+use Rattle.device_laws.specs.Lemmas.MessageSteps.{respond_holds}
+use Rattle.device_laws.specs.Lemmas.Texts.{either}
 use Rattle.cip_router.specs.Commands.{command_of, is_silent}
 use Rattle.cip_router.specs.Frames.{RequestHeader, FrameFields, without_header, wrong_length, whole, frame_reading}
 use Rattle.cip_router.specs.declared.command.EncapStatus.TheVariants as status
@@ -20,10 +26,10 @@ use Rattle.adapter_table.specs.declared.table.Stream.{Stream}
 use Rattle.adapter_table.specs.Encapsulation.{Handled, refusal, framed, frame_answer, stream_answer, frame_of, frame}
 use Rattle.adapter_table.specs.Inquiries.{inquiry_reply, inquired_by, inquired}
 use Rattle.adapter_table.specs.Profiles.{is_at}
-use Rattle.adapter_table.specs.Requests.{Next, Served, served, answered, requested}
+use Rattle.adapter_table.specs.Requests.{Next, Served, router_refusal, served, replied, answered, requested_by, requested}
 use Rattle.adapter_table.specs.Step.{written_table, written, write_of, write, adapter_step}
 use Rattle.adapter_table.specs.Streams.{is_stream}
-use Rattle.adapter_table.specs.Ticks.{clocked_table, expired_table, advanced, tick}
+use Rattle.adapter_table.specs.Ticks.{clocked_table, expired_table, advanced, aged_next, tick}
 use Rattle.adapter_table.specs.declared.profile.InputPoint.{InputPoint}
 use Rattle.adapter_table.specs.declared.table.AdapterTable.{AdapterTable}
 use Rattle.adapter_table.specs.declared.table.PointValue.{PointValue}
@@ -65,9 +71,16 @@ answered_quiet : (t : AdapterTable) (peer : Node) (s : Option Served) → QuietN
 answered_quiet t peer None = refl
 answered_quiet t peer (Some s) = refl
 
+by_quiet : (t : AdapterTable) (peer : Node) (request : RouterRequestFields) (asks : Option OwnRequest) → QuietNext (requested_by t peer request asks)
+by_quiet t peer request None = answered_quiet t peer (served t peer request)
+by_quiet t peer request (Some own) = either QuietNext (lacks_room t.messaging) (replied peer (router_refusal t own.service refusal_status.ResourceUnavailable)) _ refl refl
+
 requested_quiet : (t : AdapterTable) (peer : Node) (bytes : List ℕ) → QuietNext (requested t peer bytes)
 unfolding requested
-requested_quiet t peer bytes = answered_quiet t peer (served t peer (router_request_reading bytes))
+requested_quiet t peer bytes = by_quiet t peer (router_request_reading bytes) (own_of t.profile.objects (router_request_reading bytes))
+
+respond_quiet : (t : AdapterTable) (number general : ℕ) (bytes : List ℕ) → AllQuiet (respond t number general bytes)
+respond_quiet t number general bytes = respond_holds AllQuiet t number general bytes (λ why. tt) (λ w found few. refl)
 
 wrong_length_quiet : (b : Bool) (t : AdapterTable) (number : ℕ) (echo : RequestHeader) (handled : Handled) → QuietNext (cond b (plain_answer BadFrame, t) (framed number echo handled))
 wrong_length_quiet true t number echo handled = refl
@@ -121,7 +134,7 @@ write_sends : (t : AdapterTable) (point : ℕ) (bytes : List ℕ) → IfOk (writ
 unfolding write
 write_sends t point bytes = write_of_sends t point bytes (find (is_at point) t.profile.inputs)
 
-tick_step : (a b : Bool) (clocked : AdapterTable) → IfOk (cond a (Err fault.TickTooLong) (cond b (Err fault.ClockEnd) (Ok (advanced clocked)))) (NextSends (advanced_made clocked (expired_table clocked).rows))
+tick_step : (a b : Bool) (clocked : AdapterTable) → IfOk (cond a (Err fault.TickTooLong) (cond b (Err fault.ClockEnd) (Ok (aged_next (advanced clocked))))) (NextSends (advanced_made clocked (expired_table clocked).rows))
 tick_step true b clocked = tt
 tick_step false true clocked = tt
 tick_step false false clocked = due_texts (expired_table clocked).rows clocked.values (due_producers clocked.clock (expired_table clocked).rows)
@@ -136,7 +149,8 @@ adapter_sends t (Frame stream bytes) = quietly (frame t stream bytes) (frame_qui
 adapter_sends t (Inquiry peer bytes) = quietly (Ok (inquired t peer bytes)) (inquired_quiet t peer bytes)
 adapter_sends t (Write point bytes) = write_sends t point bytes
 adapter_sends t (Tick ms) = tick_sends t ms
-adapter_sends t other = plain_holds (λ said. IfOk said (NextSends [])) t (λ why. tt) (λ verdict u. quiet_texts (plain_answer verdict) refl) other refl
+adapter_sends t (Respond number general bytes) = quietly (respond t number general bytes) (respond_quiet t number general bytes)
+adapter_sends t other = plain_holds (λ said. IfOk said (NextSends [])) t (λ why. tt) (λ verdict notices u. quiet_texts (record (plain_answer verdict) { notices = notices }) refl) other refl
 
 -- ---- either kind
 

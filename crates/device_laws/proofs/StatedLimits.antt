@@ -1,9 +1,12 @@
 -- A close of another node is refused, and a number that is far ahead is not accepted.
-use Rattle.std.proofs.Common.{◌≡◌, ◌≢◌, ◌≤◌, inl, inr, ℕ, ◌==◌, nat_lt, Bool, true, false, cond, List, [], length, find, Option, Some, None, Result, Ok, refl, sym, ◌∙◌, ap, subst, arith}
+use Rattle.std.proofs.Common.{◌≡◌, ◌≢◌, ◌≤◌, inl, inr, ℕ, ◌==◌, nat_lt, Bool, true, false, cond, List, [], ◌∷◌, length, find, Option, Some, None, Result, Ok, refl, sym, ◌∙◌, ap, subst, arith}
 use Rattle.std.proofs.lemmas.Bool.{le-ltb}
 use Rattle.std.proofs.lemmas.Bool.Decides.{nat_tests}
+use Rattle.std.specs.List.{list_any}
 use Rattle.base_lemmas.specs.Booleans.{and_none, either}
+use Rattle.base_lemmas.specs.Lists.{found_passes}
 use Rattle.cip_types.specs.declared.names.Node.{Node}
+use Rattle.cip_types.specs.declared.names.Triad.{Triad}
 use Rattle.cip_types.specs.Circle.{distance}
 use Rattle.cip_types.specs.Fields.{fields_at}
 use Rattle.cip_datagram.specs.declared.datagram.DatagramFault.{DatagramFault}
@@ -24,16 +27,23 @@ use Rattle.cip_router.specs.declared.refusal.Status.TheVariants as status
 use Rattle.cip_router.specs.Commands.{command_of}
 use Rattle.cip_router.specs.Frames.{request_header_of, frame_fields, frame_reading}
 use Rattle.cip_router.specs.Refusals.{status_fault}
-use Rattle.cip_router.specs.Requests.{closing, router_request_reading}
+use Rattle.cip_router.specs.Requests.{RouterRequestFields, closing, router_request_reading}
+use Rattle.messaging.specs.declared.dialogue.Dialogue.{Dialogue}
+use Rattle.messaging.specs.Dialogues.{has_dialogue_triad}
+use Rattle.messaging.specs.Sound.{EachOf}
 use Rattle.adapter_table.specs.declared.maker_limits.MakerLimits.{MakerLimits}
 use Rattle.adapter_table.specs.Connections.{Row}
 use Rattle.adapter_table.specs.declared.table.AdapterTable.{AdapterTable}
 use Rattle.adapter_table.specs.declared.table.Stream.{Stream}
 use Rattle.adapter_table.specs.Datagrams.{expected_len, accepted_delivery, judged_datagram, found_datagram, datagram_of, received}
-use Rattle.adapter_table.specs.Encapsulation.{Handled, request_replied, packet_replied, handled, frame_answer, stream_answer, frame_of, frame}
+use Rattle.adapter_table.specs.DialogueOpening.{stream_served}
+use Rattle.adapter_table.specs.Encapsulation.{Handled, request_replied, request_handled, packet_replied, handled, frame_answer, stream_answer, frame_of, frame}
 use Rattle.adapter_table.specs.Inquiries.{inquiry_reply}
+use Rattle.adapter_table.specs.Lemmas.MessageLemmas.{found_any}
 use Rattle.adapter_table.specs.Lemmas.RequestLemmas.{next_is}
-use Rattle.adapter_table.specs.Requests.{Next, Served, refused_close, close_of, served_close, served, answered, requested}
+use Rattle.adapter_table.specs.MessagesSound.{IsInPlace}
+use Rattle.adapter_table.specs.Own.{OwnRequest, own_of}
+use Rattle.adapter_table.specs.Requests.{Next, Served, refused_close, close_of, served_close, end_of, served_end, served, answered, requested_by, requested}
 use Rattle.adapter_table.specs.Rows.{has_triad}
 use Rattle.adapter_table.specs.StatedLimits.{is_wrong_closer, accepts_number}
 use Rattle.adapter_table.specs.Step.{adapter_step}
@@ -52,11 +62,26 @@ wrong_closer limits peer row own other = let apart = differs row.peer.0 peer.0 o
 abbrev IsRefused : AdapterTable → Node → CloseFields → Type 0
 IsRefused t peer request = served t peer (closing request) ≡ Some (refused_close t request (status_fault status.PrivilegeViolation))
 
-close_refused : (t : AdapterTable) (peer : Node) (request : CloseFields) (row : Row) → t.profile.limits.own_closers ≡ true → find (has_triad request.triad) t.rows ≡ Some row → row.peer.0 ≢ peer.0 → IsRefused t peer request
-unfolding served_close
-close_refused t peer request row own found other =
+close_refused : (t : AdapterTable) (peer : Node) (request : CloseFields) (row : Row) → t.profile.limits.own_closers ≡ true → find (has_triad request.triad) t.rows ≡ Some row → row.peer.0 ≢ peer.0 → find (has_dialogue_triad request.triad) t.messaging.dialogues ≡ None → IsRefused t peer request
+unfolding served_close served_end
+close_refused t peer request row own found other free =
     let wrong = wrong_closer t.profile.limits peer row own other in
-    ap (λ (o : Option Row). Some (close_of t peer request o)) found ∙ rw wrong refl
+    ap (λ (o : Option Dialogue). Some (end_of t peer request o)) free ∙ ap (λ (o : Option Row). Some (close_of t peer request o)) found ∙ rw wrong refl
+
+-- a class 3 connection of the triad would have that of the row
+other_triad : (triad : Triad) (d : Dialogue) (row : Row) → has_dialogue_triad triad d ≡ true → has_triad triad row ≡ true → has_triad d.triad row ≡ true
+other_triad triad d row talks holds = grind (arith, nat_tests)
+
+free_step : (b : Bool) (triad : Triad) (rows : List Row) (row : Row) (d : Dialogue) (rest : Option Dialogue) → has_dialogue_triad triad d ≡ b → find (has_triad triad) rows ≡ Some row → list_any (has_triad d.triad) rows ≡ false → rest ≡ None → cond b (Some d) rest ≡ None
+free_step true triad rows row d rest talks found alone none =
+    let there = found_any (has_triad triad) (has_triad d.triad) rows row found (other_triad triad d row talks (found_passes (has_triad triad) rows row found)) in
+    absurd (let e : true ≡ false = sym there ∙ alone in cc)
+free_step false triad rows row d rest talks found alone none = none
+
+none_talks : (triad : Triad) (rows : List Row) (open_streams : List Stream) (row : Row) (dialogues : List Dialogue) → find (has_triad triad) rows ≡ Some row → EachOf (IsInPlace rows open_streams) dialogues → find (has_dialogue_triad triad) dialogues ≡ None
+none_talks triad rows open_streams row [] found all = refl
+none_talks triad rows open_streams row (d ∷ dialogues) found all =
+    free_step (has_dialogue_triad triad d) triad rows row d (find (has_dialogue_triad triad) dialogues) refl found all.0.triad (none_talks triad rows open_streams row dialogues found all.1)
 
 abbrev Stays : AdapterTable → AdapterTable → List Notice → Type 0
 Stays t next notices = (next ≡ t) × (notices ≡ [])
@@ -67,21 +92,27 @@ NextStays t next = Stays t next.1 next.0.notices
 abbrev HandledStays : AdapterTable → Handled → Type 0
 HandledStays t done = Stays t done.table done.notices
 
+-- a close is no request to an object of the maker's own
+none_own : (objects : List ℕ) (request : CloseFields) (read : RouterRequestFields) → read ≡ closing request → own_of objects read ≡ None
+none_own objects request read is = ap (own_of objects) is
+
 requested_stays : (t : AdapterTable) (peer : Node) (request : CloseFields) → IsRefused t peer request → (bytes : List ℕ) → router_request_reading bytes ≡ closing request → NextStays t (requested t peer bytes)
 unfolding requested
 requested_stays t peer request refused bytes reads =
-    subst (λ (s : Option Served). NextStays t (answered t peer s)) (sym (ap (served t peer) reads ∙ refused)) (refl, refl)
+    subst (λ (o : Option OwnRequest). NextStays t (requested_by t peer (router_request_reading bytes) o)) (sym (none_own t.profile.objects request (router_request_reading bytes) reads))
+    (subst (λ (s : Option Served). NextStays t (answered t peer s)) (sym (ap (served t peer) reads ∙ refused)) (refl, refl))
 
-packet_stays : (t : AdapterTable) (peer : Node) (request : CloseFields) → IsRefused t peer request → (packet : PacketFields) → router_request_reading packet.payload ≡ closing request → HandledStays t (packet_replied t peer (Ok packet))
-packet_stays t peer request refused packet reads =
-    subst (λ (s : Option Served). HandledStays t (request_replied t s)) (sym (ap (served t peer) reads ∙ refused)) (refl, refl)
+packet_stays : (t : AdapterTable) (stream : Stream) (context : ℕ) (request : CloseFields) → IsRefused t stream.peer request → (packet : PacketFields) → router_request_reading packet.payload ≡ closing request → HandledStays t (packet_replied t stream context (Ok packet))
+packet_stays t stream context request refused packet reads =
+    subst (λ (o : Option OwnRequest). HandledStays t (request_handled t stream context (router_request_reading packet.payload) o)) (sym (none_own t.profile.objects request (router_request_reading packet.payload) reads))
+    (subst (λ (s : Option Served). HandledStays t (request_replied t s)) (sym (ap (stream_served t stream) reads ∙ refused)) (refl, refl))
 
 sent_stays : (t : AdapterTable) (request : CloseFields) (stream : Stream) → IsRefused t stream.peer request → (bytes : List ℕ) (is : IsCloseFrame bytes request) → HandledStays t (handled t stream (request_header_of is.message) is.message.payload (command_of is.message.command))
 unfolding handled
 sent_stays t request stream refused bytes is =
     subst (λ (c : ℕ). HandledStays t (handled t stream (request_header_of is.message) is.message.payload (command_of c))) (sym is.sends)
     (either (HandledStays t) (has_session stream is.message.session) _ _
-    (subst (λ (r : Result PacketFields ItemFault). HandledStays t (packet_replied t stream.peer r)) (sym is.packet_is) (packet_stays t stream.peer request refused is.packet is.request_is))
+    (subst (λ (r : Result PacketFields ItemFault). HandledStays t (packet_replied t stream is.message.context r)) (sym is.packet_is) (packet_stays t stream is.message.context request refused is.packet is.request_is))
     (refl, refl))
 
 message_stays : (t : AdapterTable) (request : CloseFields) (stream : Stream) → IsRefused t stream.peer request → (bytes : List ℕ) → IsCloseFrame bytes request → NextStays t (frame_answer t stream (frame_reading bytes))
@@ -108,8 +139,9 @@ step_stays t (event.Frame number bytes) peer request refused next is brings = fr
 step_stays t other peer request refused next is brings = absurd brings
 
 pub closes_nothing : AnotherNodeClosesNothing
-closes_nothing t happens peer request row next is brings own found other =
-    let stays = step_stays t happens peer request (close_refused t peer request row own found other) next is brings in
+closes_nothing t happens peer request row next is whole brings own found other =
+    let free = none_talks request.triad t.rows t.streams row t.messaging.dialogues found whole.messages.dialogues in
+    let stays = step_stays t happens peer request (close_refused t peer request row own found other free) next is brings in
     record { table = stays.0; notices = stays.1 }
 
 -- ---- a number that is far ahead

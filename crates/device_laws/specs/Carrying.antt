@@ -20,7 +20,7 @@ use Rattle.cip_tables.specs.declared.table.DeviceTable.{DeviceTable}
 use Rattle.cip_tables.specs.declared.table.DeviceTable.TheVariants.{Adapter, Scanner}
 use Rattle.cip_tables.specs.Step.{step, incarnation_of}
 use Rattle.cip_tables.specs.Whole.{IsWholeDevice, next_id_of}
-use Rattle.device_laws.specs.Ids.{RowIds, FromTo, IdsFromTo, EventIds, AnswerIds, StateIds, Replied}
+use Rattle.device_laws.specs.Ids.{RowIds, FromTo, IdsFromTo, EventIds, AnsweredIds, AnswerIds, StateIds, Replied}
 
 -- IDS
 
@@ -36,16 +36,21 @@ abbrev pub TableIds : (ids openings : ℕ → Bool) → DeviceTable → Type 0
 TableIds ids openings (Adapter t) = AllByRecursion (RowIds (Passes ids) (Passes openings)) t.rows
 TableIds ids openings (Scanner t) = AllByRecursion (SlotIds (Passes ids)) (indexed_slots t)
 
+-- each id in an answer of the application passes the test
+abbrev pub AnswerPasses : (ids : ℕ → Bool) → DeviceTable → Event → Type 0
+AnswerPasses ids (Adapter t) event = AnsweredIds (Passes ids) t event
+AnswerPasses ids (Scanner t) event = Unit {0}
+
 -- If the ids of a whole table, of the event, and those between the old counter and the new pass a test, then the ids of the
 -- next table and of the answer pass it; likewise for opening numbers. Only ids of 32 bits pass the test, and 0, the id for
--- none, passes it.
+-- none, passes it. An answer of the application (`Respond` alone) is sent as it is, so its ids count as ids of the event.
 abbrev pub StepsCarryIds : Type 0
 StepsCarryIds =
     (ids openings : ℕ → Bool) (t : DeviceTable) (event : Event) (answer : Answer) (next : DeviceTable) →
     step t event ≡ Ok (answer, next) → IsWholeDevice t →
     ((id : ℕ) → Passes ids id → id < 2 ^ 32) → Passes ids 0 →
     IdsFromTo (Passes ids) (incarnation_of t) (next_id_of t) (next_id_of next) → FromTo (Passes openings) (next_id_of t) (next_id_of next) →
-    EventIds (Passes ids) event → TableIds ids openings t →
+    EventIds (Passes ids) event → AnswerPasses ids t event → TableIds ids openings t →
     TableIds ids openings next × AnswerIds (Passes ids) answer
 
 -- OPENINGS OF A SCANNER

@@ -2,6 +2,7 @@
 -- definition says that a property holds of every such id (Volume 1, chapter 3, network connection ids).
 use Rattle.std.specs.Prelude.{◌≡◌, ℕ, find, ◌+◌, ◌*◌, ◌^◌, ◌<◌, ◌≤◌, Bool, List, Option, Some, None, Result, Ok, Err}
 use Rattle.std.specs.List.{AllByRecursion}
+use Rattle.std.specs.Option.{IfSome}
 use Rattle.cip_datagram.specs.declared.datagram.DatagramFault.{DatagramFault}
 use Rattle.cip_datagram.specs.Datagram.{DatagramFields}
 use Rattle.cip_datagram.specs.Reading.{datagram_reading}
@@ -22,7 +23,12 @@ use Rattle.cip_fwdopen.specs.declared.reply.OpenAnswer.{OpenAnswer}
 use Rattle.cip_fwdopen.specs.declared.reply.OpenAnswer.TheVariants as answer
 use Rattle.cip_fwdopen.specs.Reply.{open_reply_reading}
 use Rattle.cip_router.specs.Requests.{RouterRequestFields, nothing, refused, closing, object, opening, router_request_reading}
+use Rattle.cip_router.specs.Replies.{own_reply_text}
+use Rattle.messaging.specs.declared.requests.Requester.{Requester}
+use Rattle.messaging.specs.declared.requests.Requester.TheVariants as asker
+use Rattle.messaging.specs.Changes.{has_request_number}
 use Rattle.adapter_table.specs.Connections.{Row}
+use Rattle.adapter_table.specs.declared.table.AdapterTable.{AdapterTable}
 use Rattle.cip_types.specs.declared.names.ConnId.{ConnId}
 use Rattle.cip_types.specs.declared.names.Node.{Node}
 use Rattle.cip_fwdopen.specs.declared.reply.Opened.{Opened}
@@ -112,6 +118,19 @@ abbrev pub EventIds : (ℕ → Type 0) → Event → Type 0
 EventIds P (Request peer bytes) = ⊥
 EventIds P (event.Frame stream bytes) = FrameIds P bytes
 EventIds P other = Unit {0}
+
+-- The property holds of each id that a text of the application can be read as, where it goes the way of this request. Over a class
+-- 3 connection it can be read as none.
+abbrev pub WayIds : (ℕ → Type 0) → Requester → List ℕ → Type 0
+WayIds P (asker.Peer node) text = FrameIds P text
+WayIds P (asker.Stream number context) text = PayloadIds P text
+WayIds P (asker.Dialogue id count) text = Unit {0}
+
+-- the property holds of each id in an answer of the application
+abbrev pub AnsweredIds : (ℕ → Type 0) → AdapterTable → Event → Type 0
+AnsweredIds P t (event.Respond number status bytes) =
+    IfSome (find (has_request_number number) t.messaging.waiting) (λ w. WayIds P w.asker (own_reply_text w.service status bytes))
+AnsweredIds P t other = Unit {0}
 
 -- A SCANNER
 

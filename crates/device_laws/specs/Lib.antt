@@ -5,6 +5,7 @@ pub mod Lemmas
 pub mod DueTicks
 pub mod Frames
 pub mod Replies
+pub mod Plain
 pub mod SlotIds
 pub mod RowIds
 pub mod OwnIds
@@ -26,3 +27,4 @@ pub mod Scanners
 pub mod States
 pub mod OwnerData
 pub mod StatedLimits
+pub mod Executions

@@ -3,7 +3,7 @@ use Rattle.std.specs.Prelude.{ℕ, Bool, true, false, Option, Some, None}
 use Rattle.cip_events.specs.declared.event.Delivery.{Delivery}
 use Rattle.cip_events.specs.declared.event.Delivery.TheVariants as delivery
 use Rattle.cip_events.specs.declared.event.Verdict.{Verdict}
-use Rattle.cip_events.specs.declared.event.Verdict.TheVariants.{Done, BadFrame, Ignored, Value, Replied, Delivered}
+use Rattle.cip_events.specs.declared.event.Verdict.TheVariants.{Done, BadFrame, Ignored, Value, Replied, Delivered, Asked}
 use Rattle.cip_events.specs.Answers.{is_accepted}
 use Rattle.scanner_table.specs.Slots.{IndexedSlot, is_numbered}
 
@@ -24,6 +24,7 @@ reports_applied BadFrame = false
 reports_applied Ignored = false
 reports_applied (Value bytes) = false
 reports_applied (Replied number status additional content) = false
+reports_applied (Asked number service class instance attribute content) = false
 reports_applied (Delivered delivery) = is_applied delivery
 
 -- the answer reports that a datagram was accepted
@@ -33,6 +34,7 @@ reports_accepted BadFrame = false
 reports_accepted Ignored = false
 reports_accepted (Value bytes) = false
 reports_accepted (Replied number status additional content) = false
+reports_accepted (Asked number service class instance attribute content) = false
 reports_accepted (Delivered delivery) = is_accepted delivery
 
 -- the slot that the lookup found, if any, has this number

@@ -25,6 +25,7 @@ use Rattle.adapter_table.specs.Requests.{Next}
 use Rattle.adapter_table.specs.Rows.{has_triad}
 use Rattle.adapter_table.specs.Step.{adapter_step}
 use Rattle.adapter_table.specs.Streams.{is_stream}
+use Rattle.adapter_table.specs.Whole.{IsWhole}
 
 -- CLOSES OF ANOTHER NODE
 
@@ -58,7 +59,7 @@ pub record LeavesAll (t : AdapterTable) (next : Next) : Type 0 where
 abbrev pub AnotherNodeClosesNothing : Type 0
 AnotherNodeClosesNothing =
     (t : AdapterTable) (happens : Event) (peer : Node) (request : CloseFields) (row : Row) (next : Next) →
-    adapter_step t happens ≡ Ok next → BringsClose t happens peer request → t.profile.limits.own_closers ≡ true →
+    adapter_step t happens ≡ Ok next → IsWhole t → BringsClose t happens peer request → t.profile.limits.own_closers ≡ true →
     find (has_triad request.triad) t.rows ≡ Some row → row.peer.0 ≢ peer.0 → LeavesAll t next
 
 -- NUMBERS FAR AHEAD

@@ -6,7 +6,8 @@ use answer_sizes::answers_are_small;
 use cip_encap::reads_back;
 
 /// A step brings up no connection id of its own, except the next ids of its counter: each id of the next table and
-/// of the answer is one of the table, one that came with the event, or one that the step allocated.
+/// of the answer is one of the table, one that came with the event (in a frame or in an answer of the application), or one
+/// that the step allocated.
 ///
 /// The law says so of each property of ids of 32 bits that 0, the id for none, has. If the ids of a whole table
 /// have the property, and so do those of the event and those between the old counter and the new, then the ids of

@@ -1,6 +1,7 @@
 //! Laws of one device, adapter or scanner: the owners of an output, the origin of connection ids, what
-//! requests and replies say of them, what a device produces and in which order, that what is due happens, and what the limits of
-//! an adapter's maker keep from its connections. A law call does nothing; its contract states the law.
+//! requests and replies say of them, what a device produces and in which order, that what is due happens, that a message of a
+//! class 3 connection is executed once, and what the limits of an adapter's maker keep from its connections. A law call does
+//! nothing; its contract states the law.
 //!
 //! The laws of a scanner at the root speak of its table: in each step, and over every list of events. `scanner_runs` has the
 //! laws of every run of a device that is a scanner. The laws by which a table stays whole are those of `scanner_table`, on which
@@ -9,9 +10,11 @@
 
 mod asking;
 mod due_ticks;
+mod executions;
 mod id_provenance;
 mod made_productions;
 mod owners;
+mod plain_frames;
 mod reply_ids;
 mod scanner_bytes;
 mod scanner_deliveries;
@@ -24,6 +27,7 @@ mod states;
 
 pub use asking::{new_connections_are_requested, scanners_ask_once};
 pub use due_ticks::due_ticks_act;
+pub use executions::messages_are_executed_once_in_turn;
 pub use id_provenance::{
     ids_are_carried, ids_are_drawn_with_openings, replies_establish_their_own_slot,
 };
@@ -32,6 +36,7 @@ pub use made_productions::{
     slots_produce_their_outputs,
 };
 pub use owners::owners_follow_one_another;
+pub use plain_frames::plain_devices_stay_plain;
 pub use reply_ids::{
     a_scanners_streams_come_with_events, connections_keep_their_ids, replies_carry_opened_ids,
     scanners_ask_for_their_own_ids, scanners_send_no_success, slots_have_the_ids_of_their_success,

@@ -10,9 +10,10 @@ ghost use Rattle.device_laws.specs.TargetStreams.{StreamsComeWithEvents};
 use answer_sizes::answers_are_small;
 use cip_encap::reads_back;
 
-/// A success in a frame of an adapter is of the connection that the event opened: it answers the request of the event, over
-/// the same stream, and has both ids of the connection and both of its actual packet intervals, in microseconds. No frame of an
-/// adapter can be read as a request to open one.
+/// A success in a frame of an adapter is of the connection that the event opened, of class 1 or 3: it answers the request of the
+/// event, over the same stream, and has both ids of the connection and both of its actual packet intervals, in microseconds. A
+/// late reply to a request of an object of the maker's own reads as a success only if a request with the service of an opening
+/// waited. No frame of an adapter can be read as a request to open one.
 ///
 /// Volume 1, chapter 3, Forward_Open service; Volume 2, chapter 2, sender context.
 pub fn replies_carry_opened_ids()

@@ -3,7 +3,7 @@
 ghost use Rattle.device_laws.specs.StatedLimits.{AnotherNodeClosesNothing, FarNumbersChangeNothing};
 
 /// A Forward_Close of another node than the one that opened the connection leaves the table of an adapter as it is, and
-/// nothing is reported, if the maker has only openers close. So it is over a stream and over none.
+/// nothing is reported, if the maker has only openers close. So it is over a stream and over none. The law speaks of whole tables.
 ///
 /// Volume 1, chapter 3, Forward_Close service.
 pub fn another_node_closes_nothing()

@@ -1,4 +1,5 @@
 mod InquiryLaws
+mod ServedClasses
 mod ServiceLaws
 mod IdentityLaws
 mod OwnedBit

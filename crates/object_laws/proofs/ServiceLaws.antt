@@ -14,21 +14,28 @@ use Rattle.cip_events.specs.declared.event.Event.{Event}
 use Rattle.cip_events.specs.declared.event.Event.TheVariants as event
 use Rattle.cip_events.specs.declared.event.Notice.{Notice}
 use Rattle.cip_events.specs.declared.event.StepFault.{StepFault}
+use Rattle.cip_events.specs.Answers.{plain_answer}
+use Rattle.cip_router.specs.declared.refusal.Status.TheVariants as status
 use Rattle.cip_router.specs.Commands.{command_of}
 use Rattle.cip_router.specs.Frames.{request_header_of, frame_fields, frame_reading}
 use Rattle.cip_router.specs.Requests.{RouterRequestFields, object, router_request_reading}
 use Rattle.cip_router.specs.declared.object_service.ObjectService.TheVariants.{GetSingle}
+use Rattle.messaging.specs.declared.requests.Requester.TheVariants as asker
+use Rattle.messaging.specs.Changes.{lacks_room, referred}
 use Rattle.adapter_table.specs.declared.profile.Description.{Description}
 use Rattle.adapter_table.specs.declared.table.AdapterTable.{AdapterTable}
 use Rattle.adapter_table.specs.declared.table.Stream.{Stream}
-use Rattle.adapter_table.specs.Encapsulation.{Handled, request_replied, packet_replied, handled, frame_answer, stream_answer, frame_of, frame}
+use Rattle.adapter_table.specs.Encapsulation.{Handled, request_handled, packet_replied, handled, frame_answer, stream_answer, frame_of, frame}
 use Rattle.adapter_table.specs.Inquiries.{inquiry_reply}
 use Rattle.adapter_table.specs.Lemmas.RequestLemmas.{next_is}
 use Rattle.adapter_table.specs.Objects.{Attribute, Instance, identity_instance, status_word, described_at, instance_at, is_numbered, is_owning, ObjectAnswer, said, denied, resetting, attribute_of, single_of, set_of, all_of, reset_of, reset_by, instance_answer, object_said, object_answer}
-use Rattle.adapter_table.specs.Requests.{Next, object_served, served_object, served, replied, answered, requested}
+use Rattle.adapter_table.specs.Messages.{messages_table}
+use Rattle.adapter_table.specs.Own.{OwnRequest, own_of, is_own_class, referred_verdict, referred_table}
+use Rattle.adapter_table.specs.Requests.{Next, router_refusal, object_served, served_object, served, replied, requested_by, requested}
 use Rattle.adapter_table.specs.Step.{adapter_step}
 use Rattle.adapter_table.specs.Streams.{is_stream, has_session}
-use Rattle.object_laws.specs.Services.{IsServiceRequest, IsServiceFrame, Brings, IsGet, GetsChangeNothing, IsOneReset, ResetsChangeNothing, ResetsAreReported, AttributesReadBack}
+use Rattle.object_laws.proofs.ServedClasses.{served_itself}
+use Rattle.object_laws.specs.Services.{IsServiceRequest, IsServiceFrame, Brings, IsGet, GetsChangeNothing, IsOneReset, ResetsChangeNothing, ResetsAreReported, AttributesReadBack, AsksAlone, OwnServicesAskAlone}
 
 -- ---- what an event that brings a service leaves
 
@@ -57,38 +64,54 @@ unfolding served_object
 service_leaves N t service serves class instance attribute body =
     (object_stays t service (object_answer t service class instance attribute body), serves.each class instance attribute body)
 
-requested_leaves : (N : List Notice → Type 0) (t : AdapterTable) (service : ℕ) → Serves N t service → (peer : Node) (bytes : List ℕ) → IsServiceRequest bytes service → NextLeaves N t (requested t peer bytes)
+-- the class is none of the maker's own
+none_own : (objects : List ℕ) (service class instance : ℕ) (attribute : Option ℕ) (body : List ℕ) → is_own_class objects class ≡ false → own_of objects (object service class instance attribute body) ≡ None
+none_own objects service class instance attribute body served = rw served refl
+
+answered_leaves : (N : List Notice → Type 0) (t : AdapterTable) (service : ℕ) → Serves N t service → (peer : Node) (class instance : ℕ) (attribute : Option ℕ) (body : List ℕ) (asks : Option OwnRequest) → asks ≡ None → NextLeaves N t (requested_by t peer (object service class instance attribute body) asks)
+answered_leaves N t service serves peer class instance attribute body None none = service_leaves N t service serves class instance attribute body
+answered_leaves N t service serves peer class instance attribute body (Some own) none = absurd (let e = none in cc)
+
+requested_leaves : (N : List Notice → Type 0) (t : AdapterTable) (service : ℕ) → Serves N t service → (peer : Node) (bytes : List ℕ) → IsServiceRequest t.profile.objects bytes service → NextLeaves N t (requested t peer bytes)
 unfolding requested
 requested_leaves N t service serves peer bytes is =
-    subst (λ (r : RouterRequestFields). NextLeaves N t (answered t peer (served t peer r))) (sym is.reads) (service_leaves N t service serves is.class is.instance is.attribute is.body)
+    subst (λ (r : RouterRequestFields). NextLeaves N t (requested_by t peer r (own_of t.profile.objects r))) (sym is.reads)
+    (answered_leaves N t service serves peer is.class is.instance is.attribute is.body (own_of t.profile.objects (object service is.class is.instance is.attribute is.body))
+    (none_own t.profile.objects service is.class is.instance is.attribute is.body is.served))
 
-packet_leaves : (N : List Notice → Type 0) (t : AdapterTable) (service : ℕ) → Serves N t service → (peer : Node) (packet : PacketFields) → IsServiceRequest packet.payload service → HandledLeaves N t (packet_replied t peer (Ok packet))
-packet_leaves N t service serves peer packet is =
-    subst (λ (r : RouterRequestFields). HandledLeaves N t (request_replied t (served t peer r))) (sym is.reads) (service_leaves N t service serves is.class is.instance is.attribute is.body)
+handled_leaves : (N : List Notice → Type 0) (t : AdapterTable) (service : ℕ) → Serves N t service → (stream : Stream) (context class instance : ℕ) (attribute : Option ℕ) (body : List ℕ) (asks : Option OwnRequest) → asks ≡ None → HandledLeaves N t (request_handled t stream context (object service class instance attribute body) asks)
+handled_leaves N t service serves stream context class instance attribute body None none = service_leaves N t service serves class instance attribute body
+handled_leaves N t service serves stream context class instance attribute body (Some own) none = absurd (let e = none in cc)
 
-sent_leaves : (N : List Notice → Type 0) (t : AdapterTable) (service : ℕ) → Serves N t service → (stream : Stream) (bytes : List ℕ) (is : IsServiceFrame bytes service) → HandledLeaves N t (handled t stream (request_header_of is.message) is.message.payload (command_of is.message.command))
+packet_leaves : (N : List Notice → Type 0) (t : AdapterTable) (service : ℕ) → Serves N t service → (stream : Stream) (context : ℕ) (packet : PacketFields) → IsServiceRequest t.profile.objects packet.payload service → HandledLeaves N t (packet_replied t stream context (Ok packet))
+packet_leaves N t service serves stream context packet is =
+    subst (λ (r : RouterRequestFields). HandledLeaves N t (request_handled t stream context r (own_of t.profile.objects r))) (sym is.reads)
+    (handled_leaves N t service serves stream context is.class is.instance is.attribute is.body (own_of t.profile.objects (object service is.class is.instance is.attribute is.body))
+    (none_own t.profile.objects service is.class is.instance is.attribute is.body is.served))
+
+sent_leaves : (N : List Notice → Type 0) (t : AdapterTable) (service : ℕ) → Serves N t service → (stream : Stream) (bytes : List ℕ) (is : IsServiceFrame t.profile.objects bytes service) → HandledLeaves N t (handled t stream (request_header_of is.message) is.message.payload (command_of is.message.command))
 unfolding handled
 sent_leaves N t service serves stream bytes is =
     subst (λ (c : ℕ). HandledLeaves N t (handled t stream (request_header_of is.message) is.message.payload (command_of c))) (sym is.sends)
     (either (HandledLeaves N t) (has_session stream is.message.session) _ _
-    (subst (λ (r : Result PacketFields ItemFault). HandledLeaves N t (packet_replied t stream.peer r)) (sym is.packet_is) (packet_leaves N t service serves stream.peer is.packet is.request))
+    (subst (λ (r : Result PacketFields ItemFault). HandledLeaves N t (packet_replied t stream is.message.context r)) (sym is.packet_is) (packet_leaves N t service serves stream is.message.context is.packet is.request))
     (refl, serves.none))
 
-message_leaves : (N : List Notice → Type 0) (t : AdapterTable) (service : ℕ) → Serves N t service → (stream : Stream) (bytes : List ℕ) → IsServiceFrame bytes service → NextLeaves N t (frame_answer t stream (frame_reading bytes))
+message_leaves : (N : List Notice → Type 0) (t : AdapterTable) (service : ℕ) → Serves N t service → (stream : Stream) (bytes : List ℕ) → IsServiceFrame t.profile.objects bytes service → NextLeaves N t (frame_answer t stream (frame_reading bytes))
 unfolding frame_reading
 message_leaves N t service serves stream bytes is =
     subst (λ (r : Result MessageFields EncapFault). NextLeaves N t (frame_answer t stream (frame_fields (fields_at header_widths bytes) r))) (sym is.reads) (sent_leaves N t service serves stream bytes is)
 
-stream_leaves : (N : List Notice → Type 0) (t : AdapterTable) (service : ℕ) → Serves N t service → (stream : Stream) (bytes : List ℕ) (reply : Option (List ℕ)) → IsServiceFrame bytes service → NextLeaves N t (stream_answer t stream bytes reply)
+stream_leaves : (N : List Notice → Type 0) (t : AdapterTable) (service : ℕ) → Serves N t service → (stream : Stream) (bytes : List ℕ) (reply : Option (List ℕ)) → IsServiceFrame t.profile.objects bytes service → NextLeaves N t (stream_answer t stream bytes reply)
 stream_leaves N t service serves stream bytes None is = message_leaves N t service serves stream bytes is
 stream_leaves N t service serves stream bytes (Some text) is = (refl, serves.none)
 
-frame_leaves : (N : List Notice → Type 0) (t : AdapterTable) (service : ℕ) → Serves N t service → (bytes : List ℕ) (found : Option Stream) (next : Next) → frame_of t bytes found ≡ Ok next → IsServiceFrame bytes service → NextLeaves N t next
+frame_leaves : (N : List Notice → Type 0) (t : AdapterTable) (service : ℕ) → Serves N t service → (bytes : List ℕ) (found : Option Stream) (next : Next) → frame_of t bytes found ≡ Ok next → IsServiceFrame t.profile.objects bytes service → NextLeaves N t next
 frame_leaves N t service serves bytes None next is brings = absurd (let e = is in cc)
 frame_leaves N t service serves bytes (Some stream) next is brings =
     subst (NextLeaves N t) (next_is _ _ is) (stream_leaves N t service serves stream bytes (inquiry_reply t bytes) brings)
 
-step_leaves : (N : List Notice → Type 0) (t : AdapterTable) (service : ℕ) → Serves N t service → (happens : Event) (next : Next) → adapter_step t happens ≡ Ok next → Brings happens service → NextLeaves N t next
+step_leaves : (N : List Notice → Type 0) (t : AdapterTable) (service : ℕ) → Serves N t service → (happens : Event) (next : Next) → adapter_step t happens ≡ Ok next → Brings t happens service → NextLeaves N t next
 unfolding frame
 step_leaves N t service serves (event.Request peer bytes) next is brings = subst (NextLeaves N t) (next_is _ _ is) (requested_leaves N t service serves peer bytes brings)
 step_leaves N t service serves (event.Frame number bytes) next is brings = frame_leaves N t service serves bytes (find (is_stream number) t.streams) next is brings
@@ -205,10 +228,11 @@ abbrev done : Next → Result Next StepFault
 done next = Ok next
 
 -- the step of a request for a service, by what the object answers
-answered_as : (t : AdapterTable) (peer : Node) (bytes : List ℕ) (service class instance : ℕ) (attribute : Option ℕ) (body : List ℕ) (answer : ObjectAnswer) → router_request_reading bytes ≡ object service class instance attribute body → object_answer t service class instance attribute body ≡ answer → adapter_step t (event.Request peer bytes) ≡ done (replied peer (object_served t service answer))
+answered_as : (t : AdapterTable) (peer : Node) (bytes : List ℕ) (service class instance : ℕ) (attribute : Option ℕ) (body : List ℕ) (answer : ObjectAnswer) → router_request_reading bytes ≡ object service class instance attribute body → is_own_class t.profile.objects class ≡ false → object_answer t service class instance attribute body ≡ answer → adapter_step t (event.Request peer bytes) ≡ done (replied peer (object_served t service answer))
 unfolding requested served_object
-answered_as t peer bytes service class instance attribute body answer reads is =
-    ap (λ (r : RouterRequestFields). done (answered t peer (served t peer r))) reads ∙ ap (λ (a : ObjectAnswer). done (replied peer (object_served t service a))) is
+answered_as t peer bytes service class instance attribute body answer reads free is =
+    ap (λ (r : RouterRequestFields). done (requested_by t peer r (own_of t.profile.objects r))) reads
+    ∙ ap (λ (o : Option OwnRequest). done (requested_by t peer (object service class instance attribute body) o)) (none_own t.profile.objects service class instance attribute body free) ∙ ap (λ (a : ObjectAnswer). done (replied peer (object_served t service a))) is
 
 -- the Identity object of a device that is described
 pub identity_found : (t : AdapterTable) (d : Description) → t.profile.description ≡ Some d → instance_at t 0x01 1 ≡ Some (identity_instance t.profile.identity d (status_word t))
@@ -222,8 +246,9 @@ reset_said t d attribute kind is free small =
     ap (object_said (list_any is_owning t.rows) 0x05 attribute (kind ∷ [])) (identity_found t d is) ∙ rw (free, fits) refl
 
 pub resets_said : ResetsAreReported
-resets_said t peer bytes d attribute kind is free small reads =
-    answered_as t peer bytes 0x05 0x01 1 attribute (kind ∷ []) (resetting kind) reads (reset_said t d attribute kind is free small)
+resets_said t peer bytes d attribute kind whole is free small reads =
+    let served = served_itself t 0x01 1 (identity_instance t.profile.identity d (status_word t)) whole (identity_found t d is) in
+    answered_as t peer bytes 0x05 0x01 1 attribute (kind ∷ []) (resetting kind) reads served (reset_said t d attribute kind is free small)
 
 single_said : (t : AdapterTable) (class instance number : ℕ) (o : Instance) (attribute : Attribute) → instance_at t class instance ≡ Some o → find (is_numbered number) o.attributes ≡ Some attribute → object_answer t 0x0E class instance (Some number) [] ≡ said GetSingle attribute.value
 unfolding object_answer
@@ -231,5 +256,24 @@ single_said t class instance number o attribute is found =
     ap (object_said (list_any is_owning t.rows) 0x0E (Some number) []) is ∙ ap (single_of []) found
 
 pub attributes_said : AttributesReadBack
-attributes_said t peer bytes class instance number o attribute is found reads =
-    answered_as t peer bytes 0x0E class instance (Some number) [] (said GetSingle attribute.value) reads (single_said t class instance number o attribute is found)
+attributes_said t peer bytes class instance number o attribute whole is found reads =
+    answered_as t peer bytes 0x0E class instance (Some number) [] (said GetSingle attribute.value) reads (served_itself t class instance o whole is) (single_said t class instance number o attribute is found)
+
+-- ---- objects of the maker's own
+
+same_messages : (t : AdapterTable) → t ≡ messages_table t t.next_id t.messaging
+unfolding messages_table
+same_messages t = refl
+
+own_asks : (t : AdapterTable) (peer : Node) (request : RouterRequestFields) (asks : OwnRequest) → AsksAlone t (requested_by t peer request (Some asks))
+own_asks t peer request asks =
+    either (AsksAlone t) (lacks_room t.messaging) (replied peer (router_refusal t asks.service status.ResourceUnavailable)) (plain_answer (referred_verdict t asks), referred_table t (asker.Peer peer) asks)
+    (record { messages = t.messaging; table = same_messages t; notices = refl }) (record { messages = referred t.messaging (asker.Peer peer) asks.service t.clock; table = refl; notices = refl })
+
+requested_asks : (t : AdapterTable) (peer : Node) (bytes : List ℕ) (asks : OwnRequest) → own_of t.profile.objects (router_request_reading bytes) ≡ Some asks → AsksAlone t (requested t peer bytes)
+unfolding requested
+requested_asks t peer bytes asks is =
+    subst (λ (o : Option OwnRequest). AsksAlone t (requested_by t peer (router_request_reading bytes) o)) (sym is) (own_asks t peer (router_request_reading bytes) asks)
+
+pub own_services_ask : OwnServicesAskAlone
+own_services_ask t peer bytes asks next is own = subst (AsksAlone t) (next_is _ _ is) (requested_asks t peer bytes asks own)

@@ -16,36 +16,41 @@ use Rattle.cip_events.specs.declared.event.Verdict.TheVariants.{Done}
 use Rattle.cip_router.specs.declared.object_service.ObjectService.TheVariants.{GetSingle, Reset}
 use Rattle.cip_router.specs.Replies.{ReplyFields, object_reply}
 use Rattle.cip_router.specs.Requests.{object, router_request_reading}
+use Rattle.messaging.specs.declared.table.Messaging.{Messaging}
 use Rattle.adapter_table.specs.declared.profile.Description.{Description}
 use Rattle.adapter_table.specs.declared.table.AdapterTable.{AdapterTable}
 use Rattle.adapter_table.specs.Objects.{Attribute, Instance, instance_at, is_numbered, is_owning}
+use Rattle.adapter_table.specs.Messages.{with_messages}
+use Rattle.adapter_table.specs.Own.{OwnRequest, own_of, is_own_class}
 use Rattle.adapter_table.specs.Requests.{Next, reply_frame}
 use Rattle.adapter_table.specs.Step.{adapter_step}
+use Rattle.adapter_table.specs.Whole.{IsWhole}
 
 -- REQUESTS
 
--- the bytes can be read as this service of an object
-pub record IsServiceRequest (bytes : List ℕ) (service : ℕ) : Type 0 where
+-- the bytes can be read as this service of an object whose class is none of the maker's own
+pub record IsServiceRequest (objects bytes : List ℕ) (service : ℕ) : Type 0 where
   pub class : ℕ
   pub instance : ℕ
   pub attribute : Option ℕ
   pub body : List ℕ
   pub reads : router_request_reading bytes ≡ object service class instance attribute body
+  pub served : is_own_class objects class ≡ false
 
 -- the frame can be read as one that sends it
-pub record IsServiceFrame (bytes : List ℕ) (service : ℕ) : Type 0 where
+pub record IsServiceFrame (objects bytes : List ℕ) (service : ℕ) : Type 0 where
   pub message : MessageFields
   pub reads : message_reading bytes ≡ Ok message
   pub sends : message.command ≡ 0x006F
   pub packet : PacketFields
   pub packet_is : packet_reading message.payload ≡ Ok packet
-  pub request : IsServiceRequest packet.payload service
+  pub request : IsServiceRequest objects packet.payload service
 
--- the event brings this service of an object, over a stream or over none
-abbrev pub Brings : Event → ℕ → Type 0
-Brings (event.Request peer bytes) service = IsServiceRequest bytes service
-Brings (event.Frame stream bytes) service = IsServiceFrame bytes service
-Brings other service = ⊥
+-- the event brings this service of an object that the adapter serves itself, over a stream or over none
+abbrev pub Brings : AdapterTable → Event → ℕ → Type 0
+Brings t (event.Request peer bytes) service = IsServiceRequest t.profile.objects bytes service
+Brings t (event.Frame stream bytes) service = IsServiceFrame t.profile.objects bytes service
+Brings t other service = ⊥
 
 -- GET
 
@@ -62,7 +67,7 @@ pub record IsQuiet (t : AdapterTable) (next : Next) : Type 0 where
 abbrev pub GetsChangeNothing : Type 0
 GetsChangeNothing =
     (t : AdapterTable) (happens : Event) (service : ℕ) (next : Next) →
-    adapter_step t happens ≡ Ok next → Brings happens service → IsGet service → IsQuiet t next
+    adapter_step t happens ≡ Ok next → Brings t happens service → IsGet service → IsQuiet t next
 
 -- RESET
 
@@ -81,26 +86,40 @@ pub record IsResetAlone (t : AdapterTable) (next : Next) : Type 0 where
 abbrev pub ResetsChangeNothing : Type 0
 ResetsChangeNothing =
     (t : AdapterTable) (happens : Event) (next : Next) →
-    adapter_step t happens ≡ Ok next → Brings happens 0x05 → IsResetAlone t next
+    adapter_step t happens ≡ Ok next → Brings t happens 0x05 → IsResetAlone t next
 
 -- an answer of one reply with these notices
 abbrev pub replied_with : Node → ReplyFields → List Notice → Answer
 replied_with peer reply notices = record { frames = reply_frame peer reply ∷ []; datagrams = []; verdict = Done; notices = notices }
 
--- a Reset of type 0 or 1 of a described device of which no output is owned succeeds, and is reported
+-- of a whole table, a Reset of type 0 or 1 of a described device of which no output is owned succeeds, and is reported
 abbrev pub ResetsAreReported : Type 0
 ResetsAreReported =
     (t : AdapterTable) (peer : Node) (bytes : List ℕ) (d : Description) (attribute : Option ℕ) (kind : ℕ) →
-    t.profile.description ≡ Some d → list_any is_owning t.rows ≡ false → kind ≤ 1 →
+    IsWhole t → t.profile.description ≡ Some d → list_any is_owning t.rows ≡ false → kind ≤ 1 →
     router_request_reading bytes ≡ object 0x05 0x01 1 attribute (kind ∷ []) →
     adapter_step t (event.Request peer bytes) ≡ Ok (replied_with peer (object_reply Reset []) (notice.Reset kind ∷ []), t)
 
 -- ATTRIBUTES
 
--- each attribute of each instance is read back
+-- each attribute of each instance of a whole table is read back
 abbrev pub AttributesReadBack : Type 0
 AttributesReadBack =
     (t : AdapterTable) (peer : Node) (bytes : List ℕ) (class instance number : ℕ) (o : Instance) (attribute : Attribute) →
-    instance_at t class instance ≡ Some o → find (is_numbered number) o.attributes ≡ Some attribute →
+    IsWhole t → instance_at t class instance ≡ Some o → find (is_numbered number) o.attributes ≡ Some attribute →
     router_request_reading bytes ≡ object 0x0E class instance (Some number) [] →
     adapter_step t (event.Request peer bytes) ≡ Ok (replied_with peer (object_reply GetSingle attribute.value) [], t)
+
+-- OBJECTS OF THE MAKER'S OWN
+
+-- all but the requests that wait stays, and nothing is reported
+pub record AsksAlone (t : AdapterTable) (next : Next) : Type 0 where
+  pub messages : Messaging
+  pub table : next.1 ≡ with_messages t messages
+  pub notices : next.0.notices ≡ []
+
+-- so it is after every request of a peer to such an object
+abbrev pub OwnServicesAskAlone : Type 0
+OwnServicesAskAlone =
+    (t : AdapterTable) (peer : Node) (bytes : List ℕ) (asks : OwnRequest) (next : Next) →
+    adapter_step t (event.Request peer bytes) ≡ Ok next → own_of t.profile.objects (router_request_reading bytes) ≡ Some asks → AsksAlone t next

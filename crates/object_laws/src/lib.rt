@@ -10,4 +10,6 @@ mod services;
 
 pub use identities::{identities_agree, the_owned_bit_says_owners};
 pub use inquiries::inquiries_change_nothing;
-pub use services::{attributes_read_back, gets_change_nothing, resets_are_reported};
+pub use services::{
+    attributes_read_back, gets_change_nothing, own_services_ask_alone, resets_are_reported,
+};

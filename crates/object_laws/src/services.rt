@@ -1,21 +1,21 @@
 //! What an adapter answers to the services of its objects.
 
-ghost use Rattle.object_laws.specs.Services.{AttributesReadBack, GetsChangeNothing, ResetsChangeNothing, ResetsAreReported};
+ghost use Rattle.object_laws.specs.Services.{AttributesReadBack, GetsChangeNothing, OwnServicesAskAlone, ResetsChangeNothing, ResetsAreReported};
 
 /// Get_Attribute_Single and Get_Attributes_All leave the table of an adapter as it is, and report nothing: over a stream and over
 /// none, whether they are answered or refused. So it is of every object but instance 1 of the Connection Manager, whose services
-/// are those of connections.
+/// are those of connections, and those of the maker's own, whose services the application answers.
 ///
 /// Volume 1, appendix A, common services.
 pub fn gets_change_nothing()
     ensures { GetsChangeNothing }
 {}
 
-/// A Reset leaves the table of an adapter as it is.
+/// A Reset of an object that an adapter serves itself leaves its table as it is.
 ///
 /// - `stays`: the answer reports one reset of type 0 or 1, or nothing.
 /// - `reported`: a Reset of type 0 or 1 of the Identity object of a device that is described is answered with success and reported,
-///   unless an output has an owner.
+///   unless an output has an owner. It speaks of whole tables.
 ///
 /// Volume 1, chapter 5, Identity object, Reset service.
 pub fn resets_are_reported()
@@ -24,9 +24,17 @@ pub fn resets_are_reported()
 {}
 
 /// Each attribute of each instance that an adapter has is read back: Get_Attribute_Single of its class, instance and number is
-/// answered with exactly its bytes, and nothing changes.
+/// answered with exactly its bytes, and nothing changes. The law speaks of whole tables.
 ///
 /// Volume 1, appendix A, Get_Attribute_Single service.
 pub fn attributes_read_back()
     ensures { AttributesReadBack }
+{}
+
+/// A request of a peer to an object of the maker's own leaves all of an adapter's table but the requests that wait for its
+/// application, and reports nothing.
+///
+/// Volume 1, chapter 2, message router request.
+pub fn own_services_ask_alone()
+    ensures { OwnServicesAskAlone }
 {}

@@ -3,8 +3,13 @@ use Rattle.std.proofs.Common.{◌≡◌, refl, ℕ, List, [], ◌∷◌}
 use Rattle.cip_events.specs.declared.event.Event.{Event}
 use Rattle.cip_events.specs.declared.event.Event.TheVariants.{Datagram, Tick, Write}
 use Rattle.cip_events.specs.declared.event.Notice.TheVariants.{Expired}
+use Rattle.messaging.specs.declared.requests.Requester.TheVariants.{Peer}
+use Rattle.messaging.specs.declared.requests.Waiting.{Waiting}
+use Rattle.messaging.specs.Times.{first_moment}
 use Rattle.adapter_table.specs.Connections.{Row}
 use Rattle.adapter_table.specs.declared.row.State.TheVariants.{Established}
+use Rattle.adapter_table.specs.Step.{adapter_table}
+use Rattle.cip_tables.specs.declared.table.DeviceTable.TheVariants.{Adapter}
 use Rattle.cip_tables.specs.Run.{outcomes_of}
 use Rattle.cip_tables.specs.Wakes.{due_in}
 use Rattle.samples.specs.Hex.{hex}
@@ -25,42 +30,62 @@ abbrev wake : List Row → ℕ
 wake rows = due_in (connected rows)
 
 its_deadline : wake (timed 20 25 ∷ []) ≡ 17
+unfolding first_moment
 its_deadline = refl
 
 its_production : wake (timed 25 20 ∷ []) ≡ 17
+unfolding first_moment
 its_production = refl
 
 the_first_of_all : wake (timed 100 90 ∷ timed 80 95 ∷ timed 85 99 ∷ []) ≡ 77
+unfolding first_moment
 the_first_of_all = refl
 
 due_now : wake (timed 100 3 ∷ []) ≡ 0
+unfolding first_moment
 due_now = refl
 
 due_before : wake (timed 2 100 ∷ []) ≡ 0
+unfolding first_moment
 due_before = refl
 
 -- a timed-out connection has no time
 a_lost_connection : wake (record (lost 1) { deadline = record { 0 = 10 } } ∷ []) ≡ 60000
+unfolding first_moment
 a_lost_connection = refl
 
 a_lost_one_and_a_living_one : wake (record (lost 1) { deadline = record { 0 = 10 } } ∷ timed 50 40 ∷ []) ≡ 37
+unfolding first_moment
 a_lost_one_and_a_living_one = refl
 
 -- the longest tick is the longest wait
 nearly_the_longest : wake (timed 60002 70000 ∷ []) ≡ 59999
+unfolding first_moment
 nearly_the_longest = refl
 
 just_the_longest : wake (timed 60003 70000 ∷ []) ≡ 60000
+unfolding first_moment
 just_the_longest = refl
 
 far_away : wake (timed 70000 80000 ∷ []) ≡ 60000
+unfolding first_moment
 far_away = refl
 
 without_connections : due_in (fresh common) ≡ 60000
+unfolding first_moment
 without_connections = refl
 
 at_the_clock_s_end : due_in (at_clock 281474976710656) ≡ 60000
+unfolding first_moment
 at_the_clock_s_end = refl
+
+-- a request that waits for the application until this time, at clock 3 and without connections
+abbrev waits : ℕ → Waiting
+waits deadline = record { number = 1; asker = Peer peer; service = 0x0E; deadline = record { 0 = deadline } }
+
+its_request : due_in (Adapter (record (adapter_table common) { messaging = record { dialogues = []; waiting = waits 20 ∷ []; next_number = 2 }; clock = record { 0 = 3 } })) ≡ 17
+unfolding first_moment
+its_request = refl
 
 -- ---- over events
 

@@ -125,10 +125,17 @@ unfolding computing
 nothing_is_done = refl
 
 others_are_not_served :
-    registered (message 0x63 7 0 [] ∷ message 0x64 7 0 (hex "01") ∷ message 0x70 1 0 [] ∷ [])
-    ≡ back (message 0x63 7 0x01 []) ∷ back (message 0x64 7 0x01 []) ∷ back (message 0x70 1 0x01 []) ∷ []
+    registered (message 0x63 7 0 [] ∷ message 0x64 7 0 (hex "01") ∷ message 0x72 1 0 [] ∷ [])
+    ≡ back (message 0x63 7 0x01 []) ∷ back (message 0x64 7 0x01 []) ∷ back (message 0x72 1 0x01 []) ∷ []
 unfolding computing
 others_are_not_served = refl
+
+-- a message of a class 3 connection in another session is refused as an unknown command, and one without items
+unit_data_is_refused :
+    registered (message 0x70 2 0 [] ∷ message 0x70 1 0 [] ∷ [])
+    ≡ back (message 0x70 2 0x01 []) ∷ back (message 0x70 1 0x03 []) ∷ []
+unfolding computing
+unit_data_is_refused = refl
 
 -- status and options of a request are not judged, and not sent back
 status_and_options :

@@ -34,6 +34,7 @@ common = record {
   listen_only = 153;
   description = None;
   limits = no_limits;
+  objects = [];
 }
 
 -- the same with two bytes of configuration

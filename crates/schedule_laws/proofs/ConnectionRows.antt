@@ -25,14 +25,16 @@ use Rattle.adapter_table.specs.Connections.{Row}
 use Rattle.adapter_table.specs.Datagrams.{is_for, accepted_row, accepted_if_for, row_delivery, accepted_table, delivered, found_datagram, datagram_of, received}
 use Rattle.adapter_table.specs.Encapsulation.{frame}
 use Rattle.adapter_table.specs.Inquiries.{inquiry_reply, inquired_by, inquired}
+use Rattle.adapter_table.specs.Messages.{messages_table}
 use Rattle.adapter_table.specs.Productions.{produced_state, produced_row, changed_state, changed_row}
 use Rattle.adapter_table.specs.Profiles.{is_at}
 use Rattle.adapter_table.specs.Requests.{Next}
 use Rattle.adapter_table.specs.Rows.{written_state, written_row}
 use Rattle.adapter_table.specs.Step.{written_table, changed_table, written, write_of, write, adapter_step}
 use Rattle.adapter_table.specs.Streams.{is_stream, is_taken, with_stream, stream_opened, cut_of, stream_cut}
-use Rattle.adapter_table.specs.Ticks.{has_expired, expired_row, expired_rows, clocked_table, expired_table, produced_table, advanced, tick}
+use Rattle.adapter_table.specs.Ticks.{has_expired, expired_row, expired_rows, clocked_table, expired_table, produced_table, advanced, aged_next, tick}
 use Rattle.device_laws.specs.Lemmas.Lists.{all_filtered, all_mapped}
+use Rattle.device_laws.specs.Lemmas.MessageSteps.{respond_holds}
 use Rattle.device_laws.specs.Lemmas.Texts.{either}
 use Rattle.device_laws.specs.Lemmas.OpenedRows.{MessageMakes, NextRows, RowsAre, frame_rows, without_rows}
 use Rattle.adapter_table.specs.Lemmas.PassiveLemmas.{passive_holds}
@@ -118,10 +120,10 @@ advanced_rows O lasts t ms rows =
     (all_filtered O (stays (expired_rows clock t.rows)) (expired_rows clock t.rows) (mapped_rows O lasts (expired_row clock) (expired_one clock) t.rows rows))
 
 tick_rows : (O : Row → Type 0) → Lasts O → (t : AdapterTable) (ms : ℕ) → RowsAre O t → OkRows O (tick t ms)
-unfolding tick
+unfolding tick messages_table
 tick_rows O lasts t ms rows =
     either (OkRows O) (nat_lt longest_tick ms) (Err TickTooLong) _ tt
-    (either (OkRows O) (nat_lt clock_end (t.clock.0 + ms)) (Err ClockEnd) (Ok (advanced (clocked_table t ms))) tt (advanced_rows O lasts t ms rows))
+    (either (OkRows O) (nat_lt clock_end (t.clock.0 + ms)) (Err ClockEnd) (Ok (aged_next (advanced (clocked_table t ms)))) tt (advanced_rows O lasts t ms rows))
 
 inquired_rows : (O : Row → Type 0) (t : AdapterTable) (peer : Node) (reply : Option (List ℕ)) → RowsAre O t → NextRows O (inquired_by t peer reply)
 inquired_rows O t peer None rows = rows
@@ -136,7 +138,7 @@ EventMakes O t (event.Frame number bytes) = MessageMakes O t (message_reading by
 EventMakes O t other = Unit {0}
 
 all_rows : (O : Row → Type 0) → Lasts O → (t : AdapterTable) (happens : Event) → EventMakes O t happens → RowsAre O t → OkRows O (adapter_step t happens)
-unfolding received inquired write frame stream_cut stream_opened
+unfolding received inquired write frame stream_cut stream_opened messages_table
 all_rows O lasts t (event.Request peer bytes) makes rows = absurd makes
 all_rows O lasts t (event.StreamOpened number peer) makes rows =
     either (OkRows O) (is_taken t.streams number) (Err NotAllowedNow) (Ok (plain_answer Done, with_stream t number peer)) tt (streamed_rows O t number peer rows)
@@ -146,6 +148,7 @@ all_rows O lasts t (event.Datagram peer bytes) makes rows = datagram_rows O last
 all_rows O lasts t (event.Inquiry peer bytes) makes rows = inquired_rows O t peer (inquiry_reply t bytes) rows
 all_rows O lasts t (event.Write point bytes) makes rows = write_rows O lasts t point bytes (find (is_at point) t.profile.inputs) rows
 all_rows O lasts t (event.Tick ms) makes rows = tick_rows O lasts t ms rows
+all_rows O lasts t (event.Respond number general bytes) makes rows = respond_holds (OkRows O) t number general bytes (λ why. tt) (λ w found few. rows)
 all_rows O lasts t other makes rows = passive_holds (OkRows O) t (λ why. tt) (λ verdict. rows) other refl
 
 pub step_rows : (O : Row → Type 0) → Lasts O → (t : AdapterTable) (happens : Event) (next : Next) → adapter_step t happens ≡ Ok next → EventMakes O t happens → AllByRecursion O t.rows → AllByRecursion O next.1.rows

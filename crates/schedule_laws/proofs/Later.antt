@@ -30,9 +30,9 @@ use Rattle.segment_world.specs.declared.act.Act.{Act}
 use Rattle.segment_world.specs.declared.act.ActFault.{ActFault}
 use Rattle.segment_world.specs.World.{World, ReportedEvent, Happened, happens}
 use Rattle.segment_world.specs.Story.{Story, goes_on, runs}
-use Rattle.device_laws.specs.Ids.{FrameIds, ReadId, RowIds}
+use Rattle.device_laws.specs.Ids.{ReadId, RowIds}
 use Rattle.device_laws.specs.Carrying.{Passes, TableIds}
-use Rattle.schedule_laws.specs.Ids.{is_to_come, is_drawn, any_opening, SentHolds, IdsAreDrawn, Moments, IdsToComeAreUnsent, LaterConnectionsAcceptNoneOfIt, LaterGroupsSentNoneOfIt}
+use Rattle.schedule_laws.specs.Ids.{IsDrawnFrame, is_to_come, is_drawn, any_opening, SentHolds, IdsAreDrawn, Moments, IdsToComeAreUnsent, LaterConnectionsAcceptNoneOfIt, LaterGroupsSentNoneOfIt}
 use Rattle.schedule_laws.specs.Lemmas.Moves.{Moves, act_moves, runs_keep}
 use Rattle.schedule_laws.specs.Lemmas.Tests.{not_both, so_comes, drawn_parts, none_at, set_cases}
 use Rattle.schedule_laws.specs.Lemmas.Drawing.{StepLaws, Openings, Drawn, step_same, moved_drawn, runs_drawn, all_drawn}
@@ -111,7 +111,7 @@ pub record Kept (R : DeviceTable → Type 0) (q : Openings) (device : ℕ) (stor
   pub drawn : Drawn q story.world
   pub holds : (t : DeviceTable) → slice_get story.world.tables device ≡ Some t → R t
 
-moved_kept : StepLaws → (R : DeviceTable → Type 0) → StepsKeepIt R → (q : Openings) (device : ℕ) (story : Story) (moved : Option ReportedEvent × World) → Kept R q device story → Moves (FrameIds (Passes (is_drawn story.world.tables))) story.world moved → Drawn q moved.1 → (x : DeviceTable) → slice_get moved.1.tables device ≡ Some x → R x
+moved_kept : StepLaws → (R : DeviceTable → Type 0) → StepsKeepIt R → (q : Openings) (device : ℕ) (story : Story) (moved : Option ReportedEvent × World) → Kept R q device story → Moves (IsDrawnFrame story.world.tables) story.world moved → Drawn q moved.1 → (x : DeviceTable) → slice_get moved.1.tables device ≡ Some x → R x
 moved_kept laws R keep q device story (None, new) kept rests drawn x there = kept.holds x (sym (ap (λ (l : List DeviceTable). slice_get l device) rests.tables) ∙ there)
 moved_kept laws R keep q device story (Some reported, new) kept came drawn x there =
     let tables : new.tables ≡ set story.world.tables reported.device came.after = ap (λ (w : World). w.tables) came.leaves in
@@ -125,7 +125,7 @@ moved_kept laws R keep q device story (Some reported, new) kept came drawn x the
       | inr other ↦ kept.holds x other.1
     ]
 
-act_kept : StepLaws → (R : DeviceTable → Type 0) → StepsKeepIt R → (q : Openings) (device : ℕ) (story : Story) (said : Happened) → Kept R q device story → IfOk said (Moves (FrameIds (Passes (is_drawn story.world.tables))) story.world) → IfOk (goes_on story.reported said) (Kept R q device)
+act_kept : StepLaws → (R : DeviceTable → Type 0) → StepsKeepIt R → (q : Openings) (device : ℕ) (story : Story) (said : Happened) → Kept R q device story → IfOk said (Moves (IsDrawnFrame story.world.tables) story.world) → IfOk (goes_on story.reported said) (Kept R q device)
 act_kept laws R keep q device story (Err fault) kept moves = tt
 act_kept laws R keep q device story (Ok moved) kept moves =
     let drawn = moved_drawn laws q story.world moved kept.drawn moves in
@@ -134,7 +134,7 @@ act_kept laws R keep q device story (Ok moved) kept moves =
 pub runs_kept : StepLaws → (R : DeviceTable → Type 0) → StepsKeepIt R → (q : Openings) (device : ℕ) (was now : Story) (acts : List Act) → runs (Ok was) acts ≡ Ok now → Kept R q device was → Kept R q device now
 runs_kept laws R keep q device was now acts ran kept =
     subst (λ (r : Result Story ActFault). IfOk r (Kept R q device)) ran
-    (runs_keep (Kept R q device) (λ story act is. act_kept laws R keep q device story (happens story.world act) is (act_moves (FrameIds (Passes (is_drawn story.world.tables))) story.world act is.drawn.streams)) acts (Ok was) kept)
+    (runs_keep (Kept R q device) (λ story act is. act_kept laws R keep q device story (happens story.world act) is (act_moves (IsDrawnFrame story.world.tables) story.world act is.drawn.streams)) acts (Ok was) kept)
 
 -- its incarnation stays
 abbrev HasByte : ℕ → DeviceTable → Type 0
@@ -189,6 +189,7 @@ marked_moment device t w at drawn = record {
   opens = λ e x there n from. opens_step (e == device) device e n t x w.tables refl at there from;
   sent = drawn.sent;
   streams = drawn.streams;
+  plain = drawn.plain;
 }
 
 -- ---- connections of an adapter

@@ -13,7 +13,7 @@ use Rattle.cip_events.specs.declared.event.Delivery.TheVariants.{Applied}
 use Rattle.cip_events.specs.declared.event.Event.{Event}
 use Rattle.cip_events.specs.declared.event.StepFault.{StepFault}
 use Rattle.cip_events.specs.declared.event.Verdict.{Verdict}
-use Rattle.cip_events.specs.declared.event.Verdict.TheVariants.{BadFrame, Delivered, Done, Ignored, Value, Replied}
+use Rattle.cip_events.specs.declared.event.Verdict.TheVariants.{Asked, BadFrame, Delivered, Done, Ignored, Value, Replied}
 use Rattle.adapter_table.specs.declared.table.AdapterTable.{AdapterTable}
 use Rattle.adapter_table.specs.Laws.{StepsLeave}
 use Rattle.adapter_table.specs.Requests.{Next}
@@ -167,6 +167,7 @@ was_accepted device p n BadFrame so = absurd (let e = so in cc)
 was_accepted device p n Ignored so = absurd (let e = so in cc)
 was_accepted device p n (Value bytes) so = absurd (let e = so in cc)
 was_accepted device p n (Replied pending status additional content) so = absurd (let e = so in cc)
+was_accepted device p n (Asked asks service class instance attribute body) so = absurd (let e = so in cc)
 was_accepted device p n (Delivered delivery) so = record { delivery = delivery; is = accepted_one device p n delivery so }
 
 pub noted_produced : (device : ℕ) (p : Production) (number : Option ℕ) (verdict : Verdict) (produced : List Production) → Has p produced → AllByRecursion (λ (a : Acceptance). Has a.production produced) (accepted_by_verdict device p number verdict)

@@ -18,6 +18,7 @@ use Rattle.cip_tables.specs.Whole.{FreshDevicesAreWhole}
 use Rattle.segment_world.specs.declared.configs.DeviceKey.TheVariants.{Incarnation}
 use Rattle.segment_world.specs.Configs.{key_in, any_twice, first_fault}
 use Rattle.device_laws.specs.Carrying.{Passes, SlotIds, TableIds}
+use Rattle.device_laws.specs.Plain.{IsPlainDevice}
 use Rattle.schedule_laws.specs.Ids.{is_drawn, any_opening, AreBytes, OpeningWorldsHaveIdsDrawn}
 use Rattle.schedule_laws.proofs.Openings.{both_none, opens_whole}
 
@@ -81,6 +82,15 @@ fresh_all test [] device t at = absurd (let e = at in cc)
 fresh_all test (made ∷ configs) zero t at = subst (TableIds test any_opening) (same_Some (opening_table made) t at) (fresh_ids test made)
 fresh_all test (made ∷ configs) (suc device) t at = fresh_all test configs device t at
 
+fresh_device : (made : Config) → IsPlainDevice (opening_table made)
+fresh_device (config.Adapter profile) = record { dialogues = refl; services = tt; over = tt }
+fresh_device (config.Scanner profile) = tt
+
+fresh_plain : (configs : List Config) (device : ℕ) (t : DeviceTable) → slice_get (map opening_table configs) device ≡ Some t → IsPlainDevice t
+fresh_plain [] device t at = absurd (let e = at in cc)
+fresh_plain (made ∷ configs) zero t at = subst IsPlainDevice (same_Some (opening_table made) t at) (fresh_device made)
+fresh_plain (made ∷ configs) (suc device) t at = fresh_plain configs device t at
+
 pub opening_worlds : FreshDevicesAreWhole → OpeningWorldsHaveIdsDrawn
 opening_worlds fresh configs lives bytes =
     record {
@@ -93,4 +103,5 @@ opening_worlds fresh configs lives bytes =
       tables = λ device t at. fresh_all (is_drawn (map opening_table configs)) configs device t at;
       sent = tt;
       streams = tt;
+      plain = λ device t at. fresh_plain configs device t at;
     }

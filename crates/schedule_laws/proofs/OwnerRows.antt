@@ -10,7 +10,9 @@ use Rattle.cip_events.specs.declared.event.Event.{Event}
 use Rattle.cip_events.specs.declared.event.Event.TheVariants.{Datagram, Write, Tick}
 use Rattle.cip_events.specs.Answers.{is_accepted}
 use Rattle.cip_fwdopen.specs.Open.{OpenFields}
+use Rattle.messaging.specs.declared.table.Messaging.{Messaging}
 use Rattle.adapter_table.specs.Connections.{Row}
+use Rattle.adapter_table.specs.Messages.{messages_table}
 use Rattle.adapter_table.specs.declared.row.State.TheVariants.{TimedOut}
 use Rattle.adapter_table.specs.declared.table.AdapterTable.{AdapterTable}
 use Rattle.adapter_table.specs.Checks.{Admitted}
@@ -23,7 +25,7 @@ use Rattle.adapter_table.specs.Rows.{is_established, lives, written_row, Each}
 use Rattle.adapter_table.specs.Sound.{OpensBefore, OpeningsRise}
 use Rattle.adapter_table.specs.Step.{adapter_step, written_table, changed_table}
 use Rattle.adapter_table.specs.Streams.{with_stream, without_stream, registered_table}
-use Rattle.adapter_table.specs.Ticks.{has_expired, expired_row, expired_rows, clocked_table, expired_table, produced_table}
+use Rattle.adapter_table.specs.Ticks.{has_expired, expired_row, expired_rows, clocked_table, expired_table, produced_table, advanced}
 use Rattle.adapter_table.specs.Lemmas.EffectLemmas.{write_is, tick_is}
 use Rattle.adapter_table.specs.Lemmas.LikeLemmas.{Keeps, written_keeps, changed_keeps, fed_keeps, due_keeps}
 use Rattle.adapter_table.specs.Lemmas.RequestLemmas.{RequestsDo, next_is}
@@ -107,6 +109,15 @@ registered_from : (t : AdapterTable) (number : ℕ) → RowsFrom t (registered_t
 unfolding registered_table
 registered_from t number = own_rows t
 
+messaged_from : (t : AdapterTable) (next_id : ℕ) (m : Messaging) → RowsFrom t (messages_table t next_id m)
+unfolding messages_table
+messaged_from t next_id m = own_rows t
+
+-- other class 3 connections and requests that wait, after another change
+more_from : (t next : AdapterTable) (next_id : ℕ) (m : Messaging) → RowsFrom t next → RowsFrom t (messages_table next next_id m)
+unfolding messages_table
+more_from t next next_id m from = from
+
 requests_from : RequestsDo RowsFrom
 requests_from = record {
   stays = own_rows;
@@ -114,6 +125,7 @@ requests_from = record {
   closed = λ t triad row found. closed_from t row;
   unstreamed = without_from;
   registered = registered_from;
+  messaged = λ t next_id m goes. messaged_from t next_id m;
 }
 
 written_from : (t : AdapterTable) (point : ℕ) (bytes : List ℕ) → RowsFrom t (changed_table (written_table t point bytes) point)
@@ -144,7 +156,7 @@ pub rows_from : (t : AdapterTable) (event : Event) (next : Next) → adapter_ste
 unfolding received
 rows_from t (Datagram peer bytes) next is = subst (λ (n : Next). RowsFrom t n.1) (next_is _ _ is) (datagram_from t peer (datagram_reading bytes))
 rows_from t (Write point bytes) next is = subst (λ (n : Next). RowsFrom t n.1) (write_is t point bytes next is).said (written_from t point bytes)
-rows_from t (Tick ms) next is = subst (λ (n : Next). RowsFrom t n.1) (tick_is t ms next is).said (advanced_from t ms)
+rows_from t (Tick ms) next is = subst (λ (n : Next). RowsFrom t n.1) (tick_is t ms next is).said (more_from t (advanced (clocked_table t ms)).1 _ _ (advanced_from t ms))
 rows_from t other next is = control_does RowsFrom requests_from (λ t number peer free. with_from t number peer) t other next refl is
 
 -- ---- one opening, one connection

@@ -28,7 +28,8 @@ use Rattle.segment_world.specs.declared.act.Act.{Act}
 use Rattle.segment_world.specs.declared.act.ActFault.{ActFault}
 use Rattle.device_laws.specs.Lemmas.Lists.{all_more}
 use Rattle.device_laws.specs.Frames.{IsNoOpening}
-use Rattle.device_laws.specs.Replies.{IsAnswerTo, RepliesCarryOpenedIds}
+use Rattle.device_laws.specs.Plain.{ArePlain}
+use Rattle.device_laws.specs.Replies.{IsLateReply, IsAnswerTo, RepliesCarryOpenedIds}
 use Rattle.device_laws.specs.Requests.{asks_id, frame_asks, is_between, ScannersAskOnce, IsOldOrRequested, NewConnectionsAreRequested}
 use Rattle.device_laws.specs.Lemmas.RequestedIds.{none_requested, one_at_most}
 use Rattle.schedule_laws.specs.Ids.{AreApart, IdsAreDrawn, SchedulesKeepIdsDrawn, OpeningWorldsHaveIdsDrawn}
@@ -200,11 +201,17 @@ none_of id (frame ∷ frames) none =
     no_one true none = absurd (none refl)
     no_one false none = omega arith
 
-answers_open_none : (t u : AdapterTable) (happens : Event) (frame : Frame) → IsInSchedule happens → IsAnswerTo t u happens frame → IsNoOpening frame.bytes
-answers_open_none t u (event.Request peer bytes) frame possible is = absurd possible
-answers_open_none t u (event.Frame number bytes) frame possible is = is.opens_nothing
-answers_open_none t u (event.Inquiry peer bytes) frame possible is = is.opens_nothing
-answers_open_none t u other frame possible is = absurd is
+late_opens_none : (t : AdapterTable) (frame : Frame) → ArePlain t.messaging → IsLateReply t frame → IsNoOpening frame.bytes
+late_opens_none t frame plain (inl is) = absurd (is.over_none plain.over)
+late_opens_none t frame plain (inr is) = is.opens_nothing
+
+answers_open_none : (t u : AdapterTable) (happens : Event) (frame : Frame) → IsInSchedule happens → ArePlain t.messaging → IsAnswerTo t u happens frame → IsNoOpening frame.bytes
+answers_open_none t u (event.Request peer bytes) frame possible plain is = absurd possible
+answers_open_none t u (event.Frame number bytes) frame possible plain is = is.opens_nothing
+answers_open_none t u (event.Inquiry peer bytes) frame possible plain is = is.opens_nothing
+answers_open_none t u (event.Respond number status bytes) frame possible plain is = late_opens_none t frame plain is
+answers_open_none t u (event.Tick ms) frame possible plain is = late_opens_none t frame plain is
+answers_open_none t u other frame possible plain is = absurd is
 
 -- the new connection's T->O id is this one only where the frame asked for it
 row_requested : (t : AdapterTable) (bytes : List ℕ) (row : Row) (profile : ScannerProfile) (k : ℕ) → t.profile.incarnation ≢ profile.incarnation → k < 16777216 → was_opened_as t.next_id row ≡ true → IsOldOrRequested t bytes row → (row.t_o_id.0 == (connection_id profile.incarnation k).0) ≡ true → asks_id (connection_id profile.incarnation k).0 bytes ≡ true
@@ -234,7 +241,7 @@ adapter_uses laws w new device t u happens answer opened s used e x k below (inr
     let drawn = s.drawn in
     let differ = apart_from w device e (Adapter t) (Scanner x) drawn.apart s.at other.1 other.0 in
     let replies = laws.replies t happens answer u (adapter_result (adapter_step t happens) answer u s.stepped) (drawn.whole device (Adapter t) s.at) in
-    let none = none_of (connection_id x.profile.incarnation k).0 answer.frames (all_more (IsAnswerTo t u happens) (λ (f : Frame). IsNoOpening f.bytes) (λ f is. answers_open_none t u happens f s.possible is) answer.frames replies) in
+    let none = none_of (connection_id x.profile.incarnation k).0 answer.frames (all_more (IsAnswerTo t u happens) (λ (f : Frame). IsNoOpening f.bytes) (λ f is. answers_open_none t u happens f s.possible (drawn.plain device (Adapter t) s.at) is) answer.frames replies) in
     other_uses w new device (Adapter t) (Adapter u) happens answer opened (frame_opens w device (Adapter t) happens (Adapter u)) x k s (new_counts laws w new device t u happens answer x.profile k s differ below) (omega (arith, none)) (was_so w opened e x k used other.1 below)
 
 -- ---- an act

@@ -16,7 +16,7 @@ use Rattle.cip_events.specs.declared.event.Delivery.{Delivery}
 use Rattle.cip_events.specs.declared.event.Event.{Event}
 use Rattle.cip_events.specs.declared.event.Event.TheVariants.{Frame}
 use Rattle.cip_events.specs.declared.event.Verdict.{Verdict}
-use Rattle.cip_events.specs.declared.event.Verdict.TheVariants.{Done, BadFrame, Ignored, Value, Replied, Delivered}
+use Rattle.cip_events.specs.declared.event.Verdict.TheVariants.{Done, Asked, BadFrame, Ignored, Value, Replied, Delivered}
 use Rattle.cip_events.specs.Answers.{is_accepted}
 use Rattle.adapter_table.specs.Connections.{Row}
 use Rattle.adapter_table.specs.declared.table.AdapterTable.{AdapterTable}
@@ -175,6 +175,7 @@ accepted_by_verdict device p number BadFrame = []
 accepted_by_verdict device p number Ignored = []
 accepted_by_verdict device p number (Value bytes) = []
 accepted_by_verdict device p number (Replied pending status additional content) = []
+accepted_by_verdict device p number (Asked asks service class instance attribute body) = []
 accepted_by_verdict device p number (Delivered delivery) = accepted_as device p number delivery
 
 abbrev pub accepted_sent : ℕ → Option DeviceTable → Option Sent → Option Production → Verdict → List Acceptance

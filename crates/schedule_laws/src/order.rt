@@ -13,8 +13,8 @@ use cip_tables::laws::{next_id_never_falls, tables_are_whole};
 use device_laws::{
     a_scanners_streams_come_with_events, accepted_numbers_are_newer, answers_send_what_is_made,
     bytes_are_from_scratch, connections_keep_their_ids, counters_never_fall, ids_are_carried,
-    openings_are_numbered, replies_carry_opened_ids, scanners_ask_for_their_own_ids,
-    scanners_send_no_success, slots_have_the_ids_of_their_success,
+    openings_are_numbered, plain_devices_stay_plain, replies_carry_opened_ids,
+    scanners_ask_for_their_own_ids, scanners_send_no_success, slots_have_the_ids_of_their_success,
 };
 use segment_world::laws::projections_are_runs;
 
@@ -66,6 +66,7 @@ pub fn ids_name_openings()
     ids_are_drawn();
     an_id_opens_one_connection();
     ids_are_carried();
+    plain_devices_stay_plain();
     tables_are_whole();
     next_id_never_falls();
     profiles_stay();
@@ -117,6 +118,7 @@ pub fn an_id_names_one_producer()
     answers_send_what_is_made();
     ids_are_drawn();
     ids_are_carried();
+    plain_devices_stay_plain();
     tables_are_whole();
     next_id_never_falls();
     profiles_stay();

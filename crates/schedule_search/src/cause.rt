@@ -1,15 +1,16 @@
 //! How an event can come to a device.
 
-ghost use Rattle.std.specs.Prelude.{◌≡◌, ◌↔◌, ◌<◌, IsTrue, IfOk, IfSome, IfNone, length, slice_get, Some};
+ghost use Rattle.std.specs.Prelude.{◌≡◌, ◌↔◌, ◌<◌, IsTrue, IfOk, IfSome, IfNone, length, slice_get, Some, false};
+ghost use Rattle.cip_events.specs.Arrivals.{is_own};
 ghost use Rattle.cip_events.specs.declared.event.Event.TheVariants as event;
 ghost use Rattle.segment_traffic.specs.Fronts.{view_front};
-ghost use Rattle.segment_world.specs.World.{event_of_call, event_of_item, node_at};
+ghost use Rattle.segment_world.specs.World.{event_of_item, node_at};
 ghost use Rattle.schedule_search.specs.declared.cause.Search.TheVariants as seek;
 ghost use Rattle.schedule_search.specs.Causes.{CanCome, Causes, IsFront, WaitsFirst, WasSent};
 ghost use Rattle.schedule_search.specs.Endpoints.{receiver_in, sender_in};
 
 use cip_tables::{Device, Event};
-use cip_types::{Items, Node, OutOfMemory};
+use cip_types::{Node, OutOfMemory};
 use segment_world::{Act, Call, Direction, Endpoints, QueueFront, World};
 use std::alloc::Global;
 
@@ -177,13 +178,21 @@ fn sent_cause<D: Device + Drop>(
     Some(Act::Deliver { index, device })
 }
 
-// The act that is this event of a device's application, of time at it, or of a peer outside.
+// The act that is this event of a device's application, of time at it, or of a peer outside, if it is one.
 #[tactic(auto, using(crate::proofs::Ways::call_is_cause))]
-fn local_cause<D: Device + Drop>(_world: &World<D>, device: u32, _event: &Event, call: Call) -> Act
-    requires { event_of_call call ≡ _event.now }
-    ensures { Causes _world.now device _event.now result }
+fn local_cause<D: Device + Drop>(
+    alloc: Global,
+    _world: &World<D>,
+    device: u32,
+    event: &Event,
+) -> Result<Option<Act>, OutOfMemory>
+    ensures none { IfOk result (λ o. IfNone o (is_own event.now ≡ false)) }
+    ensures some { IfOk result (λ o. IfSome o (Causes _world.now device event.now)) }
 {
-    Act::Local { device, call }
+    match Call::of_event(alloc, event)? {
+        None => Ok(None),
+        Some(call) => Ok(Some(Act::Local { device, call })),
+    }
 }
 
 /// The act that brings the event to the device now, if there is one.
@@ -198,42 +207,15 @@ pub fn cause<D: Device + Drop>(
     ensures none { IfOk result (λ o. IfNone o (search ≡ seek.All → CanCome world.now device event.now → ⊥)) }
     ensures some { IfOk result (λ o. IfSome o (Causes world.now device event.now)) }
 {
-    let call = match event {
-        Event::Request { .. } => return Ok(None),
-        Event::StreamOpened { stream, .. } => return Ok(stream_cause(
-            world, *stream, device, event,
-        )),
-        Event::Frame { stream, .. } => return Ok(stream_cause(world, *stream, device, event)),
-        Event::StreamCut { stream } => return Ok(stream_cause(world, *stream, device, event)),
-        Event::Datagram { peer, bytes } => return Ok(sent_cause(
-            world,
-            device,
-            *peer,
-            bytes.as_slice(),
-            search,
-        )),
-        Event::Write { point, bytes } => Call::Write {
-            point: *point,
-            bytes: Items::copy_of(alloc, bytes.as_slice())?,
-        },
-        Event::Read { point } => Call::Read { point: *point },
-        Event::Tick { ms } => Call::Tick { ms: *ms },
-        Event::Mode { run } => Call::Mode { run: *run },
-        Event::Start { slot } => Call::Start { slot: *slot },
-        Event::Stop { slot } => Call::Stop { slot: *slot },
-        Event::Explicit {
-            target,
-            number,
-            bytes,
-        } => Call::Explicit {
-            target: *target,
-            number: *number,
-            bytes: Items::copy_of(alloc, bytes.as_slice())?,
-        },
-        Event::Inquiry { peer, bytes } => Call::Inquiry {
-            peer: *peer,
-            bytes: Items::copy_of(alloc, bytes.as_slice())?,
-        },
-    };
-    Ok(Some(local_cause(world, device, event, call)))
+    match event {
+        Event::Request { .. } => Ok(None),
+        Event::StreamOpened { stream, .. } => Ok(stream_cause(world, *stream, device, event)),
+        Event::Frame { stream, .. } => Ok(stream_cause(world, *stream, device, event)),
+        Event::StreamCut { stream } => Ok(stream_cause(world, *stream, device, event)),
+        Event::Datagram { peer, bytes } => {
+            let text = bytes.as_slice();
+            Ok(sent_cause(world, device, *peer, text, search))
+        }
+        _ => local_cause(alloc, world, device, event),
+    }
 }

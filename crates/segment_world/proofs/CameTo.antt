@@ -2,7 +2,7 @@
 use Rattle.std.proofs.Common.{◌≡◌, ◌<◌, ℕ, List, map, set, length, get_or, Some, Ok, Err, IfOk, subst, sym, ap, ◌∙◌}
 use Rattle.std.specs.Option.{option_map}
 use Rattle.std.proofs.lemmas.Option.{slice_get-get_or, slice_get-map}
-use Rattle.std.proofs.lemmas.List.{get_or_default, map-set}
+use Rattle.std.proofs.lemmas.List.{get_or_default, map-set, length-map, length-set}
 use Rattle.cip_types.specs.declared.names.Node.{Node}
 use Rattle.cip_events.specs.Answers.{plain_answer}
 use Rattle.cip_events.specs.declared.event.Delivery.{Delivery}
@@ -38,3 +38,8 @@ was_delivered table old device peer bytes delivery after now within now_is follo
   follows = follows;
   leaves = map-set table old device after;
 }
+
+-- there are as many devices after it
+pub as_many : {D : Type 0} (table : D → DeviceTable) (old new : List D) (device : ℕ) (event : Event) (outcome : Outcome) → CameTo (map table old) device event outcome (map table new) → length new ≡ length old
+as_many table old new device event outcome came =
+    sym (length-map new table) ∙ ap (λ (ts : List DeviceTable). length ts) came.leaves ∙ length-set (map table old) device came.after ∙ length-map old table

@@ -1,6 +1,7 @@
 //! Acts in a world, and their faults.
 
-ghost use Rattle.std.specs.Prelude.{◌≡◌, IfOk};
+ghost use Rattle.std.specs.Prelude.{◌≡◌, IfNone, IfOk, IfSome, false};
+ghost use Rattle.cip_events.specs.Arrivals.{is_own};
 ghost use Rattle.cip_events.specs.Outcomes.{Follows};
 ghost use Rattle.cip_tables.specs.Step.{step};
 ghost use Rattle.segment_world.specs.World.{event_of_call, event_of_ready};
@@ -42,6 +43,12 @@ pub enum Call {
         number: u32,
         bytes: Items<u8>,
     },
+    /// The application of an adapter answers the request that the device gave it with this number: general status, and data.
+    Respond {
+        number: u64,
+        status: u8,
+        bytes: Items<u8>,
+    },
     /// A number of milliseconds passes, at most 60,000.
     Tick {
         ms: u32,
@@ -60,7 +67,8 @@ pub enum ReadyCall<'a> {
 }
 
 impl Call {
-    /// Makes the call ready, with a copy of the bytes of an explicit request or an inquiry. `OutOfMemory` is the only error.
+    /// Makes the call ready, with a copy of the bytes of an explicit request, of an answer to one, or of an inquiry.
+    /// `OutOfMemory` is the only error.
     pub fn ready(&self, alloc: Global) -> Result<ReadyCall<'_>, OutOfMemory>
         ensures { IfOk result (λ ready. event_of_ready ready ≡ event_of_call self.now) }
     {
@@ -79,12 +87,67 @@ impl Call {
                 number: *number,
                 bytes: Items::copy_of(alloc, bytes.as_slice())?,
             }),
+            Call::Respond {
+                number,
+                status,
+                bytes,
+            } => ReadyCall::Event(Event::Respond {
+                number: *number,
+                status: *status,
+                bytes: Items::copy_of(alloc, bytes.as_slice())?,
+            }),
             Call::Tick { ms } => ReadyCall::Event(Event::Tick { ms: *ms }),
             Call::Inquiry { peer, bytes } => ReadyCall::Event(Event::Inquiry {
                 peer: *peer,
                 bytes: Items::copy_of(alloc, bytes.as_slice())?,
             }),
         })
+    }
+
+    /// Answers the call that makes the event, with a copy of its bytes, or none for an event that no call makes.
+    /// `OutOfMemory` is the only error.
+    pub fn of_event(alloc: Global, event: &Event) -> Result<Option<Call>, OutOfMemory>
+        ensures none { IfOk result (λ o. IfNone o (is_own event.now ≡ false)) }
+        ensures some { IfOk result (λ o. IfSome o (λ call. event_of_call call ≡ event.now)) }
+    {
+        Ok(Some(match event {
+            Event::Request { .. }
+            | Event::StreamOpened { .. }
+            | Event::Frame { .. }
+            | Event::StreamCut { .. }
+            | Event::Datagram { .. } => return Ok(None),
+            Event::Write { point, bytes } => Call::Write {
+                point: *point,
+                bytes: Items::copy_of(alloc, bytes.as_slice())?,
+            },
+            Event::Read { point } => Call::Read { point: *point },
+            Event::Tick { ms } => Call::Tick { ms: *ms },
+            Event::Mode { run } => Call::Mode { run: *run },
+            Event::Start { slot } => Call::Start { slot: *slot },
+            Event::Stop { slot } => Call::Stop { slot: *slot },
+            Event::Explicit {
+                target,
+                number,
+                bytes,
+            } => Call::Explicit {
+                target: *target,
+                number: *number,
+                bytes: Items::copy_of(alloc, bytes.as_slice())?,
+            },
+            Event::Respond {
+                number,
+                status,
+                bytes,
+            } => Call::Respond {
+                number: *number,
+                status: *status,
+                bytes: Items::copy_of(alloc, bytes.as_slice())?,
+            },
+            Event::Inquiry { peer, bytes } => Call::Inquiry {
+                peer: *peer,
+                bytes: Items::copy_of(alloc, bytes.as_slice())?,
+            },
+        }))
     }
 }
 

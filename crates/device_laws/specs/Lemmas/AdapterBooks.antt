@@ -37,6 +37,8 @@ use Rattle.adapter_table.specs.Rows.{is_established, is_member, written_row}
 use Rattle.adapter_table.specs.Step.{adapter_step, written_table, changed_table}
 use Rattle.adapter_table.specs.Streams.{with_stream, without_stream, registered_table}
 use Rattle.adapter_table.specs.Ticks.{has_expired, expired_row, expired_rows, clocked_table, expired_table, produced_table}
+use Rattle.messaging.specs.declared.table.Messaging.{Messaging}
+use Rattle.adapter_table.specs.Messages.{messages_table}
 use Rattle.adapter_table.specs.Lemmas.CheckLemmas.{admitted_is, draws_some}
 use Rattle.adapter_table.specs.Lemmas.EffectLemmas.{adapter_keeps}
 use Rattle.adapter_table.specs.Lemmas.RequestLemmas.{RequestsDo, next_is}
@@ -140,6 +142,10 @@ registered_produces : (t : AdapterTable) (number : ℕ) → RowsProduceInputs t 
 unfolding registered_table
 registered_produces t number ok = ok
 
+messages_produce : (t : AdapterTable) (next_id : ℕ) (m : Messaging) → RowsProduceInputs t → RowsProduceInputs (messages_table t next_id m)
+unfolding messages_table
+messages_produce t next_id m ok = ok
+
 effects_produce : EffectsKeep RowsProduceInputs
 effects_produce = record {
   opened = opened_produces;
@@ -150,6 +156,7 @@ effects_produce = record {
   streamed = λ t number peer free ok. with_produces t number peer ok;
   unstreamed = without_produces;
   registered = registered_produces;
+  messaged = λ t next_id m goes ok. messages_produce t next_id m ok;
 }
 
 -- each step keeps that connections produce inputs
@@ -251,6 +258,12 @@ registered_keeps : (sent : List Production) (device : ℕ) (value : ℕ → List
 unfolding registered_table
 registered_keeps sent device value t number ok = record { unproduced = ok.unproduced; rows = ok.rows }
 
+-- more ids may be drawn
+pub messages_keep : (sent : List Production) (device : ℕ) (value : ℕ → List ℕ) (t : AdapterTable) (next_id : ℕ) (m : Messaging) → t.next_id ≤ next_id → Keeps sent device value t (messages_table t next_id m)
+unfolding messages_table
+messages_keep sent device value t next_id m later ok =
+    record { unproduced = λ n le. ok.unproduced n (omega (arith, later, le)); rows = rows_on sent device t.next_id next_id value t.rows later ok.rows }
+
 requests_keep : (sent : List Production) (device : ℕ) (value : ℕ → List ℕ) → RequestsDo (Keeps sent device value)
 requests_keep sent device value = record {
   stays = λ t ok. ok;
@@ -258,6 +271,7 @@ requests_keep sent device value = record {
   closed = λ t triad row found. closed_keeps sent device value t row;
   unstreamed = without_keeps sent device value;
   registered = registered_keeps sent device value;
+  messaged = λ t next_id m goes. messages_keep sent device value t next_id m goes.later;
 }
 
 accepted_books : (sent : List Production) (device next : ℕ) (value : ℕ → List ℕ) (clock : Ms) (peer : Node) (d : DatagramFields) (row : Row) → RowBooks sent device next value row → RowBooks sent device next value (accepted_if_for clock peer d row)

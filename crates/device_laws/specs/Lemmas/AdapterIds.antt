@@ -1,7 +1,7 @@
 -- A step of an adapter carries ids: those of its connections, and those that it sends, were in the table, came with the
 -- event, or were allocated.
-use Rattle.std.proofs.Common.{◌≡◌, ◌≤◌, ℕ, ◌+◌, ◌==◌, nat_lt, Bool, true, false, cond, not, List, [], ◌++◌, length, map, filter, find, Option, Some, None, Result, Ok, Err, refl, sym, ap, subst, arith, length-append}
-use Rattle.std.specs.List.{AllByRecursion, filter_map}
+use Rattle.std.proofs.Common.{◌≡◌, ◌≤◌, ℕ, ◌+◌, ◌==◌, nat_lt, Bool, true, false, cond, not, List, [], ◌∷◌, ◌++◌, length, map, filter, find, Option, Some, None, Result, Ok, Err, refl, sym, ap, subst, arith, length-append}
+use Rattle.std.specs.List.{AllByRecursion, filter_map, flat_map}
 use Rattle.std.specs.Option.{IfSome, option_map}
 use Rattle.std.specs.Result.{result_ok}
 use Rattle.std.specs.Str.{bytes_eq}
@@ -19,6 +19,7 @@ use Rattle.cip_encap.specs.declared.packet.ItemFault.TheVariants.{Bad}
 use Rattle.cip_encap.specs.declared.packet.SocketAddress.{SocketAddress}
 use Rattle.cip_encap.specs.Message.{MessageFields, header_widths, header_numbers, message_text}
 use Rattle.cip_encap.specs.Reading.{message_reading}
+use Rattle.cip_encap.specs.ConnectedReading.{connected_reading}
 use Rattle.cip_encap.specs.Packet.{PacketFields, packet_widths, packet_numbers, socket_count, socket_items, packet_text}
 use Rattle.cip_encap.specs.PacketReading.{behind_socket, are_sockets, packet_reading}
 use Rattle.cip_encap.specs.ReadsBack.{ItemsReadBack}
@@ -26,16 +27,18 @@ use Rattle.cip_epath.specs.Path.{PathFields}
 use Rattle.cip_epath.specs.Reading.{path_reading}
 use Rattle.cip_fwdopen.specs.Open.{OpenFields}
 use Rattle.cip_fwdopen.specs.Close.{CloseFields, closed_text}
-use Rattle.cip_fwdopen.specs.Reply.{opened_text, refused_text}
+use Rattle.cip_fwdopen.specs.Reply.{reply_service, opened_text, refused_text}
 use Rattle.cip_events.specs.declared.event.Event.{Event}
 use Rattle.cip_events.specs.declared.event.Event.TheVariants as event
 use Rattle.cip_events.specs.declared.event.StepFault.{StepFault}
 use Rattle.cip_events.specs.declared.event.StepFault.TheVariants.{NotAllowedNow, TickTooLong, ClockEnd, WrongLength}
+use Rattle.cip_events.specs.declared.event.Frame.{Frame}
 use Rattle.cip_events.specs.declared.event.Recipient.{Recipient}
 use Rattle.cip_events.specs.declared.event.Recipient.TheVariants.{Peer, Stream as OverStream}
 use Rattle.cip_events.specs.declared.event.Verdict.TheVariants.{Done}
 use Rattle.cip_events.specs.Answers.{plain_answer, is_accepted}
 use Rattle.cip_events.specs.Clock.{longest_tick, clock_end}
+use Rattle.cip_netparams.specs.Word.{is_message_trigger}
 use Rattle.cip_productions.specs.declared.production.Producer.{Producer}
 use Rattle.cip_productions.specs.Productions.{Produced, same_producer, by_number, by_due, sent}
 use Rattle.cip_router.specs.declared.command.Command.{Command}
@@ -48,11 +51,19 @@ use Rattle.cip_router.specs.declared.refusal.Status.{Status}
 use Rattle.cip_router.specs.declared.refusal.Status.TheVariants as status
 use Rattle.cip_router.specs.Requests.{RouterRequestFields, nothing, refused, closing, object, opening, router_request_reading}
 use Rattle.cip_router.specs.Commands.{command_of, is_silent}
-use Rattle.cip_router.specs.Frames.{RequestHeader, request_header_of, wrong_length_of, frame_fields, FrameReply, services, registered, other_version, router_reply, protocol_text, socket_of, reply_message, frame_reading}
+use Rattle.cip_router.specs.Frames.{RequestHeader, request_header_of, wrong_length_of, frame_fields, FrameReply, services, registered, other_version, router_reply, connected, protocol_text, socket_of, reply_message, frame_reading}
 use Rattle.cip_router.specs.Frames as frames
 use Rattle.cip_router.specs.Refusals.{status_fault, refusal_fault, status_code}
-use Rattle.cip_router.specs.Replies.{ReplyFields, opened, closed, object_reply, object_reply_text, reply_text}
+use Rattle.cip_router.specs.Replies.{ReplyFields, opened, closed, object_reply, object_reply_text, own_reply_text, reply_text}
 use Rattle.cip_router.specs.Replies as replies
+use Rattle.messaging.specs.declared.dialogue.Dialogue.{Dialogue}
+use Rattle.messaging.specs.declared.requests.Requester.{Requester}
+use Rattle.messaging.specs.declared.requests.Requester.TheVariants as asker
+use Rattle.messaging.specs.declared.requests.Waiting.{Waiting}
+use Rattle.messaging.specs.declared.table.Messaging.{Messaging}
+use Rattle.messaging.specs.Changes.{lacks_room}
+use Rattle.messaging.specs.Dialogues.{has_dialogue_triad, is_last_message}
+use Rattle.messaging.specs.Times.{without_late_dialogues, late_waiting}
 use Rattle.adapter_table.specs.declared.profile.InputPoint.{InputPoint}
 use Rattle.adapter_table.specs.Connections.{Row}
 use Rattle.adapter_table.specs.declared.row.State.{State}
@@ -65,23 +76,30 @@ use Rattle.adapter_table.specs.Objects.{ObjectAnswer, said, denied, resetting, o
 use Rattle.adapter_table.specs.Inquiries.{frame_alone, inquiry_reply, inquired_by, inquired}
 use Rattle.adapter_table.specs.Rows.{has_triad, is_member, written_state, written_row}
 use Rattle.adapter_table.specs.Checks.{Check, Points, Admitted, drawn_ids, group_of, joined, named_points, points_of, path_check, consumed_point_of, input_of, is_multicast, judged, view_of, verdict, admission}
-use Rattle.adapter_table.specs.StatedLimits.{exceeds, limited, limited_admission, is_wrong_closer}
+use Rattle.adapter_table.specs.Answering.{dialogue_frames, route_frames, rr_header, unit_header, responded, respond}
+use Rattle.adapter_table.specs.Connected.{fitted_text}
+use Rattle.adapter_table.specs.DialogueOpening.{dialogue_view, dialogue_refusal, opened_dialogue, judged_dialogue, served_dialogue, stream_served}
+use Rattle.adapter_table.specs.Messages.{messages_table}
+use Rattle.adapter_table.specs.Own.{OwnRequest, own_of}
+use Rattle.adapter_table.specs.StatedLimits.{exceeds, limited, limited_admission, is_wrong_closer, is_wrong_ender}
 use Rattle.adapter_table.specs.declared.maker_limits.MakerLimits.{MakerLimits}
 use Rattle.adapter_table.specs.Opening.{opened_t_o_id, opened_row, opened_table}
 use Rattle.adapter_table.specs.Closing.{stays, without_triad, closed_table}
 use Rattle.adapter_table.specs.Datagrams.{is_for, accepted_row, accepted_if_for, row_delivery, accepted_table, delivered, found_datagram, datagram_of, received}
 use Rattle.adapter_table.specs.Productions as productions
 use Rattle.adapter_table.specs.Productions.{state_producer, producer_in, producers, production_of, is_due, due_producers, produced_state, produced_row, produces_on_change, producers_on_change, changed_state, changed_row}
-use Rattle.adapter_table.specs.Requests.{Next, Served, judged_open, admitted_open, served_open, close_of, served_close, router_refusal, object_served, served_object, served}
+use Rattle.adapter_table.specs.Requests.{Next, Served, judged_open, admitted_open, served_open, close_of, served_close, end_of, served_end, router_refusal, object_served, served_object, served}
 use Rattle.adapter_table.specs.Streams.{is_stream, is_taken, with_stream, without_stream, has_session, registered_table, stream_opened, cut_of, stream_cut}
-use Rattle.adapter_table.specs.Encapsulation.{Handled, refusal, unanswered, session_begun, session_ended, register_session, request_replied, packet_replied, handled, reply_frames, framed, frame_answer, stream_answer, frame_of, frame}
-use Rattle.adapter_table.specs.Ticks.{has_expired, expired_row, expired_rows, clocked_table, expired_table, produced_table, advanced, tick}
+use Rattle.adapter_table.specs.Encapsulation.{Handled, refusal, unanswered, session_begun, session_ended, register_session, request_replied, request_handled, packet_replied, unit_replied, handled, reply_frames, framed, frame_answer, stream_answer, frame_of, frame}
+use Rattle.adapter_table.specs.Ticks.{has_expired, expired_row, expired_rows, clocked_table, expired_table, produced_table, advanced, late_frames, aged_next, tick}
 use Rattle.adapter_table.specs.Step.{written_table, changed_table, written, write_of, write, adapter_step}
 use Rattle.answer_sizes.specs.Sizes.{IsShortFrame, IsSmall}
-use Rattle.device_laws.specs.Ids.{RequestIds, PayloadIds, PacketIds, MessageIds, FrameIds, HasFrameIds, HasDatagramId, AnswerIds, RowIds, FromTo, IdsFromTo, EventIds}
+use Rattle.device_laws.specs.Ids.{RequestIds, PayloadIds, PacketIds, MessageIds, FrameIds, HasFrameIds, HasDatagramId, AnswerIds, RowIds, FromTo, IdsFromTo, EventIds, WayIds, AnsweredIds}
 use Rattle.device_laws.specs.Lemmas.Lists.{all_both, all_more, all_filtered, all_mapped, all_found, all_ordered, all_firsts, all_made}
 use Rattle.device_laws.specs.Lemmas.Texts.{either, Cuts, message_ids, packet_ids, datagram_id}
-use Rattle.device_laws.specs.Lemmas.Payloads.{opened_ids, closed_ids, object_ids, refused_ids}
+use Rattle.device_laws.specs.Lemmas.Payloads.{opened_ids, closed_ids, object_ids, refused_ids, own_refused_ids}
+use Rattle.device_laws.specs.Lemmas.ConnectedTexts.{connected_bad}
+use Rattle.device_laws.specs.Lemmas.MessageSteps.{IsItemless, IsOfMessages, unit_of, respond_holds}
 use Rattle.device_laws.specs.Lemmas.InquiryTexts.{IsPlainText, plain_services, plain_ids, inquiry_plain}
 use Rattle.adapter_table.specs.Lemmas.PassiveLemmas.{passive_holds}
 
@@ -181,6 +199,9 @@ nonzero status.NotSettable = refl
 nonzero status.PrivilegeViolation = refl
 nonzero status.StateConflict = refl
 nonzero status.InvalidParameter = refl
+nonzero status.ResourceUnavailable = refl
+nonzero status.ReplyTooLarge = refl
+nonzero status.VendorSpecific = refl
 
 refusal_holds : (P Q : ℕ → Type 0) (t : AdapterTable) (service : ℕ) (why : Status) → RowsHold P Q t.rows → ServedHolds P Q (router_refusal t service why)
 refusal_holds P Q t service why rows = (refused_ids P service (status_fault why) None (nonzero why), rows)
@@ -209,6 +230,12 @@ close_holds P Q t peer request (Some row) rows =
     (refused_ids P 0x4E (status_fault status.PrivilegeViolation) (Some request.triad) refl, rows)
     (closed_ids P row.triad, all_filtered (RowIds P Q) (stays (without_triad row.triad t.rows)) (without_triad row.triad t.rows) (all_filtered (RowIds P Q) _ t.rows rows))
 
+end_holds : (P Q : ℕ → Type 0) (t : AdapterTable) (peer : Node) (request : CloseFields) (found : Option Dialogue) → RowsHold P Q t.rows → ServedHolds P Q (end_of t peer request found)
+unfolding served_close messages_table
+end_holds P Q t peer request None rows = close_holds P Q t peer request (find (has_triad request.triad) t.rows) rows
+end_holds P Q t peer request (Some d) rows =
+    either (ServedHolds P Q) (is_wrong_ender t.profile.limits peer d) _ _ (refused_ids P 0x4E (status_fault status.PrivilegeViolation) (Some request.triad) refl, rows) (closed_ids P d.triad, rows)
+
 object_holds : (P Q : ℕ → Type 0) (t : AdapterTable) (service : ℕ) (answer : ObjectAnswer) → RowsHold P Q t.rows → ServedHolds P Q (object_served t service answer)
 object_holds P Q t service (said by value) rows = (object_ids P by value, rows)
 object_holds P Q t service (denied why) rows = refusal_holds P Q t service why rows
@@ -223,14 +250,36 @@ next_of next None = next
 next_of next (Some s) = s.table.next_id
 
 served_holds : (P Q : ℕ → Type 0) → Cuts P → (t : AdapterTable) (peer : Node) (request : RouterRequestFields) (to : ℕ) → next_of to (served t peer request) ≤ to → HasDrawn P Q t to → RequestIds P request → RowsHold P Q t.rows → AnyHolds P Q (served t peer request)
-unfolding served_open served_close served_object
+unfolding served_open served_end served_object
 served_holds P Q cuts t peer nothing to below drawn ids rows = tt
 served_holds P Q cuts t peer (refused service why) to below drawn ids rows = refusal_holds P Q t service why rows
-served_holds P Q cuts t peer (closing request) to below drawn ids rows = close_holds P Q t peer request (find (has_triad request.triad) t.rows) rows
+served_holds P Q cuts t peer (closing request) to below drawn ids rows = end_holds P Q t peer request (find (has_dialogue_triad request.triad) t.messaging.dialogues) rows
 served_holds P Q cuts t peer (object service class instance attribute body) to below drawn ids rows = object_holds P Q t service (object_answer t service class instance attribute body) rows
 served_holds P Q cuts t peer (opening large request) to below drawn ids rows =
     open_holds P Q cuts t peer large request (limited_admission t peer request) to below drawn
     (limited_holds P t.profile.limits t.rows peer (admission t request) (admission_holds P Q t request rows)) ids rows
+
+-- ---- what is replied over a stream
+
+dialogue_holds : (P Q : ℕ → Type 0) → Cuts P → (t : AdapterTable) (stream : Stream) (large : Bool) (request : OpenFields) (c : Check) (to : ℕ) → (judged_dialogue t stream large request c).table.next_id ≤ to → HasDrawn P Q t to → P request.t_o_id.0 → RowsHold P Q t.rows → ServedHolds P Q (judged_dialogue t stream large request c)
+unfolding messages_table opened_dialogue
+dialogue_holds P Q cuts t stream large request (Some why) to below drawn requested rows = (refused_ids P _ (refusal_fault why) (Some request.triad) refl, rows)
+dialogue_holds P Q cuts t stream large request None to below drawn requested rows =
+    let o_t = drawn.0 t.next_id (omega arith) (omega (arith, below)) in
+    (opened_ids P large _ (cuts _ o_t) (cuts _ requested), rows)
+
+over_stream_step : (P Q : ℕ → Type 0) → Cuts P → (b : Bool) (t : AdapterTable) (stream : Stream) (large : Bool) (request : OpenFields) (to : ℕ) → next_of to (cond b (Some (served_dialogue t stream large request)) (served t stream.peer (opening large request))) ≤ to → HasDrawn P Q t to → P request.t_o_id.0 → RowsHold P Q t.rows → AnyHolds P Q (cond b (Some (served_dialogue t stream large request)) (served t stream.peer (opening large request)))
+unfolding served_dialogue
+over_stream_step P Q cuts true t stream large request to below drawn requested rows =
+    dialogue_holds P Q cuts t stream large request (dialogue_refusal (dialogue_view t stream.peer request.triad) request) to below drawn requested rows
+over_stream_step P Q cuts false t stream large request to below drawn requested rows = served_holds P Q cuts t stream.peer (opening large request) to below drawn requested rows
+
+over_stream_holds : (P Q : ℕ → Type 0) → Cuts P → (t : AdapterTable) (stream : Stream) (request : RouterRequestFields) (to : ℕ) → next_of to (stream_served t stream request) ≤ to → HasDrawn P Q t to → RequestIds P request → RowsHold P Q t.rows → AnyHolds P Q (stream_served t stream request)
+over_stream_holds P Q cuts t stream (opening large request) to below drawn ids rows = over_stream_step P Q cuts (is_message_trigger request.trigger) t stream large request to below drawn ids rows
+over_stream_holds P Q cuts t stream nothing to below drawn ids rows = served_holds P Q cuts t stream.peer nothing to below drawn ids rows
+over_stream_holds P Q cuts t stream (refused service why) to below drawn ids rows = served_holds P Q cuts t stream.peer (refused service why) to below drawn ids rows
+over_stream_holds P Q cuts t stream (closing request) to below drawn ids rows = served_holds P Q cuts t stream.peer (closing request) to below drawn ids rows
+over_stream_holds P Q cuts t stream (object service class instance attribute body) to below drawn ids rows = served_holds P Q cuts t stream.peer (object service class instance attribute body) to below drawn ids rows
 
 -- ---- messages
 
@@ -240,6 +289,7 @@ SaysIds P services = Unit {0}
 SaysIds P (registered session) = Unit {0}
 SaysIds P other_version = Unit {0}
 SaysIds P (frames.refused why) = Unit {0}
+SaysIds P (connected connection count text) = Unit {0}
 
 -- the answer to a message, if the counter stays within the limit
 abbrev HandledHolds : (P Q : ℕ → Type 0) → ℕ → Handled → Type 0
@@ -256,10 +306,36 @@ replied_holds : (P Q : ℕ → Type 0) (to : ℕ) (t : AdapterTable) (s : Option
 replied_holds P Q to t None rows holds = λ below. (tt, rows)
 replied_holds P Q to t (Some s) rows holds = holds
 
-packet_holds : (P Q : ℕ → Type 0) → Cuts P → (to : ℕ) (t : AdapterTable) (peer : Node) (reading : Result PacketFields ItemFault) → HasDrawn P Q t to → PacketIds P reading → RowsHold P Q t.rows → HandledHolds P Q to (packet_replied t peer reading)
-packet_holds P Q cuts to t peer (Err fault) drawn ids rows = λ below. (tt, rows)
-packet_holds P Q cuts to t peer (Ok packet) drawn ids rows =
-    replied_holds P Q to t (served t peer (router_request_reading packet.payload)) rows (λ below. served_holds P Q cuts t peer (router_request_reading packet.payload) to below drawn ids.requested rows)
+request_holds : (P Q : ℕ → Type 0) → Cuts P → (to : ℕ) (t : AdapterTable) (stream : Stream) (context : ℕ) (request : RouterRequestFields) (asks : Option OwnRequest) → HasDrawn P Q t to → RequestIds P request → RowsHold P Q t.rows → HandledHolds P Q to (request_handled t stream context request asks)
+unfolding messages_table
+request_holds P Q cuts to t stream context request None drawn ids rows =
+    replied_holds P Q to t (stream_served t stream request) rows (λ below. over_stream_holds P Q cuts t stream request to below drawn ids rows)
+request_holds P Q cuts to t stream context request (Some own) drawn ids rows =
+    either (HandledHolds P Q to) (lacks_room t.messaging) (request_replied t (Some (router_refusal t own.service status.ResourceUnavailable))) _
+    (λ below. refusal_holds P Q t own.service status.ResourceUnavailable rows) (λ below. (tt, rows))
+
+packet_holds : (P Q : ℕ → Type 0) → Cuts P → (to : ℕ) (t : AdapterTable) (stream : Stream) (context : ℕ) (reading : Result PacketFields ItemFault) → HasDrawn P Q t to → PacketIds P reading → RowsHold P Q t.rows → HandledHolds P Q to (packet_replied t stream context reading)
+packet_holds P Q cuts to t stream context (Err fault) drawn ids rows = λ below. (tt, rows)
+packet_holds P Q cuts to t stream context (Ok packet) drawn ids rows =
+    request_holds P Q cuts to t stream context (router_request_reading packet.payload) (own_of t.profile.objects (router_request_reading packet.payload)) drawn ids.requested rows
+
+messages_hold : (P Q : ℕ → Type 0) (t : AdapterTable) (next_id : ℕ) (m : Messaging) → RowsHold P Q t.rows → RowsHold P Q (messages_table t next_id m).rows
+unfolding messages_table
+messages_hold P Q t next_id m rows = rows
+
+itemless_ids : (P : ℕ → Type 0) (reply : Option FrameReply) → IfSome reply IsItemless → IfSome reply (SaysIds P)
+itemless_ids P None none = tt
+itemless_ids P (Some services) none = absurd none
+itemless_ids P (Some (registered session)) none = absurd none
+itemless_ids P (Some other_version) none = absurd none
+itemless_ids P (Some (router_reply reply address)) none = absurd none
+itemless_ids P (Some (frames.refused why)) none = tt
+itemless_ids P (Some (connected connection count text)) none = tt
+
+-- what becomes of a connected message
+of_messages : (P Q : ℕ → Type 0) (to : ℕ) (t : AdapterTable) (done : Handled) → IsOfMessages t done → RowsHold P Q t.rows → HandledHolds P Q to done
+of_messages P Q to t done is rows = λ below.
+    (itemless_ids P done.reply is.reply, subst (λ (u : AdapterTable). RowsHold P Q u.rows) (sym is.table) (messages_hold P Q t t.next_id is.messages rows))
 
 handled_holds : (P Q : ℕ → Type 0) → Cuts P → (to : ℕ) (t : AdapterTable) (stream : Stream) (request_header : RequestHeader) (body : List ℕ) (kind : Command) → HasDrawn P Q t to → PacketIds P (packet_reading body) → RowsHold P Q t.rows → HandledHolds P Q to (handled t stream request_header body kind)
 unfolding handled without_stream
@@ -267,7 +343,10 @@ handled_holds P Q cuts to t stream request_header body command.RegisterSession d
 handled_holds P Q cuts to t stream request_header body command.UnregisterSession drawn ids rows =
     either (HandledHolds P Q to) (has_session stream request_header.session) (session_ended t stream) (unanswered t) (λ below. (tt, rows)) (λ below. (tt, rows))
 handled_holds P Q cuts to t stream request_header body command.SendRrData drawn ids rows =
-    either (HandledHolds P Q to) (has_session stream request_header.session) _ _ (packet_holds P Q cuts to t stream.peer (packet_reading body) drawn ids rows) (λ below. (tt, rows))
+    either (HandledHolds P Q to) (has_session stream request_header.session) _ _ (packet_holds P Q cuts to t stream request_header.context (packet_reading body) drawn ids rows) (λ below. (tt, rows))
+handled_holds P Q cuts to t stream request_header body command.SendUnitData drawn ids rows =
+    either (HandledHolds P Q to) (has_session stream request_header.session) (unit_replied t stream (connected_reading body)) (refusal t encap.InvalidCommand)
+    (of_messages P Q to t (unit_replied t stream (connected_reading body)) (unit_of t stream (connected_reading body)) rows) (λ below. (tt, rows))
 handled_holds P Q cuts to t stream request_header body _ drawn ids rows = λ below. (tt, rows)
 
 -- ---- frames
@@ -281,11 +360,12 @@ unfolding packet_reading are_sockets behind_socket
 plain_none = refl
 
 pub some_bytes : (reply : ReplyFields) → 1 ≤ length (reply_text reply)
-unfolding opened_text closed_text object_reply_text refused_text
+unfolding opened_text closed_text object_reply_text refused_text own_reply_text
 some_bytes (opened large o) = omega arith
 some_bytes (closed triad) = omega arith
 some_bytes (object_reply by value) = omega arith
 some_bytes (replies.refused service fault triad) = omega arith
+some_bytes (replies.own service general content) = omega arith
 
 pub few_bytes : (m : MessageFields) (payload : List ℕ) (socket : Option SocketAddress) → m.payload ≡ packet_text payload socket → length (message_text m) ≤ 2048 → length payload ≤ 65535
 few_bytes m payload socket is short =
@@ -301,6 +381,7 @@ reply_ids back P request_header services ids short = subst (PacketIds P) (sym pl
 reply_ids back P request_header (registered session) ids short = subst (PacketIds P) (sym plain_protocol) tt
 reply_ids back P request_header other_version ids short = subst (PacketIds P) (sym plain_protocol) tt
 reply_ids back P request_header (frames.refused why) ids short = subst (PacketIds P) (sym plain_none) tt
+reply_ids back P request_header (connected connection count text) ids short = subst (PacketIds P) (sym (connected_bad connection count text)) tt
 
 replies_hold : ItemsReadBack → (P : ℕ → Type 0) (number : ℕ) (request_header : RequestHeader) (reply : Option FrameReply) → IfSome reply (SaysIds P) → AllByRecursion IsShortFrame (reply_frames number request_header reply) → AllByRecursion (HasFrameIds P) (reply_frames number request_header reply)
 replies_hold back P number request_header None ids short = tt
@@ -387,24 +468,76 @@ sent_hold P Q cuts rows input ps holds =
     all_mapped (ProducedHolds P) (HasDatagramId P) sent (λ p id. datagram_id P p.datagram (cuts _ id)) (map (λ producer. production_of rows (input producer) producer) ps)
     (all_mapped (ProducerHolds P) (ProducedHolds P) (λ producer. production_of rows (input producer) producer) (λ producer id. id) ps holds)
 
-advanced_holds : (P Q : ℕ → Type 0) → Cuts P → (to : ℕ) (t : AdapterTable) (ms : ℕ) → RowsHold P Q t.rows → NextHolds P Q to (advanced (clocked_table t ms))
+advanced_holds : (P Q : ℕ → Type 0) → Cuts P → (t : AdapterTable) (ms : ℕ) → RowsHold P Q t.rows → AllByRecursion (HasDatagramId P) (advanced (clocked_table t ms)).0.datagrams × RowsHold P Q (advanced (clocked_table t ms)).1.rows
 unfolding clocked_table expired_table produced_table
-advanced_holds P Q cuts to t ms rows = λ below small.
+advanced_holds P Q cuts t ms rows =
     let clock : Ms = record { 0 = t.clock.0 + ms } in
     let after = expired_rows clock t.rows in
     let left = all_filtered (RowIds P Q) (stays (expired_rows clock t.rows)) (expired_rows clock t.rows) (all_mapped (RowIds P Q) (RowIds P Q) (expired_row clock) (expired_holds P Q clock) t.rows rows) in (
-      record {
-        frames = tt;
-        datagrams = sent_hold P Q cuts (filter (stays after) after) (productions.input_of t.values) (due_producers clock (filter (stays after) after)) (producers_hold P Q (is_due clock) by_due (filter (stays after) after) left);
-      },
+      sent_hold P Q cuts (filter (stays after) after) (productions.input_of t.values) (due_producers clock (filter (stays after) after)) (producers_hold P Q (is_due clock) by_due (filter (stays after) after) left),
       all_mapped (RowIds P Q) (RowIds P Q) (produced_row clock) (produced_holds P Q clock) (filter (stays after) after) left,
     )
 
-tick_holds : (P Q : ℕ → Type 0) → Cuts P → (to : ℕ) (t : AdapterTable) (ms : ℕ) → RowsHold P Q t.rows → OkHolds P Q to (tick t ms)
+-- ---- replies of the application, and those in its place
+
+-- a text of four bytes is no message
+four_bytes : (P : ℕ → Type 0) (a b c d : ℕ) → FrameIds P (a ∷ b ∷ c ∷ d ∷ [])
+unfolding message_reading
+four_bytes P a b c d = tt
+
+dialogue_frames_hold : (P : ℕ → Type 0) (count service : ℕ) (reply : ReplyFields) (found : Option Dialogue) → AllByRecursion (HasFrameIds P) (dialogue_frames count service reply found)
+dialogue_frames_hold P count service reply None = tt
+dialogue_frames_hold P count service reply (Some d) =
+    let text : FrameReply = connected d.t_o_id.0 count (fitted_text d service reply) in
+    (message_ids P (reply_message (unit_header d.stream) text) (subst (PacketIds P) (sym (connected_bad d.t_o_id.0 count (fitted_text d service reply))) tt), tt)
+
+route_hold : ItemsReadBack → (P : ℕ → Type 0) (m : Messaging) (from : Requester) (service : ℕ) (reply : ReplyFields) → WayIds P from (reply_text reply) → AllByRecursion IsShortFrame (route_frames m from service reply) → AllByRecursion (HasFrameIds P) (route_frames m from service reply)
+route_hold back P m (asker.Peer node) service reply ids short = (ids, tt)
+route_hold back P m (asker.Stream number context) service reply ids short = replies_hold back P number (rr_header number context) (Some (router_reply reply None)) ids short
+route_hold back P m (asker.Dialogue id count) service reply ids short = dialogue_frames_hold P count service reply (find (is_last_message id count) m.dialogues)
+
+late_ids : (P : ℕ → Type 0) (from : Requester) (service : ℕ) → WayIds P from (own_reply_text service 0x1F [])
+unfolding own_reply_text
+late_ids P (asker.Peer node) service = four_bytes P (reply_service service) 0 0x1F 0
+late_ids P (asker.Stream number context) service = own_refused_ids P service 0x1F [] refl
+late_ids P (asker.Dialogue id count) service = tt
+
+all_front : (P : Frame → Type 0) (xs ys : List Frame) → AllByRecursion P (xs ++ ys) → AllByRecursion P xs × AllByRecursion P ys
+all_front P [] ys all = (tt, all)
+all_front P (x ∷ xs) ys all = let more = all_front P xs ys all.1 in ((all.0, more.0), more.1)
+
+late_hold : ItemsReadBack → (P : ℕ → Type 0) (m : Messaging) (waiting : List Waiting) → AllByRecursion IsShortFrame (flat_map (late_frames m) waiting) → AllByRecursion (HasFrameIds P) (flat_map (late_frames m) waiting)
+late_hold back P m [] short = tt
+late_hold back P m (w ∷ waiting) short =
+    let parts = all_front IsShortFrame (late_frames m w) (flat_map (late_frames m) waiting) short in
+    all_both (HasFrameIds P) (late_frames m w) (flat_map (late_frames m) waiting) (route_hold back P m w.asker w.service (replies.own w.service 0x1F []) (late_ids P w.asker w.service) parts.0)
+    (late_hold back P m waiting parts.1)
+
+-- time at class 3 connections and at requests that wait
+aged_holds : ItemsReadBack → (P Q : ℕ → Type 0) (to : ℕ) (next : Next) → (next.1.next_id ≤ to → AllByRecursion (HasDatagramId P) next.0.datagrams × RowsHold P Q next.1.rows) → NextHolds P Q to (aged_next next)
+unfolding messages_table
+aged_holds back P Q to next holds = λ below small.
+    let both = holds below in
+    (record { frames = late_hold back P (without_late_dialogues next.1.clock next.1.messaging) (late_waiting next.1.clock (without_late_dialogues next.1.clock next.1.messaging)) small.short_frames; datagrams = both.0 }, both.1)
+
+tick_holds : ItemsReadBack → (P Q : ℕ → Type 0) → Cuts P → (to : ℕ) (t : AdapterTable) (ms : ℕ) → RowsHold P Q t.rows → OkHolds P Q to (tick t ms)
 unfolding tick
-tick_holds P Q cuts to t ms rows =
+tick_holds back P Q cuts to t ms rows =
     either (OkHolds P Q to) (nat_lt longest_tick ms) (Err TickTooLong) _ tt
-    (either (OkHolds P Q to) (nat_lt clock_end (t.clock.0 + ms)) (Err ClockEnd) (Ok (advanced (clocked_table t ms))) tt (advanced_holds P Q cuts to t ms rows))
+    (either (OkHolds P Q to) (nat_lt clock_end (t.clock.0 + ms)) (Err ClockEnd) (Ok (aged_next (advanced (clocked_table t ms)))) tt
+    (aged_holds back P Q to (advanced (clocked_table t ms)) (λ below. advanced_holds P Q cuts t ms rows)))
+
+-- an answer of the application
+responded_holds : ItemsReadBack → (P Q : ℕ → Type 0) (to : ℕ) (t : AdapterTable) (w : Waiting) (general : ℕ) (bytes : List ℕ) → WayIds P w.asker (own_reply_text w.service general bytes) → RowsHold P Q t.rows → NextHolds P Q to (responded t w (replies.own w.service general bytes))
+responded_holds back P Q to t w general bytes ids rows = λ below small. (
+  record { frames = route_hold back P t.messaging w.asker w.service (replies.own w.service general bytes) ids small.short_frames; datagrams = tt },
+  messages_hold P Q t t.next_id _ rows,
+)
+
+respond_hold : ItemsReadBack → (P Q : ℕ → Type 0) (to : ℕ) (t : AdapterTable) (number general : ℕ) (bytes : List ℕ) → AnsweredIds P t (event.Respond number general bytes) → RowsHold P Q t.rows → OkHolds P Q to (respond t number general bytes)
+respond_hold back P Q to t number general bytes ids rows =
+    respond_holds (OkHolds P Q to) t number general bytes (λ why. tt)
+    (λ w found few. responded_holds back P Q to t w general bytes (subst (λ (o : Option Waiting). IfSome o (λ w'. WayIds P w'.asker (own_reply_text w'.service general bytes))) found ids) rows)
 
 write_holds : (P Q : ℕ → Type 0) → Cuts P → (to : ℕ) (t : AdapterTable) (point : ℕ) (bytes : List ℕ) → RowsHold P Q t.rows → NextHolds P Q to (written (written_table t point bytes) point bytes)
 unfolding written_table changed_table
@@ -430,15 +563,16 @@ unfolding without_stream
 cut_holds P Q to t None rows = tt
 cut_holds P Q to t (Some stream) rows = (λ below small. (record { frames = tt; datagrams = tt }, rows))
 
-pub adapter_holds : ItemsReadBack → (P Q : ℕ → Type 0) → Cuts P → (to : ℕ) (t : AdapterTable) (happens : Event) → HasDrawn P Q t to → EventIds P happens → RowsHold P Q t.rows → OkHolds P Q to (adapter_step t happens)
+pub adapter_holds : ItemsReadBack → (P Q : ℕ → Type 0) → Cuts P → (to : ℕ) (t : AdapterTable) (happens : Event) → HasDrawn P Q t to → EventIds P happens → AnsweredIds P t happens → RowsHold P Q t.rows → OkHolds P Q to (adapter_step t happens)
 unfolding received inquired write frame stream_cut stream_opened with_stream
-adapter_holds back P Q cuts to t (event.Request peer bytes) drawn ids rows = absurd ids
-adapter_holds back P Q cuts to t (event.StreamOpened number peer) drawn ids rows =
+adapter_holds back P Q cuts to t (event.Request peer bytes) drawn ids answered rows = absurd ids
+adapter_holds back P Q cuts to t (event.StreamOpened number peer) drawn ids answered rows =
     either (OkHolds P Q to) (is_taken t.streams number) (Err NotAllowedNow) (Ok (plain_answer Done, with_stream t number peer)) tt (λ below small. (record { frames = tt; datagrams = tt }, rows))
-adapter_holds back P Q cuts to t (event.Frame number bytes) drawn ids rows = frame_holds back P Q cuts to t bytes (find (is_stream number) t.streams) drawn ids rows
-adapter_holds back P Q cuts to t (event.StreamCut number) drawn ids rows = cut_holds P Q to t (find (is_stream number) t.streams) rows
-adapter_holds back P Q cuts to t (event.Datagram peer bytes) drawn ids rows = datagram_holds P Q to t peer (datagram_reading bytes) rows
-adapter_holds back P Q cuts to t (event.Inquiry peer bytes) drawn ids rows = inquired_holds P Q to t peer (inquiry_reply t bytes) (inquiry_plain t bytes) rows
-adapter_holds back P Q cuts to t (event.Write point bytes) drawn ids rows = found_write P Q cuts to t point bytes (find (is_at point) t.profile.inputs) rows
-adapter_holds back P Q cuts to t (event.Tick ms) drawn ids rows = tick_holds P Q cuts to t ms rows
-adapter_holds back P Q cuts to t other drawn ids rows = passive_holds (OkHolds P Q to) t (λ why. tt) (λ verdict below small. (record { frames = tt; datagrams = tt }, rows)) other refl
+adapter_holds back P Q cuts to t (event.Frame number bytes) drawn ids answered rows = frame_holds back P Q cuts to t bytes (find (is_stream number) t.streams) drawn ids rows
+adapter_holds back P Q cuts to t (event.StreamCut number) drawn ids answered rows = cut_holds P Q to t (find (is_stream number) t.streams) rows
+adapter_holds back P Q cuts to t (event.Datagram peer bytes) drawn ids answered rows = datagram_holds P Q to t peer (datagram_reading bytes) rows
+adapter_holds back P Q cuts to t (event.Inquiry peer bytes) drawn ids answered rows = inquired_holds P Q to t peer (inquiry_reply t bytes) (inquiry_plain t bytes) rows
+adapter_holds back P Q cuts to t (event.Write point bytes) drawn ids answered rows = found_write P Q cuts to t point bytes (find (is_at point) t.profile.inputs) rows
+adapter_holds back P Q cuts to t (event.Tick ms) drawn ids answered rows = tick_holds back P Q cuts to t ms rows
+adapter_holds back P Q cuts to t (event.Respond number general bytes) drawn ids answered rows = respond_hold back P Q to t number general bytes answered rows
+adapter_holds back P Q cuts to t other drawn ids answered rows = passive_holds (OkHolds P Q to) t (λ why. tt) (λ verdict below small. (record { frames = tt; datagrams = tt }, rows)) other refl

@@ -32,6 +32,8 @@ use Rattle.adapter_table.specs.Sound.{ShareInGroup}
 use Rattle.adapter_table.specs.Step.{written_table, changed_table, write, adapter_step}
 use Rattle.adapter_table.specs.Ticks.{has_expired, expired_row, expired_rows, clocked_table, expired_table, produced_table, advanced, tick}
 use Rattle.adapter_table.specs.Whole.{IsWhole}
+use Rattle.messaging.specs.declared.table.Messaging.{Messaging}
+use Rattle.adapter_table.specs.Messages.{with_messages}
 use Rattle.adapter_table.specs.Lemmas.CounterSteps.{profile_stays}
 use Rattle.adapter_table.specs.Lemmas.EffectLemmas.{write_is, tick_is}
 use Rattle.device_laws.specs.Lemmas.Lists.{all_more, all_filtered, all_mapped, all_ordered, all_firsts, all_made, all_kept}
@@ -42,7 +44,7 @@ use Rattle.device_laws.specs.Productions.{End, end_at, Production, numbered, pro
 use Rattle.device_laws.specs.Lemmas.ListCounts.{Has, all_has, has_filter, has_order}
 use Rattle.device_laws.specs.Lemmas.Books.{HasNotProduced, ProducerBooks, WellMade, IsOwn, unproduced_more, books_other, books_own, rewritten, well_more}
 use Rattle.device_laws.specs.Lemmas.Inputs.{steps_write}
-use Rattle.device_laws.specs.Lemmas.AdapterBooks.{RowStateBooks, RowBooks, InputBooks, AdapterBooks, ProducesInput, RowsProduceInputs, IsQuiet, input_value, same_changed, steps_produce, quiet_keeps, books_as}
+use Rattle.device_laws.specs.Lemmas.AdapterBooks.{RowStateBooks, RowBooks, InputBooks, AdapterBooks, ProducesInput, RowsProduceInputs, IsQuiet, input_value, same_changed, steps_produce, messages_keep, quiet_keeps, books_as}
 
 -- ---- lists
 
@@ -660,6 +662,9 @@ quiet_agrees sent device t event (Err why) is quiet none whole ok = tt
 quiet_agrees sent device t event (Ok next) is quiet none whole ok =
     stays_agrees sent sent device t event next is whole none ok.books (record { books = quiet_keeps sent device (input_value t.values) t event next quiet is ok.books.books; well = ok.well })
 
+messages_agree : (sent : List Production) (device : ℕ) (value : ℕ → List ℕ) (t : AdapterTable) (m : Messaging) → InputsAgree sent device value t → InputsAgree sent device value (with_messages t m)
+messages_agree sent device value t m agrees = record { books = messages_keep sent device value t t.next_id m (omega arith) agrees.books; well = agrees.well }
+
 tick_agrees : (sent : List Production) (device : ℕ) (t : AdapterTable) (ms : ℕ) (said : Result Next StepFault) → tick t ms ≡ said → IsWhole t → AdapterAgrees sent device t → IfOk said (λ next. AdapterAgrees (produced_more device sent (advanced_made (clocked_table t ms) (expired_table (clocked_table t ms)).rows)) device next.1)
 tick_agrees sent device t ms (Err why) is whole ok = tt
 tick_agrees sent device t ms (Ok next) is whole ok =
@@ -668,7 +673,8 @@ tick_agrees sent device t ms (Ok next) is whole ok =
     let agrees = advanced_agrees sent device clocked (subst Share (sym (clocked_rows t ms)) (whole_shares t whole)) (record { books = clocked_books sent device t ms ok.books.books; well = ok.well }) in
     stays_agrees sent more device t (event.Tick ms) next is whole (λ point. refl) ok.books
     (subst (λ (n : Next). InputsAgree more device (input_value t.values) n.1) (tick_is t ms next is).said
-    (subst (λ (values : List PointValue). InputsAgree more device (input_value values) (advanced clocked).1) (clocked_values t ms) agrees))
+    (messages_agree more device (input_value t.values) (advanced clocked).1 _
+    (subst (λ (values : List PointValue). InputsAgree more device (input_value values) (advanced clocked).1) (clocked_values t ms) agrees)))
 
 written_here : (point : ℕ) (bytes : List ℕ) → written_at point (event.Write point bytes) ≡ Some bytes
 written_here point bytes = rw (eq-eqb point point refl) refl

@@ -1,6 +1,6 @@
 -- Explicit requests of a scanner's application: which bytes it sends, and what holds of a request that is sent, and of a message
 -- that ends one.
-use Rattle.std.proofs.Common.{◌≡◌, ◌≤◌, ℕ, ◌==◌, nat_le, Bool, true, false, cond, List, [], ◌∷◌, length, Option, Some, None, Result, Ok, Err, refl, sym, ap, subst, arith}
+use Rattle.std.proofs.Common.{◌≡◌, ◌≤◌, ◌<◌, ℕ, ◌==◌, nat_le, Bool, true, false, cond, List, [], ◌∷◌, length, Option, Some, None, Result, Ok, Err, refl, sym, ap, subst, arith}
 use Rattle.std.specs.List.{list_any}
 use Rattle.std.proofs.lemmas.Bool.{or_parts}
 use Rattle.std.proofs.lemmas.Bool.Decides.{nat_tests}
@@ -32,6 +32,7 @@ pub record IsExplicit (bytes : List ℕ) : Type 0 where
   pub is : bytes ≡ service ∷ rest
   pub requests : OpensNone service
   pub replies : AnswersNone service
+  pub low : service < 128
 
 -- so they have no ids
 pub explicit_ids : (P : ℕ → Type 0) (bytes : List ℕ) → IsExplicit bytes → PayloadIds P bytes
@@ -53,6 +54,9 @@ SendsIfExplicit sent = IfExplicit sent.request
 differs : (n m : ℕ) → nat_le 128 n ≡ false → 128 ≤ m → (n == m) ≡ false
 differs n m low high = grind (arith, nat_tests)
 
+below : (n : ℕ) → nat_le 128 n ≡ false → n < 128
+below n low = grind (arith, nat_tests)
+
 is_explicit : (service : ℕ) (rest : List ℕ) → is_for_slots service ≡ false → IsExplicit (service ∷ rest)
 is_explicit service rest free =
     let first = or_parts (service == 0x54) _ free in
@@ -64,6 +68,7 @@ is_explicit service rest free =
       is = refl;
       requests = record { small = first.0; large = second.0 };
       replies = record { small = differs service 0xD4 third.1 (omega arith); large = differs service 0xDB third.1 (omega arith) };
+      low = below service third.1;
     }
 
 none_short : has_explicit_length [] ≡ true → IsExplicit []

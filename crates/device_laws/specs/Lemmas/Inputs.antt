@@ -36,9 +36,11 @@ use Rattle.adapter_table.specs.Shapes.{IsShaped}
 use Rattle.adapter_table.specs.Shaping.{points_differ, distinct_back, any_found, none_both, input_found, input_no_output}
 use Rattle.adapter_table.specs.Step.{adapter_step, written_table, changed_table}
 use Rattle.adapter_table.specs.Streams.{with_stream, without_stream, registered_table}
-use Rattle.adapter_table.specs.Ticks.{clocked_table, expired, expired_values, expired_table, produced_table}
+use Rattle.adapter_table.specs.Ticks.{clocked_table, expired, expired_values, expired_table, produced_table, advanced}
 use Rattle.adapter_table.specs.Whole.{ConsumesOutput, IsWhole}
 use Rattle.adapter_table.specs.Lemmas.EffectLemmas.{IsWrite, write_is, IsTick, tick_is}
+use Rattle.messaging.specs.declared.table.Messaging.{Messaging}
+use Rattle.adapter_table.specs.Messages.{messages_table}
 use Rattle.adapter_table.specs.Lemmas.FedLemmas.{applied_output}
 use Rattle.adapter_table.specs.Lemmas.RequestLemmas.{RequestsDo, next_is}
 use Rattle.adapter_table.specs.Lemmas.ValueLemmas.{put_at, put_beside, lost_beside, idle_beside, zeros_at}
@@ -140,6 +142,10 @@ registered_keeps : (t : AdapterTable) (number : ℕ) → KeepsInputs t (register
 unfolding registered_table
 registered_keeps t number = λ point input kept is holds. holds
 
+messages_keep : (t : AdapterTable) (next_id : ℕ) (m : Messaging) → KeepsInputs t (messages_table t next_id m)
+unfolding messages_table
+messages_keep t next_id m = λ point input kept is holds. holds
+
 requests_keep : RequestsDo (λ t next. IsWhole t → KeepsInputs t next)
 requests_keep = record {
   stays = λ t whole point input kept is holds. holds;
@@ -147,6 +153,7 @@ requests_keep = record {
   closed = λ t triad row found whole. closed_keeps t row whole;
   unstreamed = λ t number whole. without_keeps t number;
   registered = λ t number whole. registered_keeps t number;
+  messaged = λ t next_id m goes whole. messages_keep t next_id m;
 }
 
 fed_keeps : (t : AdapterTable) (peer : Node) (d : DatagramFields) (row : Row) (delivery : Delivery) → row_delivery t.profile row d ≡ delivery → find (is_for peer d.connection) t.rows ≡ Some row → IsWhole t → KeepsInputs t (accepted_table t peer d row delivery)
@@ -183,8 +190,12 @@ written_writes t other bytes = λ point input kept is holds. put_by (other == po
 write_writes : (t : AdapterTable) (point : ℕ) (bytes : List ℕ) (next : Next) → IsWrite t point bytes next → Writes t (Write point bytes) next.1
 write_writes t point bytes next is = subst (λ (n : Next). Writes t (Write point bytes) n.1) is.said (written_writes t point bytes)
 
+messages_write : (t next : AdapterTable) (event : Event) (next_id : ℕ) (m : Messaging) → Writes t event next → Writes t event (messages_table next next_id m)
+unfolding messages_table
+messages_write t next event next_id m writes = writes
+
 tick_writes : (t : AdapterTable) (ms : ℕ) (next : Next) → IsTick t ms next → IsWhole t → Writes t (Tick ms) next.1
-tick_writes t ms next is whole = subst (λ (n : Next). Writes t (Tick ms) n.1) is.said (advanced_keeps t ms whole)
+tick_writes t ms next is whole = subst (λ (n : Next). Writes t (Tick ms) n.1) is.said (messages_write t (advanced (clocked_table t ms)).1 (Tick ms) _ _ (advanced_keeps t ms whole))
 
 event_writes : (t : AdapterTable) (event : Event) (next : Next) → adapter_step t event ≡ Ok next → IsWhole t → Writes t event next.1
 unfolding received

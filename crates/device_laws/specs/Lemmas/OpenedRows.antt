@@ -1,5 +1,5 @@
 -- What holds of each connection of an adapter holds after a frame, if it holds of the connection that the frame opens.
-use Rattle.std.proofs.Common.{◌≡◌, ℕ, ◌==◌, not, Bool, List, [], ◌∷◌, length, find, Option, Some, None, Result, Ok, Err, IfOk, refl}
+use Rattle.std.proofs.Common.{◌≡◌, ℕ, ◌+◌, ◌==◌, not, Bool, List, [], ◌∷◌, length, find, Option, Some, None, Result, Ok, Err, IfOk, refl, sym, subst}
 use Rattle.std.specs.List.{AllByRecursion}
 use Rattle.std.specs.Option.{IfSome}
 use Rattle.std.specs.Str.{bytes_eq}
@@ -8,6 +8,7 @@ use Rattle.cip_types.specs.Texts.{Tailed}
 use Rattle.cip_encap.specs.declared.message.EncapFault.{EncapFault}
 use Rattle.cip_encap.specs.declared.packet.ItemFault.{ItemFault}
 use Rattle.cip_encap.specs.Message.{MessageFields}
+use Rattle.cip_encap.specs.ConnectedReading.{connected_reading}
 use Rattle.cip_encap.specs.Packet.{PacketFields}
 use Rattle.cip_encap.specs.PacketReading.{packet_reading}
 use Rattle.cip_encap.specs.Reading.{message_reading}
@@ -18,26 +19,36 @@ use Rattle.cip_fwdopen.specs.Open.{OpenFields}
 use Rattle.cip_router.specs.declared.command.Command.{Command}
 use Rattle.cip_router.specs.declared.command.Command.TheVariants as command
 use Rattle.cip_router.specs.declared.command.EncapStatus.TheVariants as encap
+use Rattle.cip_netparams.specs.Word.{is_message_trigger}
 use Rattle.cip_router.specs.declared.refusal.Refusal.{Refusal}
+use Rattle.cip_router.specs.declared.refusal.Status.TheVariants as status
 use Rattle.cip_router.specs.Requests.{RouterRequestFields, nothing, refused, closing, object, opening, router_request_reading}
 use Rattle.cip_router.specs.Commands.{command_of, is_silent}
 use Rattle.cip_router.specs.Frames.{RequestHeader, request_header_of, request_header_in, wrong_length_of, frame_fields, protocol_text, frame_reading}
+use Rattle.messaging.specs.declared.dialogue.Dialogue.{Dialogue}
+use Rattle.messaging.specs.declared.table.Messaging.{Messaging}
+use Rattle.messaging.specs.Changes.{lacks_room}
+use Rattle.messaging.specs.Dialogues.{has_dialogue_triad}
 use Rattle.adapter_table.specs.declared.table.AdapterTable.{AdapterTable}
 use Rattle.adapter_table.specs.declared.table.Stream.{Stream}
-use Rattle.adapter_table.specs.Checks.{Admitted, admission}
+use Rattle.adapter_table.specs.Checks.{Check, Admitted, admission}
+use Rattle.adapter_table.specs.DialogueOpening.{dialogue_view, dialogue_refusal, judged_dialogue, served_dialogue, stream_served}
+use Rattle.adapter_table.specs.Messages.{messages_table}
+use Rattle.adapter_table.specs.Own.{OwnRequest, own_of}
 use Rattle.adapter_table.specs.Closing.{stays, without_triad, closed_table}
 use Rattle.adapter_table.specs.Connections.{Row}
-use Rattle.adapter_table.specs.Encapsulation.{Handled, refusal, unanswered, session_begun, session_ended, register_session, request_replied, packet_replied, handled, framed, frame_answer, stream_answer, frame_of}
+use Rattle.adapter_table.specs.Encapsulation.{Handled, refusal, unanswered, session_begun, session_ended, register_session, request_replied, request_handled, packet_replied, unit_replied, handled, framed, frame_answer, stream_answer, frame_of}
 use Rattle.adapter_table.specs.Inquiries.{inquiry_reply}
 use Rattle.adapter_table.specs.Objects.{ObjectAnswer, object_answer}
 use Rattle.adapter_table.specs.Objects as objects
 use Rattle.adapter_table.specs.Opening.{opened_row, opened_table}
-use Rattle.adapter_table.specs.Requests.{Next, Served, judged_open, admitted_open, served_open, close_of, served_close, object_served, served_object, served}
+use Rattle.adapter_table.specs.Requests.{Next, Served, judged_open, admitted_open, served_open, close_of, served_close, end_of, served_end, router_refusal, object_served, served_object, served}
 use Rattle.adapter_table.specs.Rows.{has_triad}
-use Rattle.adapter_table.specs.StatedLimits.{limited_admission, is_wrong_closer}
+use Rattle.adapter_table.specs.StatedLimits.{limited_admission, is_wrong_closer, is_wrong_ender}
 use Rattle.adapter_table.specs.Streams.{without_stream, has_session, registered_table}
 use Rattle.adapter_table.specs.Lemmas.LimitLemmas.{limited_is}
 use Rattle.device_laws.specs.Lemmas.Lists.{all_both, all_filtered}
+use Rattle.device_laws.specs.Lemmas.MessageSteps.{IsOfMessages, unit_of}
 use Rattle.device_laws.specs.Lemmas.Texts.{either}
 
 -- ---- what holds of a request that opens
@@ -64,16 +75,25 @@ close_rows O t peer request (Some row) rows =
     either (ServedRows O) (is_wrong_closer t.profile.limits peer row) _ _ rows
     (all_filtered O (stays (without_triad row.triad t.rows)) (without_triad row.triad t.rows) (all_filtered O _ t.rows rows))
 
+messages_rows : (O : Row → Type 0) (t : AdapterTable) (next_id : ℕ) (m : Messaging) → RowsAre O t → RowsAre O (messages_table t next_id m)
+unfolding messages_table
+messages_rows O t next_id m rows = rows
+
+end_rows : (O : Row → Type 0) (t : AdapterTable) (peer : Node) (request : CloseFields) (found : Option Dialogue) → RowsAre O t → ServedRows O (end_of t peer request found)
+unfolding served_close
+end_rows O t peer request None rows = close_rows O t peer request (find (has_triad request.triad) t.rows) rows
+end_rows O t peer request (Some d) rows = either (ServedRows O) (is_wrong_ender t.profile.limits peer d) _ _ rows (messages_rows O t t.next_id _ rows)
+
 object_rows : (O : Row → Type 0) (t : AdapterTable) (service : ℕ) (answer : ObjectAnswer) → RowsAre O t → ServedRows O (object_served t service answer)
 object_rows O t service (objects.said by value) rows = rows
 object_rows O t service (objects.denied why) rows = rows
 object_rows O t service (objects.resetting kind) rows = rows
 
 served_rows : (O : Row → Type 0) (t : AdapterTable) (peer : Node) (requested : RouterRequestFields) → Makes O t requested → RowsAre O t → IfSome (served t peer requested) (ServedRows O)
-unfolding served_open served_close served_object
+unfolding served_open served_end served_object
 served_rows O t peer nothing makes rows = tt
 served_rows O t peer (refused service why) makes rows = rows
-served_rows O t peer (closing request) makes rows = close_rows O t peer request (find (has_triad request.triad) t.rows) rows
+served_rows O t peer (closing request) makes rows = end_rows O t peer request (find (has_dialogue_triad request.triad) t.messaging.dialogues) rows
 served_rows O t peer (object service class instance attribute body) makes rows = object_rows O t service (object_answer t service class instance attribute body) rows
 served_rows O t peer (opening large request) makes rows = open_rows O t peer large request (limited_admission t peer request) refl (makes large request refl peer) rows
 
@@ -103,9 +123,31 @@ replied_rows O t (Some s) goes rows = goes
 abbrev pub PacketMakes : (Row → Type 0) → AdapterTable → Result PacketFields ItemFault → Type 0
 PacketMakes O t reading = (packet : PacketFields) → reading ≡ Ok packet → Makes O t (router_request_reading packet.payload)
 
-packet_rows : (O : Row → Type 0) (t : AdapterTable) (peer : Node) (reading : Result PacketFields ItemFault) → PacketMakes O t reading → RowsAre O t → HandledRows O (packet_replied t peer reading)
-packet_rows O t peer (Err why) makes rows = rows
-packet_rows O t peer (Ok packet) makes rows = replied_rows O t (served t peer (router_request_reading packet.payload)) (served_rows O t peer (router_request_reading packet.payload) (makes packet refl) rows) rows
+dialogue_rows : (O : Row → Type 0) (t : AdapterTable) (stream : Stream) (large : Bool) (request : OpenFields) (c : Check) → RowsAre O t → ServedRows O (judged_dialogue t stream large request c)
+dialogue_rows O t stream large request (Some why) rows = rows
+dialogue_rows O t stream large request None rows = messages_rows O t (t.next_id + 1) _ rows
+
+over_stream_rows : (O : Row → Type 0) (t : AdapterTable) (stream : Stream) (requested : RouterRequestFields) → Makes O t requested → RowsAre O t → IfSome (stream_served t stream requested) (ServedRows O)
+unfolding served_dialogue
+over_stream_rows O t stream (opening large request) makes rows =
+    either (λ (s : Option Served). IfSome s (ServedRows O)) (is_message_trigger request.trigger) (Some (served_dialogue t stream large request)) (served t stream.peer (opening large request))
+    (dialogue_rows O t stream large request (dialogue_refusal (dialogue_view t stream.peer request.triad) request) rows) (served_rows O t stream.peer (opening large request) makes rows)
+over_stream_rows O t stream nothing makes rows = served_rows O t stream.peer nothing makes rows
+over_stream_rows O t stream (refused service why) makes rows = served_rows O t stream.peer (refused service why) makes rows
+over_stream_rows O t stream (closing request) makes rows = served_rows O t stream.peer (closing request) makes rows
+over_stream_rows O t stream (object service class instance attribute body) makes rows = served_rows O t stream.peer (object service class instance attribute body) makes rows
+
+request_rows : (O : Row → Type 0) (t : AdapterTable) (stream : Stream) (context : ℕ) (requested : RouterRequestFields) (own : Option OwnRequest) → Makes O t requested → RowsAre O t → HandledRows O (request_handled t stream context requested own)
+request_rows O t stream context requested None makes rows = replied_rows O t (stream_served t stream requested) (over_stream_rows O t stream requested makes rows) rows
+request_rows O t stream context requested (Some own) makes rows =
+    either (HandledRows O) (lacks_room t.messaging) (request_replied t (Some (router_refusal t own.service status.ResourceUnavailable))) _ rows (messages_rows O t t.next_id _ rows)
+
+packet_rows : (O : Row → Type 0) (t : AdapterTable) (stream : Stream) (context : ℕ) (reading : Result PacketFields ItemFault) → PacketMakes O t reading → RowsAre O t → HandledRows O (packet_replied t stream context reading)
+packet_rows O t stream context (Err why) makes rows = rows
+packet_rows O t stream context (Ok packet) makes rows = request_rows O t stream context (router_request_reading packet.payload) (own_of t.profile.objects (router_request_reading packet.payload)) (makes packet refl) rows
+
+unit_rows : (O : Row → Type 0) (t : AdapterTable) (done : Handled) → IsOfMessages t done → RowsAre O t → HandledRows O done
+unit_rows O t done is rows = subst (RowsAre O) (sym is.table) (messages_rows O t t.next_id is.messages rows)
 
 handled_rows : (O : Row → Type 0) (t : AdapterTable) (stream : Stream) (echo : RequestHeader) (body : List ℕ) (requested : Command) → PacketMakes O t (packet_reading body) → RowsAre O t → HandledRows O (handled t stream echo body requested)
 unfolding handled
@@ -114,7 +156,10 @@ handled_rows O t stream echo body command.ListServices makes rows = rows
 handled_rows O t stream echo body command.RegisterSession makes rows = register_rows O t stream body rows
 handled_rows O t stream echo body command.UnregisterSession makes rows =
     either (HandledRows O) (has_session stream echo.session) (session_ended t stream) (unanswered t) (without_rows O t stream.number rows) rows
-handled_rows O t stream echo body command.SendRrData makes rows = either (HandledRows O) (has_session stream echo.session) _ _ (packet_rows O t stream.peer (packet_reading body) makes rows) rows
+handled_rows O t stream echo body command.SendRrData makes rows = either (HandledRows O) (has_session stream echo.session) _ _ (packet_rows O t stream echo.context (packet_reading body) makes rows) rows
+handled_rows O t stream echo body command.SendUnitData makes rows =
+    either (HandledRows O) (has_session stream echo.session) (unit_replied t stream (connected_reading body)) (refusal t encap.InvalidCommand)
+    (unit_rows O t (unit_replied t stream (connected_reading body)) (unit_of t stream (connected_reading body)) rows) rows
 handled_rows O t stream echo body command.Other makes rows = rows
 
 abbrev pub NextRows : (Row → Type 0) → Next → Type 0

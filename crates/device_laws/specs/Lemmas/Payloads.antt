@@ -26,7 +26,7 @@ use Rattle.cip_router.specs.Requests.{request_to_open, request_to_close, request
 use Rattle.cip_router.specs.declared.object_service.ObjectService.{ObjectService}
 use Rattle.cip_router.specs.declared.object_service.ObjectService.TheVariants as object_service
 use Rattle.cip_router.specs.declared.refusal.Status.TheVariants as status
-use Rattle.cip_router.specs.Replies.{object_reply_text}
+use Rattle.cip_router.specs.Replies.{object_reply_text, own_reply_text}
 use Rattle.scanner_table.specs.Requests.{manager, manager_text}
 use Rattle.scanner_table.specs.Replies.{serviced, reply_answer}
 use Rattle.device_laws.specs.Ids.{RequestIds, ReplyIds, PayloadIds}
@@ -174,7 +174,7 @@ object_ids P object_service.GetSingle value = other_ids P 0x8E _ (record { small
 above : (n m : ℕ) → m < n → (n == m) ≡ false
 above n m lt = grind (arith, nat_tests)
 
-replies_open_none : (service : ℕ) → OpensNone (reply_service service)
+pub replies_open_none : (service : ℕ) → OpensNone (reply_service service)
 replies_open_none service = record { small = above (reply_service service) 0x54 (omega arith); large = above (reply_service service) 0x5B (omega arith) }
 
 refused_parts : (P : ℕ → Type 0) (service general : ℕ) (extended : Option ℕ) (more : List ℕ) → (general == 0) ≡ false → PayloadIds P (reply_service service ∷ 0 ∷ general ∷ extended_text extended ++ more)
@@ -190,6 +190,19 @@ refused_parts P service general (Some code) more fails = record {
 pub refused_ids : (P : ℕ → Type 0) (service : ℕ) (fault : Fault) (triad : Option Triad) → (fault.general == 0) ≡ false → PayloadIds P (refused_text service fault triad)
 unfolding refused_text
 refused_ids P service fault triad fails = refused_parts P service fault.general fault.extended (failure_text triad) fails
+
+-- a reply of the application to a service whose reply opens none
+pub own_ids : (P : ℕ → Type 0) (service status : ℕ) (content : List ℕ) → AnswersNone (reply_service service) → PayloadIds P (own_reply_text service status content)
+unfolding own_reply_text
+own_ids P service status content none = other_ids P (reply_service service) _ (replies_open_none service) none
+
+-- one with another status than that of a success opens none, whatever its service
+pub own_refused_ids : (P : ℕ → Type 0) (service status : ℕ) (content : List ℕ) → (status == 0) ≡ false → PayloadIds P (own_reply_text service status content)
+unfolding own_reply_text
+own_refused_ids P service status content fails = record {
+  requested = requests_none P (reply_service service) _ (replies_open_none service);
+  replied = λ large. reports_refusal P (reply_service service) status 0 content large fails;
+}
 
 -- ---- requests of a scanner
 

@@ -14,6 +14,7 @@ use Rattle.cip_encap.specs.declared.packet.ItemFault.{ItemFault}
 use Rattle.cip_encap.specs.Message.{MessageFields}
 use Rattle.cip_encap.specs.Reading.{message_reading}
 use Rattle.cip_types.specs.Texts.{Tailed}
+use Rattle.cip_encap.specs.ConnectedReading.{connected_reading}
 use Rattle.cip_encap.specs.Packet.{PacketFields}
 use Rattle.cip_encap.specs.PacketReading.{packet_reading}
 use Rattle.cip_events.specs.declared.event.Event.{Event}
@@ -26,6 +27,7 @@ use Rattle.cip_events.specs.Clock.{longest_tick, clock_end}
 use Rattle.cip_fwdopen.specs.Close.{CloseFields}
 use Rattle.cip_fwdopen.specs.Open.{OpenFields}
 use Rattle.cip_productions.specs.declared.production.Production.{Production}
+use Rattle.cip_netparams.specs.Word.{is_message_trigger}
 use Rattle.cip_netparams.specs.declared.Trigger.{Trigger}
 use Rattle.cip_netparams.specs.declared.Trigger.TheVariants.{Cyclic, ChangeOfState}
 use Rattle.cip_productions.specs.Productions.{produced, deferred, is_free, changed_by, is_production_due}
@@ -33,20 +35,28 @@ use Rattle.cip_router.specs.declared.command.Command.{Command}
 use Rattle.cip_router.specs.declared.command.Command.TheVariants as command
 use Rattle.cip_router.specs.declared.command.EncapStatus.TheVariants as encap
 use Rattle.cip_router.specs.declared.refusal.Refusal.{Refusal}
+use Rattle.cip_router.specs.declared.refusal.Status.TheVariants as status
 use Rattle.cip_router.specs.Requests.{RouterRequestFields, nothing, refused, closing, object, opening, router_request_reading}
 use Rattle.cip_router.specs.Commands.{command_of, is_silent}
 use Rattle.cip_router.specs.Frames.{RequestHeader, request_header_of, request_header_in, wrong_length_of, frame_fields, protocol_text, frame_reading}
+use Rattle.messaging.specs.declared.dialogue.Dialogue.{Dialogue}
+use Rattle.messaging.specs.declared.table.Messaging.{Messaging}
+use Rattle.messaging.specs.Changes.{lacks_room}
+use Rattle.messaging.specs.Dialogues.{has_dialogue_triad}
 use Rattle.adapter_table.specs.declared.profile.InputPoint.{InputPoint}
 use Rattle.adapter_table.specs.Connections.{Row}
 use Rattle.adapter_table.specs.declared.row.State.{State}
 use Rattle.adapter_table.specs.declared.row.State.TheVariants.{Established, TimedOut}
 use Rattle.adapter_table.specs.declared.table.AdapterTable.{AdapterTable}
 use Rattle.adapter_table.specs.declared.table.Stream.{Stream}
-use Rattle.adapter_table.specs.Checks.{Admitted}
-use Rattle.adapter_table.specs.StatedLimits.{limited_admission, is_wrong_closer}
+use Rattle.adapter_table.specs.Checks.{Check, Admitted}
+use Rattle.adapter_table.specs.DialogueOpening.{dialogue_view, dialogue_refusal, judged_dialogue, served_dialogue, stream_served}
+use Rattle.adapter_table.specs.Messages.{messages_table}
+use Rattle.adapter_table.specs.Own.{OwnRequest, own_of}
+use Rattle.adapter_table.specs.StatedLimits.{limited_admission, is_wrong_closer, is_wrong_ender}
 use Rattle.adapter_table.specs.Closing.{stays, without_triad, closed_table}
 use Rattle.adapter_table.specs.Datagrams.{is_for, accepted_row, accepted_if_for, row_delivery, accepted_table, delivered, found_datagram, datagram_of, received}
-use Rattle.adapter_table.specs.Encapsulation.{Handled, refusal, unanswered, session_begun, session_ended, register_session, request_replied, packet_replied, handled, framed, frame_answer, stream_answer, frame_of, frame}
+use Rattle.adapter_table.specs.Encapsulation.{Handled, refusal, unanswered, session_begun, session_ended, register_session, request_replied, request_handled, packet_replied, unit_replied, handled, framed, frame_answer, stream_answer, frame_of, frame}
 use Rattle.adapter_table.specs.Newest.{was_opened_as}
 use Rattle.adapter_table.specs.Opening.{opened_row, opened_table}
 use Rattle.adapter_table.specs.Objects.{ObjectAnswer, object_answer}
@@ -54,16 +64,17 @@ use Rattle.adapter_table.specs.Objects as objects
 use Rattle.adapter_table.specs.Inquiries.{inquiry_reply, inquired_by, inquired}
 use Rattle.adapter_table.specs.Productions.{producer_of, produced_state, produced_row, changed_state, changed_row}
 use Rattle.adapter_table.specs.Profiles.{is_at}
-use Rattle.adapter_table.specs.Requests.{Next, Served, judged_open, admitted_open, served_open, close_of, served_close, object_served, served_object, served, answered, requested}
+use Rattle.adapter_table.specs.Requests.{Next, Served, judged_open, admitted_open, served_open, close_of, served_close, end_of, served_end, router_refusal, object_served, served_object, served, replied, answered, requested_by, requested}
 use Rattle.adapter_table.specs.Rows.{lives, has_triad, written_state, written_row}
 use Rattle.adapter_table.specs.Sound.{IdsAreDrawn}
 use Rattle.adapter_table.specs.Step.{written_table, changed_table, written, write_of, write, adapter_step}
 use Rattle.adapter_table.specs.Streams.{is_stream, is_other_stream, is_taken, new_stream, with_stream, without_stream, has_session, registered_stream, registered_table, stream_opened, cut_of, stream_cut}
-use Rattle.adapter_table.specs.Ticks.{has_expired, expired_row, expired_rows, clocked_table, expired_table, produced_table, advanced, tick}
+use Rattle.adapter_table.specs.Ticks.{has_expired, expired_row, expired_rows, clocked_table, expired_table, produced_table, advanced, aged_next, tick}
 use Rattle.device_laws.specs.Lemmas.Lists.{all_both, all_more, all_filtered, all_mapped}
 use Rattle.device_laws.specs.Lemmas.Texts.{either}
 use Rattle.device_laws.specs.Frames.{IsOpening}
 use Rattle.device_laws.specs.RowIds.{IsSameRow, WasThere, IsNewOf, IsProduced, RowCame, WasOpen, StreamCame, Came, ConnectionsKeepTheirIds}
+use Rattle.device_laws.specs.Lemmas.MessageSteps.{IsOfMessages, unit_of, respond_holds}
 use Rattle.device_laws.specs.Lemmas.Admissions.{opening_produced}
 use Rattle.device_laws.specs.Lemmas.Serving.{new_row_found}
 use Rattle.adapter_table.specs.Lemmas.LimitLemmas.{limited_is}
@@ -207,16 +218,26 @@ close_after O t peer request (Some row) =
       streams = were_open t;
     })
 
+-- other class 3 connections and requests that wait
+messages_after : (O : OpenFields → Type 0) (t : AdapterTable) (peer : Node) (next_id : ℕ) (m : Messaging) → TableAfter O t peer (messages_table t next_id m)
+unfolding messages_table
+messages_after O t peer next_id m = record { rows = old_rows O t (messages_table t next_id m) peer t.rows (were_there t); streams = were_open t }
+
+end_after : (O : OpenFields → Type 0) (t : AdapterTable) (peer : Node) (request : CloseFields) (found : Option Dialogue) → ServedAfter O t peer (end_of t peer request found)
+unfolding served_close
+end_after O t peer request None = close_after O t peer request (find (has_triad request.triad) t.rows)
+end_after O t peer request (Some d) = either (ServedAfter O t peer) (is_wrong_ender t.profile.limits peer d) _ _ (stays_so O t peer) (messages_after O t peer t.next_id _)
+
 object_after : (O : OpenFields → Type 0) (t : AdapterTable) (peer : Node) (service : ℕ) (answer : ObjectAnswer) → ServedAfter O t peer (object_served t service answer)
 object_after O t peer service (objects.said by value) = stays_so O t peer
 object_after O t peer service (objects.denied why) = stays_so O t peer
 object_after O t peer service (objects.resetting kind) = stays_so O t peer
 
 served_after : (O : OpenFields → Type 0) (t : AdapterTable) (peer : Node) (requested : RouterRequestFields) → ((large : Bool) (request : OpenFields) → requested ≡ opening large request → O request) → IdsAreDrawn t.profile t.next_id t.rows → IfSome (served t peer requested) (ServedAfter O t peer)
-unfolding served_open served_close served_object
+unfolding served_open served_end served_object
 served_after O t peer nothing asks drawn = tt
 served_after O t peer (refused service why) asks drawn = stays_so O t peer
-served_after O t peer (closing request) asks drawn = close_after O t peer request (find (has_triad request.triad) t.rows)
+served_after O t peer (closing request) asks drawn = end_after O t peer request (find (has_dialogue_triad request.triad) t.messaging.dialogues)
 served_after O t peer (object service class instance attribute body) asks drawn = object_after O t peer service (object_answer t service class instance attribute body)
 served_after O t peer (opening large request) asks drawn = open_after O t peer large request (limited_admission t peer request) refl (asks large request refl) drawn
 
@@ -253,9 +274,32 @@ replied_after O t peer (Some s) goes = goes
 abbrev PacketRequests : (OpenFields → Type 0) → Result PacketFields ItemFault → Type 0
 PacketRequests O reading = (packet : PacketFields) → reading ≡ Ok packet → (large : Bool) (request : OpenFields) → router_request_reading packet.payload ≡ opening large request → O request
 
-packet_after : (O : OpenFields → Type 0) (t : AdapterTable) (peer : Node) (reading : Result PacketFields ItemFault) → PacketRequests O reading → IdsAreDrawn t.profile t.next_id t.rows → HandledAfter O t peer (packet_replied t peer reading)
-packet_after O t peer (Err fault) asks drawn = stays_so O t peer
-packet_after O t peer (Ok packet) asks drawn = replied_after O t peer (served t peer (router_request_reading packet.payload)) (served_after O t peer (router_request_reading packet.payload) (asks packet refl) drawn)
+dialogue_after : (O : OpenFields → Type 0) (t : AdapterTable) (stream : Stream) (large : Bool) (request : OpenFields) (c : Check) → ServedAfter O t stream.peer (judged_dialogue t stream large request c)
+dialogue_after O t stream large request (Some why) = stays_so O t stream.peer
+dialogue_after O t stream large request None = messages_after O t stream.peer (t.next_id + 1) _
+
+over_stream_after : (O : OpenFields → Type 0) (t : AdapterTable) (stream : Stream) (requested : RouterRequestFields) → ((large : Bool) (request : OpenFields) → requested ≡ opening large request → O request) → IdsAreDrawn t.profile t.next_id t.rows → IfSome (stream_served t stream requested) (ServedAfter O t stream.peer)
+unfolding served_dialogue
+over_stream_after O t stream (opening large request) asks drawn =
+    either (λ (s : Option Served). IfSome s (ServedAfter O t stream.peer)) (is_message_trigger request.trigger) (Some (served_dialogue t stream large request)) (served t stream.peer (opening large request))
+    (dialogue_after O t stream large request (dialogue_refusal (dialogue_view t stream.peer request.triad) request)) (served_after O t stream.peer (opening large request) asks drawn)
+over_stream_after O t stream nothing asks drawn = served_after O t stream.peer nothing asks drawn
+over_stream_after O t stream (refused service why) asks drawn = served_after O t stream.peer (refused service why) asks drawn
+over_stream_after O t stream (closing request) asks drawn = served_after O t stream.peer (closing request) asks drawn
+over_stream_after O t stream (object service class instance attribute body) asks drawn = served_after O t stream.peer (object service class instance attribute body) asks drawn
+
+request_after : (O : OpenFields → Type 0) (t : AdapterTable) (stream : Stream) (context : ℕ) (requested : RouterRequestFields) (own : Option OwnRequest) → ((large : Bool) (request : OpenFields) → requested ≡ opening large request → O request) → IdsAreDrawn t.profile t.next_id t.rows → HandledAfter O t stream.peer (request_handled t stream context requested own)
+request_after O t stream context requested None asks drawn = replied_after O t stream.peer (stream_served t stream requested) (over_stream_after O t stream requested asks drawn)
+request_after O t stream context requested (Some own) asks drawn =
+    either (HandledAfter O t stream.peer) (lacks_room t.messaging) (request_replied t (Some (router_refusal t own.service status.ResourceUnavailable))) _ (stays_so O t stream.peer) (messages_after O t stream.peer t.next_id _)
+
+packet_after : (O : OpenFields → Type 0) (t : AdapterTable) (stream : Stream) (context : ℕ) (reading : Result PacketFields ItemFault) → PacketRequests O reading → IdsAreDrawn t.profile t.next_id t.rows → HandledAfter O t stream.peer (packet_replied t stream context reading)
+packet_after O t stream context (Err fault) asks drawn = stays_so O t stream.peer
+packet_after O t stream context (Ok packet) asks drawn =
+    request_after O t stream context (router_request_reading packet.payload) (own_of t.profile.objects (router_request_reading packet.payload)) (asks packet refl) drawn
+
+unit_after : (O : OpenFields → Type 0) (t : AdapterTable) (peer : Node) (done : Handled) → IsOfMessages t done → HandledAfter O t peer done
+unit_after O t peer done is = subst (TableAfter O t peer) (sym is.table) (messages_after O t peer t.next_id is.messages)
 
 handled_after : (O : OpenFields → Type 0) (t : AdapterTable) (stream : Stream) (echo : RequestHeader) (body : List ℕ) (requested : Command) → PacketRequests O (packet_reading body) → IdsAreDrawn t.profile t.next_id t.rows → HandledAfter O t stream.peer (handled t stream echo body requested)
 unfolding handled
@@ -265,7 +309,10 @@ handled_after O t stream echo body command.RegisterSession asks drawn = register
 handled_after O t stream echo body command.UnregisterSession asks drawn =
     either (HandledAfter O t stream.peer) (has_session stream echo.session) (session_ended t stream) (unanswered t) (without_after O t stream.peer stream.number) (stays_so O t stream.peer)
 handled_after O t stream echo body command.SendRrData asks drawn =
-    either (HandledAfter O t stream.peer) (has_session stream echo.session) _ _ (packet_after O t stream.peer (packet_reading body) asks drawn) (stays_so O t stream.peer)
+    either (HandledAfter O t stream.peer) (has_session stream echo.session) _ _ (packet_after O t stream echo.context (packet_reading body) asks drawn) (stays_so O t stream.peer)
+handled_after O t stream echo body command.SendUnitData asks drawn =
+    either (HandledAfter O t stream.peer) (has_session stream echo.session) (unit_replied t stream (connected_reading body)) (refusal t encap.InvalidCommand)
+    (unit_after O t stream.peer (unit_replied t stream (connected_reading body)) (unit_of t stream (connected_reading body))) (stays_so O t stream.peer)
 handled_after O t stream echo body command.Other asks drawn = stays_so O t stream.peer
 
 abbrev NextAfter : (OpenFields → Type 0) → AdapterTable → Node → Next → Type 0
@@ -333,13 +380,22 @@ inquired_came t peer bytes (Some text) = table_stays t (event.Inquiry peer bytes
 abbrev Anything : OpenFields → Type 0
 Anything request = Unit {0}
 
-request_came : (t : AdapterTable) (peer : Node) (bytes : List ℕ) (s : Option Served) → IfSome s (ServedAfter Anything t peer) → OkCame t (event.Request peer bytes) (Ok (answered t peer s))
-request_came t peer bytes None goes = table_stays t (event.Request peer bytes)
-request_came t peer bytes (Some s) goes = record { rows = all_more (RowAfter Anything t s.table peer) (RowCame t s.table (event.Request peer bytes)) news s.table.rows goes.rows; streams = old_streams t (event.Request peer bytes) s.table.streams goes.streams }
+peer_came : (t next : AdapterTable) (peer : Node) (bytes : List ℕ) → TableAfter Anything t peer next → Came t next (event.Request peer bytes)
+peer_came t next peer bytes goes = record { rows = all_more (RowAfter Anything t next peer) (RowCame t next (event.Request peer bytes)) news next.rows goes.rows; streams = old_streams t (event.Request peer bytes) next.streams goes.streams }
   where
-    news : (row : Row) → RowAfter Anything t s.table peer row → RowCame t s.table (event.Request peer bytes) row
+    news : (row : Row) → RowAfter Anything t next peer row → RowCame t next (event.Request peer bytes) row
     news row (inl was) = inl was
     news row (inr new) = inr new.new
+
+answered_came : (t : AdapterTable) (peer : Node) (bytes : List ℕ) (s : Option Served) → IfSome s (ServedAfter Anything t peer) → OkCame t (event.Request peer bytes) (Ok (answered t peer s))
+answered_came t peer bytes None goes = table_stays t (event.Request peer bytes)
+answered_came t peer bytes (Some s) goes = peer_came t s.table peer bytes goes
+
+request_came : (t : AdapterTable) (peer : Node) (bytes : List ℕ) (requested : RouterRequestFields) (own : Option OwnRequest) → IdsAreDrawn t.profile t.next_id t.rows → OkCame t (event.Request peer bytes) (Ok (requested_by t peer requested own))
+request_came t peer bytes requested None drawn = answered_came t peer bytes (served t peer requested) (served_after Anything t peer requested (λ large request is. tt) drawn)
+request_came t peer bytes requested (Some own) drawn =
+    either (λ (next : Next). Came t next.1 (event.Request peer bytes)) (lacks_room t.messaging) (replied peer (router_refusal t own.service status.ResourceUnavailable)) _
+    (table_stays t (event.Request peer bytes)) (peer_came t _ peer bytes (messages_after Anything t peer t.next_id _))
 
 opened_came : (t : AdapterTable) (number : ℕ) (peer : Node) → Came t (with_stream t number peer) (event.StreamOpened number peer)
 unfolding with_stream
@@ -383,24 +439,33 @@ write_came t point bytes None = tt
 write_came t point bytes (Some input) =
     either (OkCame t (event.Write point bytes)) (length bytes == input.len) (Ok (written (written_table t point bytes) point bytes)) (Err WrongLength) (written_came t point bytes) tt
 
-advanced_came : (t : AdapterTable) (ms : ℕ) → Came t (advanced (clocked_table t ms)).1 (event.Tick ms)
+advanced_rows : (t : AdapterTable) (ms : ℕ) → AllByRecursion (WasThere t) (advanced (clocked_table t ms)).1.rows
 unfolding clocked_table expired_table produced_table
-advanced_came t ms =
+advanced_rows t ms =
     let clock : Ms = record { 0 = t.clock.0 + ms } in
-    rows_stay t (advanced (clocked_table t ms)).1 (event.Tick ms)
-    (there_on t (produced_row clock) (produced_row_same clock) _
+    there_on t (produced_row clock) (produced_row_same clock) _
     (all_filtered (WasThere t) (stays (expired_rows clock t.rows)) (expired_rows clock t.rows)
-    (there_on t (expired_row clock) (expired_row_same clock) t.rows (were_there t)))) refl
+    (there_on t (expired_row clock) (expired_row_same clock) t.rows (were_there t)))
+
+advanced_streams : (t : AdapterTable) (ms : ℕ) → (advanced (clocked_table t ms)).1.streams ≡ t.streams
+unfolding clocked_table expired_table produced_table
+advanced_streams t ms = refl
+
+-- then class 3 connections and requests that wait change
+messages_came : (t next : AdapterTable) (happens : Event) (next_id : ℕ) (m : Messaging) → AllByRecursion (WasThere t) next.rows → next.streams ≡ t.streams → Came t (messages_table next next_id m) happens
+unfolding messages_table
+messages_came t next happens next_id m rows same = rows_stay t (messages_table next next_id m) happens rows same
 
 tick_came : (t : AdapterTable) (ms : ℕ) → OkCame t (event.Tick ms) (tick t ms)
 unfolding tick
 tick_came t ms =
     either (OkCame t (event.Tick ms)) (nat_lt longest_tick ms) (Err TickTooLong) _ tt
-    (either (OkCame t (event.Tick ms)) (nat_lt clock_end (t.clock.0 + ms)) (Err ClockEnd) (Ok (advanced (clocked_table t ms))) tt (advanced_came t ms))
+    (either (OkCame t (event.Tick ms)) (nat_lt clock_end (t.clock.0 + ms)) (Err ClockEnd) (Ok (aged_next (advanced (clocked_table t ms)))) tt
+    (messages_came t (advanced (clocked_table t ms)).1 (event.Tick ms) _ _ (advanced_rows t ms) (advanced_streams t ms)))
 
 step_came : (t : AdapterTable) (happens : Event) → IdsAreDrawn t.profile t.next_id t.rows → OkCame t happens (adapter_step t happens)
 unfolding requested received inquired write frame stream_cut stream_opened
-step_came t (event.Request peer bytes) drawn = request_came t peer bytes (served t peer (router_request_reading bytes)) (served_after Anything t peer (router_request_reading bytes) (λ large request is. tt) drawn)
+step_came t (event.Request peer bytes) drawn = request_came t peer bytes (router_request_reading bytes) (own_of t.profile.objects (router_request_reading bytes)) drawn
 step_came t (event.StreamOpened number peer) drawn =
     either (OkCame t (event.StreamOpened number peer)) (is_taken t.streams number) (Err NotAllowedNow) (Ok (plain_answer Done, with_stream t number peer)) tt (opened_came t number peer)
 step_came t (event.Frame number bytes) drawn = frame_of_came t number bytes (find (is_stream number) t.streams) refl drawn
@@ -409,6 +474,9 @@ step_came t (event.Datagram peer bytes) drawn = datagram_came t peer bytes (data
 step_came t (event.Inquiry peer bytes) drawn = inquired_came t peer bytes (inquiry_reply t bytes)
 step_came t (event.Write point bytes) drawn = write_came t point bytes (find (is_at point) t.profile.inputs)
 step_came t (event.Tick ms) drawn = tick_came t ms
+step_came t (event.Respond number general bytes) drawn =
+    respond_holds (OkCame t (event.Respond number general bytes)) t number general bytes (λ why. tt)
+    (λ w found few. messages_came t t (event.Respond number general bytes) t.next_id _ (were_there t) refl)
 step_came t other drawn = passive_holds (OkCame t other) t (λ why. tt) (λ verdict. table_stays t other) other refl
 
 pub connections_keep : ConnectionsKeepTheirIds

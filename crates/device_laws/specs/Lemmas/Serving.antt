@@ -1,6 +1,5 @@
 -- What an adapter serves: the reply of a success is that of the connection which the request opened.
-use Rattle.std.proofs.Common.{◌≡◌, ℕ, ◌*◌, Bool, true, false, List, [], ◌∷◌, ◌++◌, find, Option, Some, None, Result, Ok, Err, refl}
-use Rattle.std.specs.Int.{w32}
+use Rattle.std.proofs.Common.{◌≡◌, ℕ, Bool, true, false, List, [], ◌∷◌, ◌++◌, find, Option, Some, None, Result, Ok, Err, refl}
 use Rattle.std.specs.List.{AllByRecursion}
 use Rattle.std.specs.Option.{IfSome}
 use Rattle.device_laws.specs.Lemmas.AdapterIds.{nonzero}
@@ -8,33 +7,25 @@ use Rattle.base_lemmas.specs.Numbers.{less_other, number_same}
 use Rattle.cip_types.specs.declared.names.Node.{Node}
 use Rattle.cip_fwdopen.specs.Open.{OpenFields}
 use Rattle.cip_fwdopen.specs.Close.{CloseFields}
-use Rattle.cip_fwdopen.specs.declared.reply.Opened.{Opened}
+use Rattle.messaging.specs.declared.dialogue.Dialogue.{Dialogue}
+use Rattle.messaging.specs.Dialogues.{has_dialogue_triad}
 use Rattle.cip_router.specs.declared.refusal.Refusal.{Refusal}
 use Rattle.cip_router.specs.Requests.{RouterRequestFields, nothing, refused, closing, object, opening}
 use Rattle.adapter_table.specs.declared.profile.Profile.{Profile}
 use Rattle.adapter_table.specs.Connections.{Row}
 use Rattle.adapter_table.specs.declared.table.AdapterTable.{AdapterTable}
 use Rattle.adapter_table.specs.Checks.{Admitted}
-use Rattle.adapter_table.specs.StatedLimits.{limited_admission, is_wrong_closer}
+use Rattle.adapter_table.specs.StatedLimits.{limited_admission, is_wrong_closer, is_wrong_ender}
 use Rattle.adapter_table.specs.Newest.{was_opened_as}
 use Rattle.adapter_table.specs.Opening.{opened_row, opened_table}
 use Rattle.adapter_table.specs.Objects.{ObjectAnswer, said, denied, resetting, object_answer}
-use Rattle.adapter_table.specs.Requests.{Served, judged_open, admitted_open, served_open, close_of, served_close, object_served, served_object, served}
+use Rattle.adapter_table.specs.Requests.{Served, judged_open, admitted_open, served_open, close_of, served_close, end_of, served_end, object_served, served_object, served}
 use Rattle.adapter_table.specs.Rows.{has_triad}
 use Rattle.adapter_table.specs.Sound.{IdsAreDrawn}
 use Rattle.device_laws.specs.Lemmas.Lists.{all_filtered}
 use Rattle.device_laws.specs.Lemmas.Texts.{either}
-use Rattle.device_laws.specs.Frames.{again}
+use Rattle.device_laws.specs.Replies.{IsOfRow}
 use Rattle.device_laws.specs.Lemmas.ReplyTexts.{ReplyHolds}
-
--- the success has the ids and the packet intervals of the connection that is new in the next table
-pub record IsOfRow (t next : AdapterTable) (opened : Opened) : Type 0 where
-  pub row : Row
-  pub new : find (was_opened_as t.next_id) next.rows ≡ Some row
-  pub o_t : opened.o_t_id.0 ≡ again w32 row.o_t_id.0
-  pub t_o : opened.t_o_id.0 ≡ again w32 row.t_o_id.0
-  pub o_t_api : opened.o_t_api_us ≡ again w32 (1000 * row.o_t_api_ms)
-  pub t_o_api : opened.t_o_api_us ≡ again w32 (1000 * row.t_o_api_ms)
 
 abbrev pub ServedHas : AdapterTable → Served → Type 0
 ServedHas t s = ReplyHolds (IsOfRow t s.table) s.reply
@@ -75,15 +66,20 @@ close_has : (t : AdapterTable) (peer : Node) (request : CloseFields) (found : Op
 close_has t peer request None = refl
 close_has t peer request (Some row) = either (ServedHas t) (is_wrong_closer t.profile.limits peer row) _ _ refl tt
 
+end_has : (t : AdapterTable) (peer : Node) (request : CloseFields) (found : Option Dialogue) → ServedHas t (end_of t peer request found)
+unfolding served_close
+end_has t peer request None = close_has t peer request (find (has_triad request.triad) t.rows)
+end_has t peer request (Some d) = either (ServedHas t) (is_wrong_ender t.profile.limits peer d) _ _ refl tt
+
 object_has : (t : AdapterTable) (service : ℕ) (answer : ObjectAnswer) → ServedHas t (object_served t service answer)
 object_has t service (said by value) = tt
 object_has t service (denied why) = nonzero why
 object_has t service (resetting kind) = tt
 
 pub served_has : (t : AdapterTable) (peer : Node) (requested : RouterRequestFields) → IdsAreDrawn t.profile t.next_id t.rows → IfSome (served t peer requested) (ServedHas t)
-unfolding served_open served_close served_object
+unfolding served_open served_end served_object
 served_has t peer nothing drawn = tt
 served_has t peer (refused service why) drawn = nonzero why
-served_has t peer (closing request) drawn = close_has t peer request (find (has_triad request.triad) t.rows)
+served_has t peer (closing request) drawn = end_has t peer request (find (has_dialogue_triad request.triad) t.messaging.dialogues)
 served_has t peer (object service class instance attribute body) drawn = object_has t service (object_answer t service class instance attribute body)
 served_has t peer (opening large request) drawn = open_has t peer large request (limited_admission t peer request) drawn

@@ -1,7 +1,7 @@
 -- What an event of an adapter adds to the chronicle's entries, and that the adapter's connections, its streams and its frames
 -- have theirs.
-use Rattle.std.proofs.Common.{◌≡◌, ◌≢◌, ◌≤◌, ◌<◌, ◌⊎◌, inl, inr, ℕ, ◌+◌, ◌^◌, Bool, true, false, List, [], ◌∷◌, ◌++◌, find, map, slice_get, Option, Some, None, Result, Ok, Err, refl, sym, ◌∙◌, ap, subst, arith, eqb-true, eq-eqb, ne_eqb}
-use Rattle.std.specs.List.{AllByRecursion, Contains}
+use Rattle.std.proofs.Common.{◌≡◌, ◌≢◌, ◌≤◌, ◌<◌, ◌⊎◌, inl, inr, ℕ, ◌+◌, ◌^◌, ◌||◌, Bool, true, false, List, [], ◌∷◌, ◌++◌, find, map, slice_get, Option, Some, None, Result, Ok, Err, refl, sym, ◌∙◌, ap, subst, arith, eqb-true, eq-eqb, ne_eqb}
+use Rattle.std.specs.List.{AllByRecursion, Contains, list_any}
 use Rattle.std.specs.Int.{w32}
 use Rattle.std.proofs.lemmas.List.Elements.{Contains-push}
 use Rattle.std.proofs.lemmas.Option.{same_Some}
@@ -9,6 +9,7 @@ use Rattle.base_lemmas.specs.Lists.{found_passes}
 use Rattle.cip_types.specs.declared.names.ConnId.{ConnId}
 use Rattle.cip_encap.specs.declared.message.EncapFault.{EncapFault}
 use Rattle.cip_encap.specs.Message.{MessageFields}
+use Rattle.cip_encap.specs.PacketReading.{packet_reading}
 use Rattle.cip_encap.specs.Reading.{message_reading}
 use Rattle.cip_events.specs.declared.event.Answer.{Answer}
 use Rattle.cip_events.specs.declared.event.Event.{Event}
@@ -28,6 +29,8 @@ use Rattle.adapter_table.specs.Productions.{producer_of}
 use Rattle.adapter_table.specs.Rows.{Each}
 use Rattle.adapter_table.specs.Sound.{IdsAreDrawn, MulticastIdIsDrawn, MulticastIdsAreDrawn}
 use Rattle.adapter_table.specs.Streams.{is_stream}
+use Rattle.cip_netparams.specs.Word.{is_message_trigger}
+use Rattle.cip_router.specs.Requests.{router_request_reading}
 use Rattle.scanner_table.specs.declared.profile.ScannerProfile.{ScannerProfile}
 use Rattle.cip_tables.specs.declared.table.DeviceTable.{DeviceTable}
 use Rattle.cip_tables.specs.declared.table.DeviceTable.TheVariants.{Adapter, Scanner}
@@ -38,7 +41,8 @@ use Rattle.device_laws.specs.Lemmas.Texts.{same_again}
 use Rattle.device_laws.specs.Ids.{RequestIds}
 use Rattle.device_laws.specs.OwnIds.{IsDrawnId, AsksOwnId}
 use Rattle.device_laws.specs.Frames.{again, OpensNothing, IsNoOpening, ContextFits, IsOpening}
-use Rattle.device_laws.specs.Replies.{IsSuccessOf, IsReplyTo, IsAnswerTo}
+use Rattle.device_laws.specs.Plain.{IsPlainRequest, PlainPacket, PlainMessage, IsPlainFrame, SendsPlainly, ArePlain}
+use Rattle.device_laws.specs.Replies.{IsOfRow, IsOfDialogue, IsOfNew, IsSuccessOf, IsReplyTo, IsLateReply, IsAnswerTo}
 use Rattle.device_laws.specs.RowIds.{WasThere, IsSingle, IsProduced, IsNewOver, IsNewRow, RowCame, WasOpen, StreamCame, Came}
 use Rattle.device_laws.specs.Productions.{End, end_at}
 use Rattle.schedule_laws.specs.Chronicle.{Opened, opens_row, other_end, requester, opened_for, frame_opens}
@@ -324,10 +328,18 @@ stream_named Q w new device t happens s later known comes (inr is) = opened_stre
 
 -- ---- frames
 
-success_named : (w new : World) (opened : List Opened) (device : ℕ) (t u : AdapterTable) (n : ℕ) (bytes : List ℕ) (other : ℕ) (more : List Opened) (number : ℕ) (o : made.Opened) → AdapterStep w new opened device t u → ContextFits bytes → Opens w device t u n bytes other more → IsSuccessOf t u bytes number o → IsOpenedWith (opened ++ more) device (end_at other number) o.o_t_id.0 o.t_o_id.0
-success_named w new opened device t u n bytes other more number o step fits (inl none) is = absurd (let e = sym none.found ∙ is.new in cc)
-success_named w new opened device t u n bytes other more number o step fits (inr one) is =
-    let same : one.row ≡ is.row = same_Some one.row is.row (sym one.found ∙ is.new) in
+-- a plain frame opens no class 3 connection
+no_dialogue : {X : Type 0} (t u : AdapterTable) (bytes : List ℕ) (m : MessageFields) (o : made.Opened) → IsPlainFrame bytes → message_reading bytes ≡ Ok m → IsOfDialogue t u m.payload o → X
+no_dialogue t u bytes m o plain reads is =
+    let message : PlainPacket (packet_reading m.payload) = subst PlainMessage reads plain in
+    let packet : IsPlainRequest (router_request_reading is.packet.payload) = subst PlainPacket is.packet_is message in
+    let class_1 : is_message_trigger is.request.trigger ≡ false = subst IsPlainRequest is.opens packet in
+    absurd (let e : false ≡ true = sym class_1 ∙ is.trigger in cc)
+
+row_success : (w new : World) (opened : List Opened) (device : ℕ) (t u : AdapterTable) (n : ℕ) (bytes : List ℕ) (other : ℕ) (more : List Opened) (number : ℕ) (o : made.Opened) → AdapterStep w new opened device t u → ContextFits bytes → Opens w device t u n bytes other more → IsSuccessOf t u bytes number o → IsOfRow t u o → IsOpenedWith (opened ++ more) device (end_at other number) o.o_t_id.0 o.t_o_id.0
+row_success w new opened device t u n bytes other more number o step fits (inl none) is of = absurd (let e = sym none.found ∙ of.new in cc)
+row_success w new opened device t u n bytes other more number o step fits (inr one) is of =
+    let same : one.row ≡ of.row = same_Some one.row of.row (sym one.found ∙ of.new) in
     let read : one.message ≡ is.message = ok_message one.message is.message (sym one.reads ∙ is.reads) in
     let narrow = found_holds (λ (row : Row). (row.o_t_id.0 < 2 ^ 32) × (row.t_o_id.0 < 2 ^ 32)) (was_opened_as t.next_id) u.rows one.row step.fits one.found in
     let context : one.message.context ≡ number = ap (λ (m : MessageFields). m.context) read ∙ sym (fits is.message is.reads) ∙ sym is.context_is in
@@ -336,12 +348,19 @@ success_named w new opened device t u n bytes other more number o step fits (inr
       there = subst (λ (l : List Opened). Contains (opened ++ l) one.entry) (sym one.more_is) (Contains-push opened one.entry);
       adapter_is = ap (λ (x : End). x.device) one.row_is;
       slot_is = one.slot_is ∙ ap (end_at other) context;
-      o_t_is = ap (λ (id : ConnId). id.0) one.o_t ∙ sym (same_again one.row.o_t_id.0 narrow.0) ∙ ap (λ (r : Row). again w32 r.o_t_id.0) same ∙ sym is.o_t;
-      t_o_is = ap (λ (id : ConnId). id.0) one.t_o ∙ sym (same_again one.row.t_o_id.0 narrow.1) ∙ ap (λ (r : Row). again w32 r.t_o_id.0) same ∙ sym is.t_o;
+      o_t_is = ap (λ (id : ConnId). id.0) one.o_t ∙ sym (same_again one.row.o_t_id.0 narrow.0) ∙ ap (λ (r : Row). again w32 r.o_t_id.0) same ∙ sym of.o_t;
+      t_o_is = ap (λ (id : ConnId). id.0) one.t_o ∙ sym (same_again one.row.t_o_id.0 narrow.1) ∙ ap (λ (r : Row). again w32 r.t_o_id.0) same ∙ sym of.t_o;
     }
   where
     ok_message : (a b : MessageFields) → ◌≡◌ {A = Result MessageFields EncapFault} (Ok a) (Ok b) → a ≡ b
     ok_message a b e = cc
+
+success_by : (w new : World) (opened : List Opened) (device : ℕ) (t u : AdapterTable) (n : ℕ) (bytes : List ℕ) (other : ℕ) (more : List Opened) (number : ℕ) (o : made.Opened) → AdapterStep w new opened device t u → ContextFits bytes → IsPlainFrame bytes → Opens w device t u n bytes other more → (is : IsSuccessOf t u bytes number o) → IsOfNew t u is.message.payload o → IsOpenedWith (opened ++ more) device (end_at other number) o.o_t_id.0 o.t_o_id.0
+success_by w new opened device t u n bytes other more number o step fits plain opens is (inl row) = row_success w new opened device t u n bytes other more number o step fits opens is row
+success_by w new opened device t u n bytes other more number o step fits plain opens is (inr dialogue) = no_dialogue t u bytes is.message o plain is.reads dialogue
+
+success_named : (w new : World) (opened : List Opened) (device : ℕ) (t u : AdapterTable) (n : ℕ) (bytes : List ℕ) (other : ℕ) (more : List Opened) (number : ℕ) (o : made.Opened) → AdapterStep w new opened device t u → ContextFits bytes → IsPlainFrame bytes → Opens w device t u n bytes other more → IsSuccessOf t u bytes number o → IsOpenedWith (opened ++ more) device (end_at other number) o.o_t_id.0 o.t_o_id.0
+success_named w new opened device t u n bytes other more number o step fits plain opens is = success_by w new opened device t u n bytes other more number o step fits plain opens is is.new
 
 stream_number : (a b : ℕ) → recipient.Stream a ≡ recipient.Stream b → a ≡ b
 stream_number a b e = cc
@@ -356,8 +375,9 @@ sent_between Q device other e bytes apart (inr are) holds = record {
   back = λ to. subst (λ (a : ℕ). Q a e.from bytes) (sym are.second) (subst (λ (b : ℕ). Q device b bytes) (sym are.first) holds);
 }
 
-reply_named : (w new : World) (opened : List Opened) (device : ℕ) (t u : AdapterTable) (n : ℕ) (bytes : List ℕ) (other : ℕ) (more : List Opened) (frame : Frame) → AdapterStep w new opened device t u → IsOver w device other n → ContextFits bytes → Opens w device t u n bytes other more → IsReplyTo t u n bytes frame → FrameSent (Waits new (opened ++ more)) (map ends_of w.streams) device frame
-reply_named w new opened device t u n bytes other more frame step over fits opens reply k e to at =
+reply_named : (w new : World) (opened : List Opened) (device : ℕ) (t u : AdapterTable) (n : ℕ) (bytes : List ℕ) (other : ℕ) (more : List Opened) (frame : Frame) → AdapterStep w new opened device t u → IsOver w device other n → ContextFits bytes → IsPlainFrame bytes → Opens w device t u n bytes other more → IsReplyTo t u n bytes frame × SendsPlainly frame → FrameSent (Waits new (opened ++ more)) (map ends_of w.streams) device frame
+reply_named w new opened device t u n bytes other more frame step over fits plain opens both k e to at =
+    let reply = both.0 in
     let number : n ≡ k = stream_number n k (sym reply.to ∙ to) in
     let ends : over.ends ≡ e = same_Some over.ends e (sym over.there ∙ ap (slice_get (map ends_of w.streams)) number ∙ at) in
     sent_between (Waits new (opened ++ more)) device other e frame.bytes
@@ -366,10 +386,46 @@ reply_named w new opened device t u n bytes other more frame step over fits open
       sender = record { table = Adapter u; is = step.after };
       context = reply.context;
       successes = successes_more (IsSuccessOf t u bytes) (λ number o. IsOpenedWith (opened ++ more) device (end_at other number) o.o_t_id.0 o.t_o_id.0)
-          (λ number o is. success_named w new opened device t u n bytes other more number o step fits opens is) frame.bytes reply.successes;
+          (λ number o is. success_named w new opened device t u n bytes other more number o step fits plain opens is) frame.bytes reply.successes;
       opens_nothing = λ adapter. reply.opens_nothing;
       asks = λ scanner there. absurd (let e = sym step.after ∙ there in cc);
+      plain = both.1;
     })
+
+-- the stream of a number is known
+known_step : (w : World) (device number : ℕ) (b : Bool) (s : adapter_stream.Stream) (rest : Bool) → is_stream number s ≡ b → (b || rest) ≡ true → IsKnown w device s → (rest ≡ true → (other : ℕ) × IsOver w device other number) → (other : ℕ) × IsOver w device other number
+known_step w device number true s rest is any known more = (known.other, subst (IsOver w device known.other) (eqb-true s.number number is) known.over)
+known_step w device number false s rest is any known more = more any
+
+known_over : (w : World) (device number : ℕ) (streams : List adapter_stream.Stream) → list_any (is_stream number) streams ≡ true → AllByRecursion (IsKnown w device) streams → (other : ℕ) × IsOver w device other number
+known_over w device number [] any known = absurd (let e : false ≡ true = any in cc)
+known_over w device number (s ∷ streams) any known =
+    known_step w device number (is_stream number s) s (list_any (is_stream number) streams) refl any known.0 (λ later. known_over w device number streams later known.1)
+
+-- a reply to a request that waited has no success, since no such request has the service of an opening
+late_named : (w new : World) (opened more : List Opened) (device : ℕ) (t u : AdapterTable) (frame : Frame) → AdapterStep w new opened device t u → ArePlain t.messaging → IsLateReply t frame → SendsPlainly frame → FrameSent (Waits new (opened ++ more)) (map ends_of w.streams) device frame
+late_named w new opened more device t u frame step referred (inl is) plain k e to at = absurd (let x = sym is.to ∙ to in cc)
+late_named w new opened more device t u frame step referred (inr is) plain k e to at =
+    let named = step.named in
+    let number : is.number ≡ k = stream_number is.number k (sym is.to ∙ to) in
+    let known = known_over w device is.number t.streams is.over named.streams in
+    let other = known.0 in
+    let over = known.1 in
+    let ends : over.ends ≡ e = same_Some over.ends e (sym over.there ∙ ap (slice_get (map ends_of w.streams)) number ∙ at) in
+    sent_between (Waits new (opened ++ more)) device other e frame.bytes
+    (subst (λ (x : Ends). x.from ≢ x.to) ends over.apart) (subst (λ (x : Ends). IsBetween x device other) ends over.between)
+    (record {
+      sender = record { table = Adapter u; is = step.after };
+      context = is.context;
+      successes = successes_more (λ c o. ⊥) (λ c o. IsOpenedWith (opened ++ more) device (end_at other c) o.o_t_id.0 o.t_o_id.0) (λ c o never. absurd never) frame.bytes (is.successes referred.services);
+      opens_nothing = λ adapter. is.opens_nothing;
+      asks = λ scanner there. absurd (let x = sym step.after ∙ there in cc);
+      plain = plain;
+    })
+
+all_pairs : (P R : Frame → Type 0) (xs : List Frame) → AllByRecursion P xs → AllByRecursion R xs → AllByRecursion (λ x. P x × R x) xs
+all_pairs P R [] first second = tt
+all_pairs P R (x ∷ xs) first second = ((first.0, second.0), all_pairs P R xs first.1 second.1)
 
 -- ---- an event
 
@@ -379,8 +435,8 @@ pub record LeavesNamed (w new : World) (opened more : List Opened) (device : ℕ
   pub table : AdapterIsNamed new (opened ++ more) device u
   pub frames : AllByRecursion (FrameSent (Waits new (opened ++ more)) (map ends_of w.streams) device) answer.frames
 
-frame_named : (w new : World) (opened : List Opened) (device : ℕ) (t u : AdapterTable) (n : ℕ) (bytes : List ℕ) (answer : Answer) → AdapterStep w new opened device t u → FrameArrives (Waits w opened) w device n bytes → Came t u (event.Frame n bytes) → AllByRecursion (IsReplyTo t u n bytes) answer.frames → LeavesNamed w new opened (frame_opens w device (Adapter t) (event.Frame n bytes) (Adapter u)) device u answer
-frame_named w new opened device t u n bytes answer step comes came replies =
+frame_named : (w new : World) (opened : List Opened) (device : ℕ) (t u : AdapterTable) (n : ℕ) (bytes : List ℕ) (answer : Answer) → AdapterStep w new opened device t u → FrameArrives (Waits w opened) w device n bytes → Came t u (event.Frame n bytes) → AllByRecursion (IsReplyTo t u n bytes) answer.frames → AllByRecursion SendsPlainly answer.frames → LeavesNamed w new opened (frame_opens w device (Adapter t) (event.Frame n bytes) (Adapter u)) device u answer
+frame_named w new opened device t u n bytes answer step comes came replies plain =
     let other = comes.other in
     let more = frame_opens w device (Adapter t) (event.Frame n bytes) (Adapter u) in
     let opens = frame_opening w device t u n bytes comes.other comes.over step.drawn came.rows in
@@ -392,16 +448,17 @@ frame_named w new opened device t u n bytes answer step comes came replies =
         rows = all_more (RowCame t u (event.Frame n bytes)) (HasEntry new (opened ++ more) device) (λ row by. row_named w new opened device t u n bytes other more row step comes.over opens by) u.rows came.rows;
         streams = all_more (StreamCame t (event.Frame n bytes)) (IsKnown new device) (λ s by. stream_named (Waits w opened) w new device t (event.Frame n bytes) s step.later named.streams comes by) u.streams came.streams;
       };
-      frames = all_more (IsReplyTo t u n bytes) (FrameSent (Waits new (opened ++ more)) (map ends_of w.streams) device) (λ frame reply. reply_named w new opened device t u n bytes other more frame step comes.over waits.context opens reply) answer.frames replies;
+      frames = all_more (λ frame. IsReplyTo t u n bytes frame × SendsPlainly frame) (FrameSent (Waits new (opened ++ more)) (map ends_of w.streams) device)
+          (λ frame reply. reply_named w new opened device t u n bytes other more frame step comes.over waits.context waits.plain opens reply) answer.frames (all_pairs (IsReplyTo t u n bytes) SendsPlainly answer.frames replies plain);
     }
   where
     entries_of : (more : List Opened) → Opens w device t u n bytes comes.other more → AllByRecursion (IsEntry new (opened ++ more)) more
     entries_of more (inl none) = subst (AllByRecursion (IsEntry new (opened ++ more))) (sym none.none) tt
     entries_of more (inr one) = subst (AllByRecursion (IsEntry new (opened ++ more))) (sym one.more_is) (new_entry w new opened device t u n bytes comes.other more step comes.holds one, tt)
 
--- no frame came, nothing is opened, and the answer goes over no stream
-quiet_named : (w new : World) (opened : List Opened) (device : ℕ) (t u : AdapterTable) (happens : Event) (answer : Answer) → AdapterStep w new opened device t u → EventArrives (Waits w opened) w device happens → Came t u happens → ((row : Row) → IsNewRow t u happens row → ⊥) → ((frame : Frame) → IsAnswerTo t u happens frame → (n : ℕ) → frame.to ≡ recipient.Stream n → ⊥) → AllByRecursion (IsAnswerTo t u happens) answer.frames → LeavesNamed w new opened [] device u answer
-quiet_named w new opened device t u happens answer step comes came none unstreamed frames =
+-- no frame came, and nothing is opened
+quiet_named : (w new : World) (opened : List Opened) (device : ℕ) (t u : AdapterTable) (happens : Event) (answer : Answer) → AdapterStep w new opened device t u → EventArrives (Waits w opened) w device happens → Came t u happens → ((row : Row) → IsNewRow t u happens row → ⊥) → ((frame : Frame) → IsAnswerTo t u happens frame → SendsPlainly frame → FrameSent (Waits new (opened ++ [])) (map ends_of w.streams) device frame) → AllByRecursion (IsAnswerTo t u happens) answer.frames → AllByRecursion SendsPlainly answer.frames → LeavesNamed w new opened [] device u answer
+quiet_named w new opened device t u happens answer step comes came none sends frames plain =
     let named = step.named in
     record {
       entries = tt;
@@ -409,16 +466,21 @@ quiet_named w new opened device t u happens answer step comes came none unstream
         rows = all_more (RowCame t u happens) (HasEntry new (opened ++ []) device) rows u.rows came.rows;
         streams = all_more (StreamCame t happens) (IsKnown new device) (λ s by. stream_named (Waits w opened) w new device t happens s step.later named.streams comes by) u.streams came.streams;
       };
-      frames = all_more (IsAnswerTo t u happens) (FrameSent (Waits new (opened ++ [])) (map ends_of w.streams) device) (λ frame is n e to at. absurd (unstreamed frame is n to)) answer.frames frames;
+      frames = all_more (λ frame. IsAnswerTo t u happens frame × SendsPlainly frame) (FrameSent (Waits new (opened ++ [])) (map ends_of w.streams) device) (λ frame is. sends frame is.0 is.1) answer.frames (all_pairs (IsAnswerTo t u happens) SendsPlainly answer.frames frames plain);
     }
   where
     rows : (row : Row) → RowCame t u happens row → HasEntry new (opened ++ []) device row
     rows row (inl was) = row_later w new opened [] device t u row step was
     rows row (inr by) = absurd (none row by)
 
-pub adapter_named : (w new : World) (opened : List Opened) (device : ℕ) (t u : AdapterTable) (happens : Event) (answer : Answer) → AdapterStep w new opened device t u → EventArrives (Waits w opened) w device happens → Came t u happens → AllByRecursion (IsAnswerTo t u happens) answer.frames → LeavesNamed w new opened (frame_opens w device (Adapter t) happens (Adapter u)) device u answer
-adapter_named w new opened device t u (event.Request peer bytes) answer step comes came frames = absurd comes
-adapter_named w new opened device t u (event.Frame n bytes) answer step comes came frames = frame_named w new opened device t u n bytes answer step comes came frames
-adapter_named w new opened device t u (event.Inquiry peer bytes) answer step comes came frames =
-    quiet_named w new opened device t u (event.Inquiry peer bytes) answer step comes came (λ row none. none) (λ frame is n to. absurd (let e = sym is.to ∙ to in cc)) frames
-adapter_named w new opened device t u other answer step comes came frames = quiet_named w new opened device t u other answer step comes came (λ row none. none) (λ frame none n to. none) frames
+pub adapter_named : (w new : World) (opened : List Opened) (device : ℕ) (t u : AdapterTable) (happens : Event) (answer : Answer) → AdapterStep w new opened device t u → EventArrives (Waits w opened) w device happens → ArePlain t.messaging → Came t u happens → AllByRecursion (IsAnswerTo t u happens) answer.frames → AllByRecursion SendsPlainly answer.frames → LeavesNamed w new opened (frame_opens w device (Adapter t) happens (Adapter u)) device u answer
+adapter_named w new opened device t u (event.Request peer bytes) answer step comes referred came frames plain = absurd comes
+adapter_named w new opened device t u (event.Frame n bytes) answer step comes referred came frames plain = frame_named w new opened device t u n bytes answer step comes came frames plain
+adapter_named w new opened device t u (event.Inquiry peer bytes) answer step comes referred came frames plain =
+    quiet_named w new opened device t u (event.Inquiry peer bytes) answer step comes came (λ row none. none) (λ frame is sends n e to at. absurd (let x = sym is.to ∙ to in cc)) frames plain
+adapter_named w new opened device t u (event.Respond number status bytes) answer step comes referred came frames plain =
+    quiet_named w new opened device t u (event.Respond number status bytes) answer step comes came (λ row none. none) (λ frame is sends. late_named w new opened [] device t u frame step referred is sends) frames plain
+adapter_named w new opened device t u (event.Tick ms) answer step comes referred came frames plain =
+    quiet_named w new opened device t u (event.Tick ms) answer step comes came (λ row none. none) (λ frame is sends. late_named w new opened [] device t u frame step referred is sends) frames plain
+adapter_named w new opened device t u other answer step comes referred came frames plain =
+    quiet_named w new opened device t u other answer step comes came (λ row none. none) (λ frame none sends n e to at. absurd none) frames plain

@@ -1,5 +1,6 @@
 -- If each id that passes one test passes another, then the ids of tables, frames and datagrams do.
-use Rattle.std.proofs.Common.{ℕ, Bool, List, Option, Some, None, Result, Ok, Err}
+use Rattle.std.proofs.Common.{ℕ, Bool, true, false, cond, List, [], ◌∷◌, find, Option, Some, None, Result, Ok, Err}
+use Rattle.std.specs.Option.{IfSome}
 use Rattle.cip_types.specs.declared.names.ConnId.{ConnId}
 use Rattle.cip_datagram.specs.declared.datagram.DatagramFault.{DatagramFault}
 use Rattle.cip_datagram.specs.Datagram.{DatagramFields}
@@ -11,12 +12,19 @@ use Rattle.cip_encap.specs.Packet.{PacketFields}
 use Rattle.cip_encap.specs.PacketReading.{packet_reading}
 use Rattle.cip_encap.specs.Reading.{message_reading}
 use Rattle.cip_events.specs.declared.event.Event.{Event}
-use Rattle.cip_events.specs.declared.event.Event.TheVariants.{Request, Frame}
+use Rattle.cip_events.specs.declared.event.Event.TheVariants.{Request, Frame, Respond}
 use Rattle.cip_events.specs.declared.event.Reason.{Reason}
 use Rattle.cip_fwdopen.specs.declared.reply.OpenAnswer.{OpenAnswer}
 use Rattle.cip_fwdopen.specs.declared.reply.OpenAnswer.TheVariants as answer
 use Rattle.cip_fwdopen.specs.Reply.{open_reply_reading}
+use Rattle.cip_router.specs.Replies.{own_reply_text}
 use Rattle.cip_router.specs.Requests.{RouterRequestFields, nothing, refused, closing, object, opening, router_request_reading}
+use Rattle.messaging.specs.declared.requests.Requester.{Requester}
+use Rattle.messaging.specs.declared.requests.Requester.TheVariants as asker
+use Rattle.messaging.specs.declared.requests.Waiting.{Waiting}
+use Rattle.messaging.specs.Changes.{has_request_number}
+use Rattle.messaging.specs.Sound.{EachOf}
+use Rattle.adapter_table.specs.declared.table.AdapterTable.{AdapterTable}
 use Rattle.scanner_table.specs.declared.slot.SlotState.{SlotState}
 use Rattle.scanner_table.specs.declared.slot.SlotState.TheVariants.{Idle, Opening, Established, TimedOut, Closing}
 use Rattle.scanner_table.specs.Replies.{reply_answer}
@@ -24,8 +32,11 @@ use Rattle.scanner_table.specs.Slots.{indexed_slots}
 use Rattle.cip_tables.specs.declared.table.DeviceTable.{DeviceTable}
 use Rattle.cip_tables.specs.declared.table.DeviceTable.TheVariants.{Adapter, Scanner}
 use Rattle.segment_traffic.specs.Streams.{QueueItem, Opening as Opens, Queued, Ending, Stream}
-use Rattle.device_laws.specs.Ids.{RequestIds, ReplyIds, PacketIds, MessageIds, FrameIds, ReadId, DatagramId, RowIds, EventIds, RequestedId, StateIds}
-use Rattle.device_laws.specs.Carrying.{Passes, SlotIds, TableIds}
+use Rattle.device_laws.specs.Ids.{RequestIds, ReplyIds, PacketIds, MessageIds, FrameIds, ReadId, DatagramId, RowIds, EventIds, WayIds, AnsweredIds, RequestedId, StateIds}
+use Rattle.device_laws.specs.Carrying.{Passes, SlotIds, TableIds, AnswerPasses}
+use Rattle.device_laws.specs.Lemmas.Payloads.{own_ids}
+use Rattle.device_laws.specs.Plain.{IsPlainFrame, IsPlainDevice, IsPlainEvent, ArePlain}
+use Rattle.device_laws.specs.Replies.{IsPlainService, IsOfStream}
 use Rattle.schedule_laws.specs.Ids.{ItemHolds, StreamHolds, StreamsHold}
 use Rattle.schedule_laws.specs.Lemmas.Lists.{all_more}
 use Rattle.schedule_laws.specs.Lemmas.Moves.{EventHolds}
@@ -101,3 +112,50 @@ pub event_more : (P Q : ℕ → Type 0) → More P Q → (happens : Event) → E
 event_more P Q more (Request peer bytes) holds = holds
 event_more P Q more (Frame stream bytes) holds = frame_more P Q more bytes holds
 event_more P Q more other holds = tt
+
+-- ---- frames of which two properties hold
+
+pub event_first : (P R : List ℕ → Type 0) (happens : Event) → EventHolds (λ bytes. P bytes × R bytes) happens → EventHolds P happens
+event_first P R (Request peer bytes) holds = holds
+event_first P R (Frame stream bytes) holds = holds.0
+event_first P R other holds = tt
+
+pub event_plain : (P : List ℕ → Type 0) (happens : Event) → EventHolds (λ bytes. P bytes × IsPlainFrame bytes) happens → IsPlainEvent happens
+event_plain P (Request peer bytes) holds = holds
+event_plain P (Frame stream bytes) holds = holds.1
+event_plain P other holds = tt
+
+-- ---- answers of applications
+
+found_waiting : (P : Waiting → Type 0) (p : Waiting → Bool) (xs : List Waiting) → EachOf P xs → IfSome (find p xs) P
+found_waiting P p [] all = tt
+found_waiting P p (x ∷ xs) all = elim (p x) as (λ b. IfSome (cond b (Some x) (find p xs)) P) [
+  | true ↦ all.0
+  | false ↦ found_waiting P p xs all.1
+]
+
+each_two : (P R : Waiting → Type 0) (xs : List Waiting) → EachOf P xs → EachOf R xs → EachOf (λ (w : Waiting). P w × R w) xs
+each_two P R [] first second = tt
+each_two P R (x ∷ xs) first second = ((first.0, second.0), each_two P R xs first.1 second.1)
+
+way_ids : (P : ℕ → Type 0) (from : Requester) (service status : ℕ) (bytes : List ℕ) → IsPlainService service → IsOfStream from → WayIds P from (own_reply_text service status bytes)
+way_ids P (asker.Peer node) service status bytes plain over = absurd over
+way_ids P (asker.Stream number context) service status bytes plain over = own_ids P service status bytes (record { small = plain.small; large = plain.large })
+way_ids P (asker.Dialogue id count) service status bytes plain over = tt
+
+some_more : (A B : Waiting → Type 0) → ((w : Waiting) → A w → B w) → (o : Option Waiting) → IfSome o A → IfSome o B
+some_more A B more None holds = tt
+some_more A B more (Some w) holds = more w holds
+
+answered_ids : (P : ℕ → Type 0) (t : AdapterTable) (happens : Event) → ArePlain t.messaging → AnsweredIds P t happens
+answered_ids P t (Respond number status bytes) plain =
+    some_more (λ w. IsPlainService w.service × IsOfStream w.asker) (λ w. WayIds P w.asker (own_reply_text w.service status bytes)) (λ w is. way_ids P w.asker w.service status bytes is.0 is.1)
+    (find (has_request_number number) t.messaging.waiting)
+    (found_waiting (λ w. IsPlainService w.service × IsOfStream w.asker) (has_request_number number) t.messaging.waiting
+    (each_two (λ w. IsPlainService w.service) (λ w. IsOfStream w.asker) t.messaging.waiting plain.services plain.over))
+answered_ids P t other plain = tt
+
+-- what the application of a plain device answers has no id
+pub answer_passes : (ids : ℕ → Bool) (t : DeviceTable) (happens : Event) → IsPlainDevice t → AnswerPasses ids t happens
+answer_passes ids (Adapter t) happens plain = answered_ids (Passes ids) t happens plain
+answer_passes ids (Scanner t) happens plain = tt

@@ -13,7 +13,7 @@ use Rattle.cip_events.specs.declared.event.Delivery.{Delivery}
 use Rattle.cip_events.specs.declared.event.Event.{Event}
 use Rattle.cip_events.specs.declared.event.Event.TheVariants as event
 use Rattle.cip_events.specs.declared.event.Verdict.{Verdict}
-use Rattle.cip_events.specs.declared.event.Verdict.TheVariants.{Done, BadFrame, Ignored, Value, Replied, Delivered}
+use Rattle.cip_events.specs.declared.event.Verdict.TheVariants.{Done, Asked, BadFrame, Ignored, Value, Replied, Delivered}
 use Rattle.cip_productions.specs.declared.acceptance.Accepted.{Accepted}
 use Rattle.adapter_table.specs.Connections.{Row}
 use Rattle.adapter_table.specs.declared.table.AdapterTable.{AdapterTable}
@@ -147,6 +147,7 @@ verdict_noted device p number BadFrame = inl refl
 verdict_noted device p number Ignored = inl refl
 verdict_noted device p number (Value bytes) = inl refl
 verdict_noted device p number (Replied pending status additional content) = inl refl
+verdict_noted device p number (Asked asks service class instance attribute body) = inl refl
 verdict_noted device p None (Delivered delivery) = inl refl
 verdict_noted device p (Some m) (Delivered delivery) = as_noted (is_accepted delivery) device p m delivery refl
 

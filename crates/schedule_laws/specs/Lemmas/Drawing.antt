@@ -27,17 +27,20 @@ use Rattle.segment_world.specs.declared.act.Act.{Act}
 use Rattle.segment_world.specs.declared.act.ActFault.{ActFault}
 use Rattle.segment_world.specs.World.{World, ReportedEvent, Happened, node_at, sent_by, happens}
 use Rattle.segment_world.specs.Story.{Story, goes_on, runs}
-use Rattle.device_laws.specs.Ids.{FrameIds, HasDatagramId}
+use Rattle.cip_events.specs.declared.event.Frame.{Frame}
+use Rattle.device_laws.specs.Ids.{FrameIds, HasFrameIds, HasDatagramId}
+use Rattle.device_laws.specs.Plain.{IsPlainFrame, SendsPlainly, IsPlainDevice, PlainDevicesStayPlain}
 use Rattle.device_laws.specs.Carrying.{Passes, TableIds, StepsCarryIds}
-use Rattle.schedule_laws.specs.Ids.{is_drawn, AreApart, StreamsHold, SentHolds, IdsAreDrawn, SchedulesKeepIdsDrawn}
+use Rattle.schedule_laws.specs.Ids.{is_drawn, AreApart, StreamsHold, SentHolds, IsDrawnFrame, IdsAreDrawn, SchedulesKeepIdsDrawn}
 use Rattle.schedule_laws.specs.Lemmas.Lists.{all_both, all_more}
 use Rattle.schedule_laws.specs.Lemmas.Moves.{answered_holds, Came, Rests, Moves, act_moves, runs_keep}
-use Rattle.schedule_laws.specs.Lemmas.Carrying.{More, frame_more, datagram_more, table_more, streams_more, event_more}
+use Rattle.schedule_laws.specs.Lemmas.Carrying.{More, frame_more, datagram_more, table_more, streams_more, event_more, event_first, event_plain, answer_passes}
 use Rattle.schedule_laws.specs.Lemmas.Tests.{any_set, drawn_parts, parts_drawn, set_cases, now_drawn, zero_drawn}
 
 -- the laws of the steps of devices
 pub record StepLaws : Type 0 where
   pub carry : StepsCarryIds
+  pub plain : PlainDevicesStayPlain
   pub whole : RunsKeepWhole
   pub counts : StepsCountOn
   pub adapters : (profile : Profile) → StepsKeep (λ t. t.profile ≡ profile)
@@ -53,7 +56,8 @@ pub record Drawn (q : Openings) (w : World) : Type 0 where
   pub tables : (device : ℕ) (t : DeviceTable) → slice_get w.tables device ≡ Some t → TableIds (is_drawn w.tables) (q device) t
   pub opens : (device : ℕ) (t : DeviceTable) → slice_get w.tables device ≡ Some t → (n : ℕ) → next_id_of t ≤ n → q device n ≡ true
   pub sent : AllByRecursion (SentHolds (Passes (is_drawn w.tables))) w.sent
-  pub streams : StreamsHold (FrameIds (Passes (is_drawn w.tables))) w.streams
+  pub streams : StreamsHold (IsDrawnFrame w.tables) w.streams
+  pub plain : (device : ℕ) (t : DeviceTable) → slice_get w.tables device ≡ Some t → IsPlainDevice t
 
 -- ---- a step
 
@@ -103,7 +107,11 @@ sent_more : (node : Node) (P : ℕ → Type 0) (datagrams : List OutgoingDatagra
 sent_more node P [] ids = tt
 sent_more node P (outgoing ∷ datagrams) ids = (ids.0, sent_more node P datagrams ids.1)
 
-came_drawn : StepLaws → (q : Openings) (w new : World) (reported : ReportedEvent) → Drawn q w → Came (FrameIds (Passes (is_drawn w.tables))) w reported new → Drawn q new
+all_pairs : (P R : Frame → Type 0) (xs : List Frame) → AllByRecursion P xs → AllByRecursion R xs → AllByRecursion (λ x. P x × R x) xs
+all_pairs P R [] first second = tt
+all_pairs P R (x ∷ xs) first second = ((first.0, second.0), all_pairs P R xs first.1 second.1)
+
+came_drawn : StepLaws → (q : Openings) (w new : World) (reported : ReportedEvent) → Drawn q w → Came (IsDrawnFrame w.tables) w reported new → Drawn q new
 came_drawn laws q w new reported drawn came =
     let d = reported.device in
     let t = came.before in
@@ -127,8 +135,10 @@ came_drawn laws q w new reported drawn came =
     (λ id passes. (drawn_parts tables id passes).0) (zero_drawn tables begins)
     (λ counter from below. now_drawn w.tables reported.device came.before came.after counter drawn.apart at same below (whole_in_range came.after whole_u))
     (λ n from below. drawn.opens reported.device came.before at n from)
-    (event_more (Passes (is_drawn w.tables)) now more reported.event came.event)
+    (event_more (Passes (is_drawn w.tables)) now more reported.event (event_first (FrameIds (Passes (is_drawn w.tables))) IsPlainFrame reported.event came.event))
+    (answer_passes (is_drawn tables) came.before reported.event (drawn.plain reported.device came.before at))
     (table_more (is_drawn w.tables) (is_drawn tables) (q reported.device) more came.before (drawn.tables reported.device came.before at)) in
+    let plainly = laws.plain came.before reported.event reported.answer came.after came.stepped whole_t (event_plain (FrameIds (Passes (is_drawn w.tables))) reported.event came.event) (drawn.plain reported.device came.before at) in
     subst (Drawn q) (sym came.leaves) (record {
       whole = λ e x there. elim (set_cases w.tables reported.device e came.before came.after x at there) [
         | inl own ↦ subst IsWholeDevice (sym own.1) whole_u
@@ -153,8 +163,12 @@ came_drawn laws q w new reported drawn came =
       sent = all_both (SentHolds now) w.sent (map (sent_by (node_at w reported.device)) reported.answer.datagrams)
           (all_more (SentHolds (Passes (is_drawn w.tables))) (SentHolds now) (λ s id. datagram_more (Passes (is_drawn w.tables)) now more s.bytes id) w.sent drawn.sent)
           (sent_more (node_at w reported.device) now reported.answer.datagrams done.1.datagrams);
-      streams = answered_holds (FrameIds now) reported.device reported.answer came.streams done.1.frames
-          (streams_more (FrameIds (Passes (is_drawn w.tables))) (FrameIds now) (frame_more (Passes (is_drawn w.tables)) now more) came.streams came.queued);
+      streams = answered_holds (IsDrawnFrame tables) reported.device reported.answer came.streams (all_pairs (HasFrameIds now) SendsPlainly reported.answer.frames done.1.frames plainly.1)
+          (streams_more (IsDrawnFrame w.tables) (IsDrawnFrame tables) (λ bytes is. (frame_more (Passes (is_drawn w.tables)) now more bytes is.0, is.1)) came.streams came.queued);
+      plain = λ e x there. elim (set_cases w.tables reported.device e came.before came.after x at there) [
+        | inl own ↦ subst IsPlainDevice (sym own.1) plainly.0
+        | inr other ↦ drawn.plain e x other.1
+      ];
     })
   where
     differ_set : StepLaws → AreApart w.tables → (w2 : World) (device : ℕ) (t u : DeviceTable) → slice_get w.tables device ≡ Some t → incarnation_of u ≡ incarnation_of t → (a b : ℕ) (x y : DeviceTable) → slice_get (set w.tables device u) a ≡ Some x → slice_get (set w.tables device u) b ≡ Some y → incarnation_of x ≡ incarnation_of y → a ≡ b
@@ -170,7 +184,7 @@ came_drawn laws q w new reported drawn came =
           ]
         ]
 
-rests_drawn : (q : Openings) (w new : World) → Drawn q w → Rests (FrameIds (Passes (is_drawn w.tables))) w new → Drawn q new
+rests_drawn : (q : Openings) (w new : World) → Drawn q w → Rests (IsDrawnFrame w.tables) w new → Drawn q new
 rests_drawn q w new drawn rests =
     let back = sym rests.tables in
     record {
@@ -179,34 +193,35 @@ rests_drawn q w new drawn rests =
       tables = subst (λ (l : List DeviceTable). (device : ℕ) (t : DeviceTable) → slice_get l device ≡ Some t → TableIds (is_drawn l) (q device) t) back drawn.tables;
       opens = subst (λ (l : List DeviceTable). (device : ℕ) (t : DeviceTable) → slice_get l device ≡ Some t → (n : ℕ) → next_id_of t ≤ n → q device n ≡ true) back drawn.opens;
       sent = subst (λ (l : List DeviceTable). AllByRecursion (SentHolds (Passes (is_drawn l))) new.sent) back (subst (AllByRecursion (SentHolds (Passes (is_drawn w.tables)))) (sym rests.sent) drawn.sent);
-      streams = subst (λ (l : List DeviceTable). StreamsHold (FrameIds (Passes (is_drawn l))) new.streams) back rests.queued;
+      streams = subst (λ (l : List DeviceTable). StreamsHold (IsDrawnFrame l) new.streams) back rests.queued;
+      plain = subst (λ (l : List DeviceTable). (device : ℕ) (t : DeviceTable) → slice_get l device ≡ Some t → IsPlainDevice t) back drawn.plain;
     }
 
 -- ---- a schedule
 
-pub moved_drawn : StepLaws → (q : Openings) (w : World) (moved : Option ReportedEvent × World) → Drawn q w → Moves (FrameIds (Passes (is_drawn w.tables))) w moved → Drawn q moved.1
+pub moved_drawn : StepLaws → (q : Openings) (w : World) (moved : Option ReportedEvent × World) → Drawn q w → Moves (IsDrawnFrame w.tables) w moved → Drawn q moved.1
 moved_drawn laws q w (None, new) drawn rests = rests_drawn q w new drawn rests
 moved_drawn laws q w (Some reported, new) drawn came = came_drawn laws q w new reported drawn came
 
 abbrev pub StoryDrawn : Openings → Story → Type 0
 StoryDrawn q story = Drawn q story.world
 
-act_drawn : StepLaws → (q : Openings) (story : Story) (said : Happened) → StoryDrawn q story → IfOk said (Moves (FrameIds (Passes (is_drawn story.world.tables))) story.world) → IfOk (goes_on story.reported said) (StoryDrawn q)
+act_drawn : StepLaws → (q : Openings) (story : Story) (said : Happened) → StoryDrawn q story → IfOk said (Moves (IsDrawnFrame story.world.tables) story.world) → IfOk (goes_on story.reported said) (StoryDrawn q)
 act_drawn laws q story (Err fault) drawn moves = tt
 act_drawn laws q story (Ok moved) drawn moves = moved_drawn laws q story.world moved drawn moves
 
 pub runs_drawn : StepLaws → (q : Openings) (was now : Story) (acts : List Act) → runs (Ok was) acts ≡ Ok now → StoryDrawn q was → StoryDrawn q now
 runs_drawn laws q was now acts ran drawn =
     subst (λ (r : Result Story ActFault). IfOk r (StoryDrawn q)) ran
-    (runs_keep (StoryDrawn q) (λ story act is. act_drawn laws q story (happens story.world act) is (act_moves (FrameIds (Passes (is_drawn story.world.tables))) story.world act is.streams)) acts (Ok was) drawn)
+    (runs_keep (StoryDrawn q) (λ story act is. act_drawn laws q story (happens story.world act) is (act_moves (IsDrawnFrame story.world.tables) story.world act is.streams)) acts (Ok was) drawn)
 
 -- ---- of all opening numbers
 
 pub all_drawn : (w : World) → IdsAreDrawn w → Drawn (λ device opening. true) w
-all_drawn w is = record { whole = is.whole; apart = is.apart; tables = is.tables; opens = λ device t at n from. refl; sent = is.sent; streams = is.streams }
+all_drawn w is = record { whole = is.whole; apart = is.apart; tables = is.tables; opens = λ device t at n from. refl; sent = is.sent; streams = is.streams; plain = is.plain }
 
 pub drawn_all : (w : World) → Drawn (λ device opening. true) w → IdsAreDrawn w
-drawn_all w is = record { whole = is.whole; apart = is.apart; tables = is.tables; sent = is.sent; streams = is.streams }
+drawn_all w is = record { whole = is.whole; apart = is.apart; tables = is.tables; sent = is.sent; streams = is.streams; plain = is.plain }
 
 pub schedules_keep : StepLaws → SchedulesKeepIdsDrawn
 schedules_keep laws start acts story ran is =

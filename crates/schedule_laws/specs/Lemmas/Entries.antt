@@ -28,6 +28,7 @@ use Rattle.cip_tables.specs.declared.table.DeviceTable.TheVariants.{Adapter, Sca
 use Rattle.cip_tables.specs.Step.{DeviceNext, as_adapter, as_scanner, step, node_of}
 use Rattle.segment_world.specs.World.{World, node_at}
 use Rattle.device_laws.specs.Lemmas.Lists.{all_more}
+use Rattle.device_laws.specs.Plain.{IsPlainFrame}
 use Rattle.schedule_laws.specs.Lemmas.Drawing.{StepLaws}
 use Rattle.schedule_laws.specs.Lemmas.Tests.{set_cases}
 use Rattle.cip_tables.specs.Whole.{next_id_of}
@@ -263,13 +264,14 @@ pub record IsDeviceIn (w : World) (device : ℕ) : Type 0 where
   pub is : slice_get w.tables device ≡ Some table
 
 -- A frame that waits was sent by a device. Each success in it has its entry at that device, which is of an opening of the device
--- that takes it; an adapter sends no request to open, and a scanner asks for its own ids.
+-- that takes it; an adapter sends no request to open, a scanner asks for its own ids, and no frame opens a class 3 connection.
 pub record Waits (w : World) (opened : List Opened) (giver taker : ℕ) (bytes : List ℕ) : Type 0 where
   pub sender : IsDeviceIn w giver
   pub context : ContextFits bytes
   pub successes : SuccessesAre (λ number o. IsOpenedWith opened giver (end_at taker number) o.o_t_id.0 o.t_o_id.0) bytes
   pub opens_nothing : IsAdapterIn w giver → IsNoOpening bytes
   pub asks : (s : ScannerTable) → slice_get w.tables giver ≡ Some (Scanner s) → OpeningsAre (AsksOwnId s.profile) bytes
+  pub plain : IsPlainFrame bytes
 
 pub device_later : (w new : World) (device : ℕ) → Later w new → IsDeviceIn w device → IsDeviceIn new device
 device_later w new device later is = let after = later.tables device is.table is.is in record { table = after.table; is = after.there }
@@ -343,4 +345,5 @@ waits_later w new opened more later giver taker bytes is = record {
       (λ number o. with_later opened more giver (end_at taker number) o.o_t_id.0 o.t_o_id.0) bytes is.successes;
   opens_nothing = λ adapter. is.opens_nothing (adapter_back w new giver later adapter);
   asks = asks_later w new giver bytes later is.asks;
+  plain = is.plain;
 }

@@ -29,6 +29,7 @@ use Rattle.device_laws.specs.OwnIds.{FrameAsks}
 use Rattle.device_laws.specs.Frames.{SuccessIs}
 use Rattle.device_laws.specs.TargetStreams.{StreamCame}
 use Rattle.device_laws.specs.Replies.{IsNoSuccess}
+use Rattle.device_laws.specs.Plain.{SendsPlainly}
 use Rattle.device_laws.specs.SlotIds.{WasEstablished, IsEstablishedBy, StateHasItsIds, SlotHasItsIds}
 use Rattle.device_laws.specs.Lemmas.SlotIds.{HasItsIds, ids_kept, were_so}
 use Rattle.device_laws.specs.Made.{Made, state_made, slot_made, places_made, scanner_makes}
@@ -112,14 +113,14 @@ no_adapter new device u at is = absurd (let e = sym is.is ∙ at in cc)
 
 -- the frame is no success, and asks for ids of the profile
 abbrev IsRequest : ScannerProfile → Frame → Type 0
-IsRequest profile frame = IsNoSuccess frame × FrameAsks profile frame
+IsRequest profile frame = IsNoSuccess frame × (FrameAsks profile frame × SendsPlainly frame)
 
-all_two : (profile : ScannerProfile) (frames : List Frame) → AllByRecursion IsNoSuccess frames → AllByRecursion (FrameAsks profile) frames → AllByRecursion (IsRequest profile) frames
-all_two profile [] none asks = tt
-all_two profile (frame ∷ frames) none asks = ((none.0, asks.0), all_two profile frames none.1 asks.1)
+all_two : (profile : ScannerProfile) (frames : List Frame) → AllByRecursion IsNoSuccess frames → AllByRecursion (FrameAsks profile) frames → AllByRecursion SendsPlainly frames → AllByRecursion (IsRequest profile) frames
+all_two profile [] none asks plain = tt
+all_two profile (frame ∷ frames) none asks plain = ((none.0, (asks.0, plain.0)), all_two profile frames none.1 asks.1 plain.1)
 
-frame_from : (new : World) (opened : List Opened) (device : ℕ) (u : ScannerTable) (giver taker : ℕ) (frame : Frame) → slice_get new.tables device ≡ Some (Scanner u) → giver ≡ device → IsNoSuccess frame → FrameAsks u.profile frame → Waits new opened giver taker frame.bytes
-frame_from new opened device u giver taker frame at is none asks =
+frame_from : (new : World) (opened : List Opened) (device : ℕ) (u : ScannerTable) (giver taker : ℕ) (frame : Frame) → slice_get new.tables device ≡ Some (Scanner u) → giver ≡ device → IsNoSuccess frame → FrameAsks u.profile frame → SendsPlainly frame → Waits new opened giver taker frame.bytes
+frame_from new opened device u giver taker frame at is none asks plain =
     let there : slice_get new.tables giver ≡ Some (Scanner u) = ap (slice_get new.tables) is ∙ at in
     record {
       sender = record { table = Scanner u; is = there };
@@ -127,15 +128,16 @@ frame_from new opened device u giver taker frame at is none asks =
       successes = successes_more (λ number o. ⊥) (λ number o. IsOpenedWith opened giver (end_at taker number) o.o_t_id.0 o.t_o_id.0) (λ number o never. absurd never) frame.bytes none.successes;
       opens_nothing = λ adapter. absurd (no_adapter new giver u there adapter);
       asks = λ s so. subst (λ (x : ScannerTable). FrameAsks x.profile frame) (table_is u s (sym there ∙ so)) asks;
+      plain = plain;
     }
 
-pub frames_named : (w new : World) (opened : List Opened) (device : ℕ) (u : ScannerTable) (frames : List Frame) → slice_get new.tables device ≡ Some (Scanner u) → AllByRecursion IsNoSuccess frames → AllByRecursion (FrameAsks u.profile) frames → AllByRecursion (FrameSent (Waits new opened) (map ends_of w.streams) device) frames
-frames_named w new opened device u frames at none asks =
+pub frames_named : (w new : World) (opened : List Opened) (device : ℕ) (u : ScannerTable) (frames : List Frame) → slice_get new.tables device ≡ Some (Scanner u) → AllByRecursion IsNoSuccess frames → AllByRecursion (FrameAsks u.profile) frames → AllByRecursion SendsPlainly frames → AllByRecursion (FrameSent (Waits new opened) (map ends_of w.streams) device) frames
+frames_named w new opened device u frames at none asks plain =
     all_more (IsRequest u.profile) (FrameSent (Waits new opened) (map ends_of w.streams) device)
     (λ frame is n e to there. record {
-      forth = λ from. frame_from new opened device u e.from e.to frame at from is.0 is.1;
-      back = λ to_is. frame_from new opened device u e.to e.from frame at to_is is.0 is.1;
-    }) frames (all_two u.profile frames none asks)
+      forth = λ from. frame_from new opened device u e.from e.to frame at from is.0 is.1.0 is.1.1;
+      back = λ to_is. frame_from new opened device u e.to e.from frame at to_is is.0 is.1.0 is.1.1;
+    }) frames (all_two u.profile frames none asks plain)
 
 -- ---- what is produced
 

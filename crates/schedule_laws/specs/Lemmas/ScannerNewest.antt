@@ -9,7 +9,7 @@ use Rattle.cip_events.specs.Answers.{is_accepted}
 use Rattle.cip_events.specs.declared.event.Delivery.{Delivery}
 use Rattle.cip_events.specs.declared.event.Event.TheVariants as event
 use Rattle.cip_events.specs.declared.event.Verdict.{Verdict}
-use Rattle.cip_events.specs.declared.event.Verdict.TheVariants.{Done, BadFrame, Ignored, Value, Replied, Delivered}
+use Rattle.cip_events.specs.declared.event.Verdict.TheVariants.{Done, Asked, BadFrame, Ignored, Value, Replied, Delivered}
 use Rattle.cip_productions.specs.declared.acceptance.Accepted.{Accepted}
 use Rattle.scanner_table.specs.declared.slot.SlotState.{SlotState}
 use Rattle.scanner_table.specs.declared.slot.SlotState.TheVariants.{Idle, Opening, Established, TimedOut, Closing}
@@ -43,6 +43,7 @@ noted_pair device p request d BadFrame old numbered back = refl
 noted_pair device p request d Ignored old numbered back = refl
 noted_pair device p request d (Value bytes) old numbered back = refl
 noted_pair device p request d (Replied pending status additional content) old numbered back = refl
+noted_pair device p request d (Asked asks service class instance attribute body) old numbered back = refl
 noted_pair device p request d (Delivered delivery) old numbered back = taken_pair (is_accepted delivery) device p request d delivery old refl numbered back
 
 -- of another opening nothing is new
@@ -56,6 +57,7 @@ other_noted device p request r BadFrame old ne = refl
 other_noted device p request r Ignored old ne = refl
 other_noted device p request r (Value bytes) old ne = refl
 other_noted device p request r (Replied pending status additional content) old ne = refl
+other_noted device p request r (Asked asks service class instance attribute body) old ne = refl
 other_noted device p request r (Delivered delivery) old ne = other_taken (is_accepted delivery) device p request r delivery old ne
 
 -- nothing is noted without a name
@@ -65,6 +67,7 @@ none_reported device p BadFrame = refl
 none_reported device p Ignored = refl
 none_reported device p (Value bytes) = refl
 none_reported device p (Replied pending status additional content) = refl
+none_reported device p (Asked asks service class instance attribute body) = refl
 none_reported device p (Delivered delivery) = refl
 
 -- ---- what a datagram does, by the slot that it is for

@@ -1,8 +1,19 @@
-use Rattle.std.proofs.Common.{map, slice_get, sym, ap, ◌∙◌}
+use Rattle.std.proofs.Common.{map, slice_get, Ok, Err, sym, ap, ◌∙◌}
 use Rattle.segment_traffic.specs.Streams.{with_stream, taken_from, answered}
 use Rattle.segment_world.specs.World.{World, event_at_device, without_front, taken_at}
 use Rattle.segment_world.proofs.Acts.{done_so, undone_so}
+use Rattle.segment_world.proofs.CameTo.{as_many}
 use Rattle.segment_world.proofs.world.World.next_frame.Goals as goal
+
+pub invariant_of-self-in-Ok-step_at : goal.invariant_of-self-in-Ok-step_at
+invariant_of-self-in-Ok-step_at g c =
+    let reception = c.in-Ok.reception in
+    c.self.invariant ∙ sym (as_many g.D.Device.table c.self.inside.devices.items c.step_at.new.devices.items reception.device reception.event (Ok c.in-Ok-step_at.answer) c.in-Ok-step_at.ensures)
+
+pub invariant_of-self-in-Err-step_at : goal.invariant_of-self-in-Err-step_at
+invariant_of-self-in-Err-step_at g c =
+    let reception = c.in-Ok.reception in
+    c.self.invariant ∙ sym (as_many g.D.Device.table c.self.inside.devices.items c.step_at.new.devices.items reception.device reception.event (Err c.in-Err-step_at.fault) c.in-Err-step_at.ensures)
 
 pub returns-in-Ok-step_at : goal.returns-in-Ok-step_at
 returns-in-Ok-step_at g c =
