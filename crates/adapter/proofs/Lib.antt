@@ -1,3 +1,2 @@
-pub mod Admitted
-pub mod EngineEffects
-pub mod Quiet
+pub mod Ending
+pub mod Messaging

@@ -2,6 +2,7 @@
 use Rattle.std.specs.Prelude.{ℕ, Bool, List, [], ◌∷◌, ◌++◌, map}
 use Rattle.adapter_table.specs.Objects as objects
 use Rattle.adapter_table.specs.Objects.{u16, u32, link_path}
+use Rattle.adapter_table.specs.Own as own
 use Rattle.adapter_table.specs.declared.profile.Description.{Description}
 use Rattle.adapter_table.specs.declared.objects.IoState.{IoState}
 use Rattle.assembly_set.specs.Assemblies.{Assemblies}
@@ -16,6 +17,7 @@ use Rattle.adapter_objects.specs.declared.answer.Bytes.TheVariants as bytes
 use Rattle.adapter_objects.specs.declared.answer.ObjectRequest.{ObjectRequest}
 use Rattle.adapter_objects.specs.declared.answer.ObjectAnswer.{ObjectAnswer}
 use Rattle.adapter_objects.specs.declared.answer.ObjectAnswer.TheVariants as answer
+use Rattle.adapter_objects.specs.declared.own.OwnRequest.{OwnRequest}
 
 -- the bytes of a value
 abbrev pub view_value : Value → List ℕ
@@ -58,3 +60,13 @@ described_requested set io d class instance request = described_said set io d re
 -- of an assembly
 abbrev pub assembly_requested : Assemblies → (instance : ℕ) → ObjectRequest → objects.ObjectAnswer
 assembly_requested set instance request = assembly_said set request.service instance request.attribute request.body.now
+
+-- a request to an object of the maker's own
+abbrev pub view_own : OwnRequest → own.OwnRequest
+view_own request = record {
+  service = request.service;
+  class = request.class;
+  instance = request.instance;
+  attribute = request.attribute;
+  body = request.body.now;
+}

@@ -12,7 +12,7 @@ use crate::status::status_word;
 use crate::value::{Attribute, Value};
 use adapter_table::{Description, IoState};
 use assembly_set::AssemblySet;
-use cip_epath::class::CONNECTION_MANAGER;
+use cip_epath::class::{CONNECTION_MANAGER, MESSAGE_ROUTER};
 use cip_router::Status;
 use cip_types::OutOfMemory;
 use std::alloc::Global;
@@ -21,11 +21,6 @@ use std::alloc::Global;
 ///
 /// Volume 1, chapter 5, Identity object.
 const IDENTITY: u32 = 0x01;
-
-/// The Message Router object.
-///
-/// Volume 1, chapter 5, Message Router object.
-const MESSAGE_ROUTER: u32 = 0x02;
 
 /// The TCP/IP Interface object.
 ///

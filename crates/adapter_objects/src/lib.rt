@@ -1,5 +1,6 @@
 //! The objects that tools ask of an adapter: their instances, the answers to their services, and the replies to
-//! inquiries, all from its profile, what its points hold, and what its connections tell.
+//! inquiries, all from its profile, what its points hold, and what its connections tell; and the requests to objects of
+//! the maker's own, which its application answers.
 //!
 //! Volume 1, chapter 5, object library. Volume 2, chapter 5, TCP/IP Interface and Ethernet Link objects.
 #![tactic(auto)]
@@ -9,6 +10,7 @@ mod assembly;
 mod described;
 mod identity;
 mod instance;
+mod own;
 mod status;
 mod value;
 
@@ -17,4 +19,5 @@ pub use assembly::assembly_answer;
 pub use described::described_answer;
 pub use identity::{inquiry_reply, is_bare_message};
 pub use instance::Instance;
+pub use own::{OwnRequest, own_request};
 pub use value::{Attribute, Value};

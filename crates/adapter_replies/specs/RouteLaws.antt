@@ -1,4 +1,4 @@
--- A routed answer is the table's.
+-- A routed answer is the table's, and so is the answer to a late request.
 use Rattle.std.proofs.Common.{◌≡◌, ℕ, Option, Some, None, refl}
 use Rattle.cip_types.specs.declared.names.Node.{Node}
 use Rattle.adapter_table.specs.declared.table.AdapterTable.{AdapterTable}
@@ -9,6 +9,12 @@ use Rattle.adapter_replies.specs.declared.routes.RequestHeader.{RequestHeader}
 use Rattle.adapter_replies.specs.declared.routes.Route.{Route}
 use Rattle.adapter_replies.specs.declared.routes.Route.TheVariants as route
 use Rattle.adapter_replies.specs.Routes.{view_request_header, routed, object_routed}
+use Rattle.adapter_replies.specs.Messages.{found_last, response_frames}
+use Rattle.messaging.specs.declared.requests.Requester.{Requester}
+use Rattle.messaging.specs.declared.requests.Requester.TheVariants.{Peer, Stream, Dialogue}
+use Rattle.messaging.specs.declared.table.Messaging.{Messaging}
+use Rattle.cip_router.specs.Replies.{ReplyFields}
+use Rattle.adapter_table.specs.Answering.{route_frames}
 
 -- to a peer
 pub routed_to_peer : (t : AdapterTable) (peer : Node) (s : Option Served) → routed t (route.Peer peer) s ≡ answered t peer s
@@ -25,3 +31,9 @@ pub routed_object : (t : AdapterTable) (way : Route) (service : ℕ) (answer : O
 routed_object t way service (said by value) = refl
 routed_object t way service (denied why) = refl
 routed_object t way service (resetting kind) = refl
+
+-- an answer goes the way that its request came
+pub late_is_response : (m : Messaging) (from : Requester) (service : ℕ) (reply : ReplyFields) → response_frames from (found_last m from) service reply ≡ route_frames m from service reply
+late_is_response m (Peer node) service reply = refl
+late_is_response m (Stream number context) service reply = refl
+late_is_response m (Dialogue id count) service reply = refl

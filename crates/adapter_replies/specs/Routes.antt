@@ -1,5 +1,5 @@
 -- The routes of a device's replies, and the readings of a frame (Volume 2, chapter 2, encapsulation messages).
-use Rattle.std.specs.Prelude.{ℕ, List, [], ◌∷◌, Option, Some, None}
+use Rattle.std.specs.Prelude.{ℕ, ◌≤◌, List, [], ◌∷◌, length, Option, Some, None}
 use Rattle.cip_types.specs.declared.names.Node.{Node}
 use Rattle.cip_encap.specs.Message.{message_text}
 use Rattle.cip_router.specs.declared.command.EncapStatus.TheVariants as status
@@ -46,6 +46,7 @@ view_frame_reply (reply.Registered session) = frames.registered session
 view_frame_reply reply.OtherVersion = frames.other_version
 view_frame_reply (reply.Router answer address) = frames.router_reply (view_reply answer) address
 view_frame_reply (reply.Refused why) = frames.refused why
+view_frame_reply (reply.Connected id count lent) = frames.connected id.0 count lent.now
 
 -- a reply of the router that can be written
 pub record IsWritable (answer : ReplyFields) : Type 0 where
@@ -59,10 +60,15 @@ IsWritableFrame (frames.registered session) = Unit {0}
 IsWritableFrame frames.other_version = Unit {0}
 IsWritableFrame (frames.router_reply answer address) = IsWritable answer
 IsWritableFrame (frames.refused why) = Unit {0}
+IsWritableFrame (frames.connected connection count text) = length text ≤ 1404
 
 -- the numbers of the header of a reply of the router with data of this length
 abbrev pub router_numbers : frames.RequestHeader → ℕ → List ℕ
 router_numbers e len = e.command ∷ len ∷ e.session ∷ 0 ∷ e.context ∷ 0 ∷ []
+
+-- the numbers of the header of a message of a class 3 connection, with data of this length
+abbrev pub unit_numbers : frames.RequestHeader → ℕ → List ℕ
+unit_numbers e len = 0x70 ∷ len ∷ e.session ∷ 0 ∷ 0 ∷ 0 ∷ []
 
 -- ROUTES
 

@@ -1,7 +1,8 @@
 //! Answers, which the adapter makes before its table changes.
 
-ghost use Rattle.std.specs.Prelude.{◌≡◌, ◌∷◌, ◌++◌, [], map, IfOk, ◌≤◌};
+ghost use Rattle.std.specs.Prelude.{◌≡◌, ◌∷◌, ◌++◌, [], map, IfOk, OnOk, ◌≤◌};
 ghost use Rattle.cip_router.specs.Replies.{view_reply};
+ghost use Rattle.adapter_table.specs.DialogueOpening.{dialogue_opened};
 ghost use Rattle.adapter_table.specs.Opening.{opened_reply, opened_address, replaced_notices};
 ghost use Rattle.adapter_table.specs.Ticks.{expired_notice};
 ghost use Rattle.adapter_replies.specs.Routes.{view_request_header, view_frame_reply, IsWritable, IsWritableFrame, routed_answer, framed_answer, unserved_answer};
@@ -13,6 +14,7 @@ use cip_events::{Answer, Frame, Notice, OutgoingDatagram, Recipient, Verdict};
 use cip_fwdopen::Opened;
 use cip_router::{EncapStatus, Reply};
 use cip_types::{Items, Node, OutOfMemory, Triad};
+use messaging::Dialogue;
 use std::alloc::Global;
 use std::iter;
 
@@ -27,6 +29,28 @@ pub fn notices_answer(
 {
     Answer {
         frames: Items::new(alloc),
+        datagrams: Items::from_vec(datagrams),
+        verdict: Verdict::Done,
+        notices: Items::from_vec(notices),
+    }
+}
+
+/// An answer with frames, datagrams and notices. Takes no memory.
+pub fn late_answer(
+    frames: Vec<Frame>,
+    datagrams: Vec<OutgoingDatagram>,
+    notices: Vec<Notice>,
+) -> Answer
+    ensures { result
+        ≡ record {
+          frames = frames.items;
+          datagrams = datagrams.items;
+          verdict = Verdict.Done;
+          notices = notices.items;
+        } }
+{
+    Answer {
+        frames: Items::from_vec(frames),
         datagrams: Items::from_vec(datagrams),
         verdict: Verdict::Done,
         notices: Items::from_vec(notices),
@@ -111,13 +135,58 @@ pub fn unserved_answer(alloc: Global, route: Route) -> Result<Answer, OutOfMemor
     }
 }
 
-/// The answer when a session ends, and its stream with it. Out of memory is the only fault.
-pub fn ended_answer(alloc: Global, number: u16) -> Result<Answer, OutOfMemory>
-    ensures { IfOk result (λ answer. answer
-        ≡ record { frames = []; datagrams = []; verdict = Verdict.Done; notices = Notice.StreamClosed number ∷ [] }) }
+/// One notice. Out of memory is the only fault.
+pub fn one_notice(alloc: Global, notice: Notice) -> Result<Vec<Notice>, OutOfMemory>
+    ensures { IfOk result (λ notices. notices.items ≡ notice ∷ []) }
 {
     let mut notices = Vec::new(alloc);
-    notices.push(Notice::StreamClosed(number))?;
+    notices.push(notice)?;
+    Ok(notices)
+}
+
+/// The notices of class 3 connections that end with their stream. Out of memory is the only fault.
+fn ended_notices(alloc: Global, ended: &[Triad]) -> Result<Vec<Notice>, OutOfMemory>
+    ensures { IfOk result (λ notices. notices.items ≡ map Notice.Dropped ended.now) }
+{
+    let dropped = ended.iter().map(|triad| Notice::Dropped(*triad));
+    Ok(dropped.collect(alloc)?)
+}
+
+/// The same behind the notice of the stream, whose session ends. Out of memory is the only fault.
+fn stream_notices(alloc: Global, number: u16, ended: &[Triad]) -> Result<Vec<Notice>, OutOfMemory>
+    ensures { IfOk result (λ notices. notices.items
+        ≡ (Notice.StreamClosed number ∷ []) ++ map Notice.Dropped ended.now) }
+{
+    let dropped = ended.iter().map(|triad| Notice::Dropped(*triad));
+    let closed = iter::once(Notice::StreamClosed(number));
+    Ok(closed.chain(dropped).collect(alloc)?)
+}
+
+/// The answer when a session ends, and its stream with it: these connections end, too. Out of memory is the only fault.
+pub fn ended_answer(alloc: Global, number: u16, ended: &[Triad]) -> Result<Answer, OutOfMemory>
+    ensures { IfOk result (λ answer. answer
+        ≡ record {
+          frames = [];
+          datagrams = [];
+          verdict = Verdict.Done;
+          notices = (Notice.StreamClosed number ∷ []) ++ map Notice.Dropped ended.now;
+        }) }
+{
+    let notices = stream_notices(alloc, number, ended)?;
+    Ok(notices_answer(alloc, Vec::new(alloc), notices))
+}
+
+/// The answer when a stream breaks: these connections end with it. Out of memory is the only fault.
+pub fn cut_answer(alloc: Global, ended: &[Triad]) -> Result<Answer, OutOfMemory>
+    ensures { IfOk result (λ answer. answer
+        ≡ record {
+          frames = [];
+          datagrams = [];
+          verdict = Verdict.Done;
+          notices = map Notice.Dropped ended.now;
+        }) }
+{
+    let notices = ended_notices(alloc, ended)?;
     Ok(notices_answer(alloc, Vec::new(alloc), notices))
 }
 
@@ -153,6 +222,16 @@ pub fn closed_notices(
     Ok(closed.chain(dropped).collect(alloc)?)
 }
 
+/// Appends the notices of class 3 connections that time out. Out of memory is the only fault.
+fn put_ended(notices: &mut Vec<Notice>, ended: &[Triad]) -> Result<(), OutOfMemory>
+    ensures { OnOk result (notices.new.items ≡ notices.old.items ++ map Notice.Expired ended.now) }
+{
+    for triad in ended {
+        notices.push(Notice::Expired(*triad))?;
+    }
+    Ok(())
+}
+
 /// The notices of connections that time out, and then of these, which are dropped with them. Out of memory is the only
 /// fault.
 pub fn expiry_notices(
@@ -168,6 +247,21 @@ pub fn expiry_notices(
     Ok(expired.chain(dropped).collect(alloc)?)
 }
 
+/// The same, and then those of class 3 connections that time out. Out of memory is the only fault.
+pub fn late_notices(
+    alloc: Global,
+    expired: &[Row],
+    dropped: &[Triad],
+    ended: &[Triad],
+) -> Result<Vec<Notice>, OutOfMemory>
+    ensures { IfOk result (λ notices. notices.items
+        ≡ (map expired_notice expired.now ++ map Notice.Dropped dropped.now) ++ map Notice.Expired ended.now) }
+{
+    let mut notices = expiry_notices(alloc, expired, dropped)?;
+    put_ended(&mut notices, ended)?;
+    Ok(notices)
+}
+
 /// The fields of the reply to an opening.
 pub fn opened_reply(row: &Row) -> Opened
     requires o_t { row.now.o_t_api_ms ≤ 10000 }
@@ -180,6 +274,21 @@ pub fn opened_reply(row: &Row) -> Opened
         triad: row.triad,
         o_t_api_us: 1000 * row.o_t_api_ms,
         t_o_api_us: 1000 * row.t_o_api_ms,
+    }
+}
+
+/// The same of a class 3 connection.
+pub fn dialogue_opened(dialogue: &Dialogue) -> Opened
+    requires o_t { dialogue.now.o_t_api_ms ≤ 10000 }
+    requires t_o { dialogue.now.t_o_api_ms ≤ 10000 }
+    ensures { result ≡ dialogue_opened dialogue.now }
+{
+    Opened {
+        o_t_id: dialogue.o_t_id,
+        t_o_id: dialogue.t_o_id,
+        triad: dialogue.triad,
+        o_t_api_us: 1000 * dialogue.o_t_api_ms,
+        t_o_api_us: 1000 * dialogue.t_o_api_ms,
     }
 }
 

@@ -6,16 +6,23 @@
 mod addresses;
 mod answers;
 mod frames;
+mod messages;
 mod objects;
+mod own;
 mod replies;
 mod routes;
 
 pub use addresses::address_of;
 pub use answers::{
-    closed_notices, ended_answer, expiry_notices, frame_answer, notices_answer, opened_address,
-    opened_reply, opening_notices, reply_answer, unserved_answer,
+    closed_notices, cut_answer, dialogue_opened, ended_answer, expiry_notices, frame_answer,
+    late_answer, late_notices, notices_answer, one_notice, opened_address, opened_reply,
+    opening_notices, reply_answer, unserved_answer,
 };
 pub use frames::{FrameView, is_protocol, read_frame};
+pub use messages::{
+    MessageRoute, message_answer, message_text, object_notices, object_reply, repeated_answer,
+};
 pub use objects::{inquiry_answer, object_answer};
+pub use own::{late_frames, referred_answer, response_frame, response_route};
 pub use replies::{FrameReply, write_frame_reply};
 pub use routes::{RequestHeader, Route};

@@ -1,12 +1,12 @@
 //! Answers to services of objects, and to inquiries.
 
-ghost use Rattle.std.specs.Prelude.{◌≡◌, ◌∷◌, [], IfOk};
+ghost use Rattle.std.specs.Prelude.{◌≡◌, IfOk};
 ghost use Rattle.adapter_objects.specs.Few.{FewSaid};
 ghost use Rattle.adapter_objects.specs.Views.{view_answer};
 ghost use Rattle.adapter_table.specs.Inquiries.{frame_alone};
 ghost use Rattle.adapter_replies.specs.Routes.{object_routed, reset_routed};
 
-use crate::answers::{answer_of, reply_answer};
+use crate::answers::{answer_of, one_notice, reply_answer};
 use crate::routes::Route;
 use adapter_objects::ObjectAnswer;
 use cip_events::{Answer, Notice, Recipient};
@@ -14,20 +14,11 @@ use cip_router::{ObjectService, Reply};
 use cip_types::OutOfMemory;
 use std::alloc::Global;
 
-/// The notice of a reset that is requested.
-fn reset_notices(alloc: Global, kind: u8) -> Result<Vec<Notice>, OutOfMemory>
-    ensures { IfOk result (λ notices. notices.items ≡ Notice.Reset kind ∷ []) }
-{
-    let mut notices = Vec::new(alloc);
-    notices.push(Notice::Reset(kind))?;
-    Ok(notices)
-}
-
 /// The answer to a reset: success, and the notice.
 fn reset_answer(alloc: Global, route: Route, kind: u8) -> Result<Answer, OutOfMemory>
     ensures { IfOk result (λ answer. answer ≡ reset_routed route kind) }
 {
-    let notices = reset_notices(alloc, kind)?;
+    let notices = one_notice(alloc, Notice::Reset(kind))?;
     let reply = Reply::Object(ObjectService::Reset, &[]);
     reply_answer(alloc, route, &reply, None, notices)
 }

@@ -3,17 +3,19 @@
 ghost use Rattle.std.specs.Prelude.{◌≡◌, ◌≤◌, IfOk, length};
 ghost use Rattle.cip_encap.specs.Message.{message_text, view_header};
 ghost use Rattle.cip_router.specs.Replies.{view_reply};
-ghost use Rattle.cip_router.specs.Frames.{headed_reply, reply_message, router_reply};
-ghost use Rattle.adapter_replies.specs.Routes.{view_request_header, view_frame_reply, router_numbers, IsWritable, IsWritableFrame};
+ghost use Rattle.cip_router.specs.Frames.{connected, headed_reply, reply_message, router_reply};
+ghost use Rattle.adapter_replies.specs.Routes.{view_request_header, view_frame_reply, router_numbers, unit_numbers, IsWritable, IsWritableFrame};
 
 use crate::routes::RequestHeader;
+use cip_encap::command::SEND_UNIT_DATA;
 use cip_encap::{
-    HEADER_LEN, MessageHeader, MessageView, SocketAddress, items_len, put_items_header,
-    put_message_header, put_socket, write_message,
+    HEADER_LEN, MessageHeader, MessageView, SocketAddress, connected_len, items_len,
+    put_connected_header, put_items_header, put_message_header, put_socket, write_message,
 };
 use cip_router::{EncapStatus, Reply};
+use cip_types::fields::put_bytes;
 use cip_types::limits::UDP_PORT;
-use cip_types::{Node, OutOfMemory};
+use cip_types::{ConnId, Node, OutOfMemory};
 use std::alloc::Global;
 
 /// One service item: its count, type, length, version, flags (TCP, and class 1 over UDP) and name.
@@ -40,6 +42,10 @@ pub enum FrameReply<'a> {
     Router(Reply<'a>, Option<Node>),
     /// A refusal.
     Refused(EncapStatus),
+    /// The text of a reply over a class 3 connection, with its T->O id and the sequence count of the request.
+    ///
+    /// Volume 2, chapter 2, SendUnitData.
+    Connected(ConnId, u16, &'a [u8]),
 }
 
 /// A message that returns the command and the sender context of its request.
@@ -106,6 +112,40 @@ fn write_router(
     Ok(out)
 }
 
+/// The header of a message of a class 3 connection, with data of this length, over the stream of its request.
+fn unit_header(request_header: RequestHeader, len: u16) -> MessageHeader
+    ensures { view_header result ≡ unit_numbers (view_request_header request_header) len }
+{
+    MessageHeader {
+        command: SEND_UNIT_DATA,
+        len,
+        session: request_header.session,
+        status: 0,
+        context: 0,
+        options: 0,
+    }
+}
+
+/// The message of a reply over a class 3 connection: header, items and text in one buffer.
+fn write_connected(
+    alloc: Global,
+    request_header: RequestHeader,
+    id: ConnId,
+    count: u16,
+    text: &[u8],
+) -> Result<Vec<u8>, OutOfMemory>
+    requires { length text.now ≤ 1404 }
+    ensures { IfOk result (λ v. v.items
+        ≡ message_text (reply_message (view_request_header request_header) (connected id.0 count text.now))) }
+{
+    let len = connected_len(text.len());
+    let mut out = Vec::with_capacity(alloc, HEADER_LEN + len)?;
+    put_message_header(&mut out, &unit_header(request_header, len as u16))?;
+    put_connected_header(&mut out, id, count, text.len() as u16)?;
+    put_bytes(&mut out, text)?;
+    Ok(out)
+}
+
 /// The message of a reply to a frame. Out of memory is the only fault.
 ///
 /// Volume 2, chapter 2, encapsulation commands and status codes.
@@ -139,6 +179,9 @@ pub fn write_frame_reply(
             write_headed_reply(alloc, request_header, 0, status, &PROTOCOL)
         }
         FrameReply::Router(reply, address) => write_router(alloc, request_header, reply, *address),
+        FrameReply::Connected(id, count, text) => {
+            write_connected(alloc, request_header, *id, *count, text)
+        }
         FrameReply::Refused(why) => write_headed_reply(
             alloc,
             request_header,

@@ -10,6 +10,7 @@ use Rattle.cip_fwdopen.specs.Open.{OpenFields}
 use Rattle.cip_router.specs.declared.refusal.Refusal.{Refusal}
 use Rattle.cip_router.specs.declared.refusal.Refusal.TheVariants as refusal
 use Rattle.adapter_table.specs.Checks.{View, Points, Check, first_of, is_multicast, checks, segment_check, points_of, served_trigger, served_inhibit, stored, Admitted, admitted_at}
+use Rattle.app_rules.specs.declared.dialogues.DialogueTimes.{DialogueTimes}
 use Rattle.app_rules.specs.declared.questions.Transport.{Transport}
 
 -- the result of checks: something if none fails, or the refusal of the first that does
@@ -86,3 +87,11 @@ staged_path view request path =
 
 abbrev pub staged : View → OpenFields → Result PathFields PathFault → Result Admitted Refusal
 staged view request path = and_then (readable path) (staged_path view request)
+
+-- the times of a class 3 connection that a request asks for
+abbrev pub dialogue_times : OpenFields → DialogueTimes
+dialogue_times request = record {
+  o_t_api_ms = interval_ms request.o_t_rpi;
+  t_o_api_ms = interval_ms request.t_o_rpi;
+  watchdog = record { 0 = timeout request.multiplier (interval_ms request.o_t_rpi) };
+}

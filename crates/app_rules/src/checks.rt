@@ -30,7 +30,7 @@ use cip_types::Node;
 /// 1. The data are as long as their fields and path size say (0x13 shorter, 0x15 longer): the reader of the request
 ///    checks it before this call.
 /// 2. Each segment of the path reads (0x0315).
-/// 3. No established connection has the triad (0x0100).
+/// 3. No established connection, and none of class 3, has the triad (0x0100).
 /// 4. The key names this device: vendor and product (0x0114), device type (0x0115), revision (0x0116).
 /// 5. The O->T type is point to point (0x0123), the T->O type that or multicast (0x0124).
 /// 6. The transport class is 1, and the trigger cyclic or change of state (0x0103).
@@ -102,7 +102,10 @@ fn transport_of<C: ConnectionsView>(
         (λ found. found ≡ transport_of (view_open request.now) (option_map view_path path.now)) }
 {
     // 3
-    refuse_if(view.connections.is_open(request.triad), Refusal::InUse)?;
+    refuse_if(
+        view.connections.is_open(request.triad) || view.talks,
+        Refusal::InUse,
+    )?;
     // 4
     key_check(&view.profile.identity, path)?;
     // 5

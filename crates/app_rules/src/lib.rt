@@ -8,6 +8,7 @@
 mod checks;
 mod connections;
 mod counts;
+mod dialogues;
 mod questions;
 mod rules;
 mod view;
@@ -16,5 +17,6 @@ pub use adapter_table::Admission;
 pub use checks::admit;
 pub use connections::{ConnectionsView, ListView};
 pub use counts::Count;
+pub use dialogues::{DialogueTimes, admit_dialogue};
 pub use rules::Rules;
-pub use view::View;
+pub use view::{DialogueView, View};

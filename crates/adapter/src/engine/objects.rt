@@ -1,14 +1,14 @@
 //! Services of objects beside the Connection Manager, and inquiries.
 
-ghost use Rattle.std.specs.Prelude.{◌≡◌, ◌==◌, Ok, Some, IfOk, false};
+ghost use Rattle.std.specs.Prelude.{◌≡◌, Ok, Some, IfOk, false, ◌==◌};
 ghost use Rattle.std.specs.Option.{option_map};
-ghost use Rattle.adapter_table.specs.Inquiries.{inquired, inquiry_reply};
+ghost use Rattle.adapter_replies.specs.Routes.{routed};
+ghost use Rattle.cip_events.specs.Outcomes.{Follows};
 ghost use Rattle.adapter_table.specs.Objects.{object_answer};
+ghost use Rattle.adapter_table.specs.Inquiries.{inquiry_reply, inquired};
 ghost use Rattle.adapter_table.specs.Requests.{served_object};
 ghost use Rattle.adapter_objects.specs.Few.{FewSaid};
 ghost use Rattle.adapter_objects.specs.Views.{view_answer};
-ghost use Rattle.adapter_replies.specs.Routes.{routed};
-ghost use Rattle.cip_events.specs.Outcomes.{Follows};
 
 use super::Adapter;
 use adapter_objects::{
@@ -24,17 +24,6 @@ use connection_list::ConnectionTable;
 // OBJECTS
 
 impl<T: ConnectionTable> Adapter<T> {
-    /// A service of an assembly.
-    #[tactic(auto, unfolding(adapter_table::specs::Requests::served_object), using(adapter_objects::specs::SaidLaws::assembly_is, adapter_replies::specs::RouteLaws::routed_object))]
-    fn assembly(&mut self, route: Route, instance: u32, request: ObjectRequest<'_>) -> Outcome
-        ensures { Follows (Ok (routed self.old route (Some
-            (served_object self.old request.entry.service 0x04 instance request.entry.attribute
-            request.entry.body.now)))) self.old result self.new }
-    {
-        let answer = assembly_answer(self.alloc, &self.assemblies, instance, request)?;
-        Ok(object_answer(self.alloc, route, request.service, &answer)?)
-    }
-
     /// What the device answers to a service of another object than an assembly. Without a description it has none.
     fn described_answer(
         &self,
@@ -48,13 +37,13 @@ impl<T: ConnectionTable> Adapter<T> {
             request.entry.body.now) }
         ensures few { IfOk result (λ answer. FewSaid (view_answer answer)) }
     {
-        let Some(description) = &self.assemblies.profile().description else {
+        let Some(description) = &self.state.profile().description else {
             return Ok(ObjectAnswer::Denied(Status::PathDestination));
         };
-        let io = self.table.io_state();
+        let io = self.state.connections().io_state();
         described_answer(
-            self.alloc,
-            &self.assemblies,
+            self.state.alloc(),
+            self.state.assemblies(),
             io,
             description,
             class,
@@ -63,40 +52,45 @@ impl<T: ConnectionTable> Adapter<T> {
         )
     }
 
-    /// A service of another object.
-    #[tactic(auto, unfolding(adapter_table::specs::Requests::served_object), using(adapter_replies::specs::RouteLaws::routed_object))]
-    fn described(
-        &mut self,
-        route: Route,
+    /// What the device answers to a service of an object.
+    #[tactic(auto, using(adapter_objects::specs::SaidLaws::assembly_is))]
+    pub(crate) fn object_answer(
+        &self,
         class: u32,
         instance: u32,
         request: ObjectRequest<'_>,
-    ) -> Outcome
-        requires { (class == 0x04) ≡ false }
-        ensures { Follows (Ok (routed self.old route (Some
-            (served_object self.old request.entry.service class instance request.entry.attribute
-            request.entry.body.now)))) self.old result self.new }
+    ) -> Result<ObjectAnswer<'_>, OutOfMemory>
+        ensures value { IfOk result (λ answer. view_answer answer
+            ≡ object_answer self.now request.entry.service class instance request.entry.attribute
+            request.entry.body.now) }
+        ensures few { IfOk result (λ answer. FewSaid (view_answer answer)) }
     {
-        let answer = self.described_answer(class, instance, request)?;
-        Ok(object_answer(self.alloc, route, request.service, &answer)?)
+        if class == ASSEMBLY {
+            return assembly_answer(
+                self.state.alloc(),
+                self.state.assemblies(),
+                instance,
+                request,
+            );
+        }
+        self.described_answer(class, instance, request)
     }
 
     /// A service of an object beside the Connection Manager's own.
+    #[tactic(auto, unfolding(adapter_table::specs::Requests::served_object), using(adapter_replies::specs::RouteLaws::routed_object))]
     pub(crate) fn object(
-        &mut self,
+        &self,
         route: Route,
         class: u32,
         instance: u32,
         request: ObjectRequest<'_>,
     ) -> Outcome
-        ensures { Follows (Ok (routed self.old route (Some
-            (served_object self.old request.entry.service class instance request.entry.attribute
-            request.entry.body.now)))) self.old result self.new }
+        ensures { Follows (Ok (routed self.now route (Some
+            (served_object self.now request.entry.service class instance request.entry.attribute
+            request.entry.body.now)))) self.now result self.now }
     {
-        if class == ASSEMBLY {
-            return self.assembly(route, instance, request);
-        }
-        self.described(route, class, instance, request)
+        let answer = self.object_answer(class, instance, request)?;
+        Ok(object_answer(self.state.alloc(), route, request.service, &answer)?)
     }
 }
 
@@ -108,14 +102,20 @@ impl<T: ConnectionTable> Adapter<T> {
     pub(crate) fn inquiry_reply(&self, bytes: &[u8]) -> Result<Option<Vec<u8>>, OutOfMemory>
         ensures { IfOk result (λ reply. option_map (λ v. v.items) reply ≡ inquiry_reply self.now bytes.now) }
     {
-        let Some(description) = &self.assemblies.profile().description else {
+        let Some(description) = &self.state.profile().description else {
             return Ok(None);
         };
         if !is_bare_message(bytes) {
             return Ok(None);
         }
-        let io = self.table.io_state();
-        adapter_objects::inquiry_reply(self.alloc, &self.assemblies, io, description, bytes)
+        let io = self.state.connections().io_state();
+        adapter_objects::inquiry_reply(
+            self.state.alloc(),
+            self.state.assemblies(),
+            io,
+            description,
+            bytes,
+        )
     }
 
     /// An inquiry of a peer over no stream.
@@ -124,8 +124,8 @@ impl<T: ConnectionTable> Adapter<T> {
         ensures { Follows (Ok (inquired self.old peer bytes.now)) self.old result self.new }
     {
         match self.inquiry_reply(bytes)? {
-            Some(text) => Ok(inquiry_answer(self.alloc, Recipient::Peer(peer), text)?),
-            None => Ok(Answer::plain(self.alloc, Verdict::BadFrame)),
+            Some(text) => Ok(inquiry_answer(self.state.alloc(), Recipient::Peer(peer), text)?),
+            None => Ok(Answer::plain(self.state.alloc(), Verdict::BadFrame)),
         }
     }
 }

@@ -1,0 +1,58 @@
+use Rattle.std.proofs.Common.{◌≡◌, ℕ, List, find, Some, Ok, IfOk, ◌∙◌, sym, ap, subst}
+use Rattle.std.specs.Option.{option_map}
+use Rattle.cip_encap.specs.Connected.{view_connected}
+use Rattle.messaging.specs.Dialogues.{is_dialogue, has_dialogue_id}
+use Rattle.adapter_table.specs.declared.table.AdapterTable.{AdapterTable}
+use Rattle.adapter_table.specs.MessagesSound.{IsInPlace}
+use Rattle.adapter_table.specs.Lemmas.MessageLemmas.{found_any, same_number}
+use Rattle.cip_events.specs.Outcomes.{Follows}
+use Rattle.messaging.specs.Changes.{repeated}
+use Rattle.adapter_table.specs.Messages.{with_messages}
+use Rattle.adapter_replies.specs.Messages.{repeated_answer}
+use Rattle.adapter_state.specs.declared.state.messages.Message.{Message}
+use Rattle.adapter_state.specs.Messages.{message_of, bytes_next}
+use Rattle.adapter.proofs.Messaging.{each_of_found, again_is, new_is}
+use Rattle.adapter.proofs.engine.Adapter.receive_message.Goals as goal
+
+pub over-message-requires-clause-waits : goal.over-message-requires-clause-waits
+over-message-requires-clause-waits g c =
+    let t : AdapterTable = c.self.inside.state in
+    let found : find (is_dialogue c.args.stream.now.number c.args.packet.now.connection) t.messaging.dialogues ≡ Some c.in-Some.dialogue.now = sym (rw c.messaging.ensures at c.find_dialogue.ensures) ∙ ap (option_map (λ lent. lent.now)) c.in-Some.is in
+    (each_of_found (IsInPlace t.rows t.streams) _ t.messaging.dialogues c.in-Some.dialogue.now found c.is_whole.ensures.messages.dialogues).watchdog
+
+pub repeated_answer-answer-requires : goal.repeated_answer-answer-requires
+repeated_answer-answer-requires g c =
+    let t : AdapterTable = c.self.inside.state in
+    let found : find (is_dialogue c.args.stream.now.number c.args.packet.now.connection) t.messaging.dialogues ≡ Some c.in-Some.dialogue.now = sym (rw c.messaging.ensures at c.find_dialogue.ensures) ∙ ap (option_map (λ lent. lent.now)) c.in-Some.is in
+    rw c.as_slice.ensures (each_of_found (IsInPlace t.rows t.streams) _ t.messaging.dialogues c.in-Some.dialogue.now found c.is_whole.ensures.messages.dialogues).reply
+
+pub execute-requires : goal.execute-requires
+execute-requires g c =
+    let t : AdapterTable = c.self.inside.state in
+    let found : find (is_dialogue c.args.stream.now.number c.args.packet.now.connection) t.messaging.dialogues ≡ Some c.in-Some.dialogue.now = sym (rw c.messaging.ensures at c.find_dialogue.ensures) ∙ ap (option_map (λ lent. lent.now)) c.in-Some.is in
+    rw (c.over-message.ensures t (sym c.clock-clock.ensures.value), ← c.self.view_is) (found_any _ (has_dialogue_id c.in-Some.dialogue.now.o_t_id) t.messaging.dialogues c.in-Some.dialogue.now found (same_number c.in-Some.dialogue.now.o_t_id.0))
+
+pub returns-then-repeats_last : goal.returns-then-repeats_last
+returns-then-repeats_last g c =
+    let t : AdapterTable = c.args.self.now in
+    let d = c.in-Some.dialogue.now in
+    let found : find (is_dialogue c.args.stream.now.number c.args.packet.now.connection) t.messaging.dialogues ≡ Some d = rw (← c.self.view_is) (sym (rw c.messaging.ensures at c.find_dialogue.ensures) ∙ ap (option_map (λ lent. lent.now)) c.in-Some.is) in
+    let fits = sym c.is_too_long.ensures ∙ c.if-is_too_long.false in
+    let again = sym c.repeats_last.ensures ∙ c.if-repeats_last.true in
+    let message = c.over-message.ensures t (ap (λ (u : AdapterTable). u.clock) (sym c.self.view_is) ∙ sym c.clock-clock.ensures.value) in
+    let kept = subst (λ (bytes : List ℕ). IfOk c.repeated_answer-answer.result (λ made. made ≡ repeated_answer c.over-message.result.route bytes)) c.as_slice.ensures c.repeated_answer-answer.ensures in
+    let made = subst (λ (m : Message). IfOk c.repeated_answer-answer.result (λ made. made ≡ repeated_answer m.route d.reply)) message kept in
+    let next = repeated_answer (message_of t d c.args.stream.now.number c.args.request_header c.args.packet.now.count).route d.reply in
+    rw (again_is t c.args.stream.now c.args.request_header (view_connected c.args.packet.now) d found fits again)
+    (subst (λ (m : Message). Follows (Ok (next, with_messages t (repeated t.messaging m.id m.deadline))) t c.repeat.result c.repeat.new.self) message (c.repeat.ensures next made))
+
+pub returns : goal.returns
+returns g c =
+    let t : AdapterTable = c.args.self.now in
+    let d = c.in-Some.dialogue.now in
+    let found : find (is_dialogue c.args.stream.now.number c.args.packet.now.connection) t.messaging.dialogues ≡ Some d = rw (← c.self.view_is) (sym (rw c.messaging.ensures at c.find_dialogue.ensures) ∙ ap (option_map (λ lent. lent.now)) c.in-Some.is) in
+    let fits = sym c.is_too_long.ensures ∙ c.if-is_too_long.false in
+    let new = sym c.repeats_last.ensures ∙ c.if-repeats_last.false in
+    let message = c.over-message.ensures t (ap (λ (u : AdapterTable). u.clock) (sym c.self.view_is) ∙ sym c.clock-clock.ensures.value) in
+    rw (new_is t c.args.stream.now c.args.request_header (view_connected c.args.packet.now) d found fits new)
+    (subst (λ (m : Message). Follows (Ok (bytes_next t m c.args.packet.now.message.now)) t c.execute.result c.execute.new.self) message c.execute.ensures)

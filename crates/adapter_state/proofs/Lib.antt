@@ -1,0 +1,5 @@
+pub mod Admitted
+pub mod Aging
+pub mod EngineEffects
+pub mod Messaging
+pub mod Quiet

@@ -1,0 +1,62 @@
+-- Messages of class 3 connections, and answers of the application: what they leave at the connections.
+use Rattle.std.proofs.Common.{◌≤◌, ℕ, List, [], length, None, arith}
+use Rattle.cip_types.specs.declared.names.ConnId.{ConnId}
+use Rattle.cip_types.specs.declared.names.Triad.{Triad}
+use Rattle.cip_router.specs.Requests.{opening}
+use Rattle.messaging.specs.declared.dialogue.Dialogue.{Dialogue}
+use Rattle.messaging.specs.declared.requests.Waiting.{Waiting}
+use Rattle.messaging.specs.declared.table.Messaging.{Messaging}
+use Rattle.messaging.specs.Changes.{answered, replied}
+use Rattle.messaging.specs.Dialogues.{replied_dialogue}
+use Rattle.messaging.specs.Lemmas.KeptLemmas.{Keeps, replied_keeps, answered_keeps, keeps_both}
+use Rattle.messaging.specs.Lemmas.SoundLemmas.{replied_sound, answered_sound}
+use Rattle.adapter_table.specs.declared.table.AdapterTable.{AdapterTable}
+use Rattle.adapter_table.specs.Messages.{messages_table}
+use Rattle.adapter_table.specs.MessagesSound.{IsInPlace, CanGoBack, MessagesGoOn}
+use Rattle.adapter_table.specs.Lemmas.MessageLemmas.{WaitsNot}
+
+-- ---- the application answers
+
+place_replied : (t : AdapterTable) (text : List ℕ) → length text ≤ 1404 → (d : Dialogue) → IsInPlace t.rows t.streams d → IsInPlace t.rows t.streams (replied_dialogue text d)
+place_replied t text short d is = record { triad = is.triad; id = is.id; stream = is.stream; watchdog = is.watchdog; o_t_api_ms = is.o_t_api_ms; t_o_api_ms = is.t_o_api_ms; reply = short }
+
+settled_keeps : (P : Dialogue → Type 0) (Q : Waiting → Type 0) (m : Messaging) (id : ConnId) (count number : ℕ) (text : List ℕ) → ((d : Dialogue) → P d → P (replied_dialogue text d)) → Keeps P Q m (answered (replied m id count text) number)
+settled_keeps P Q m id count number text keeps =
+    keeps_both P Q m (replied m id count text) (answered (replied m id count text) number) (replied_keeps P Q m id count text keeps) (answered_keeps P Q (replied m id count text) number)
+
+-- the connection keeps a short text, and the request waits no more
+pub goes_settled : (t : AdapterTable) (id : ConnId) (count number : ℕ) (text : List ℕ) → length text ≤ 1404 → MessagesGoOn t t.next_id (answered (replied t.messaging id count text) number)
+unfolding messages_table
+goes_settled t id count number text short =
+    let keeps = settled_keeps (IsInPlace t.rows t.streams) (CanGoBack t.streams) t.messaging id count number text (place_replied t text short) in
+    let asks = λ (n : ℕ). settled_keeps (λ d. Unit {0}) (WaitsNot n) t.messaging id count number text (λ d is. tt) in
+    record {
+      later = omega arith;
+      one = omega arith;
+      left = λ few. few;
+      sound = λ rows sound. record {
+        own = answered_sound t.profile.incarnation t.next_id (replied t.messaging id count text) number (replied_sound t.profile.incarnation t.next_id t.messaging id count text sound.own);
+        dialogues = keeps.dialogues sound.dialogues;
+        waiting = keeps.waiting sound.waiting;
+      };
+      settled = λ n settled. record { given = rw (asks n).number settled.given; waits_not = (asks n).waiting settled.waits_not };
+    }
+
+-- a class 3 connection of a triad
+abbrev pub of_triad : Triad → Dialogue
+of_triad triad = record {
+  triad = triad;
+  peer = record { 0 = 0 };
+  stream = 0;
+  o_t_id = record { 0 = 0 };
+  t_o_id = record { 0 = 0 };
+  o_t_api_ms = 0;
+  t_o_api_ms = 0;
+  o_t_size = 0;
+  t_o_size = 0;
+  watchdog = record { 0 = 0 };
+  opening = 0;
+  last = None;
+  reply = [];
+  deadline = record { 0 = 0 };
+}

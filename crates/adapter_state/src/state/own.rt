@@ -1,0 +1,79 @@
+//! The application is asked, and its answers end the wait of a request.
+
+ghost use Rattle.std.specs.Prelude.{◌≡◌, Ok, ◌≤◌, false, true, length};
+ghost use Rattle.adapter_objects.specs.Views.{view_own};
+ghost use Rattle.cip_events.specs.Outcomes.{Follows};
+ghost use Rattle.adapter_table.specs.Messages.{with_messages};
+ghost use Rattle.messaging.specs.Changes.{lacks_room, answered, can_be_answered, replied, waiting_for};
+ghost use Rattle.adapter_table.specs.MessagesSound.{RouteIsOpen};
+ghost use Rattle.adapter_table.specs.Own.{referred_table, referred_verdict};
+ghost use Rattle.cip_events.specs.Answers.{plain_answer};
+
+use super::AdapterState;
+use adapter_objects::OwnRequest;
+use adapter_replies::referred_answer;
+use adapter_table::laws::tables_are_whole;
+use cip_tables::{Answer, Outcome};
+use cip_types::{ConnId, Items};
+use connection_list::ConnectionTable;
+use messaging::Requester;
+
+impl<T: ConnectionTable> AdapterState<T> {
+    /// The application is asked, and the request waits for its answer.
+    #[tactic(auto, unfolding(adapter_table::specs::Messages::messages_table))]
+    pub fn ask(&mut self, asker: Requester, own: &OwnRequest<'_>) -> Outcome
+        requires room { lacks_room self.old.messaging ≡ false }
+        requires open { RouteIsOpen self.old.streams asker }
+        requires answerable { can_be_answered self.old.messaging.dialogues
+            (waiting_for self.old.messaging.next_number asker own.now.service self.old.clock) ≡ true }
+        ensures { Follows (Ok (
+          plain_answer (referred_verdict self.old (view_own own.now)),
+          referred_table self.old asker (view_own own.now),
+        ))
+            self.old result self.new }
+    {
+        // The table stays whole.
+        tables_are_whole();
+        let answer = referred_answer(self.alloc, self.messaging.next_number(), own)?;
+        self.messaging.ask(asker, own.service, self.clock)?;
+        Ok(answer)
+    }
+
+    /// The answer goes out, and the request of the number waits no more. No class 3 connection brought it, or it is not
+    /// open any more.
+    #[tactic(auto, unfolding(adapter_table::specs::Messages::messages_table))]
+    pub fn settle(&mut self, number: u64, answer: Answer) -> Outcome
+        ensures { Follows (Ok (answer, with_messages self.old (answered self.old.messaging number)))
+            self.old result self.new }
+    {
+        // The table stays whole.
+        tables_are_whole();
+        self.messaging.answer(number);
+        Ok(answer)
+    }
+
+    /// The same of a request that is the last message of a class 3 connection, which keeps the text of the reply.
+    #[tactic(auto, unfolding(adapter_table::specs::Messages::messages_table))]
+    pub fn settle_message(
+        &mut self,
+        number: u64,
+        message: (ConnId, u16),
+        text: Vec<u8>,
+        answer: Answer,
+    ) -> Outcome
+        requires { length text.items ≤ 1404 }
+        ensures { Follows (Ok (
+          answer,
+          with_messages self.old
+              (answered (replied self.old.messaging message.0 message.1 text.items) number),
+        ))
+            self.old result self.new }
+    {
+        // The table stays whole.
+        tables_are_whole();
+        let (id, count) = message;
+        self.messaging.reply(id, count, Items::from_vec(text));
+        self.messaging.answer(number);
+        Ok(answer)
+    }
+}

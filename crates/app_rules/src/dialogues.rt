@@ -1,0 +1,164 @@
+//! The checks of a request to open a class 3 connection, from the top: 2 to 5, 7 to 9, 11, 15, 16. `admit_dialogue` lists
+//! them.
+
+ghost use Rattle.std.specs.Prelude.{◌≡◌, ◌+◌, IfOk, nat_le, nat_lt};
+ghost use Rattle.std.specs.Option.{option_map};
+ghost use Rattle.cip_epath.specs.ElectronicKey.{view_key};
+ghost use Rattle.cip_epath.specs.Reading.{seen};
+ghost use Rattle.cip_fwdopen.specs.Open.{view_open};
+ghost use Rattle.adapter_table.specs.Checks.{is_point_to_point, key_check, segment_check};
+ghost use Rattle.adapter_table.specs.DialogueOpening.{are_enough, dialogue_refusal, message_path_check, named_key};
+ghost use Rattle.messaging.specs.Dialogues.{most_dialogues};
+ghost use Rattle.app_rules.specs.Stages.{IsPassed, dialogue_times};
+ghost use Rattle.app_rules.specs.Views.{seen_dialogues};
+
+use crate::questions::{is_below_least, is_unserved, refuse_if};
+use crate::view::DialogueView;
+use cip_epath::{ElectronicKey, KeyFault, PathFault, check_key, read_message_path};
+use cip_fwdopen::OpenRequest;
+use cip_netparams::{ConnectionType, api_of, timeout_of};
+use cip_router::Refusal;
+use cip_types::limits::IDS_PER_INCARNATION;
+use cip_types::{Identity, Ms};
+
+/// The most class 3 connections of an adapter.
+const MOST_DIALOGUES: usize = 64;
+
+/// The times of a class 3 connection: its actual packet intervals in milliseconds, and the time-out of its watchdog.
+#[derive(Clone, Copy)]
+pub struct DialogueTimes {
+    pub o_t_api_ms: u32,
+    pub t_o_api_ms: u32,
+    pub watchdog: Ms,
+}
+
+/// The refusal of a path with a segment that does not read.
+fn check_segments(path: &Result<Option<ElectronicKey>, PathFault>) -> Result<(), Refusal>
+    ensures { IsPassed (segment_check (seen (option_map view_key) path.now)) result }
+{
+    match path {
+        Ok(_) | Err(PathFault::Shape) => Ok(()),
+        Err(_) => Err(Refusal::Segment),
+    }
+}
+
+/// The refusal of a path whose key is not that of this device.
+fn check_named_key(
+    identity: &Identity,
+    path: &Result<Option<ElectronicKey>, PathFault>,
+) -> Result<(), Refusal>
+    ensures { IsPassed (key_check identity.now (named_key (seen (option_map view_key) path.now))) result }
+{
+    let Ok(Some(key)) = path else {
+        return Ok(());
+    };
+    match check_key(key, identity) {
+        Ok(()) => Ok(()),
+        Err(KeyFault::VendorOrProduct) => Err(Refusal::VendorOrProduct),
+        Err(KeyFault::DeviceType) => Err(Refusal::DeviceType),
+        Err(KeyFault::Revision) => Err(Refusal::Revision),
+    }
+}
+
+/// The refusal of a path that is not that of the message router alone.
+fn check_message_path(path: &Result<Option<ElectronicKey>, PathFault>) -> Result<(), Refusal>
+    ensures { IsPassed (message_path_check (seen (option_map view_key) path.now)) result }
+{
+    match path {
+        Ok(_) => Ok(()),
+        Err(_) => Err(Refusal::Path),
+    }
+}
+
+fn is_point_to_point(kind: ConnectionType) -> bool
+    ensures { result ≡ is_point_to_point kind }
+{
+    kind == ConnectionType::PointToPoint
+}
+
+/// Whether no id is left.
+fn has_no_id(view: &DialogueView<'_>) -> bool
+    ensures { result ≡ nat_lt 16777216 (view.now.next_id + 1) }
+{
+    view.next_id >= IDS_PER_INCARNATION
+}
+
+/// Whether there are 64 class 3 connections.
+fn is_full(view: &DialogueView<'_>) -> bool
+    ensures { result ≡ nat_le most_dialogues view.now.count }
+{
+    view.count >= MOST_DIALOGUES
+}
+
+/// Whether the node has as many class 3 connections as one node can have.
+fn has_node_enough(view: &DialogueView<'_>) -> bool
+    ensures { result ≡ are_enough view.now.profile.now.limits.node_connections view.now.node_count }
+{
+    match view.profile.limits.node_connections {
+        Some(most) => view.node_count >= usize::from(most),
+        None => false,
+    }
+}
+
+/// The times of the class 3 connection that a request opens, or the refusal of the first check that fails. Takes no
+/// memory.
+///
+/// The checks have the numbers of `admit`. The class and trigger are those of class 3 (6), and there are neither data
+/// nor owners nor groups (10, 12 to 14).
+///
+/// 2. Each segment of the path reads (0x0315).
+/// 3. No connection of any class and state has the triad (0x0100).
+/// 4. The key names this device: vendor and product (0x0114), device type (0x0115), revision (0x0116).
+/// 5. The O->T type (0x0123) and the T->O type (0x0124) are point to point.
+/// 7. The multiplier is at most 7, and no redundant owner is requested (0x0108).
+/// 8. Each packet interval is 1 microsecond to 10 seconds, and no shorter than the least that the maker states
+///    (0x0111).
+/// 9. The path is that of the message router alone (0x0117).
+/// 11. The O->T size (0x0127) and the T->O size (0x0128) are not 0.
+/// 15. Ids are left, and there are fewer than 64 class 3 connections (0x0113).
+/// 16. The node has fewer of them than the maker states for one node (0x0113).
+///
+/// Volume 1, chapter 3, Forward_Open service, transport class 3, and Connection Manager extended status codes.
+#[tactic(auto, unfolding(adapter_table::specs::DialogueOpening::dialogue_refusal))]
+pub fn admit_dialogue(
+    view: &DialogueView<'_>,
+    request: &OpenRequest<&[u8]>,
+) -> Result<DialogueTimes, Refusal>
+    ensures passed { IsPassed (dialogue_refusal (seen_dialogues view.now) (view_open request.now)) result }
+    ensures times { IfOk result (λ times. times ≡ dialogue_times (view_open request.now)) }
+{
+    // 2
+    let path = read_message_path(request.path);
+    check_segments(&path)?;
+    // 3
+    refuse_if(view.in_use, Refusal::InUse)?;
+    // 4
+    check_named_key(&view.profile.identity, &path)?;
+    // 5
+    let (consumed, produced) = (request.o_t_params.kind, request.t_o_params.kind);
+    refuse_if(!is_point_to_point(consumed), Refusal::ConsumedType)?;
+    refuse_if(!is_point_to_point(produced), Refusal::ProducedType)?;
+    // 7
+    refuse_if(is_unserved(request), Refusal::Parameter)?;
+    // 8
+    let o_t_api_ms = api_of(request.o_t_rpi).ok_or(Refusal::PacketInterval)?;
+    let t_o_api_ms = api_of(request.t_o_rpi).ok_or(Refusal::PacketInterval)?;
+    let least = view.profile.limits.least_rpi;
+    refuse_if(is_below_least(least, request), Refusal::PacketInterval)?;
+    // 9
+    check_message_path(&path)?;
+    // 11
+    refuse_if(request.o_t_params.size == 0, Refusal::ConsumedSize)?;
+    refuse_if(request.t_o_params.size == 0, Refusal::ProducedSize)?;
+    // 15
+    refuse_if(has_no_id(view), Refusal::OutOfConnections)?;
+    refuse_if(is_full(view), Refusal::OutOfConnections)?;
+    // 16
+    refuse_if(has_node_enough(view), Refusal::OutOfConnections)?;
+    Ok(DialogueTimes {
+        o_t_api_ms,
+        t_o_api_ms,
+        // The multiplier is at most 7 by check 7, so there is a time-out.
+        watchdog: timeout_of(request.multiplier, o_t_api_ms).unwrap(),
+    })
+}
