@@ -25,6 +25,7 @@ island = record {
   listen_only = 153;
   description = None;
   limits = no_limits;
+  objects = [];
 }
 
 owner : SheetConnection

@@ -7,7 +7,7 @@ use Rattle.adapter_table.specs.declared.profile.Profile.{Profile}
 use Rattle.scanner_table.specs.declared.profile.SlotConfig.{SlotConfig}
 use Rattle.scanner_table.specs.declared.profile.ScannerProfile.{ScannerProfile}
 use Rattle.scanner_table.specs.Profiles.{listens_to_group}
-use Rattle.trace_lines.specs.WrittenProfiles.{output_words, point_words}
+use Rattle.trace_lines.specs.WrittenProfiles.{output_words, point_words, object_words}
 use Rattle.trace_lines.specs.declared.limit_lines.LimitLine.TheVariants as limit
 use Rattle.trace_lines.specs.Kinds.{multicast_word}
 use Rattle.profile_faults.specs.declared.defects.LineName.TheVariants as name
@@ -38,6 +38,9 @@ named_node_connections profile reason is = rw is.0 is.1
 
 pub named_newer : (profile : Profile) (reason : ProfileReason) → NamesLimitWord name.Newer (option_map limit.Newer profile.limits.newer) reason → NamesWord profile reason
 named_newer profile reason is = rw is.0 is.1
+
+pub named_object : (profile : Profile) (reason : ProfileReason) → NamesItemWord name.Object object_words profile.objects reason → NamesWord profile reason
+named_object profile reason is = rw is.0 is.1
 
 pub named_slot : (profile : ScannerProfile) (reason : ProfileReason) → NamesWordOfSlots profile.slots reason → NamesWordOfScanner profile reason
 named_slot profile reason is = (rw is.0 is.1.0, is.1.1)

@@ -34,6 +34,9 @@ defect_fault (defect.LeastRpi us) = fault.Limits
 defect_fault (defect.AllPlaces places) = fault.Limits
 defect_fault (defect.NodeConnections most) = fault.Limits
 defect_fault (defect.Newer within) = fault.Limits
+defect_fault (defect.ExtraClass class) = fault.Objects
+defect_fault (defect.OtherClass class) = fault.Objects
+defect_fault (defect.SameClass class) = fault.Objects
 defect_fault other = fault.Length
 
 -- the fault of the reason that was found

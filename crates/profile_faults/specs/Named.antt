@@ -9,7 +9,7 @@ use Rattle.scanner_table.specs.declared.profile.ScannerProfile.{ScannerProfile}
 use Rattle.cip_tables.specs.declared.table.Config.{Config}
 use Rattle.cip_tables.specs.declared.table.Config.TheVariants as config
 use Rattle.trace_words.specs.Words.{node_word, bytes_word}
-use Rattle.trace_lines.specs.WrittenProfiles.{adapter_words, output_words, point_words, description_words, heartbeat_words}
+use Rattle.trace_lines.specs.WrittenProfiles.{adapter_words, output_words, point_words, description_words, object_words, heartbeat_words}
 use Rattle.trace_lines.specs.declared.limit_lines.LimitLine.{LimitLine}
 use Rattle.trace_lines.specs.declared.limit_lines.LimitLine.TheVariants as limit
 use Rattle.trace_lines.specs.Limits.{closers_line, limit_words}
@@ -39,6 +39,7 @@ adapter_line profile name.Places index = line_of limit_words (option_map limit.P
 adapter_line profile name.NodeConnections index = line_of limit_words (option_map limit.NodeConnections profile.limits.node_connections)
 adapter_line profile name.Closers index = line_of limit_words (closers_line profile.limits.own_closers)
 adapter_line profile name.Newer index = line_of limit_words (option_map limit.Newer profile.limits.newer)
+adapter_line profile name.Object index = line_of object_words (slice_get profile.objects index)
 adapter_line profile name.Heartbeat index = heartbeat_words profile
 adapter_line profile name.Scanner index = []
 adapter_line profile name.Slot index = []
@@ -95,6 +96,9 @@ IsWordOf (defect.LeastRpi us) word = word ≡ decimal us
 IsWordOf (defect.AllPlaces places) word = word ≡ codes "places"
 IsWordOf (defect.NodeConnections most) word = word ≡ decimal most
 IsWordOf (defect.Newer within) word = word ≡ decimal within
+IsWordOf (defect.ExtraClass class) word = word ≡ decimal class
+IsWordOf (defect.OtherClass class) word = word ≡ decimal class
+IsWordOf (defect.SameClass class) word = word ≡ decimal class
 
 -- the slot of the defect, if it is one of a slot, has this number
 abbrev pub IsOfSlot : ℕ → Defect → Type 0
@@ -141,6 +145,10 @@ NamesDescribedWord described reason =
 abbrev pub NamesLimitWord : LineName → Option LimitLine → ProfileReason → Type 0
 NamesLimitWord line stated reason =
     (reason.place.line ≡ line) × IsWordOf reason.defect (word_at (line_of limit_words stated) reason.place.word)
+
+-- the class of the defect is that of one of these lines, by its index
+abbrev pub NamesClass : List ℕ → ℕ → Defect → Type 0
+NamesClass classes index found = IsWordOf found (word_at (line_of object_words (slice_get classes index)) 2)
 
 -- the defect is in this word of the slot of this number
 abbrev pub IsInSlot : ℕ → SlotConfig → ℕ → Defect → Type 0

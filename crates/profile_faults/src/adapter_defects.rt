@@ -11,6 +11,7 @@ ghost use Rattle.trace_lines.specs.WrittenProfiles.{output_words, point_words};
 use crate::defects::{Defect, LineName, ProfileReason};
 use crate::instances::instance_reason;
 use crate::limit_defects::limit_reason;
+use crate::object_defects::object_reason;
 use adapter_table::{
     Description, InputPoint, LONGEST_INACTIVITY, OutputPoint, PHYSICAL_ADDRESS, Profile,
 };
@@ -51,7 +52,10 @@ pub fn adapter_reason(
     if let Some(reason) = described_reason(profile) {
         return Ok(Some(reason));
     }
-    Ok(limit_reason(profile))
+    if let Some(reason) = limit_reason(profile) {
+        return Ok(Some(reason));
+    }
+    Ok(object_reason(profile))
 }
 
 /// A defect at a word of the profile's first line.

@@ -20,6 +20,7 @@ pub enum LineName {
     NodeConnections,
     Closers,
     Newer,
+    Object,
     Heartbeat,
     Scanner,
     Slot,
@@ -124,6 +125,12 @@ pub enum Defect {
     NodeConnections(u8),
     /// The limit of how far ahead an accepted sequence number is.
     Newer(u32),
+    /// A class of the maker's own that is one too many.
+    ExtraClass(u32),
+    /// A class that no object of the maker's own can have.
+    OtherClass(u32),
+    /// A class of the maker's own that a later line names too.
+    SameClass(u32),
 }
 
 /// Why a profile is bad.
@@ -181,6 +188,9 @@ impl Defect {
             | Defect::AllPlaces(_)
             | Defect::NodeConnections(_)
             | Defect::Newer(_) => ProfileFault::Limits,
+            Defect::ExtraClass(_) | Defect::OtherClass(_) | Defect::SameClass(_) => {
+                ProfileFault::Objects
+            }
         }
     }
 }

@@ -6,6 +6,7 @@ mod defects;
 mod faults;
 mod instances;
 mod limit_defects;
+mod object_defects;
 mod scanner_defects;
 
 pub use adapter_defects::adapter_reason;

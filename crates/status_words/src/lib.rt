@@ -45,6 +45,7 @@ fn general_words(general: u8) -> &'static str {
         0x14 => "attribute not supported",
         0x15 => "too much data",
         0x16 => "object does not exist",
+        0x1F => "vendor specific error",
         0x20 => "invalid parameter",
         0x26 => "path size invalid",
         _ => "another status",

@@ -228,6 +228,21 @@ fn same_verdict(alloc: Global, verdict: &Verdict) -> Result<Verdict, OutOfMemory
             additional: Items::copy_of(alloc, additional.as_slice())?,
             data: Items::copy_of(alloc, data.as_slice())?,
         },
+        Verdict::Asked {
+            number,
+            service,
+            class,
+            instance,
+            attribute,
+            data,
+        } => Verdict::Asked {
+            number: *number,
+            service: *service,
+            class: *class,
+            instance: *instance,
+            attribute: *attribute,
+            data: Items::copy_of(alloc, data.as_slice())?,
+        },
     })
 }
 

@@ -3,14 +3,13 @@
 use crate::datagrams::push_datagram;
 use crate::events::is_target;
 use crate::frames::push_message;
-use crate::replies::push_reply;
-use crate::values::{push_data, push_id, push_triad};
 use cip_events::{
     Answer, Delivery, Event, Frame, Notice, Outcome, OutgoingDatagram, Reason, Recipient,
-    SlotPhase, Unanswered, Verdict,
+    SlotPhase, StepFault, Unanswered, Verdict,
 };
 use cip_tables::Config;
 use cip_types::{Fault, Node, OutOfMemory};
+use router_words::{push_data, push_id, push_object, push_reply, push_triad};
 use status_words::{encap_words, push_fault, push_general};
 use std::alloc::Global;
 use trace_words::{push_bytes, push_node, push_nodes, push_text};
@@ -28,6 +27,10 @@ pub fn push_outcome(
 ) -> Result<(), OutOfMemory> {
     match outcome {
         Ok(answer) => push_answer(alloc, out, config, event, answer),
+        Err(StepFault::WrongLength) => {
+            push_text(out, INDENT)?;
+            push_text(out, "refused: a wrong number of bytes")
+        }
         Err(fault) => {
             push_text(out, INDENT)?;
             Ok(write!(out, "refused: {fault}")?)
@@ -43,7 +46,7 @@ fn push_answer(
     answer: &Answer,
 ) -> Result<(), OutOfMemory> {
     push_text(out, INDENT)?;
-    push_verdict(alloc, out, config, &answer.verdict)?;
+    push_verdict(alloc, out, config, event, &answer.verdict)?;
     for frame in answer.frames.as_slice() {
         push_text(out, INDENT)?;
         push_frame(alloc, out, config, event, frame)?;
@@ -54,7 +57,7 @@ fn push_answer(
     }
     for notice in answer.notices.as_slice() {
         push_text(out, INDENT)?;
-        push_notice(out, *notice)?;
+        push_notice(out, event, answer, *notice)?;
     }
     Ok(())
 }
@@ -63,6 +66,7 @@ fn push_verdict(
     alloc: Global,
     out: &mut String,
     config: &Config,
+    event: &Event,
     verdict: &Verdict,
 ) -> Result<(), OutOfMemory> {
     match verdict {
@@ -74,6 +78,7 @@ fn push_verdict(
             push_data(alloc, out, bytes.as_slice())
         }
         Verdict::Delivered(Delivery::Old) => push_old(out, config),
+        Verdict::Delivered(delivery) if is_frame(event) => push_text(out, message_words(*delivery)),
         Verdict::Delivered(delivery) => push_text(out, delivery_words(*delivery)),
         Verdict::Replied {
             number,
@@ -86,6 +91,43 @@ fn push_verdict(
             push_text(out, ", ")?;
             push_data(alloc, out, data.as_slice())
         }
+        Verdict::Asked { .. } => push_own_request(alloc, out, verdict),
+    }
+}
+
+/// A request to an object of the maker's own.
+fn push_own_request(alloc: Global, out: &mut String, verdict: &Verdict) -> Result<(), OutOfMemory> {
+    let Verdict::Asked {
+        number,
+        service,
+        class,
+        instance,
+        attribute,
+        data,
+    } = verdict
+    else {
+        return Ok(());
+    };
+    write!(out, "the application is to answer request {number}: ")?;
+    let path = (*class, *instance, *attribute);
+    push_object(alloc, out, *service, path, data.as_slice())
+}
+
+/// Whether an event is a message over a stream.
+fn is_frame(event: &Event) -> bool {
+    match event {
+        Event::Frame { .. } => true,
+        _ => false,
+    }
+}
+
+/// What became of a connected message that is not executed.
+fn message_words(delivery: Delivery) -> &'static str {
+    match delivery {
+        Delivery::Duplicate => "not executed: its sequence count is that of the last one",
+        Delivery::UnknownId => "left aside: no class 3 connection of this stream has this id",
+        Delivery::WrongSize => "left aside: it is longer than its connection's size",
+        other => delivery_words(other),
     }
 }
 
@@ -185,7 +227,12 @@ fn push_outgoing(
     push_datagram(alloc, out, outgoing.bytes.as_slice(), !is_target(config))
 }
 
-fn push_notice(out: &mut String, notice: Notice) -> Result<(), OutOfMemory> {
+fn push_notice(
+    out: &mut String,
+    event: &Event,
+    answer: &Answer,
+    notice: Notice,
+) -> Result<(), OutOfMemory> {
     match notice {
         Notice::Opened(triad, id) => {
             push_text(out, "opened: ")?;
@@ -202,7 +249,7 @@ fn push_notice(out: &mut String, notice: Notice) -> Result<(), OutOfMemory> {
             push_triad(out, triad)
         }
         Notice::Dropped(triad) => {
-            push_text(out, "dropped, a listener without support: ")?;
+            push_text(out, dropped_words(event, answer.notices.as_slice()))?;
             push_triad(out, triad)
         }
         Notice::Replaced(triad) => {
@@ -219,6 +266,15 @@ fn push_notice(out: &mut String, notice: Notice) -> Result<(), OutOfMemory> {
             push_unanswered(out, why)
         }
         _ => push_slot_notice(out, notice),
+    }
+}
+
+/// Why a connection was dropped: a class 3 connection ends with its stream, and no listener does.
+fn dropped_words(event: &Event, notices: &[Notice]) -> &'static str {
+    match (event, notices) {
+        (Event::StreamCut { .. }, _) => "ended with its stream: ",
+        (_, [Notice::StreamClosed(_), ..]) => "ended with its stream: ",
+        _ => "dropped, a listener without support: ",
     }
 }
 

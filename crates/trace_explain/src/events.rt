@@ -2,11 +2,11 @@
 
 use crate::datagrams::push_datagram;
 use crate::frames::push_message;
-use crate::requests::push_request;
-use crate::values::push_data;
 use cip_events::Event;
 use cip_tables::Config;
 use cip_types::{Node, OutOfMemory};
+use router_words::{push_data, push_request};
+use status_words::push_general;
 use std::alloc::Global;
 use trace_words::{push_node, push_text};
 
@@ -82,6 +82,16 @@ fn push_call(alloc: Global, out: &mut String, event: &Event) -> Result<(), OutOf
     match event {
         Event::Write { point, bytes } => {
             write!(out, "the application writes point {point}, ")?;
+            push_data(alloc, out, bytes.as_slice())
+        }
+        Event::Respond {
+            number,
+            status,
+            bytes,
+        } => {
+            write!(out, "the application answers request {number}: ")?;
+            push_general(out, *status)?;
+            push_text(out, ", ")?;
             push_data(alloc, out, bytes.as_slice())
         }
         Event::Read { point } => Ok(write!(out, "the application reads point {point}")?),

@@ -1,14 +1,12 @@
 //! Encapsulation messages in words.
 
 use crate::identities::push_identity;
-use crate::replies::push_reply;
-use crate::requests::push_request;
-use crate::values::push_data;
-use cip_encap::{MessageView, read_items, read_message};
+use cip_encap::{MessageView, read_connected_items, read_items, read_message};
 use cip_router::Command;
 use cip_tables::Config;
 use cip_types::OutOfMemory;
 use identity_reading::read_identity_reply;
+use router_words::{push_data, push_id, push_reply, push_request};
 use status_words::encap_words;
 use std::alloc::Global;
 use trace_words::push_text;
@@ -59,6 +57,7 @@ fn push_command(
         Command::RegisterSession => push_text(out, "RegisterSession")?,
         Command::UnregisterSession => push_text(out, "UnRegisterSession")?,
         Command::SendRrData => push_text(out, "SendRRData")?,
+        Command::SendUnitData => push_text(out, "SendUnitData")?,
         Command::Other => push_other(out, message.command)?,
     }
     let session = message.session;
@@ -70,7 +69,6 @@ fn push_other(out: &mut String, command: u16) -> Result<(), OutOfMemory> {
     let name = match command {
         0x0063 => "ListIdentity",
         0x0064 => "ListInterfaces",
-        0x0070 => "SendUnitData",
         _ => "a command",
     };
     Ok(write!(out, "{name} ({command:#06x})")?)
@@ -86,21 +84,72 @@ fn push_contents(
     if message.data.is_empty() {
         return Ok(());
     }
-    if Command::of(message.command) != Command::SendRrData {
-        push_text(out, ", ")?;
-        return push_data(alloc, out, message.data);
+    match Command::of(message.command) {
+        Command::SendRrData => push_items(alloc, out, config, message.data, to_target),
+        Command::SendUnitData => push_connected(alloc, out, config, message.data, to_target),
+        _ => {
+            push_text(out, ", ")?;
+            push_data(alloc, out, message.data)
+        }
     }
-    let packet = match read_items(message.data) {
-        Ok(packet) => packet,
+}
+
+/// The request or the reply among the items of an unconnected message.
+fn push_items(
+    alloc: Global,
+    out: &mut String,
+    config: &Config,
+    items: &[u8],
+    to_target: bool,
+) -> Result<(), OutOfMemory> {
+    match read_items(items) {
+        Ok(packet) => {
+            push_text(out, ": ")?;
+            push_routed(alloc, out, config, packet.data, to_target)
+        }
         Err(fault) => {
             write!(out, ", no items ({fault}), ")?;
-            return push_data(alloc, out, message.data);
+            push_data(alloc, out, items)
         }
-    };
-    push_text(out, ": ")?;
+    }
+}
+
+/// The request or the reply among the items of a connected message, with its connection id and sequence count.
+///
+/// Volume 1, chapter 3, class 3 transport.
+fn push_connected(
+    alloc: Global,
+    out: &mut String,
+    config: &Config,
+    items: &[u8],
+    to_target: bool,
+) -> Result<(), OutOfMemory> {
+    match read_connected_items(items) {
+        Ok(packet) => {
+            push_text(out, ", connection ")?;
+            push_id(out, packet.connection)?;
+            let count = packet.count;
+            write!(out, " count {count}: ")?;
+            push_routed(alloc, out, config, packet.message, to_target)
+        }
+        Err(fault) => {
+            write!(out, ", no connected items ({fault}), ")?;
+            push_data(alloc, out, items)
+        }
+    }
+}
+
+/// A request to a target's message router, or the reply of one.
+fn push_routed(
+    alloc: Global,
+    out: &mut String,
+    config: &Config,
+    bytes: &[u8],
+    to_target: bool,
+) -> Result<(), OutOfMemory> {
     if to_target {
-        push_request(alloc, out, config, packet.data)
+        push_request(alloc, out, config, bytes)
     } else {
-        push_reply(alloc, out, packet.data)
+        push_reply(alloc, out, bytes)
     }
 }

@@ -2,14 +2,10 @@
 #![tactic(auto)]
 
 mod answers;
-mod connections;
 mod datagrams;
 mod events;
 mod frames;
 mod identities;
 mod lines;
-mod replies;
-mod requests;
-mod values;
 
 pub use lines::{EventLine, event_lines, explain_event, explain_trace};

@@ -2,7 +2,7 @@
 use Rattle.std.proofs.Common.{◌≡◌, refl, List, ◌∷◌, [], Option, Some, None, true, false, Bool, ℕ, ◌∙◌, subst}
 use Rattle.std.specs.Prelude.{is_some, if◌then◌else◌, option_map, option_and_then}
 use Rattle.trace_lines.specs.declared.shapes.WordKind.{WordKind}
-use Rattle.trace_lines.specs.declared.shapes.TheConstants.{ADAPTER, OUTPUT, POINT, DESCRIBE, PLACES, NODE_CONNECTIONS, CLOSERS, HEARTBEAT, SCANNER, SLOT, RATE, FROM_NODE, EXPLICIT, STREAM, FRAME, CUT, WRITE, NUMBER, MODE}
+use Rattle.trace_lines.specs.declared.shapes.TheConstants.{ADAPTER, OUTPUT, POINT, DESCRIBE, PLACES, NODE_CONNECTIONS, CLOSERS, HEARTBEAT, SCANNER, SLOT, RATE, FROM_NODE, EXPLICIT, ANSWER, STREAM, FRAME, CUT, WRITE, NUMBER, MODE}
 use Rattle.trace_lines.specs.Kinds.{ValueOf, value_of}
 use Rattle.cip_events.specs.declared.event.Event.{Event}
 use Rattle.adapter_table.specs.declared.profile.Description.{Description}
@@ -14,7 +14,7 @@ use Rattle.trace_lines.specs.declared.forms.HeartbeatLine.{HeartbeatLine}
 use Rattle.trace_lines.specs.declared.forms.ScannerLine.{ScannerLine}
 use Rattle.trace_lines.specs.declared.forms.Rate.{Rate}
 use Rattle.trace_lines.specs.declared.limit_lines.LimitLine.{LimitLine}
-use Rattle.trace_lines.specs.Profiles.{adapter_reader, output_reader, point_reader, description_reader, heartbeat_reader}
+use Rattle.trace_lines.specs.Profiles.{adapter_reader, output_reader, point_reader, description_reader, object_reader, heartbeat_reader}
 use Rattle.trace_lines.specs.Shapes.{Build, shaped, Shape, behind_kinds, is_shaped, is_end, may_go_on, line_shapes, shape_of}
 use Rattle.trace_lines.specs.Slots.{scanner_reader, slot_reader, stated_rate, rate_reader}
 use Rattle.trace_text.specs.declared.forms.TraceLine.{TraceLine}
@@ -98,6 +98,9 @@ description_shape = of_shape Description [] DESCRIBE _ (λ _ _ _ _ _ _ _. ends_a
 limit_shape : (kinds : List WordKind) (build : Build kinds (Reader LimitLine)) → IsWhole LimitLine [] kinds build → IsOfShape TraceLine (mapped line.Limit (shaped {A = LimitLine} kinds build)) (Some (kinds, []))
 limit_shape kinds build whole = mapped_shape LimitLine TraceLine line.Limit (shaped {A = LimitLine} kinds build) (kinds, []) (of_shape LimitLine [] kinds build whole)
 
+object_shape : IsOfShape ℕ object_reader (Some (NUMBER, []))
+object_shape = of_shape ℕ [] NUMBER _ (λ _. ends_at ℕ _)
+
 heartbeat_shape : IsOfShape HeartbeatLine heartbeat_reader (Some (HEARTBEAT, []))
 heartbeat_shape = of_shape HeartbeatLine [] HEARTBEAT _ (λ _ _. ends_at HeartbeatLine _)
 
@@ -120,7 +123,7 @@ slot_shape : IsOfShape SlotConfig slot_reader (Some (SLOT, RATE))
 slot_shape = of_shape SlotConfig RATE SLOT _ (λ _ _ _ _ _ _ _ _ _ _ _ _ _. λ words. some_mapped Rate SlotConfig _ (rate_reader words) ∙ rate_goes_on words)
 
 lines_are_tied : AreTied TraceLine line_meanings line_shapes
-lines_are_tied = ((refl, mapped_shape _ _ line.Adapter adapter_reader (ADAPTER, []) adapter_shape), ((refl, mapped_shape _ _ line.Output output_reader (OUTPUT, []) output_shape), ((refl, mapped_shape _ _ line.Input point_reader (POINT, []) point_shape), ((refl, mapped_shape _ _ line.Config point_reader (POINT, []) point_shape), ((refl, mapped_shape _ _ line.Description description_reader (DESCRIBE, []) description_shape), ((refl, limit_shape NUMBER _ (λ _. ends_at LimitLine _)), ((refl, limit_shape PLACES _ (λ _ _ _. ends_at LimitLine _)), ((refl, limit_shape NODE_CONNECTIONS _ (λ _. ends_at LimitLine _)), ((refl, limit_shape CLOSERS _ (λ _. ends_at LimitLine _)), ((refl, limit_shape NUMBER _ (λ _. ends_at LimitLine _)), ((refl, mapped_shape _ _ line.Heartbeat heartbeat_reader (HEARTBEAT, []) heartbeat_shape), ((refl, mapped_shape _ _ line.Scanner scanner_reader (SCANNER, []) scanner_shape), ((refl, mapped_shape _ _ line.Slot slot_reader (SLOT, RATE) slot_shape), ((refl, event_shape FROM_NODE _ (λ _ _. ends_at Event _)), ((refl, event_shape FROM_NODE _ (λ _ _. ends_at Event _)), ((refl, event_shape EXPLICIT _ (λ _ _ _. ends_at Event _)), ((refl, event_shape STREAM _ (λ _ _. ends_at Event _)), ((refl, event_shape FRAME _ (λ _ _. ends_at Event _)), ((refl, event_shape CUT _ (λ _. ends_at Event _)), ((refl, event_shape FROM_NODE _ (λ _ _. ends_at Event _)), ((refl, event_shape WRITE _ (λ _ _. ends_at Event _)), ((refl, event_shape NUMBER _ (λ _. ends_at Event _)), ((refl, event_shape NUMBER _ (λ _. ends_at Event _)), ((refl, event_shape MODE _ (λ _. ends_at Event _)), ((refl, event_shape NUMBER _ (λ _. ends_at Event _)), ((refl, event_shape NUMBER _ (λ _. ends_at Event _)), tt))))))))))))))))))))))))))
+lines_are_tied = ((refl, mapped_shape _ _ line.Adapter adapter_reader (ADAPTER, []) adapter_shape), ((refl, mapped_shape _ _ line.Output output_reader (OUTPUT, []) output_shape), ((refl, mapped_shape _ _ line.Input point_reader (POINT, []) point_shape), ((refl, mapped_shape _ _ line.Config point_reader (POINT, []) point_shape), ((refl, mapped_shape _ _ line.Description description_reader (DESCRIBE, []) description_shape), ((refl, limit_shape NUMBER _ (λ _. ends_at LimitLine _)), ((refl, limit_shape PLACES _ (λ _ _ _. ends_at LimitLine _)), ((refl, limit_shape NODE_CONNECTIONS _ (λ _. ends_at LimitLine _)), ((refl, limit_shape CLOSERS _ (λ _. ends_at LimitLine _)), ((refl, limit_shape NUMBER _ (λ _. ends_at LimitLine _)), ((refl, mapped_shape _ _ line.Object object_reader (NUMBER, []) object_shape), ((refl, mapped_shape _ _ line.Heartbeat heartbeat_reader (HEARTBEAT, []) heartbeat_shape), ((refl, mapped_shape _ _ line.Scanner scanner_reader (SCANNER, []) scanner_shape), ((refl, mapped_shape _ _ line.Slot slot_reader (SLOT, RATE) slot_shape), ((refl, event_shape FROM_NODE _ (λ _ _. ends_at Event _)), ((refl, event_shape FROM_NODE _ (λ _ _. ends_at Event _)), ((refl, event_shape EXPLICIT _ (λ _ _ _. ends_at Event _)), ((refl, event_shape ANSWER _ (λ _ _ _. ends_at Event _)), ((refl, event_shape STREAM _ (λ _ _. ends_at Event _)), ((refl, event_shape FRAME _ (λ _ _. ends_at Event _)), ((refl, event_shape CUT _ (λ _. ends_at Event _)), ((refl, event_shape FROM_NODE _ (λ _ _. ends_at Event _)), ((refl, event_shape WRITE _ (λ _ _. ends_at Event _)), ((refl, event_shape NUMBER _ (λ _. ends_at Event _)), ((refl, event_shape NUMBER _ (λ _. ends_at Event _)), ((refl, event_shape MODE _ (λ _. ends_at Event _)), ((refl, event_shape NUMBER _ (λ _. ends_at Event _)), ((refl, event_shape NUMBER _ (λ _. ends_at Event _)), tt))))))))))))))))))))))))))))
 
 -- the words behind a first word are read as those of a line exactly if they have its shape
 pub line_tied : (word : List ℕ) (words : List (List ℕ)) (shape : Shape) → shape_of word ≡ Some shape → is_some (line_reader (word ∷ words)) ≡ is_shaped shape words

@@ -1,6 +1,8 @@
 //! The defects of profiles in words: what is wrong, its value, and what is allowed.
 
-use adapter_table::{FARTHEST_NUMBER, LONGEST_INACTIVITY, PHYSICAL_ADDRESS};
+use adapter_table::{
+    FARTHEST_NUMBER, LARGEST_CLASS, LONGEST_INACTIVITY, MOST_OWN_CLASSES, PHYSICAL_ADDRESS,
+};
 use cip_productions::Kind;
 use cip_types::limits::{
     LONGEST_CONFIG, LONGEST_POINT, LONGEST_RPI_US, LONGEST_WAIT_MS, MOST_CONNECTIONS, MOST_POINTS,
@@ -65,6 +67,9 @@ pub fn push_defect(
         | Defect::AllPlaces(_)
         | Defect::NodeConnections(_)
         | Defect::Newer(_) => push_stated(out, defect),
+        Defect::ExtraClass(_) | Defect::OtherClass(_) | Defect::SameClass(_) => {
+            push_class(out, defect)
+        }
         _ => push_count(out, defect),
     }
 }
@@ -172,6 +177,26 @@ fn push_stated(out: &mut String, defect: Defect) -> Result<(), OutOfMemory> {
             )?;
             push_limit(out, u64::from(FARTHEST_NUMBER))
         }
+        _ => Ok(()),
+    }
+}
+
+/// A class that no object of the maker's own has.
+fn push_class(out: &mut String, defect: Defect) -> Result<(), OutOfMemory> {
+    match defect {
+        Defect::ExtraClass(class) => Ok(write!(
+            out,
+            "class {class} is one too many, and an adapter has at most {MOST_OWN_CLASSES} own classes"
+        )?),
+        Defect::OtherClass(class) if (1..=LARGEST_CLASS).contains(&class) => Ok(write!(
+            out,
+            "class {class} is that of an object that each device has"
+        )?),
+        Defect::OtherClass(class) => {
+            write!(out, "class {class} is none, and a class is 1 to ")?;
+            push_limit(out, u64::from(LARGEST_CLASS))
+        }
+        Defect::SameClass(class) => Ok(write!(out, "class {class} is named twice")?),
         _ => Ok(()),
     }
 }

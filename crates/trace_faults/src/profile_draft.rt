@@ -11,8 +11,8 @@ use std::str;
 use trace_lines::{
     AdapterLine, HeartbeatLine, LimitLine, ScannerLine, profile_with, read_adapter,
     read_description, read_heartbeat, read_least_rpi, read_newer, read_node_connections,
-    read_output, read_own_closers, read_places, read_point, read_scanner, read_slot, scanner_with,
-    with_limit,
+    read_object, read_output, read_own_closers, read_places, read_point, read_scanner, read_slot,
+    scanner_with, with_limit,
 };
 use trace_words::{TextFault, Words};
 
@@ -29,6 +29,7 @@ fn name_of(word: &str) -> Option<LineName> {
         "node-connections" => Some(LineName::NodeConnections),
         "closers" => Some(LineName::Closers),
         "newer" => Some(LineName::Newer),
+        "object" => Some(LineName::Object),
         "heartbeat" => Some(LineName::Heartbeat),
         "scanner" => Some(LineName::Scanner),
         "slot" => Some(LineName::Slot),
@@ -77,6 +78,7 @@ struct ProfileDraft {
     config: Option<InputPoint>,
     description: Option<Description>,
     limits: MakerLimits,
+    objects: Vec<u32>,
     heartbeat: Option<HeartbeatLine>,
     scanner: Option<ScannerLine>,
     slots: Vec<SlotConfig>,
@@ -91,6 +93,7 @@ impl ProfileDraft {
             config: None,
             description: None,
             limits: MakerLimits::NONE,
+            objects: Vec::new(alloc),
             heartbeat: None,
             scanner: None,
             slots: Vec::new(alloc),
@@ -115,6 +118,7 @@ impl ProfileDraft {
             LineName::NodeConnections => self.limit(read_node_connections(words)?)?,
             LineName::Closers => self.limit(read_own_closers(words)?)?,
             LineName::Newer => self.limit(read_newer(words)?)?,
+            LineName::Object => self.objects.push(read_object(words)?)?,
             LineName::Heartbeat => self.heartbeat = Some(read_heartbeat(words)?),
             LineName::Scanner => self.scanner = Some(read_scanner(words)?),
             LineName::Slot => self.slots.push(read_slot(alloc, words)?)?,
@@ -132,6 +136,7 @@ impl ProfileDraft {
     fn config(self) -> Option<Config> {
         let outputs = Items::from_vec(self.outputs);
         let inputs = Items::from_vec(self.inputs);
+        let objects = Items::from_vec(self.objects);
         let slots = Items::from_vec(self.slots);
         if let Some(scanner) = self.scanner {
             return Some(Config::Scanner(scanner_with(scanner, slots)));
@@ -143,6 +148,7 @@ impl ProfileDraft {
             self.config,
             self.description,
             self.limits,
+            objects,
             self.heartbeat?,
         );
         Some(Config::Adapter(profile))

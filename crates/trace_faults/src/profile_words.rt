@@ -44,7 +44,8 @@ fn push_fault(out: &mut String, number: u8) -> Result<(), OutOfMemory> {
         6 => ProfileFault::Timing,
         7 => ProfileFault::Identity,
         8 => ProfileFault::Description,
-        _ => ProfileFault::Limits,
+        9 => ProfileFault::Limits,
+        _ => ProfileFault::Objects,
     };
     Ok(write!(out, "{fault}")?)
 }

@@ -7,7 +7,7 @@ use Rattle.cip_events.specs.declared.event.Event.{Event}
 use Rattle.cip_events.specs.declared.event.Event.TheVariants as event
 use Rattle.cip_events.specs.Outcomes.{Outcome}
 use Rattle.cip_tables.specs.declared.table.Config.{Config}
-use Rattle.trace_words.specs.Words.{node_word, bytes_word, line_text, number_of}
+use Rattle.trace_words.specs.Words.{node_word, bytes_word, general_word, line_text, number_of}
 use Rattle.trace_words.specs.Reader.{Reader, gives}
 use Rattle.trace_outcomes.specs.declared.part.Part.{Part}
 use Rattle.trace_lines.specs.Kinds.{mode_of, mode_word}
@@ -21,8 +21,8 @@ use Rattle.trace_text.specs.Forms.{line_reader, line_meanings, numbered, event_o
 use Rattle.trace_text.specs.Reading.{Entry, builder_with}
 use Rattle.trace_text.specs.Written.{event_words}
 use Rattle.trace_laws.specs.TraceBack.{EventFits}
-use Rattle.trace_laws.proofs.WordLaws.{node_back, bytes_back}
-use Rattle.trace_laws.proofs.CleanWords.{decimal_clean, node_clean, bytes_clean}
+use Rattle.trace_laws.proofs.WordLaws.{node_back, bytes_back, general_back}
+use Rattle.trace_laws.proofs.CleanWords.{decimal_clean, node_clean, bytes_clean, general_clean}
 use Rattle.trace_laws.proofs.LineLaws.{is_clean, are_clean}
 use Rattle.trace_laws.proofs.ProfileLaws.{n16, n32, n64, c16, c32}
 use Rattle.trace_laws.proofs.TextLaws.{Reads, IsLine, line_is, line_reads, none_meant, decimal_low, decimal_begins}
@@ -51,6 +51,7 @@ event_is (event.Mode run) fits = line_is (codes "mode") (mode_word run ∷ []) (
 event_is (event.Start slot) fits = line_is (codes "start") (decimal slot ∷ []) (line.Event (event.Start slot)) refl refl (rw (c32 slot fits) refl) (rw (n32 slot fits) refl)
 event_is (event.Stop slot) fits = line_is (codes "stop") (decimal slot ∷ []) (line.Event (event.Stop slot)) refl refl (rw (c32 slot fits) refl) (rw (n32 slot fits) refl)
 event_is (event.Explicit target number bytes) fits = line_is (codes "explicit") (node_word target ∷ decimal number ∷ bytes_word bytes ∷ []) (line.Event (event.Explicit target number bytes)) refl refl (rw (node_clean target, c32 number fits.1, bytes_clean bytes fits.2) refl) (rw (node_back target fits.0, n32 number fits.1, bytes_back bytes fits.2) refl)
+event_is (event.Respond number status bytes) fits = line_is (codes "answer") (decimal number ∷ general_word status ∷ bytes_word bytes ∷ []) (line.Event (event.Respond number status bytes)) refl refl (rw (decimal_clean number fits.0, general_clean status fits.1, bytes_clean bytes fits.2) refl) (rw (n64 number fits.0, general_back status fits.1, bytes_back bytes fits.2) refl)
 
 -- an event, wherever it is allowed
 pub event_reads : (builder builder' : TraceBuilder) (given : Event) → EventFits given → builder_with builder (line.Event given) ≡ Some builder' → Reads builder (line_text (event_words given)) builder'

@@ -25,6 +25,7 @@ use Rattle.cip_events.specs.declared.event.Verdict.{Verdict}
 use Rattle.cip_events.specs.declared.event.Verdict.TheVariants as verdict
 use Rattle.cip_events.specs.Outcomes.{Outcome}
 use Rattle.trace_words.specs.Words.{node_word, nodes_word, bytes_word, id_word, general_word, extended_word, line_text}
+use Rattle.trace_lines.specs.Kinds.{instance_word}
 use Rattle.trace_outcomes.specs.declared.part.Part.TheVariants as part
 use Rattle.trace_outcomes.specs.Parts.{part_reader, verdict_of, fault_of, mismatch_of}
 use Rattle.trace_outcomes.specs.WrittenOutcomes.{fault_word, delivery_word, verdict_words, triad_words, recipient_words, notice_words, frame_line, outgoing_line, notice_line, outcome_text}
@@ -34,9 +35,10 @@ use Rattle.trace_text.specs.Reading.{Entry}
 use Rattle.trace_laws.specs.TraceBack.{NoticeFits, FrameFits, OutgoingDatagramFits, VerdictFits, OutcomeFits}
 use Rattle.trace_laws.proofs.WordLaws.{node_back, bytes_back, id_back, general_back, extended_back}
 use Rattle.trace_laws.proofs.NodeLaws.{nodes_back, nodes_clean}
-use Rattle.trace_laws.proofs.CleanWords.{node_clean, bytes_clean, id_clean, general_clean, extended_clean}
+use Rattle.trace_laws.proofs.CleanWords.{decimal_clean, node_clean, bytes_clean, id_clean, general_clean, extended_clean}
 use Rattle.trace_laws.proofs.LineLaws.{are_clean}
-use Rattle.trace_laws.proofs.ProfileLaws.{n8, n16, n32, c8, c16, c32}
+use Rattle.trace_laws.proofs.ProfileLaws.{n8, n16, n32, n64, c8, c16, c32}
+use Rattle.trace_laws.proofs.ScannerLaws.{instance_back, instance_clean}
 use Rattle.trace_laws.proofs.EventLaws.{part_read}
 use Rattle.trace_laws.proofs.TextLaws.{first_of, rest_of, Reads, reads_none, reads_both, reads_as}
 
@@ -49,6 +51,7 @@ verdict_first verdict.Ignored = codes "ignored"
 verdict_first (verdict.Value bytes) = codes "value"
 verdict_first (verdict.Delivered what) = delivery_word what
 verdict_first (verdict.Replied number status additional bytes) = codes "replied"
+verdict_first (verdict.Asked number service class instance attribute bytes) = codes "asked"
 
 abbrev verdict_rest : Verdict → List (List ℕ)
 verdict_rest (verdict.Value bytes) = bytes_word bytes ∷ []
@@ -57,6 +60,7 @@ verdict_rest verdict.BadFrame = []
 verdict_rest verdict.Ignored = []
 verdict_rest (verdict.Delivered what) = []
 verdict_rest (verdict.Replied number status additional bytes) = decimal number ∷ general_word status ∷ bytes_word additional ∷ bytes_word bytes ∷ []
+verdict_rest (verdict.Asked number service class instance attribute bytes) = decimal number ∷ decimal service ∷ decimal class ∷ decimal instance ∷ instance_word attribute ∷ bytes_word bytes ∷ []
 
 verdict_joined : (given : Verdict) → verdict_words given ≡ join_with_byte 32 (verdict_first given ∷ verdict_rest given)
 verdict_joined verdict.Done = refl
@@ -65,6 +69,7 @@ verdict_joined verdict.Ignored = refl
 verdict_joined (verdict.Value bytes) = refl
 verdict_joined (verdict.Delivered what) = refl
 verdict_joined (verdict.Replied number status additional bytes) = refl
+verdict_joined (verdict.Asked number service class instance attribute bytes) = refl
 
 verdict_read : (given : Verdict) → VerdictFits given → part_reader (verdict_first given ∷ verdict_rest given) ≡ Some (part.Verdict given, [])
 unfolding verdict_of
@@ -81,6 +86,7 @@ verdict_read (verdict.Delivered delivery.UnknownId) fits = refl
 verdict_read (verdict.Delivered delivery.WrongSize) fits = refl
 verdict_read (verdict.Delivered delivery.Malformed) fits = refl
 verdict_read (verdict.Replied number status additional bytes) fits = rw (n32 number fits.0, general_back status fits.1, bytes_back additional fits.2, bytes_back bytes fits.3) refl
+verdict_read (verdict.Asked number service class instance attribute bytes) fits = rw (n64 number fits.0, n8 service fits.1, n32 class fits.2, n32 instance fits.3, instance_back attribute fits.4, bytes_back bytes fits.5) refl
 
 verdict_clean : (given : Verdict) → VerdictFits given → are_clean (verdict_first given ∷ verdict_rest given) ≡ true
 verdict_clean verdict.Done fits = refl
@@ -96,6 +102,7 @@ verdict_clean (verdict.Delivered delivery.UnknownId) fits = refl
 verdict_clean (verdict.Delivered delivery.WrongSize) fits = refl
 verdict_clean (verdict.Delivered delivery.Malformed) fits = refl
 verdict_clean (verdict.Replied number status additional bytes) fits = rw (c32 number fits.0, general_clean status fits.1, bytes_clean additional fits.2, bytes_clean bytes fits.3) refl
+verdict_clean (verdict.Asked number service class instance attribute bytes) fits = rw (decimal_clean number fits.0, c8 service fits.1, c32 class fits.2, c32 instance fits.3, instance_clean attribute fits.4, bytes_clean bytes fits.5) refl
 
 fault_read : (why : StepFault) → part_reader (codes "fault" ∷ fault_word why ∷ []) ≡ Some (part.Fault why, [])
 unfolding fault_of

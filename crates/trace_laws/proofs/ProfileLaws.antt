@@ -21,13 +21,14 @@ use Rattle.trace_lines.specs.declared.limit_lines.LimitLine.TheVariants as limit
 use Rattle.trace_lines.specs.Kinds.{closers_of}
 use Rattle.trace_lines.specs.Limits.{closers_line, limit_words, limit_text, limits_text}
 use Rattle.trace_lines.specs.Profiles.{profile_with}
-use Rattle.trace_lines.specs.WrittenProfiles.{adapter_words, output_words, point_words, description_words, heartbeat_words, config_text, description_text, profile_text}
+use Rattle.trace_lines.specs.WrittenProfiles.{adapter_words, output_words, point_words, description_words, object_words, objects_text, heartbeat_words, config_text, description_text, profile_text}
+use Rattle.trace_text.specs.declared.builder.ProfileFront.{ProfileFront}
 use Rattle.trace_text.specs.declared.builder.TraceBuilder.{TraceBuilder}
-use Rattle.trace_text.specs.declared.builder.TraceBuilder.TheVariants.{Empty, Points, Configured, Stated, Events}
+use Rattle.trace_text.specs.declared.builder.TraceBuilder.TheVariants.{Empty, Points, Configured, Stated, Objects, Events}
 use Rattle.trace_text.specs.declared.forms.TraceLine.TheVariants as line
 use Rattle.trace_text.specs.Forms.{line_reader}
-use Rattle.trace_text.specs.Reading.{with_stated, with_profile, builder_with}
-use Rattle.trace_laws.specs.TraceBack.{OutputFits, InputFits, DescriptionFits, PlacesFit, LimitsFit, ProfileFits}
+use Rattle.trace_text.specs.Reading.{front_of, with_stated, with_object, with_profile, builder_with}
+use Rattle.trace_laws.specs.TraceBack.{OutputFits, InputFits, DescriptionFits, PlacesFit, LimitsFit, ClassFits, ProfileFits}
 use Rattle.trace_laws.proofs.WordLaws.{number_back, node_back, bytes_back, action_back}
 use Rattle.trace_laws.proofs.CleanWords.{decimal_clean, node_clean, bytes_clean}
 use Rattle.trace_laws.proofs.LineLaws.{is_clean, are_clean}
@@ -70,6 +71,9 @@ heartbeat_line profile = record { input_only = profile.input_only; listen_only =
 
 heartbeat_read : (profile : Profile) → ProfileFits profile → line_reader (heartbeat_words profile) ≡ Some (line.Heartbeat (heartbeat_line profile), [])
 heartbeat_read profile fits = rw (n32 profile.input_only fits.input_only_fits, n32 profile.listen_only fits.listen_only_fits) refl
+
+object_read : (class : ℕ) → ClassFits class → line_reader (object_words class) ≡ Some (line.Object class, [])
+object_read class fits = rw (n32 class fits) refl
 
 -- CLEAN WORDS
 
@@ -127,13 +131,41 @@ settings_read profile (Some point) fit =
     let clean : are_clean (decimal point.instance ∷ decimal point.len ∷ []) ≡ true = rw (c32 point.instance fit.0, decimal_clean point.len fit.1) refl in
     line_reads _ _ (codes "config") (decimal point.instance ∷ decimal point.len ∷ []) (line.Config point) refl refl clean (config_read point fit) refl
 
--- the profile with this configuration, this description and these limits
-abbrev with_ends : Profile → Option InputPoint → Option Description → MakerLimits → TraceBuilder
-with_ends profile settings described limits = Events (config.Adapter (profile_with (adapter_line profile) profile.outputs profile.inputs settings described limits (heartbeat_line profile))) [] None
+-- what was read up to these limits, and the profile with these classes of the maker's own objects
+abbrev front_with : Profile → Option InputPoint → Option Description → MakerLimits → ProfileFront
+front_with profile settings described limits = record (front_of (adapter_line profile) profile.outputs profile.inputs settings described) { limits = limits }
 
-heartbeats_read : (profile : Profile) → ProfileFits profile → (builder : TraceBuilder) (settings : Option InputPoint) (described : Option Description) (limits : MakerLimits) → builder_with builder (line.Heartbeat (heartbeat_line profile)) ≡ Some (with_ends profile settings described limits) → Reads builder (line_text (heartbeat_words profile)) (with_ends profile settings described limits)
-heartbeats_read profile fits builder settings described limits built =
-    line_reads builder (with_ends profile settings described limits) (codes "heartbeat") (decimal profile.input_only ∷ decimal profile.listen_only ∷ []) (line.Heartbeat (heartbeat_line profile)) refl refl (heartbeat_clean profile fits) (heartbeat_read profile fits) built
+abbrev with_ends : Profile → Option InputPoint → Option Description → MakerLimits → List ℕ → TraceBuilder
+with_ends profile settings described limits objects = Events (config.Adapter (profile_with (adapter_line profile) profile.outputs profile.inputs settings described limits objects (heartbeat_line profile))) [] None
+
+heartbeats_read : (profile : Profile) → ProfileFits profile → (builder : TraceBuilder) (settings : Option InputPoint) (described : Option Description) (limits : MakerLimits) (objects : List ℕ) → builder_with builder (line.Heartbeat (heartbeat_line profile)) ≡ Some (with_ends profile settings described limits objects) → Reads builder (line_text (heartbeat_words profile)) (with_ends profile settings described limits objects)
+heartbeats_read profile fits builder settings described limits objects built =
+    line_reads builder (with_ends profile settings described limits objects) (codes "heartbeat") (decimal profile.input_only ∷ decimal profile.listen_only ∷ []) (line.Heartbeat (heartbeat_line profile)) refl refl (heartbeat_clean profile fits) (heartbeat_read profile fits) built
+
+-- CLASSES OF OWN OBJECTS
+
+object_reads : (builder builder' : TraceBuilder) (class : ℕ) → ClassFits class → builder_with builder (line.Object class) ≡ Some builder' → Reads builder (line_text (object_words class)) builder'
+object_reads builder builder' class fits built = line_reads builder builder' (codes "object") (decimal class ∷ []) (line.Object class) refl refl (rw (c32 class fits) refl) (object_read class fits) built
+
+module _ (profile : Profile) (fits : ProfileFits profile) (settings : Option InputPoint) (described : Option Description) (limits : MakerLimits) where
+  abbrev classed : List ℕ → TraceBuilder
+  classed objects = Objects (front_with profile settings described limits) objects
+
+  abbrev ended_with : List ℕ → TraceBuilder
+  ended_with objects = with_ends profile settings described limits objects
+
+  -- the line of one class, and what is behind it
+  one_class : (builder next ended : TraceBuilder) (class : ℕ) (more : List ℕ) → ClassFits class → builder_with builder (line.Object class) ≡ Some next → Reads next (objects_text more ++ line_text (heartbeat_words profile)) ended → Reads builder (objects_text (class ∷ more) ++ line_text (heartbeat_words profile)) ended
+  one_class builder next ended class more fit built rest =
+      reads_as builder ended (objects_text (class ∷ more) ++ line_text (heartbeat_words profile)) (line_text (object_words class) ++ (objects_text more ++ line_text (heartbeat_words profile))) (append_assoc (line_text (object_words class)) (objects_text more) (line_text (heartbeat_words profile)))
+      (reads_both builder next ended (line_text (object_words class)) (objects_text more ++ line_text (heartbeat_words profile)) (object_reads builder next class fit built) rest)
+
+  objects_read : (before more : List ℕ) → All ClassFits more → Reads (classed before) (objects_text more ++ line_text (heartbeat_words profile)) (ended_with (before ++ more))
+  objects_read before [] fit =
+      subst (λ all. Reads (classed before) (line_text (heartbeat_words profile)) (ended_with all)) (sym (append-nil before)) (heartbeats_read profile fits (classed before) settings described limits before refl)
+  objects_read before (class ∷ more) fit =
+      subst (λ all. Reads (classed before) (objects_text (class ∷ more) ++ line_text (heartbeat_words profile)) (ended_with all)) (append_assoc before (class ∷ []) more)
+      (one_class (classed before) (classed (before ++ class ∷ [])) (ended_with ((before ++ class ∷ []) ++ more)) class more (first_of ClassFits class more fit) refl (objects_read (before ++ class ∷ []) more (rest_of ClassFits class more fit)))
 
 -- LIMITS
 
@@ -155,41 +187,49 @@ limit_reads builder builder' (limit.Newer within) fits built = line_reads builde
 -- what was read goes on as one with these limits does
 abbrev GoesOn : Profile → Option InputPoint → Option Description → MakerLimits → TraceBuilder → Type 0
 GoesOn profile settings described limits builder =
-    ((given : LimitLine) → builder_with builder (line.Limit given) ≡ with_stated (adapter_line profile) profile.outputs profile.inputs settings described limits given)
-    × ((points : HeartbeatLine) → builder_with builder (line.Heartbeat points) ≡ with_profile (adapter_line profile) profile.outputs profile.inputs settings described limits points)
+    ((given : LimitLine) → builder_with builder (line.Limit given) ≡ with_stated (front_with profile settings described limits) given)
+    × ((points : HeartbeatLine) → builder_with builder (line.Heartbeat points) ≡ with_profile (front_with profile settings described limits) [] points)
+    × ((class : ℕ) → builder_with builder (line.Object class) ≡ with_object (front_with profile settings described limits) [] class)
+
+-- the classes of own objects and the points without data, behind limits
+behind_limits : (profile : Profile) → ProfileFits profile → (builder : TraceBuilder) (settings : Option InputPoint) (described : Option Description) (limits : MakerLimits) (objects : List ℕ) → GoesOn profile settings described limits builder → All ClassFits objects → Reads builder (objects_text objects ++ line_text (heartbeat_words profile)) (with_ends profile settings described limits objects)
+behind_limits profile fits builder settings described limits [] on fit = heartbeats_read profile fits builder settings described limits [] (on.1 (heartbeat_line profile))
+behind_limits profile fits builder settings described limits (class ∷ more) on fit =
+    one_class profile fits settings described limits builder (Objects (front_with profile settings described limits) (class ∷ [])) (with_ends profile settings described limits (class ∷ more)) class more (first_of ClassFits class more fit) (on.2 class)
+    (objects_read profile fits settings described limits (class ∷ []) more (rest_of ClassFits class more fit))
 
 abbrev limits_of : Option ℕ → Option Places → Option ℕ → Bool → Option ℕ → MakerLimits
 limits_of rpi places node closers newer = record { least_rpi = rpi; places = places; node_connections = node; own_closers = closers; newer = newer }
 
-module _ (profile : Profile) (fits : ProfileFits profile) (settings : Option InputPoint) (described : Option Description) where
+module _ (profile : Profile) (fits : ProfileFits profile) (settings : Option InputPoint) (described : Option Description) (objects : List ℕ) (objects_fit : All ClassFits objects) where
   abbrev stated : MakerLimits → TraceBuilder
-  stated limits = Stated (adapter_line profile) profile.outputs profile.inputs settings described limits
+  stated limits = Stated (front_with profile settings described limits)
 
-  abbrev last_line : List ℕ
-  last_line = line_text (heartbeat_words profile)
+  abbrev last_lines : List ℕ
+  last_lines = objects_text objects ++ line_text (heartbeat_words profile)
 
-  -- texts that lead to these limits and the points without data
+  -- texts that lead to these limits, the own classes and the points without data
   abbrev Ends : TraceBuilder → List ℕ → MakerLimits → Type 0
-  Ends builder text limits = Reads builder (text ++ last_line) (with_ends profile settings described limits)
+  Ends builder text limits = Reads builder (text ++ last_lines) (with_ends profile settings described limits objects)
 
   -- the line of one limit, and what is behind it
   one_limit : (builder : TraceBuilder) (given : LimitLine) (next limits : MakerLimits) (text : List ℕ) → LimitFits given → builder_with builder (line.Limit given) ≡ Some (stated next) → Ends (stated next) text limits → Ends builder (line_text (limit_words given) ++ text) limits
   one_limit builder given next limits text fit built more =
-      reads_as builder (with_ends profile settings described limits) ((line_text (limit_words given) ++ text) ++ last_line) (line_text (limit_words given) ++ (text ++ last_line)) (append_assoc (line_text (limit_words given)) text last_line)
-      (reads_both builder (stated next) (with_ends profile settings described limits) (line_text (limit_words given)) (text ++ last_line) (limit_reads builder (stated next) given fit built) more)
+      reads_as builder (with_ends profile settings described limits objects) ((line_text (limit_words given) ++ text) ++ last_lines) (line_text (limit_words given) ++ (text ++ last_lines)) (append_assoc (line_text (limit_words given)) text last_lines)
+      (reads_both builder (stated next) (with_ends profile settings described limits objects) (line_text (limit_words given)) (text ++ last_lines) (limit_reads builder (stated next) given fit built) more)
 
   abbrev goes_on_stated : (limits : MakerLimits) → GoesOn profile settings described limits (stated limits)
-  goes_on_stated limits = (λ given. refl, λ points. refl)
+  goes_on_stated limits = (λ given. refl, λ points. refl, λ class. refl)
 
   abbrev newer_text : Option ℕ → List ℕ
   newer_text e = limit_text (option_map limit.Newer e)
 
   newer_ends : (builder : TraceBuilder) (a : Option ℕ) (b : Option Places) (c : Option ℕ) (d : Bool) (e : Option ℕ) → GoesOn profile settings described (limits_of a b c d None) builder → IfSome e (λ within. within < 2 ^ 32) → Ends builder (newer_text e) (limits_of a b c d e)
-  newer_ends builder a b c d None on fit = heartbeats_read profile fits builder settings described (limits_of a b c d None) (on.1 (heartbeat_line profile))
+  newer_ends builder a b c d None on fit = behind_limits profile fits builder settings described (limits_of a b c d None) objects on objects_fit
   newer_ends builder a b c d (Some within) on fit =
-      reads_both builder (stated (limits_of a b c d (Some within))) (with_ends profile settings described (limits_of a b c d (Some within))) (line_text (limit_words (limit.Newer within))) last_line
+      reads_both builder (stated (limits_of a b c d (Some within))) (with_ends profile settings described (limits_of a b c d (Some within)) objects) (line_text (limit_words (limit.Newer within))) last_lines
       (limit_reads builder (stated (limits_of a b c d (Some within))) (limit.Newer within) fit (on.0 (limit.Newer within)))
-      (heartbeats_read profile fits (stated (limits_of a b c d (Some within))) settings described (limits_of a b c d (Some within)) refl)
+      (behind_limits profile fits (stated (limits_of a b c d (Some within))) settings described (limits_of a b c d (Some within)) objects (goes_on_stated (limits_of a b c d (Some within))) objects_fit)
 
   abbrev closers_text : Bool → Option ℕ → List ℕ
   closers_text d e = limit_text (closers_line d) ++ newer_text e
@@ -224,7 +264,7 @@ module _ (profile : Profile) (fits : ProfileFits profile) (settings : Option Inp
       one_limit builder (limit.LeastRpi us) (limits_of (Some us) None None false None) (limits_of (Some us) b c d e) (places_text b c d e) fit.least_rpi_fits (on.0 (limit.LeastRpi us))
       (places_ends (stated (limits_of (Some us) None None false None)) (Some us) b c d e (goes_on_stated (limits_of (Some us) None None false None)) fit.places_fit fit.node_connections_fit fit.newer_fits)
 
-  -- the limits that are stated, and the heartbeats
+  -- the limits that are stated, the own classes and the heartbeats
   limits_end : (builder : TraceBuilder) (limits : MakerLimits) → GoesOn profile settings described no_limits builder → LimitsFit limits → Ends builder (limits_text limits) limits
   limits_end builder limits on fit = rpi_ends builder limits.least_rpi limits.places limits.node_connections limits.own_closers limits.newer on fit
 
@@ -234,18 +274,18 @@ described_lines builder builder' described fit built =
 
 -- what was read up to the description
 abbrev up_to : Profile → Option InputPoint → Description → TraceBuilder
-up_to profile settings described = Stated (adapter_line profile) profile.outputs profile.inputs settings (Some described) no_limits
+up_to profile settings described = Stated (front_of (adapter_line profile) profile.outputs profile.inputs settings (Some described))
 
--- the description, where there is one, the limits and the heartbeats
-ends_read : (profile : Profile) (settings : Option InputPoint) (described : Option Description) (limits : MakerLimits) → ProfileFits profile → IfSome described DescriptionFits → LimitsFit limits → Reads (beside profile settings) (description_text described ++ (limits_text limits ++ line_text (heartbeat_words profile))) (with_ends profile settings described limits)
-ends_read profile None None limits fits fit limits_fit = limits_end profile fits None None (beside profile None) limits (λ given. refl, λ points. refl) limits_fit
-ends_read profile (Some point) None limits fits fit limits_fit = limits_end profile fits (Some point) None (beside profile (Some point)) limits (λ given. refl, λ points. refl) limits_fit
-ends_read profile None (Some described) limits fits fit limits_fit =
+-- the description, where there is one, the limits, the own classes and the heartbeats
+ends_read : (profile : Profile) (settings : Option InputPoint) (described : Option Description) (limits : MakerLimits) (objects : List ℕ) → ProfileFits profile → IfSome described DescriptionFits → LimitsFit limits → All ClassFits objects → Reads (beside profile settings) (description_text described ++ (limits_text limits ++ (objects_text objects ++ line_text (heartbeat_words profile)))) (with_ends profile settings described limits objects)
+ends_read profile None None limits objects fits fit limits_fit objects_fit = limits_end profile fits None None objects objects_fit (beside profile None) limits (λ given. refl, λ points. refl, λ class. refl) limits_fit
+ends_read profile (Some point) None limits objects fits fit limits_fit objects_fit = limits_end profile fits (Some point) None objects objects_fit (beside profile (Some point)) limits (λ given. refl, λ points. refl, λ class. refl) limits_fit
+ends_read profile None (Some described) limits objects fits fit limits_fit objects_fit =
     reads_both _ _ _ _ _ (described_lines (beside profile None) (up_to profile None described) described fit refl)
-    (limits_end profile fits None (Some described) (up_to profile None described) limits (λ given. refl, λ points. refl) limits_fit)
-ends_read profile (Some point) (Some described) limits fits fit limits_fit =
+    (limits_end profile fits None (Some described) objects objects_fit (up_to profile None described) limits (λ given. refl, λ points. refl, λ class. refl) limits_fit)
+ends_read profile (Some point) (Some described) limits objects fits fit limits_fit objects_fit =
     reads_both _ _ _ _ _ (described_lines (beside profile (Some point)) (up_to profile (Some point) described) described fit refl)
-    (limits_end profile fits (Some point) (Some described) (up_to profile (Some point) described) limits (λ given. refl, λ points. refl) limits_fit)
+    (limits_end profile fits (Some point) (Some described) objects objects_fit (up_to profile (Some point) described) limits (λ given. refl, λ points. refl, λ class. refl) limits_fit)
 
 -- the words of an adapter behind its keyword
 abbrev behind_adapter : Profile → List (List ℕ)
@@ -263,4 +303,4 @@ profile_read profile fits =
     (reads_both _ _ _ _ _ (outputs_read (adapter_line profile) [] profile.outputs fits.outputs_fit)
     (reads_both _ _ _ _ _ (inputs_read (adapter_line profile) profile.outputs [] profile.inputs fits.inputs_fit)
     (reads_both _ _ _ _ _ (settings_read profile profile.config fits.config_fits)
-    (ends_read profile profile.config profile.description profile.limits fits fits.description_fits fits.limits_fit))))
+    (ends_read profile profile.config profile.description profile.limits profile.objects fits fits.description_fits fits.limits_fit fits.objects_fit))))

@@ -69,14 +69,14 @@ undashed (c ∷ cs) some digits =
     let other : eqb c 45 ≡ false = grind (arith, nat_tests, first) in
     rw other refl
 
-instance_back : (instance : Option ℕ) → IfSome instance (λ number. number < 2 ^ 32) → instance_of (instance_word instance) ≡ Some instance
+pub instance_back : (instance : Option ℕ) → IfSome instance (λ number. number < 2 ^ 32) → instance_of (instance_word instance) ≡ Some instance
 unfolding instance_of
 instance_back None fits = refl
 instance_back (Some number) fits =
     let small : number < 2 ^ 64 = omega (arith, fits) in
     rw (undashed (decimal number) (decimal_nonempty number small) (digits_decimal own number small), n32 number fits) refl
 
-instance_clean : (instance : Option ℕ) → IfSome instance (λ number. number < 2 ^ 32) → is_clean (instance_word instance) ≡ true
+pub instance_clean : (instance : Option ℕ) → IfSome instance (λ number. number < 2 ^ 32) → is_clean (instance_word instance) ≡ true
 instance_clean None fits = refl
 instance_clean (Some number) fits = c32 number fits
 

@@ -1,7 +1,7 @@
 -- A trace that is written is read as itself: a law of the definitions alone, which `reads_back` promises. Its profile
 -- has to be valid, and no recorded reason may be a mismatch that carries a refused status, which is written as that
 -- status alone. The numbers are those of their types.
-use Rattle.std.specs.Prelude.{◌≡◌, ◌<◌, ◌^◌, ◌-◌, List, length, None, Ok, Err, IfSome}
+use Rattle.std.specs.Prelude.{ℕ, ◌≡◌, ◌<◌, ◌^◌, ◌-◌, List, length, None, Ok, Err, IfSome}
 use Rattle.std.specs.List.{All}
 use Rattle.hex.specs.Hex.{IsBytes}
 use Rattle.cip_epath.specs.declared.key.ElectronicKey.{ElectronicKey}
@@ -69,6 +69,10 @@ pub record LimitsFit (limits : MakerLimits) : Type 0 where
   pub node_connections_fit : IfSome limits.node_connections (λ most. most < 2 ^ 8)
   pub newer_fits : IfSome limits.newer (λ within. within < 2 ^ 32)
 
+-- a class of the maker's own objects
+abbrev pub ClassFits : ℕ → Type 0
+ClassFits class = class < 2 ^ 32
+
 pub record ProfileFits (profile : Profile) : Type 0 where
   pub incarnation_fits : profile.incarnation < 2 ^ 8
   pub node_fits : profile.node.0 < 2 ^ 32
@@ -81,6 +85,7 @@ pub record ProfileFits (profile : Profile) : Type 0 where
   pub listen_only_fits : profile.listen_only < 2 ^ 32
   pub description_fits : IfSome profile.description DescriptionFits
   pub limits_fit : LimitsFit profile.limits
+  pub objects_fit : All ClassFits profile.objects
 
 -- PROFILES OF SCANNERS
 
@@ -127,6 +132,7 @@ EventFits (event.Mode run) = Unit {0}
 EventFits (event.Start slot) = slot < 2 ^ 32
 EventFits (event.Stop slot) = slot < 2 ^ 32
 EventFits (event.Explicit target number bytes) = (target.0 < 2 ^ 32) × (number < 2 ^ 32) × IsBytes bytes
+EventFits (event.Respond number status bytes) = (number < 2 ^ 64) × (status < 2 ^ 8) × IsBytes bytes
 
 -- OUTCOMES
 
@@ -177,6 +183,7 @@ OutgoingDatagramFits outgoing = (outgoing.address.0 < 2 ^ 32) × All (λ node. n
 abbrev pub VerdictFits : Verdict → Type 0
 VerdictFits (verdict.Value bytes) = IsBytes bytes
 VerdictFits (verdict.Replied number status additional bytes) = (number < 2 ^ 32) × (status < 2 ^ 8) × IsBytes additional × IsBytes bytes
+VerdictFits (verdict.Asked number service class instance attribute bytes) = (number < 2 ^ 64) × (service < 2 ^ 8) × (class < 2 ^ 32) × (instance < 2 ^ 32) × IfSome attribute (λ named. named < 2 ^ 32) × IsBytes bytes
 VerdictFits given = Unit {0}
 
 pub record AnswerFits (answer : Answer) : Type 0 where

@@ -18,3 +18,6 @@ six s0 s1 s2 s3 s4 s5 s6 a b c d e f text e1 e2 e3 e4 e5 e6 is = two s0 s1 s6 a 
 
 pub seven : (s0 s1 s2 s3 s4 s5 s6 s7 a b c d e f g text : List ℕ) → s1 ≡ s0 ++ a → s2 ≡ s1 ++ b → s3 ≡ s2 ++ c → s4 ≡ s3 ++ d → s5 ≡ s4 ++ e → s6 ≡ s5 ++ f → s7 ≡ s6 ++ g → a ++ (b ++ (c ++ (d ++ (e ++ (f ++ g))))) ≡ text → s7 ≡ s0 ++ text
 seven s0 s1 s2 s3 s4 s5 s6 s7 a b c d e f g text e1 e2 e3 e4 e5 e6 e7 is = two s0 s1 s7 a (b ++ (c ++ (d ++ (e ++ (f ++ g))))) text e1 (six s1 s2 s3 s4 s5 s6 s7 b c d e f g (b ++ (c ++ (d ++ (e ++ (f ++ g))))) e2 e3 e4 e5 e6 e7 refl) is
+
+pub eight : (s0 s1 s2 s3 s4 s5 s6 s7 s8 a b c d e f g h text : List ℕ) → s1 ≡ s0 ++ a → s2 ≡ s1 ++ b → s3 ≡ s2 ++ c → s4 ≡ s3 ++ d → s5 ≡ s4 ++ e → s6 ≡ s5 ++ f → s7 ≡ s6 ++ g → s8 ≡ s7 ++ h → a ++ (b ++ (c ++ (d ++ (e ++ (f ++ (g ++ h)))))) ≡ text → s8 ≡ s0 ++ text
+eight s0 s1 s2 s3 s4 s5 s6 s7 s8 a b c d e f g h text e1 e2 e3 e4 e5 e6 e7 e8 is = two s0 s1 s8 a (b ++ (c ++ (d ++ (e ++ (f ++ (g ++ h)))))) text e1 (seven s1 s2 s3 s4 s5 s6 s7 s8 b c d e f g h (b ++ (c ++ (d ++ (e ++ (f ++ (g ++ h)))))) e2 e3 e4 e5 e6 e7 e8 refl) is

@@ -2,7 +2,7 @@
 -- written and why it is bad are made of these tables of the code.
 use Rattle.std.specs.Prelude.{ℕ, Bool, true, false, List, [], ◌∷◌, ◌++◌, codes, option_map, option_and_then, ◌≡◌, Option, Some, None, Result, Ok, Err}
 use Rattle.trace_lines.specs.declared.shapes.WordKind.{WordKind}
-use Rattle.trace_lines.specs.declared.shapes.TheConstants.{ADAPTER, OUTPUT, POINT, DESCRIBE, PLACES, NODE_CONNECTIONS, CLOSERS, HEARTBEAT, SCANNER, SLOT, RATE, FROM_NODE, EXPLICIT, STREAM, FRAME, CUT, WRITE, NUMBER, MODE, SEND, VALUE, REPLIED}
+use Rattle.trace_lines.specs.declared.shapes.TheConstants.{ADAPTER, OUTPUT, POINT, DESCRIBE, PLACES, NODE_CONNECTIONS, CLOSERS, HEARTBEAT, SCANNER, SLOT, RATE, FROM_NODE, EXPLICIT, ANSWER, STREAM, FRAME, CUT, WRITE, NUMBER, MODE, SEND, VALUE, REPLIED, OWN_REQUEST}
 use Rattle.trace_words.specs.declared.words.TextFault.{TextFault}
 use Rattle.trace_words.specs.declared.words.TextFault.TheVariants.{Bad, OutOfMemory}
 use Rattle.trace_words.specs.Reader.{Reader, next_word, Meanings, meaning, ◌>>=◌}
@@ -83,12 +83,14 @@ line_shapes =
     ∷ (codes "node-connections", alone NODE_CONNECTIONS)
     ∷ (codes "closers", alone CLOSERS)
     ∷ (codes "newer", alone NUMBER)
+    ∷ (codes "object", alone NUMBER)
     ∷ (codes "heartbeat", alone HEARTBEAT)
     ∷ (codes "scanner", alone SCANNER)
     ∷ (codes "slot", Some (SLOT, RATE))
     ∷ (codes "request", alone FROM_NODE)
     ∷ (codes "inquiry", alone FROM_NODE)
     ∷ (codes "explicit", alone EXPLICIT)
+    ∷ (codes "answer", alone ANSWER)
     ∷ (codes "stream", alone STREAM)
     ∷ (codes "frame", alone FRAME)
     ∷ (codes "cut", alone CUT)
@@ -110,6 +112,7 @@ abbrev pub part_shapes : Meanings (Option Shape)
 part_shapes =
     (codes "value", alone VALUE)
     ∷ (codes "replied", alone REPLIED)
+    ∷ (codes "asked", alone OWN_REQUEST)
     ∷ (codes "fault", None)
     ∷ (codes "reply", alone FROM_NODE)
     ∷ (codes "frame", alone FRAME)

@@ -1,11 +1,12 @@
--- How a profile is written: a line for the device, a line for each of its points, its description if it has one, and a
--- line for each limit that its maker states. One space separates the words of a line, and LF ends it.
+-- How a profile is written: a line for the device, a line for each of its points, its description if it has one, a line
+-- for each limit that its maker states, and one for each class of the maker's own objects. One space separates the words
+-- of a line, and LF ends it.
 use Rattle.std.specs.Prelude.{ℕ, List, [], ◌∷◌, ◌++◌, codes, flat_map, Option, Some, None}
 use Rattle.adapter_table.specs.declared.profile.OutputPoint.{OutputPoint}
 use Rattle.adapter_table.specs.declared.profile.InputPoint.{InputPoint}
 use Rattle.adapter_table.specs.declared.profile.Description.{Description}
 use Rattle.adapter_table.specs.declared.profile.Profile.{Profile}
-use Rattle.trace_lines.specs.declared.shapes.TheConstants.{ADAPTER, OUTPUT, POINT, DESCRIBE, HEARTBEAT}
+use Rattle.trace_lines.specs.declared.shapes.TheConstants.{ADAPTER, OUTPUT, POINT, DESCRIBE, NUMBER, HEARTBEAT}
 use Rattle.trace_words.specs.Words.{line_text}
 use Rattle.trace_lines.specs.Limits.{limits_text}
 use Rattle.trace_lines.specs.Shapes.{spelled}
@@ -23,6 +24,10 @@ point_words keyword point = spelled (keyword ∷ []) POINT point.instance point.
 abbrev pub description_words : Description → List (List ℕ)
 description_words described = spelled (codes "describe" ∷ []) DESCRIBE described.serial described.name described.port described.speed described.flags described.mac described.inactivity
 
+-- the words of a class of the maker's own objects
+abbrev pub object_words : ℕ → List (List ℕ)
+object_words class = spelled (codes "object" ∷ []) NUMBER class
+
 abbrev pub heartbeat_words : Profile → List (List ℕ)
 heartbeat_words profile = spelled (codes "heartbeat" ∷ []) HEARTBEAT profile.input_only profile.listen_only
 
@@ -34,6 +39,9 @@ abbrev pub description_text : Option Description → List ℕ
 description_text None = []
 description_text (Some described) = line_text (description_words described)
 
+abbrev pub objects_text : List ℕ → List ℕ
+objects_text classes = flat_map (λ class. line_text (object_words class)) classes
+
 abbrev pub profile_text : Profile → List ℕ
 profile_text profile =
     line_text (adapter_words profile)
@@ -41,4 +49,5 @@ profile_text profile =
     ++ (flat_map (λ point. line_text (point_words (codes "input") point)) profile.inputs
     ++ (config_text profile.config
     ++ (description_text profile.description
-    ++ (limits_text profile.limits ++ line_text (heartbeat_words profile))))))
+    ++ (limits_text profile.limits
+    ++ (objects_text profile.objects ++ line_text (heartbeat_words profile)))))))

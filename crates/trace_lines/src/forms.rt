@@ -51,9 +51,10 @@ pub fn profile_with(
     config: Option<InputPoint>,
     description: Option<Description>,
     limits: MakerLimits,
+    objects: Items<u32>,
     heartbeat: HeartbeatLine,
 ) -> Profile
-    ensures { result ≡ profile_with adapter outputs inputs config description limits heartbeat }
+    ensures { result ≡ profile_with adapter outputs inputs config description limits objects heartbeat }
 {
     Profile {
         incarnation: adapter.incarnation,
@@ -67,6 +68,7 @@ pub fn profile_with(
         listen_only: heartbeat.listen_only,
         description,
         limits,
+        objects,
     }
 }
 

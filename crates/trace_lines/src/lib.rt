@@ -16,11 +16,13 @@ pub use limit_lines::{
     with_limit,
 };
 pub use names::read_mode;
-pub use profile_lines::{read_adapter, read_description, read_heartbeat, read_output, read_point};
+pub use profile_lines::{
+    read_adapter, read_description, read_heartbeat, read_object, read_output, read_point,
+};
 pub use shapes::{
-    ADAPTER, CLOSERS, CUT, DESCRIBE, EXPLICIT, FRAME, FROM_NODE, HEARTBEAT, MODE, NODE_CONNECTIONS,
-    NUMBER, OUTPUT, PLACES, POINT, RATE, REPLIED, SCANNER, SEND, SLOT, STREAM, Shape, VALUE, WRITE,
-    WordKind, part_shape_of, shape_of, skip_word,
+    ADAPTER, ANSWER, CLOSERS, CUT, DESCRIBE, EXPLICIT, FRAME, FROM_NODE, HEARTBEAT, MODE,
+    NODE_CONNECTIONS, NUMBER, OUTPUT, OWN_REQUEST, PLACES, POINT, RATE, REPLIED, SCANNER, SEND,
+    SLOT, STREAM, Shape, VALUE, WRITE, WordKind, part_shape_of, shape_of, skip_word,
 };
 pub use slot_lines::{read_scanner, read_slot};
 pub use written_profiles::push_profile;

@@ -1,7 +1,7 @@
 //! The lines of an adapter's profile.
 
 ghost use Rattle.trace_words.specs.Reader.{unread_words, Takes};
-ghost use Rattle.trace_lines.specs.Profiles.{adapter_reader, output_reader, point_reader, description_reader, heartbeat_reader};
+ghost use Rattle.trace_lines.specs.Profiles.{adapter_reader, output_reader, point_reader, description_reader, object_reader, heartbeat_reader};
 
 use crate::forms::{AdapterLine, HeartbeatLine};
 use adapter_table::{Description, InputPoint, OutputPoint};
@@ -64,6 +64,14 @@ pub fn read_description(alloc: Global, words: &mut Words<'_>) -> Result<Descript
         inactivity: words.u16()?,
     };
     words.last(description)
+}
+
+/// What follows `object`: `CLASS`.
+pub fn read_object(words: &mut Words<'_>) -> Result<u32, TextFault>
+    ensures { Takes (object_reader (unread_words words.old)) result (unread_words words.new) }
+{
+    let class = words.u32()?;
+    words.last(class)
 }
 
 /// What follows `heartbeat`: `INPUTONLY LISTENONLY`.

@@ -17,7 +17,7 @@ pub enum WordKind {
     U16,
     U32,
     U64,
-    /// A number of 32 bits, or a dash for none.
+    /// The number of an instance or of an attribute, of 32 bits, or a dash for none.
     Instance,
     Address,
     /// Addresses with commas between them, or a dash for none.
@@ -122,6 +122,9 @@ pub const FROM_NODE: [WordKind; 2] = [WordKind::Address, WordKind::Hex];
 /// A target, the number of a request to it, and the request's bytes.
 pub const EXPLICIT: [WordKind; 3] = [WordKind::Address, WordKind::U32, WordKind::Hex];
 
+/// The number of a request that the device gave its application, the general status of the answer, and its data.
+pub const ANSWER: [WordKind; 3] = [WordKind::U64, WordKind::GeneralStatus, WordKind::Hex];
+
 /// A stream, and its peer.
 pub const STREAM: [WordKind; 2] = [WordKind::U16, WordKind::Address];
 
@@ -134,7 +137,7 @@ pub const CUT: [WordKind; 1] = [WordKind::U16];
 /// A point, and its bytes.
 pub const WRITE: [WordKind; 2] = [WordKind::U32, WordKind::Hex];
 
-/// A point, milliseconds, a slot, microseconds, or a limit of sequence numbers.
+/// A point, milliseconds, a slot, microseconds, a limit of sequence numbers, or a class.
 pub const NUMBER: [WordKind; 1] = [WordKind::U32];
 
 /// Whether an application runs.
@@ -154,6 +157,17 @@ pub const REPLIED: [WordKind; 4] = [
     WordKind::Hex,
 ];
 
+/// The number of a request to an object of the maker's own, the service code, class, instance and attribute, and the
+/// data.
+pub const OWN_REQUEST: [WordKind; 6] = [
+    WordKind::U64,
+    WordKind::U8,
+    WordKind::U32,
+    WordKind::U32,
+    WordKind::Instance,
+    WordKind::Hex,
+];
+
 /// The shape of a line by its first word. None if no line begins so, or the line of an outcome.
 pub fn shape_of(first: &str) -> Option<Shape>
     ensures { option_map (λ shape. (shape.0.now, shape.1.now)) result ≡ shape_of first.now }
@@ -163,7 +177,7 @@ pub fn shape_of(first: &str) -> Option<Shape>
         "output" => Some((&OUTPUT, &[])),
         "input" | "config" => Some((&POINT, &[])),
         "describe" => Some((&DESCRIBE, &[])),
-        "least-rpi" | "newer" => Some((&NUMBER, &[])),
+        "least-rpi" | "newer" | "object" => Some((&NUMBER, &[])),
         "places" => Some((&PLACES, &[])),
         "node-connections" => Some((&NODE_CONNECTIONS, &[])),
         "closers" => Some((&CLOSERS, &[])),
@@ -172,6 +186,7 @@ pub fn shape_of(first: &str) -> Option<Shape>
         "slot" => Some((&SLOT, &RATE)),
         "request" | "datagram" | "inquiry" => Some((&FROM_NODE, &[])),
         "explicit" => Some((&EXPLICIT, &[])),
+        "answer" => Some((&ANSWER, &[])),
         "stream" => Some((&STREAM, &[])),
         "frame" => Some((&FRAME, &[])),
         "cut" => Some((&CUT, &[])),
@@ -190,6 +205,7 @@ pub fn part_shape_of(word: &str) -> Option<Shape>
     match word {
         "value" => Some((&VALUE, &[])),
         "replied" => Some((&REPLIED, &[])),
+        "asked" => Some((&OWN_REQUEST, &[])),
         "reply" => Some((&FROM_NODE, &[])),
         "frame" => Some((&FRAME, &[])),
         "send" => Some((&SEND, &[])),

@@ -2,7 +2,7 @@
 
 ghost use Rattle.std.specs.Prelude.{◌≡◌, ◌++◌, OnOk, string_bytes, flat_map, codes, drop};
 ghost use Rattle.trace_words.specs.Words.{action_word, line_text};
-ghost use Rattle.trace_lines.specs.WrittenProfiles.{adapter_words, output_words, point_words, description_words, heartbeat_words, config_text, description_text, profile_text};
+ghost use Rattle.trace_lines.specs.WrittenProfiles.{adapter_words, output_words, point_words, description_words, heartbeat_words, config_text, description_text, objects_text, profile_text};
 
 use crate::limit_lines::push_limits;
 use adapter_table::{Action, Description, InputPoint, OutputPoint, Profile};
@@ -19,6 +19,7 @@ pub fn push_profile(out: &mut String, profile: &Profile) -> Result<(), OutOfMemo
     push_config(out, profile.config)?;
     push_description(out, &profile.description)?;
     push_limits(out, &profile.limits)?;
+    push_objects(out, profile.objects.as_slice())?;
     push_heartbeat(out, profile)?;
     Ok(())
 }
@@ -121,6 +122,16 @@ fn push_described(out: &mut String, description: &Description) -> Result<(), Out
     )?;
     push_bytes(out, description.mac.as_slice())?;
     write!(out, " {}\n", description.inactivity)?;
+    Ok(())
+}
+
+fn push_objects(out: &mut String, classes: &[u32]) -> Result<(), OutOfMemory>
+    ensures { OnOk result (string_bytes out.new ≡ string_bytes out.old ++ objects_text classes.now) }
+{
+    for class in classes {
+        let class = *class;
+        write!(out, "object {class}\n")?;
+    }
     Ok(())
 }
 

@@ -1,2 +1,3 @@
 mod ExplicitSamples
 mod ResetSamples
+mod OwnRequestSamples

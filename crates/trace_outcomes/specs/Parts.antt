@@ -20,7 +20,7 @@ use Rattle.cip_events.specs.declared.event.StepFault.{StepFault}
 use Rattle.cip_events.specs.declared.event.StepFault.TheVariants as fault
 use Rattle.trace_outcomes.specs.declared.part.Part.{Part}
 use Rattle.trace_outcomes.specs.declared.part.Part.TheVariants as part
-use Rattle.trace_lines.specs.declared.shapes.TheConstants.{FROM_NODE, FRAME, SEND, VALUE, REPLIED}
+use Rattle.trace_lines.specs.declared.shapes.TheConstants.{FROM_NODE, FRAME, SEND, VALUE, REPLIED, OWN_REQUEST}
 use Rattle.trace_words.specs.Words.{number_of, bytes_of, id_of, general_of, extended_of}
 use Rattle.trace_words.specs.Reader.{Reader, next_word, gives, ends, refuses, Meanings, meaning, mapped, ◌>>=◌}
 use Rattle.trace_lines.specs.Shapes.{shaped}
@@ -232,6 +232,10 @@ value_reader = shaped VALUE (λ bytes. ends (verdict.Value bytes))
 abbrev pub replied_reader : Reader Verdict
 replied_reader = shaped REPLIED (λ number status additional bytes. ends (verdict.Replied number status additional bytes))
 
+-- a request to an object of the maker's own: its number, the service code, class, instance and attribute, and the data
+abbrev pub own_request_reader : Reader Verdict
+own_request_reader = shaped OWN_REQUEST (λ number service class instance attribute bytes. ends (verdict.Asked number service class instance attribute bytes))
+
 abbrev pub fault_reader : Reader StepFault
 fault_reader = do
   name ← next_word fault_of
@@ -242,6 +246,7 @@ abbrev pub part_meanings : Meanings (Reader Part)
 part_meanings =
     (codes "value", mapped part.Verdict value_reader)
     ∷ (codes "replied", mapped part.Verdict replied_reader)
+    ∷ (codes "asked", mapped part.Verdict own_request_reader)
     ∷ (codes "fault", mapped part.Fault fault_reader)
     ∷ (codes "reply", mapped part.Frame reply_reader)
     ∷ (codes "frame", mapped part.Frame frame_out_reader)

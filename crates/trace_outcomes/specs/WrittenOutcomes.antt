@@ -1,6 +1,6 @@
 -- How the outcome of an event is printed: a line for its verdict or fault, and a line each for the frames, the
 -- datagrams and the notices of its answer, in this order. A line begins with the event's number, and LF ends it.
-use Rattle.std.specs.Prelude.{ℕ, ◌+◌, List, [], ◌∷◌, ◌++◌, codes, decimal, flat_map, Ok, Err}
+use Rattle.std.specs.Prelude.{ℕ, ◌+◌, List, [], ◌∷◌, ◌++◌, codes, decimal, flat_map, Option, Ok, Err}
 use Rattle.cip_types.specs.declared.names.Fault.{Fault}
 use Rattle.cip_types.specs.declared.names.Mismatch.{Mismatch}
 use Rattle.cip_types.specs.declared.names.Mismatch.TheVariants as mismatch
@@ -13,7 +13,7 @@ use Rattle.cip_events.specs.declared.event.OutgoingDatagram.{OutgoingDatagram}
 use Rattle.cip_events.specs.declared.event.Delivery.{Delivery}
 use Rattle.cip_events.specs.declared.event.Delivery.TheVariants.{Applied, Idle, Heartbeat, Duplicate, Old, UnknownId, WrongSize, Malformed}
 use Rattle.cip_events.specs.declared.event.Verdict.{Verdict}
-use Rattle.cip_events.specs.declared.event.Verdict.TheVariants.{Done, BadFrame, Ignored, Value, Delivered, Replied}
+use Rattle.cip_events.specs.declared.event.Verdict.TheVariants.{Done, BadFrame, Ignored, Value, Delivered, Replied, Asked}
 use Rattle.cip_events.specs.declared.event.Notice.{Notice}
 use Rattle.cip_events.specs.declared.event.Notice.TheVariants.{Opened, Closed, Expired, Dropped, Replaced, StreamClosed, Slot, Refused, NoIds, Reset, Unanswered as UnansweredNotice}
 use Rattle.cip_events.specs.declared.event.Reason.{Reason}
@@ -24,6 +24,7 @@ use Rattle.cip_events.specs.declared.event.StepFault.{StepFault}
 use Rattle.cip_events.specs.declared.event.StepFault.TheVariants.{OutOfMemory, TickTooLong, ClockEnd, NoSuchPoint, WrongLength, NoSuchSlot, NotAllowedNow}
 use Rattle.cip_events.specs.Outcomes.{Outcome}
 use Rattle.trace_words.specs.Words.{node_word, nodes_word, bytes_word, id_word, general_word, extended_word}
+use Rattle.trace_lines.specs.Kinds.{instance_word}
 
 -- WORDS
 
@@ -48,6 +49,10 @@ delivery_word UnknownId = codes "unknown"
 delivery_word WrongSize = codes "wrong-size"
 delivery_word Malformed = codes "malformed"
 
+-- the service code, class, instance and attribute of a request, and its data
+abbrev pub object_words : (service class instance : ℕ) → Option ℕ → List ℕ → List ℕ
+object_words service class instance attribute bytes = decimal service ++ (codes " " ++ (decimal class ++ (codes " " ++ (decimal instance ++ (codes " " ++ (instance_word attribute ++ (codes " " ++ bytes_word bytes)))))))
+
 -- the verdict of an event
 abbrev pub verdict_words : Verdict → List ℕ
 verdict_words Done = codes "done"
@@ -56,6 +61,7 @@ verdict_words Ignored = codes "ignored"
 verdict_words (Value bytes) = codes "value " ++ bytes_word bytes
 verdict_words (Delivered delivery) = delivery_word delivery
 verdict_words (Replied number status additional bytes) = codes "replied " ++ (decimal number ++ (codes " " ++ (general_word status ++ (codes " " ++ (bytes_word additional ++ (codes " " ++ bytes_word bytes))))))
+verdict_words (Asked number service class instance attribute bytes) = codes "asked " ++ (decimal number ++ (codes " " ++ object_words service class instance attribute bytes))
 
 -- a connection's serial number, vendor number and originator serial number
 abbrev pub triad_words : Triad → List ℕ

@@ -8,4 +8,4 @@ mod written_outcomes;
 
 pub use part::Part;
 pub use part_lines::read_part;
-pub use written_outcomes::{push_outcome, write_outcome};
+pub use written_outcomes::{push_outcome, push_verdict, write_outcome};

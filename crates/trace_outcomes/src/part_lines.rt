@@ -2,7 +2,7 @@
 
 ghost use Rattle.std.specs.Prelude.{◌≡◌};
 ghost use Rattle.trace_words.specs.Reader.{unread_words, Takes, next_word};
-ghost use Rattle.trace_outcomes.specs.Parts.{bytes_to, outgoing_reader, fault_of, verdict_of, replied_reader, part_reader};
+ghost use Rattle.trace_outcomes.specs.Parts.{bytes_to, outgoing_reader, fault_of, verdict_of, replied_reader, own_request_reader, part_reader};
 
 use crate::notice_lines::read_notice;
 use crate::part::Part;
@@ -23,6 +23,7 @@ pub fn read_part(alloc: Global, words: &mut Words<'_>) -> Result<Part, TextFault
             words.last(Part::Verdict(Verdict::Value(bytes)))
         }
         "replied" => read_replied(alloc, words).map(Part::Verdict),
+        "asked" => read_own_request(alloc, words).map(Part::Verdict),
         "fault" => {
             let fault = read_fault(words)?;
             words.last(Part::Fault(fault))
@@ -76,6 +77,21 @@ fn read_replied(alloc: Global, words: &mut Words<'_>) -> Result<Verdict, TextFau
         data: words.bytes(alloc)?,
     };
     words.last(replied)
+}
+
+/// What follows `asked`: `NUMBER SERVICE CLASS INSTANCE ATTRIBUTE DATA`.
+fn read_own_request(alloc: Global, words: &mut Words<'_>) -> Result<Verdict, TextFault>
+    ensures { Takes (own_request_reader (unread_words words.old)) result (unread_words words.new) }
+{
+    let request = Verdict::Asked {
+        number: words.u64()?,
+        service: words.u8()?,
+        class: words.u32()?,
+        instance: words.u32()?,
+        attribute: words.u32_or_none()?,
+        data: words.bytes(alloc)?,
+    };
+    words.last(request)
 }
 
 /// A fault by its name.

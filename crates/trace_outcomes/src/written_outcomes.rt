@@ -2,7 +2,8 @@
 
 ghost use Rattle.std.specs.Prelude.{◌≡◌, ◌++◌, OnOk, IfOk, string_bytes, flat_map, codes, decimal};
 ghost use Rattle.trace_words.specs.Words.{bytes_word};
-ghost use Rattle.trace_outcomes.specs.WrittenOutcomes.{fault_word, delivery_word, verdict_words, triad_words, refusal_words, reason_words, recipient_words, frame_line, outgoing_line, notice_words, notice_line, answer_text, outcome_text};
+ghost use Rattle.trace_lines.specs.Kinds.{instance_word};
+ghost use Rattle.trace_outcomes.specs.WrittenOutcomes.{fault_word, delivery_word, object_words, verdict_words, triad_words, refusal_words, reason_words, recipient_words, frame_line, outgoing_line, notice_words, notice_line, answer_text, outcome_text};
 
 use cip_events::{
     Answer, Delivery, Frame, Notice, Outcome, OutgoingDatagram, Reason, Recipient, StepFault,
@@ -68,7 +69,8 @@ fn fault_name(fault: StepFault) -> &'static str
     }
 }
 
-fn push_verdict(out: &mut String, verdict: &Verdict) -> Result<(), OutOfMemory>
+/// Appends the words of a verdict. If an allocation is refused, a part of them may be appended.
+pub fn push_verdict(out: &mut String, verdict: &Verdict) -> Result<(), OutOfMemory>
     ensures { OnOk result (string_bytes out.new ≡ string_bytes out.old ++ verdict_words verdict.now) }
 {
     match verdict {
@@ -90,6 +92,52 @@ fn push_verdict(out: &mut String, verdict: &Verdict) -> Result<(), OutOfMemory>
             push_digits(out, &[*status])?;
             push_reply_bytes(out, additional.as_slice(), data.as_slice())
         }
+        Verdict::Asked {
+            number,
+            service,
+            class,
+            instance,
+            attribute,
+            data,
+        } => {
+            write!(out, "asked {number} ")?;
+            push_object(
+                out,
+                *service,
+                *class,
+                *instance,
+                *attribute,
+                data.as_slice(),
+            )
+        }
+    }
+}
+
+/// Appends the service code, class, instance and attribute of a request, and its data.
+fn push_object(
+    out: &mut String,
+    service: u8,
+    class: u32,
+    instance: u32,
+    attribute: Option<u32>,
+    data: &[u8],
+) -> Result<(), OutOfMemory>
+    ensures { OnOk result
+        (string_bytes out.new ≡ string_bytes out.old ++ object_words service class instance attribute «data».now) }
+{
+    write!(out, "{service} {class} {instance} ")?;
+    push_attribute(out, attribute)?;
+    out.push_str(" ")?;
+    push_bytes(out, data)
+}
+
+/// Appends the number of an attribute, or a dash for none.
+fn push_attribute(out: &mut String, attribute: Option<u32>) -> Result<(), OutOfMemory>
+    ensures { OnOk result (string_bytes out.new ≡ string_bytes out.old ++ instance_word attribute) }
+{
+    match attribute {
+        Some(attribute) => push_number(out, u64::from(attribute)),
+        None => push_text(out, "-"),
     }
 }
 

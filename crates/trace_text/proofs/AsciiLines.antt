@@ -1,4 +1,5 @@
 -- Lines of ASCII are texts.
+use Rattle.std.specs.Cmp.Derive.{both_true}
 use Rattle.std.proofs.Common.{zero, suc, Bool, true, ◌≡◌, ℕ, ◌<◌, false, List, [], ◌∷◌, get_or, refl, sym, arith}
 use Rattle.std.specs.Prelude.{IsUtf8, MatchBool, nat_lt, ◌&&◌}
 use Rattle.std.specs.Str.{IsAscii, IsNotAscii}
@@ -18,15 +19,11 @@ ascii_at (c ∷ cs) h (suc i) = ascii_at cs (both (nat_lt c 128) (is_ascii cs) h
 pub ascii_text : (text : List ℕ) → is_ascii text ≡ true → IsUtf8 text
 ascii_text text h = IsUtf8-from_ascii text (ascii_at text h)
 
-both_hold : (a b : Bool) → a ≡ true → b ≡ true → (a && b) ≡ true
-both_hold true b first rest = rest
-both_hold false b first rest = absurd (cc)
-
 all_ascii : (text : List ℕ) → IsAscii text → is_ascii text ≡ true
 all_ascii [] h = refl
 all_ascii (c ∷ cs) h =
     let below : c < 128 = h 0 in
-    both_hold (nat_lt c 128) (is_ascii cs) (grind (arith, nat_tests)) (all_ascii cs (λ i. h (suc i)))
+    both_true (grind (arith, nat_tests)) (all_ascii cs (λ i. h (suc i)))
 
 none_ascii : (text : List ℕ) (said : Bool) → is_ascii text ≡ said → IsNotAscii text → false ≡ said
 none_ascii text false is other = refl

@@ -32,6 +32,7 @@ profile = record {
   listen_only = 153;
   description = Some rack;
   limits = no_limits;
+  objects = [];
 }
 
 abbrev front : List ℕ

@@ -3,6 +3,7 @@ mod DescribedSamples
 mod EntryTexts
 mod LimitLines
 mod LimitSamples
+mod ObjectSamples
 mod Pieces
 mod Samples
 mod ScannerSamples

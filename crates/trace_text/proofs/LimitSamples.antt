@@ -1,15 +1,15 @@
 -- The text of a trace of an adapter with limits of its maker's as it is read: the limits are behind the description, or where
--- it would be, and before the heartbeats. And the line of an explicit request.
+-- it would be, and before the heartbeats. And the lines of an explicit request and of an application's answer.
 use Rattle.std.proofs.Common.{◌≡◌, true, List, [], ◌∷◌, ◌++◌, ℕ, map, codes, refl, Some, None, Ok, Err}
 use Rattle.std.specs.Fmt.{digits}
 use Rattle.std.specs.Net.Reader.{read_ipv4, read_octet, read_number}
 use Rattle.hex.specs.Hex.{decode_pairs, encode_with}
-use Rattle.cip_events.specs.declared.event.Event.TheVariants.{Explicit}
+use Rattle.cip_events.specs.declared.event.Event.TheVariants.{Explicit, Respond}
 use Rattle.adapter_table.specs.Profiles.{no_limits, profile_fault}
 use Rattle.adapter_table.specs.declared.maker_limits.MakerLimits.{MakerLimits}
 use Rattle.adapter_table.specs.declared.profile.Profile.{Profile}
 use Rattle.cip_tables.specs.declared.table.Config.TheVariants.{Adapter}
-use Rattle.trace_words.specs.Words.{number_of, node_of, bytes_of, line_text}
+use Rattle.trace_words.specs.Words.{number_of, node_of, bytes_of, general_of, line_text}
 use Rattle.trace_lines.specs.Kinds.{closers_of}
 use Rattle.trace_text.specs.declared.trace.TraceFault.TheVariants.{BadLine, BadProfile}
 use Rattle.trace_text.specs.Forms.{line_of, event_of}
@@ -35,6 +35,7 @@ profile = record {
   listen_only = 153;
   description = None;
   limits = limits;
+  objects = [];
 }
 
 abbrev front : List ℕ
@@ -107,3 +108,33 @@ explicit_is_read = refl
 explicit_is_written : line_text (event_words (Explicit (record { 0 = 0xC0A80114 }) 7 (0x0E ∷ 3 ∷ 0x20 ∷ 1 ∷ []))) ≡ codes "explicit 192.168.1.20 7 0e032001\n"
 unfolding digits encode_with
 explicit_is_written = refl
+
+-- answers: two bytes, a status alone, and the largest number; a number past 64 bits, a status of four digits, no status, no
+-- bytes, and a word too many
+answer_is_read :
+    map event_of (
+    codes "answer 1 00 abcd"
+    ∷ codes "answer 7 1F -"
+    ∷ codes "answer 18446744073709551615 ff -"
+    ∷ codes "answer 18446744073709551616 00 -"
+    ∷ codes "answer 1 0010 -"
+    ∷ codes "answer 1 abcd"
+    ∷ codes "answer 1 00"
+    ∷ codes "answer 1 00 - -"
+    ∷ []
+    )
+    ≡ Some (Respond 1 0 (0xAB ∷ 0xCD ∷ []))
+    ∷ Some (Respond 7 0x1F [])
+    ∷ Some (Respond 18446744073709551615 255 [])
+    ∷ None
+    ∷ None
+    ∷ None
+    ∷ None
+    ∷ None
+    ∷ []
+unfolding event_of line_of number_of general_of bytes_of decode_pairs
+answer_is_read = refl
+
+answer_is_written : line_text (event_words (Respond 7 0x1F (0xAB ∷ 0xCD ∷ []))) ≡ codes "answer 7 1f abcd\n"
+unfolding digits encode_with
+answer_is_written = refl

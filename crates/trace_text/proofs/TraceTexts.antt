@@ -12,7 +12,7 @@ use Rattle.cip_tables.specs.declared.table.Config.TheVariants as config
 use Rattle.cip_tables.specs.Step.{config_fault}
 use Rattle.trace_lines.specs.Slots.{scanner_with}
 use Rattle.trace_text.specs.declared.builder.TraceBuilder.{TraceBuilder}
-use Rattle.trace_text.specs.declared.builder.TraceBuilder.TheVariants.{Empty, Points, Configured, Stated, Slots, Events}
+use Rattle.trace_text.specs.declared.builder.TraceBuilder.TheVariants.{Empty, Points, Configured, Stated, Objects, Slots, Events}
 use Rattle.trace_text.specs.declared.forms.TraceLine.{TraceLine}
 use Rattle.trace_text.specs.declared.trace.Trace.{Trace}
 use Rattle.trace_text.specs.declared.trace.TraceFault.{TraceFault}
@@ -125,7 +125,8 @@ whole_or_not : (end : TraceBuilder) → ((number : ℕ) → parsed number end �
 whole_or_not Empty = inl (λ number. refl)
 whole_or_not (Points adapter outputs inputs) = inl (λ number. refl)
 whole_or_not (Configured adapter outputs inputs point) = inl (λ number. refl)
-whole_or_not (Stated adapter outputs inputs settings described limits) = inl (λ number. refl)
+whole_or_not (Stated front) = inl (λ number. refl)
+whole_or_not (Objects front objects) = inl (λ number. refl)
 whole_or_not (Slots scanner slots) = inr (record { config = config.Scanner (scanner_with scanner slots); events = [] }, (sym (append-nil _), λ number. refl))
 whole_or_not (Events made_of entries None) = inr (record { config = made_of; events = entries ++ [] }, (refl, λ number. refl))
 whole_or_not (Events made_of entries (Some last)) = inr (record { config = made_of; events = entries ++ last ∷ [] }, (refl, λ number. refl))

@@ -33,13 +33,14 @@ use Rattle.trace_lines.specs.Slots.{scanner_with}
 use Rattle.trace_outcomes.specs.declared.part.Part.{Part}
 use Rattle.trace_outcomes.specs.declared.part.Part.TheVariants as part
 use Rattle.trace_text.specs.Recorded.{recorded_with}
+use Rattle.trace_text.specs.declared.builder.ProfileFront.{ProfileFront}
 use Rattle.trace_text.specs.declared.builder.TraceBuilder.{TraceBuilder}
-use Rattle.trace_text.specs.declared.builder.TraceBuilder.TheVariants.{Empty, Points, Configured, Stated, Slots, Events}
+use Rattle.trace_text.specs.declared.builder.TraceBuilder.TheVariants.{Empty, Points, Configured, Stated, Objects, Slots, Events}
 use Rattle.trace_text.specs.declared.forms.TraceLine.{TraceLine}
 use Rattle.trace_text.specs.declared.forms.TraceLine.TheVariants as line
 use Rattle.trace_text.specs.declared.trace.Trace.{Trace}
 use Rattle.trace_text.proofs.LimitLines.{some_is, limit_added}
-use Rattle.trace_text.specs.Reading.{Entry, with_stated, builder_with, parsed, judged_by}
+use Rattle.trace_text.specs.Reading.{Entry, front_of, with_stated, builder_with, parsed, judged_by}
 use Rattle.trace_text.specs.Texts.{adapter_line_of, heartbeat_line_of, scanner_line_of, config_values, outcome_parts, recorded_parts, entry_values, entries_values, trace_values}
 
 -- LISTS AND OPTIONS
@@ -84,7 +85,8 @@ abbrev pub so_far : TraceBuilder → List TraceLine
 so_far Empty = []
 so_far (Points adapter outputs inputs) = line.Adapter adapter ∷ (map line.Output outputs ++ map line.Input inputs)
 so_far (Configured adapter outputs inputs point) = line.Adapter adapter ∷ (map line.Output outputs ++ (map line.Input inputs ++ line.Config point ∷ []))
-so_far (Stated adapter outputs inputs settings described limits) = line.Adapter adapter ∷ (map line.Output outputs ++ (map line.Input inputs ++ (map line.Config (option_to_list settings) ++ (map line.Description (option_to_list described) ++ map line.Limit (limit_lines limits)))))
+so_far (Stated front) = line.Adapter front.adapter ∷ (map line.Output front.outputs ++ (map line.Input front.inputs ++ (map line.Config (option_to_list front.config) ++ (map line.Description (option_to_list front.description) ++ map line.Limit (limit_lines front.limits)))))
+so_far (Objects front objects) = line.Adapter front.adapter ∷ (map line.Output front.outputs ++ (map line.Input front.inputs ++ (map line.Config (option_to_list front.config) ++ (map line.Description (option_to_list front.description) ++ (map line.Limit (limit_lines front.limits) ++ map line.Object objects)))))
 so_far (Slots scanner slots) = line.Scanner scanner ∷ map line.Slot slots
 so_far (Events made_of entries last) = config_values made_of ++ entries_values 1 (entries ++ option_to_list last)
 
@@ -204,12 +206,29 @@ stated_last adapter outputs inputs settings described limits last =
     ∙ ap (λ t. line.Adapter adapter ∷ (outputs ++ (inputs ++ t))) (sym (append_assoc settings (described ++ limits) (last ∷ [])))
     ∙ ends_last adapter outputs inputs (settings ++ (described ++ limits)) last
 
-limit_added_to : (adapter : AdapterLine) (outputs : List OutputPoint) (inputs : List InputPoint) (settings : Option InputPoint) (described : Option Description) (limits : MakerLimits) (limit : LimitLine) (next : TraceBuilder) → with_stated adapter outputs inputs settings described limits limit ≡ Some next → so_far next ≡ so_far (Stated adapter outputs inputs settings described limits) ++ line.Limit limit ∷ []
-limit_added_to adapter outputs inputs settings described limits limit next is =
-    let (more, (from, made)) = mapped_from (λ more. Stated adapter outputs inputs settings described more) (with_limit limits limit) next is in
+objects_last : (adapter : AdapterLine) (outputs inputs settings described limits objects : List TraceLine) (last : TraceLine) → line.Adapter adapter ∷ (outputs ++ (inputs ++ (settings ++ (described ++ (limits ++ (objects ++ last ∷ [])))))) ≡ (line.Adapter adapter ∷ (outputs ++ (inputs ++ (settings ++ (described ++ (limits ++ objects)))))) ++ last ∷ []
+objects_last adapter outputs inputs settings described limits objects last =
+    ap (λ t. line.Adapter adapter ∷ (outputs ++ (inputs ++ (settings ++ (described ++ t))))) (sym (append_assoc limits objects (last ∷ [])))
+    ∙ stated_last adapter outputs inputs settings described (limits ++ objects) last
+
+-- a line behind what is stated, and one behind own classes
+behind_stated : (front : ProfileFront) (last : TraceLine) → line.Adapter front.adapter ∷ (map line.Output front.outputs ++ (map line.Input front.inputs ++ (map line.Config (option_to_list front.config) ++ (map line.Description (option_to_list front.description) ++ (map line.Limit (limit_lines front.limits) ++ last ∷ []))))) ≡ so_far (Stated front) ++ last ∷ []
+behind_stated front last = stated_last front.adapter (map line.Output front.outputs) (map line.Input front.inputs) (map line.Config (option_to_list front.config)) (map line.Description (option_to_list front.description)) (map line.Limit (limit_lines front.limits)) last
+
+behind_objects : (front : ProfileFront) (objects : List ℕ) (last : TraceLine) → line.Adapter front.adapter ∷ (map line.Output front.outputs ++ (map line.Input front.inputs ++ (map line.Config (option_to_list front.config) ++ (map line.Description (option_to_list front.description) ++ (map line.Limit (limit_lines front.limits) ++ (map line.Object objects ++ last ∷ [])))))) ≡ so_far (Objects front objects) ++ last ∷ []
+behind_objects front objects last = objects_last front.adapter (map line.Output front.outputs) (map line.Input front.inputs) (map line.Config (option_to_list front.config)) (map line.Description (option_to_list front.description)) (map line.Limit (limit_lines front.limits)) (map line.Object objects) last
+
+limit_added_to : (front : ProfileFront) (limit : LimitLine) (next : TraceBuilder) → with_stated front limit ≡ Some next → so_far next ≡ so_far (Stated front) ++ line.Limit limit ∷ []
+limit_added_to front limit next is =
+    let (more, (from, made)) = mapped_from (λ more. Stated (record front { limits = more })) (with_limit front.limits limit) next is in
     ap so_far (sym made)
-    ∙ ap (λ t. line.Adapter adapter ∷ (map line.Output outputs ++ (map line.Input inputs ++ (map line.Config (option_to_list settings) ++ (map line.Description (option_to_list described) ++ t))))) (ap (map line.Limit) (limit_added limits limit more from) ∙ map_last line.Limit (limit_lines limits) limit)
-    ∙ stated_last adapter (map line.Output outputs) (map line.Input inputs) (map line.Config (option_to_list settings)) (map line.Description (option_to_list described)) (map line.Limit (limit_lines limits)) (line.Limit limit)
+    ∙ ap (λ t. line.Adapter front.adapter ∷ (map line.Output front.outputs ++ (map line.Input front.inputs ++ (map line.Config (option_to_list front.config) ++ (map line.Description (option_to_list front.description) ++ t))))) (ap (map line.Limit) (limit_added front.limits limit more from) ∙ map_last line.Limit (limit_lines front.limits) limit)
+    ∙ behind_stated front (line.Limit limit)
+
+object_added_to : (front : ProfileFront) (objects : List ℕ) (class : ℕ) → so_far (Objects front (objects ++ class ∷ [])) ≡ so_far (Objects front objects) ++ line.Object class ∷ []
+object_added_to front objects class =
+    ap (λ t. line.Adapter front.adapter ∷ (map line.Output front.outputs ++ (map line.Input front.inputs ++ (map line.Config (option_to_list front.config) ++ (map line.Description (option_to_list front.description) ++ (map line.Limit (limit_lines front.limits) ++ t)))))) (map_last line.Object objects class)
+    ∙ behind_objects front objects (line.Object class)
 
 -- a line that is allowed is one line more
 pub added : (builder : TraceBuilder) (parsed : TraceLine) (next : TraceBuilder) → builder_with builder parsed ≡ Some next → so_far next ≡ so_far builder ++ parsed ∷ []
@@ -219,6 +238,7 @@ added Empty (line.Input value) next is = absurd (cc)
 added Empty (line.Config value) next is = absurd (cc)
 added Empty (line.Description value) next is = absurd (cc)
 added Empty (line.Limit value) next is = absurd (cc)
+added Empty (line.Object value) next is = absurd (cc)
 added Empty (line.Heartbeat value) next is = absurd (cc)
 added Empty (line.Scanner value) next is = so_far_is _ _ is
 added Empty (line.Slot value) next is = absurd (cc)
@@ -229,7 +249,8 @@ added (Points adapter outputs inputs) (line.Output value) next is = output_added
 added (Points adapter outputs inputs) (line.Input value) next is = so_far_is _ _ is ∙ ap (λ t. line.Adapter adapter ∷ (map line.Output outputs ++ t)) (map_last line.Input inputs value) ∙ ap (λ t. line.Adapter adapter ∷ t) (sym (append_assoc (map line.Output outputs) (map line.Input inputs) (line.Input value ∷ [])))
 added (Points adapter outputs inputs) (line.Config value) next is = so_far_is _ _ is ∙ ap (λ t. line.Adapter adapter ∷ t) (sym (append_assoc (map line.Output outputs) (map line.Input inputs) (line.Config value ∷ [])))
 added (Points adapter outputs inputs) (line.Description value) next is = so_far_is _ _ is ∙ points_last adapter (map line.Output outputs) (map line.Input inputs) (line.Description value)
-added (Points adapter outputs inputs) (line.Limit value) next is = limit_added_to adapter outputs inputs None None no_limits value next is ∙ ap (λ t. (line.Adapter adapter ∷ (map line.Output outputs ++ t)) ++ line.Limit value ∷ []) (append-nil (map line.Input inputs))
+added (Points adapter outputs inputs) (line.Limit value) next is = limit_added_to (front_of adapter outputs inputs None None) value next is ∙ ap (λ t. (line.Adapter adapter ∷ (map line.Output outputs ++ t)) ++ line.Limit value ∷ []) (append-nil (map line.Input inputs))
+added (Points adapter outputs inputs) (line.Object value) next is = so_far_is _ _ is ∙ points_last adapter (map line.Output outputs) (map line.Input inputs) (line.Object value)
 added (Points adapter outputs inputs) (line.Heartbeat value) next is = so_far_is _ _ is ∙ append-nil _ ∙ points_last adapter (map line.Output outputs) (map line.Input inputs) (line.Heartbeat value)
 added (Points adapter outputs inputs) (line.Scanner value) next is = absurd (cc)
 added (Points adapter outputs inputs) (line.Slot value) next is = absurd (cc)
@@ -240,29 +261,44 @@ added (Configured adapter outputs inputs point) (line.Output value) next is = ab
 added (Configured adapter outputs inputs point) (line.Input value) next is = absurd (cc)
 added (Configured adapter outputs inputs point) (line.Config value) next is = absurd (cc)
 added (Configured adapter outputs inputs point) (line.Description value) next is = so_far_is _ _ is ∙ ends_last adapter (map line.Output outputs) (map line.Input inputs) (line.Config point ∷ []) (line.Description value)
-added (Configured adapter outputs inputs point) (line.Limit value) next is = limit_added_to adapter outputs inputs (Some point) None no_limits value next is
+added (Configured adapter outputs inputs point) (line.Limit value) next is = limit_added_to (front_of adapter outputs inputs (Some point) None) value next is
+added (Configured adapter outputs inputs point) (line.Object value) next is = so_far_is _ _ is ∙ ends_last adapter (map line.Output outputs) (map line.Input inputs) (line.Config point ∷ []) (line.Object value)
 added (Configured adapter outputs inputs point) (line.Heartbeat value) next is = so_far_is _ _ is ∙ append-nil _ ∙ ends_last adapter (map line.Output outputs) (map line.Input inputs) (line.Config point ∷ []) (line.Heartbeat value)
 added (Configured adapter outputs inputs point) (line.Scanner value) next is = absurd (cc)
 added (Configured adapter outputs inputs point) (line.Slot value) next is = absurd (cc)
 added (Configured adapter outputs inputs point) (line.Event value) next is = absurd (cc)
 added (Configured adapter outputs inputs point) (line.Recorded number value) next is = absurd (cc)
-added (Stated adapter outputs inputs settings described limits) (line.Adapter value) next is = absurd (cc)
-added (Stated adapter outputs inputs settings described limits) (line.Output value) next is = absurd (cc)
-added (Stated adapter outputs inputs settings described limits) (line.Input value) next is = absurd (cc)
-added (Stated adapter outputs inputs settings described limits) (line.Config value) next is = absurd (cc)
-added (Stated adapter outputs inputs settings described limits) (line.Description value) next is = absurd (cc)
-added (Stated adapter outputs inputs settings described limits) (line.Limit value) next is = limit_added_to adapter outputs inputs settings described limits value next is
-added (Stated adapter outputs inputs settings described limits) (line.Heartbeat value) next is = so_far_is _ _ is ∙ append-nil _ ∙ stated_last adapter (map line.Output outputs) (map line.Input inputs) (map line.Config (option_to_list settings)) (map line.Description (option_to_list described)) (map line.Limit (limit_lines limits)) (line.Heartbeat value)
-added (Stated adapter outputs inputs settings described limits) (line.Scanner value) next is = absurd (cc)
-added (Stated adapter outputs inputs settings described limits) (line.Slot value) next is = absurd (cc)
-added (Stated adapter outputs inputs settings described limits) (line.Event value) next is = absurd (cc)
-added (Stated adapter outputs inputs settings described limits) (line.Recorded number value) next is = absurd (cc)
+added (Stated front) (line.Adapter value) next is = absurd (cc)
+added (Stated front) (line.Output value) next is = absurd (cc)
+added (Stated front) (line.Input value) next is = absurd (cc)
+added (Stated front) (line.Config value) next is = absurd (cc)
+added (Stated front) (line.Description value) next is = absurd (cc)
+added (Stated front) (line.Limit value) next is = limit_added_to front value next is
+added (Stated front) (line.Object value) next is = so_far_is _ _ is ∙ behind_stated front (line.Object value)
+added (Stated front) (line.Heartbeat value) next is = so_far_is _ _ is ∙ append-nil _ ∙ behind_stated front (line.Heartbeat value)
+added (Stated front) (line.Scanner value) next is = absurd (cc)
+added (Stated front) (line.Slot value) next is = absurd (cc)
+added (Stated front) (line.Event value) next is = absurd (cc)
+added (Stated front) (line.Recorded number value) next is = absurd (cc)
+added (Objects front objects) (line.Adapter value) next is = absurd (cc)
+added (Objects front objects) (line.Output value) next is = absurd (cc)
+added (Objects front objects) (line.Input value) next is = absurd (cc)
+added (Objects front objects) (line.Config value) next is = absurd (cc)
+added (Objects front objects) (line.Description value) next is = absurd (cc)
+added (Objects front objects) (line.Limit value) next is = absurd (cc)
+added (Objects front objects) (line.Object value) next is = so_far_is _ _ is ∙ object_added_to front objects value
+added (Objects front objects) (line.Heartbeat value) next is = so_far_is _ _ is ∙ append-nil _ ∙ behind_objects front objects (line.Heartbeat value)
+added (Objects front objects) (line.Scanner value) next is = absurd (cc)
+added (Objects front objects) (line.Slot value) next is = absurd (cc)
+added (Objects front objects) (line.Event value) next is = absurd (cc)
+added (Objects front objects) (line.Recorded number value) next is = absurd (cc)
 added (Slots scanner slots) (line.Adapter value) next is = absurd (cc)
 added (Slots scanner slots) (line.Output value) next is = absurd (cc)
 added (Slots scanner slots) (line.Input value) next is = absurd (cc)
 added (Slots scanner slots) (line.Config value) next is = absurd (cc)
 added (Slots scanner slots) (line.Description value) next is = absurd (cc)
 added (Slots scanner slots) (line.Limit value) next is = absurd (cc)
+added (Slots scanner slots) (line.Object value) next is = absurd (cc)
 added (Slots scanner slots) (line.Heartbeat value) next is = absurd (cc)
 added (Slots scanner slots) (line.Scanner value) next is = absurd (cc)
 added (Slots scanner slots) (line.Slot value) next is = so_far_is _ _ is ∙ ap (λ t. line.Scanner scanner ∷ t) (map_last line.Slot slots value)
@@ -274,6 +310,7 @@ added (Events made_of entries None) (line.Input value) next is = absurd (cc)
 added (Events made_of entries None) (line.Config value) next is = absurd (cc)
 added (Events made_of entries None) (line.Description value) next is = absurd (cc)
 added (Events made_of entries None) (line.Limit value) next is = absurd (cc)
+added (Events made_of entries None) (line.Object value) next is = absurd (cc)
 added (Events made_of entries None) (line.Heartbeat value) next is = absurd (cc)
 added (Events made_of entries None) (line.Scanner value) next is = absurd (cc)
 added (Events made_of entries None) (line.Slot value) next is = absurd (cc)
@@ -285,6 +322,7 @@ added (Events made_of entries (Some (event, recorded))) (line.Input value) next 
 added (Events made_of entries (Some (event, recorded))) (line.Config value) next is = absurd (cc)
 added (Events made_of entries (Some (event, recorded))) (line.Description value) next is = absurd (cc)
 added (Events made_of entries (Some (event, recorded))) (line.Limit value) next is = absurd (cc)
+added (Events made_of entries (Some (event, recorded))) (line.Object value) next is = absurd (cc)
 added (Events made_of entries (Some (event, recorded))) (line.Heartbeat value) next is = absurd (cc)
 added (Events made_of entries (Some (event, recorded))) (line.Scanner value) next is = absurd (cc)
 added (Events made_of entries (Some (event, recorded))) (line.Slot value) next is = absurd (cc)
@@ -326,14 +364,20 @@ no_scanner = record { incarnation = 0; node = record { 0 = 0 }; vendor = 0; seri
 abbrev no_points : HeartbeatLine
 no_points = record { input_only = 0; listen_only = 0 }
 
+-- the profile of these lines
+abbrev whole_of : ProfileFront → List ℕ → HeartbeatLine → Profile
+whole_of front objects points = profile_with front.adapter front.outputs front.inputs front.config front.description front.limits objects points
+
 pub completed : (builder : TraceBuilder) → (trace : Trace) × ((more : List TraceLine) × (so_far builder ++ more ≡ trace_values trace))
 completed Empty = (record { config = config.Scanner no_scanner; events = [] }, (config_values (config.Scanner no_scanner) ++ [], refl))
 completed (Points adapter outputs inputs) =
-    (record { config = config.Adapter (profile_with adapter outputs inputs None None no_limits no_points); events = [] }, (line.Heartbeat no_points ∷ [], sym (added (Points adapter outputs inputs) (line.Heartbeat no_points) _ refl)))
+    (record { config = config.Adapter (profile_with adapter outputs inputs None None no_limits [] no_points); events = [] }, (line.Heartbeat no_points ∷ [], sym (added (Points adapter outputs inputs) (line.Heartbeat no_points) _ refl)))
 completed (Configured adapter outputs inputs point) =
-    (record { config = config.Adapter (profile_with adapter outputs inputs (Some point) None no_limits no_points); events = [] }, (line.Heartbeat no_points ∷ [], sym (added (Configured adapter outputs inputs point) (line.Heartbeat no_points) _ refl)))
-completed (Stated adapter outputs inputs settings described limits) =
-    (record { config = config.Adapter (profile_with adapter outputs inputs settings described limits no_points); events = [] }, (line.Heartbeat no_points ∷ [], sym (added (Stated adapter outputs inputs settings described limits) (line.Heartbeat no_points) _ refl)))
+    (record { config = config.Adapter (profile_with adapter outputs inputs (Some point) None no_limits [] no_points); events = [] }, (line.Heartbeat no_points ∷ [], sym (added (Configured adapter outputs inputs point) (line.Heartbeat no_points) _ refl)))
+completed (Stated front) =
+    (record { config = config.Adapter (whole_of front [] no_points); events = [] }, (line.Heartbeat no_points ∷ [], sym (added (Stated front) (line.Heartbeat no_points) _ refl)))
+completed (Objects front objects) =
+    (record { config = config.Adapter (whole_of front objects no_points); events = [] }, (line.Heartbeat no_points ∷ [], sym (added (Objects front objects) (line.Heartbeat no_points) _ refl)))
 completed (Slots scanner slots) = (record { config = config.Scanner (scanner_with scanner slots); events = [] }, ([], refl))
 completed (Events made_of entries last) = (record { config = made_of; events = entries ++ option_to_list last }, ([], append-nil _))
 
@@ -356,63 +400,82 @@ inputs_run : (adapter : AdapterLine) (outputs : List OutputPoint) (before inputs
 inputs_run adapter outputs before [] = ap (λ t. Some (Points adapter outputs t)) (sym (append-nil before))
 inputs_run adapter outputs before (input ∷ inputs) = inputs_run adapter outputs (before ++ input ∷ []) inputs ∙ ap (λ t. Some (Points adapter outputs t)) (append_assoc before (input ∷ []) inputs)
 
--- the lines of limits, and the one behind them
-abbrev limits_end : HeartbeatLine → List LimitLine → List (Option TraceLine)
-limits_end points limits = map Some (map line.Limit limits ++ line.Heartbeat points ∷ [])
+-- the lines of own classes, and the one behind them
+abbrev objects_end : HeartbeatLine → List ℕ → List TraceLine
+objects_end points objects = map line.Object objects ++ line.Heartbeat points ∷ []
+
+-- the lines of limits, and those behind them
+abbrev limits_end : List TraceLine → List LimitLine → List (Option TraceLine)
+limits_end behind limits = map Some (map line.Limit limits ++ behind)
+
+objects_run : (front : ProfileFront) (points : HeartbeatLine) (before more : List ℕ) → run (Objects front before) (map Some (objects_end points more)) ≡ Some (Events (config.Adapter (whole_of front (before ++ more) points)) [] None)
+objects_run front points before [] = ap (λ t. Some (Events (config.Adapter (whole_of front t points)) [] None)) (sym (append-nil before))
+objects_run front points before (class ∷ more) =
+    objects_run front points (before ++ class ∷ []) more
+    ∙ ap (λ t. Some (Events (config.Adapter (whole_of front t points)) [] None)) (append_assoc before (class ∷ []) more)
+
+stated_run : (front : ProfileFront) (points : HeartbeatLine) (more : List ℕ) → run (Stated front) (map Some (objects_end points more)) ≡ Some (Events (config.Adapter (whole_of front more points)) [] None)
+stated_run front points [] = refl
+stated_run front points (class ∷ more) = objects_run front points (class ∷ []) more
 
 abbrev limits_of : Option ℕ → Option Places → Option ℕ → Bool → Option ℕ → MakerLimits
 limits_of rpi places node closers newer = record { least_rpi = rpi; places = places; node_connections = node; own_closers = closers; newer = newer }
 
-module _ (adapter : AdapterLine) (outputs : List OutputPoint) (inputs : List InputPoint) (settings : Option InputPoint) (described : Option Description) (points : HeartbeatLine) where
+module _ (adapter : AdapterLine) (outputs : List OutputPoint) (inputs : List InputPoint) (settings : Option InputPoint) (described : Option Description) (classes : List ℕ) (points : HeartbeatLine) where
   abbrev stated : MakerLimits → TraceBuilder
-  stated limits = Stated adapter outputs inputs settings described limits
+  stated limits = Stated (record (front_of adapter outputs inputs settings described) { limits = limits })
 
   abbrev whole : MakerLimits → Option TraceBuilder
-  whole limits = Some (Events (config.Adapter (profile_with adapter outputs inputs settings described limits points)) [] None)
+  whole limits = Some (Events (config.Adapter (profile_with adapter outputs inputs settings described limits classes points)) [] None)
 
-  newer_run : (a : Option ℕ) (b : Option Places) (c : Option ℕ) (d : Bool) (e : Option ℕ) → run (stated (limits_of a b c d None)) (limits_end points (option_to_list (option_map limit.Newer e))) ≡ whole (limits_of a b c d e)
-  newer_run a b c d None = refl
-  newer_run a b c d (Some within) = refl
+  abbrev behind : List TraceLine
+  behind = objects_end points classes
 
-  closers_run : (a : Option ℕ) (b : Option Places) (c : Option ℕ) (d : Bool) (e : Option ℕ) → run (stated (limits_of a b c false None)) (limits_end points (option_to_list (closers_line d) ++ option_to_list (option_map limit.Newer e))) ≡ whole (limits_of a b c d e)
+  newer_run : (a : Option ℕ) (b : Option Places) (c : Option ℕ) (d : Bool) (e : Option ℕ) → run (stated (limits_of a b c d None)) (limits_end behind (option_to_list (option_map limit.Newer e))) ≡ whole (limits_of a b c d e)
+  newer_run a b c d None = stated_run (record (front_of adapter outputs inputs settings described) { limits = limits_of a b c d None }) points classes
+  newer_run a b c d (Some within) = stated_run (record (front_of adapter outputs inputs settings described) { limits = limits_of a b c d (Some within) }) points classes
+
+  closers_run : (a : Option ℕ) (b : Option Places) (c : Option ℕ) (d : Bool) (e : Option ℕ) → run (stated (limits_of a b c false None)) (limits_end behind (option_to_list (closers_line d) ++ option_to_list (option_map limit.Newer e))) ≡ whole (limits_of a b c d e)
   closers_run a b c false e = newer_run a b c false e
   closers_run a b c true e = newer_run a b c true e
 
-  node_run : (a : Option ℕ) (b : Option Places) (c : Option ℕ) (d : Bool) (e : Option ℕ) → run (stated (limits_of a b None false None)) (limits_end points (option_to_list (option_map limit.NodeConnections c) ++ (option_to_list (closers_line d) ++ option_to_list (option_map limit.Newer e)))) ≡ whole (limits_of a b c d e)
+  node_run : (a : Option ℕ) (b : Option Places) (c : Option ℕ) (d : Bool) (e : Option ℕ) → run (stated (limits_of a b None false None)) (limits_end behind (option_to_list (option_map limit.NodeConnections c) ++ (option_to_list (closers_line d) ++ option_to_list (option_map limit.Newer e)))) ≡ whole (limits_of a b c d e)
   node_run a b None d e = closers_run a b None d e
   node_run a b (Some most) d e = closers_run a b (Some most) d e
 
-  places_run : (a : Option ℕ) (b : Option Places) (c : Option ℕ) (d : Bool) (e : Option ℕ) → run (stated (limits_of a None None false None)) (limits_end points (option_to_list (option_map limit.Places b) ++ (option_to_list (option_map limit.NodeConnections c) ++ (option_to_list (closers_line d) ++ option_to_list (option_map limit.Newer e))))) ≡ whole (limits_of a b c d e)
+  places_run : (a : Option ℕ) (b : Option Places) (c : Option ℕ) (d : Bool) (e : Option ℕ) → run (stated (limits_of a None None false None)) (limits_end behind (option_to_list (option_map limit.Places b) ++ (option_to_list (option_map limit.NodeConnections c) ++ (option_to_list (closers_line d) ++ option_to_list (option_map limit.Newer e))))) ≡ whole (limits_of a b c d e)
   places_run a None c d e = node_run a None c d e
   places_run a (Some places) c d e = node_run a (Some places) c d e
 
-  rpi_run : (a : Option ℕ) (b : Option Places) (c : Option ℕ) (d : Bool) (e : Option ℕ) → run (stated no_limits) (limits_end points (limit_lines (limits_of a b c d e))) ≡ whole (limits_of a b c d e)
+  rpi_run : (a : Option ℕ) (b : Option Places) (c : Option ℕ) (d : Bool) (e : Option ℕ) → run (stated no_limits) (limits_end behind (limit_lines (limits_of a b c d e))) ≡ whole (limits_of a b c d e)
   rpi_run None b c d e = places_run None b c d e
   rpi_run (Some us) b c d e = places_run (Some us) b c d e
 
-  limits_run : (limits : MakerLimits) → run (stated no_limits) (limits_end points (limit_lines limits)) ≡ whole limits
+  limits_run : (limits : MakerLimits) → run (stated no_limits) (limits_end behind (limit_lines limits)) ≡ whole limits
   limits_run limits = rpi_run limits.least_rpi limits.places limits.node_connections limits.own_closers limits.newer
 
--- the limits and the points without data, where no description is before them
-after_points : (adapter : AdapterLine) (outputs : List OutputPoint) (inputs : List InputPoint) (points : HeartbeatLine) (limits : List LimitLine) → run (Points adapter outputs inputs) (limits_end points limits) ≡ run (Stated adapter outputs inputs None None no_limits) (limits_end points limits)
-after_points adapter outputs inputs points [] = refl
-after_points adapter outputs inputs points (limit ∷ limits) = refl
+-- the limits, the own classes and the points without data, where no description is before them
+after_points : (adapter : AdapterLine) (outputs : List OutputPoint) (inputs : List InputPoint) (points : HeartbeatLine) (objects : List ℕ) (limits : List LimitLine) → run (Points adapter outputs inputs) (limits_end (objects_end points objects) limits) ≡ run (Stated (front_of adapter outputs inputs None None)) (limits_end (objects_end points objects) limits)
+after_points adapter outputs inputs points [] [] = refl
+after_points adapter outputs inputs points (class ∷ objects) [] = refl
+after_points adapter outputs inputs points objects (limit ∷ limits) = refl
 
-after_settings : (adapter : AdapterLine) (outputs : List OutputPoint) (inputs : List InputPoint) (point : InputPoint) (points : HeartbeatLine) (limits : List LimitLine) → run (Configured adapter outputs inputs point) (limits_end points limits) ≡ run (Stated adapter outputs inputs (Some point) None no_limits) (limits_end points limits)
-after_settings adapter outputs inputs point points [] = refl
-after_settings adapter outputs inputs point points (limit ∷ limits) = refl
+after_settings : (adapter : AdapterLine) (outputs : List OutputPoint) (inputs : List InputPoint) (point : InputPoint) (points : HeartbeatLine) (objects : List ℕ) (limits : List LimitLine) → run (Configured adapter outputs inputs point) (limits_end (objects_end points objects) limits) ≡ run (Stated (front_of adapter outputs inputs (Some point) None)) (limits_end (objects_end points objects) limits)
+after_settings adapter outputs inputs point points [] [] = refl
+after_settings adapter outputs inputs point points (class ∷ objects) [] = refl
+after_settings adapter outputs inputs point points objects (limit ∷ limits) = refl
 
-ends_run : (adapter : AdapterLine) (outputs : List OutputPoint) (inputs : List InputPoint) (settings : Option InputPoint) (described : Option Description) (limits : MakerLimits) (points : HeartbeatLine) → run (Points adapter outputs inputs) (map Some (map line.Config (option_to_list settings) ++ (map line.Description (option_to_list described) ++ (map line.Limit (limit_lines limits) ++ line.Heartbeat points ∷ [])))) ≡ Some (Events (config.Adapter (profile_with adapter outputs inputs settings described limits points)) [] None)
-ends_run adapter outputs inputs None None limits points = after_points adapter outputs inputs points (limit_lines limits) ∙ limits_run adapter outputs inputs None None points limits
-ends_run adapter outputs inputs None (Some described) limits points = limits_run adapter outputs inputs None (Some described) points limits
-ends_run adapter outputs inputs (Some point) None limits points = after_settings adapter outputs inputs point points (limit_lines limits) ∙ limits_run adapter outputs inputs (Some point) None points limits
-ends_run adapter outputs inputs (Some point) (Some described) limits points = limits_run adapter outputs inputs (Some point) (Some described) points limits
+ends_run : (adapter : AdapterLine) (outputs : List OutputPoint) (inputs : List InputPoint) (settings : Option InputPoint) (described : Option Description) (limits : MakerLimits) (objects : List ℕ) (points : HeartbeatLine) → run (Points adapter outputs inputs) (map Some (map line.Config (option_to_list settings) ++ (map line.Description (option_to_list described) ++ (map line.Limit (limit_lines limits) ++ objects_end points objects)))) ≡ Some (Events (config.Adapter (profile_with adapter outputs inputs settings described limits objects points)) [] None)
+ends_run adapter outputs inputs None None limits objects points = after_points adapter outputs inputs points objects (limit_lines limits) ∙ limits_run adapter outputs inputs None None objects points limits
+ends_run adapter outputs inputs None (Some described) limits objects points = limits_run adapter outputs inputs None (Some described) objects points limits
+ends_run adapter outputs inputs (Some point) None limits objects points = after_settings adapter outputs inputs point points objects (limit_lines limits) ∙ limits_run adapter outputs inputs (Some point) None objects points limits
+ends_run adapter outputs inputs (Some point) (Some described) limits objects points = limits_run adapter outputs inputs (Some point) (Some described) objects points limits
 
 adapter_run : (profile : Profile) → run Empty (map Some (config_values (config.Adapter profile))) ≡ Some (Events (config.Adapter profile) [] None)
 adapter_run profile =
     both_run (Points (adapter_line_of profile) [] []) (Points (adapter_line_of profile) profile.outputs []) (map line.Output profile.outputs) _ _ (outputs_run (adapter_line_of profile) [] profile.outputs)
     (both_run (Points (adapter_line_of profile) profile.outputs []) (Points (adapter_line_of profile) profile.outputs profile.inputs) (map line.Input profile.inputs) _ _ (inputs_run (adapter_line_of profile) profile.outputs [] profile.inputs)
-    (ends_run (adapter_line_of profile) profile.outputs profile.inputs profile.config profile.description profile.limits (heartbeat_line_of profile)))
+    (ends_run (adapter_line_of profile) profile.outputs profile.inputs profile.config profile.description profile.limits profile.objects (heartbeat_line_of profile)))
 
 slots_run : (scanner : ScannerLine) (before slots : List SlotConfig) → run (Slots scanner before) (map Some (map line.Slot slots)) ≡ Some (Slots scanner (before ++ slots))
 slots_run scanner before [] = ap (λ t. Some (Slots scanner t)) (sym (append-nil before))

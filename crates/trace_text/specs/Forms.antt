@@ -8,10 +8,10 @@ use Rattle.trace_text.specs.declared.forms.TraceLine.{TraceLine}
 use Rattle.trace_text.specs.declared.forms.TraceLine.TheVariants as line
 use Rattle.trace_words.specs.Words.{words_of, number_of}
 use Rattle.trace_words.specs.Reader.{Reader, next_word, ends, refuses, Meanings, meaning, mapped, ◌>>=◌}
-use Rattle.trace_lines.specs.Profiles.{adapter_reader, output_reader, point_reader, description_reader, heartbeat_reader}
+use Rattle.trace_lines.specs.Profiles.{adapter_reader, output_reader, point_reader, description_reader, object_reader, heartbeat_reader}
 use Rattle.trace_lines.specs.Limits.{least_rpi_reader, places_reader, node_connections_reader, closers_reader, newer_reader}
 use Rattle.trace_lines.specs.Slots.{scanner_reader, slot_reader}
-use Rattle.trace_lines.specs.declared.shapes.TheConstants.{FROM_NODE, EXPLICIT, STREAM, FRAME, CUT, WRITE, NUMBER, MODE}
+use Rattle.trace_lines.specs.declared.shapes.TheConstants.{FROM_NODE, EXPLICIT, ANSWER, STREAM, FRAME, CUT, WRITE, NUMBER, MODE}
 use Rattle.trace_outcomes.specs.Parts.{part_reader}
 use Rattle.trace_lines.specs.Shapes.{shaped}
 
@@ -20,6 +20,10 @@ use Rattle.trace_lines.specs.Shapes.{shaped}
 -- a request that the application has a scanner send: its target, its number and its bytes
 abbrev pub explicit_reader : Reader Event
 explicit_reader = shaped EXPLICIT (λ target number bytes. ends (event.Explicit target number bytes))
+
+-- the application's answer to a request: the request's number, the general status, and the data
+abbrev pub answer_reader : Reader Event
+answer_reader = shaped ANSWER (λ number status bytes. ends (event.Respond number status bytes))
 
 -- the lines that a keyword begins
 abbrev pub line_meanings : Meanings (Reader TraceLine)
@@ -34,12 +38,14 @@ line_meanings =
     ∷ (codes "node-connections", mapped line.Limit node_connections_reader)
     ∷ (codes "closers", mapped line.Limit closers_reader)
     ∷ (codes "newer", mapped line.Limit newer_reader)
+    ∷ (codes "object", mapped line.Object object_reader)
     ∷ (codes "heartbeat", mapped line.Heartbeat heartbeat_reader)
     ∷ (codes "scanner", mapped line.Scanner scanner_reader)
     ∷ (codes "slot", mapped line.Slot slot_reader)
     ∷ (codes "request", mapped line.Event (shaped FROM_NODE (λ peer bytes. ends (event.Request peer bytes))))
     ∷ (codes "inquiry", mapped line.Event (shaped FROM_NODE (λ peer bytes. ends (event.Inquiry peer bytes))))
     ∷ (codes "explicit", mapped line.Event explicit_reader)
+    ∷ (codes "answer", mapped line.Event answer_reader)
     ∷ (codes "stream", mapped line.Event (shaped STREAM (λ stream peer. ends (event.StreamOpened stream peer))))
     ∷ (codes "frame", mapped line.Event (shaped FRAME (λ stream bytes. ends (event.Frame stream bytes))))
     ∷ (codes "cut", mapped line.Event (shaped CUT (λ stream. ends (event.StreamCut stream))))

@@ -5,7 +5,6 @@ use Rattle.std.specs.List.{slice_split}
 use Rattle.adapter_table.specs.declared.profile.OutputPoint.{OutputPoint}
 use Rattle.adapter_table.specs.declared.profile.InputPoint.{InputPoint}
 use Rattle.adapter_table.specs.declared.profile.Description.{Description}
-use Rattle.adapter_table.specs.declared.maker_limits.MakerLimits.{MakerLimits}
 use Rattle.adapter_table.specs.Profiles.{no_limits}
 use Rattle.cip_events.specs.declared.profile_fault.ProfileFault.{ProfileFault}
 use Rattle.cip_tables.specs.declared.table.Config.{Config}
@@ -21,8 +20,9 @@ use Rattle.trace_lines.specs.Limits.{with_limit}
 use Rattle.trace_text.specs.declared.forms.TraceLine.{TraceLine}
 use Rattle.trace_text.specs.declared.forms.TraceLine.TheVariants as line
 use Rattle.trace_outcomes.specs.declared.part.Part.{Part}
+use Rattle.trace_text.specs.declared.builder.ProfileFront.{ProfileFront}
 use Rattle.trace_text.specs.declared.builder.TraceBuilder.{TraceBuilder}
-use Rattle.trace_text.specs.declared.builder.TraceBuilder.TheVariants.{Empty, Points, Configured, Stated, Slots, Events}
+use Rattle.trace_text.specs.declared.builder.TraceBuilder.TheVariants.{Empty, Points, Configured, Stated, Objects, Slots, Events}
 use Rattle.trace_text.specs.declared.trace.Trace.{Trace}
 use Rattle.trace_text.specs.declared.trace.TraceFault.{TraceFault}
 use Rattle.trace_text.specs.declared.trace.TraceFault.TheVariants as fault
@@ -43,13 +43,28 @@ Entry = Event × Option Outcome
 abbrev pub with_output : AdapterLine → List OutputPoint → List InputPoint → OutputPoint → Option TraceBuilder
 with_output adapter outputs inputs output = if length inputs == 0 then Some (Points adapter (outputs ++ output ∷ []) inputs) else None
 
--- behind the description, or where it is left out: one limit more, in their order
-abbrev pub with_stated : AdapterLine → List OutputPoint → List InputPoint → Option InputPoint → Option Description → MakerLimits → LimitLine → Option TraceBuilder
-with_stated adapter outputs inputs settings described limits limit = option_map (λ more. Stated adapter outputs inputs settings described more) (with_limit limits limit)
+-- a profile up to its description, if it has one, before its limits
+abbrev pub front_of : AdapterLine → List OutputPoint → List InputPoint → Option InputPoint → Option Description → ProfileFront
+front_of adapter outputs inputs settings described = record {
+  adapter = adapter;
+  outputs = outputs;
+  inputs = inputs;
+  config = settings;
+  description = described;
+  limits = no_limits;
+}
+
+-- one limit more, in their order
+abbrev pub with_stated : ProfileFront → LimitLine → Option TraceBuilder
+with_stated front limit = option_map (λ more. Stated (record front { limits = more })) (with_limit front.limits limit)
+
+-- one class of the maker's own objects more
+abbrev pub with_object : ProfileFront → List ℕ → ℕ → Option TraceBuilder
+with_object front objects class = Some (Objects front (objects ++ class ∷ []))
 
 -- the whole profile of an adapter
-abbrev pub with_profile : AdapterLine → List OutputPoint → List InputPoint → Option InputPoint → Option Description → MakerLimits → HeartbeatLine → Option TraceBuilder
-with_profile adapter outputs inputs settings described limits heartbeat = Some (Events (config.Adapter (profile_with adapter outputs inputs settings described limits heartbeat)) [] None)
+abbrev pub with_profile : ProfileFront → List ℕ → HeartbeatLine → Option TraceBuilder
+with_profile front objects heartbeat = Some (Events (config.Adapter (profile_with front.adapter front.outputs front.inputs front.config front.description front.limits objects heartbeat)) [] None)
 
 -- a part of the outcome of the event that came last, whose number it has
 abbrev pub with_part : Config → List Entry → Entry → ℕ → Part → Option TraceBuilder
@@ -62,14 +77,19 @@ builder_with Empty (line.Scanner scanner) = Some (Slots scanner [])
 builder_with (Points adapter outputs inputs) (line.Output output) = with_output adapter outputs inputs output
 builder_with (Points adapter outputs inputs) (line.Input input) = Some (Points adapter outputs (inputs ++ input ∷ []))
 builder_with (Points adapter outputs inputs) (line.Config point) = Some (Configured adapter outputs inputs point)
-builder_with (Points adapter outputs inputs) (line.Description described) = Some (Stated adapter outputs inputs None (Some described) no_limits)
-builder_with (Points adapter outputs inputs) (line.Limit limit) = with_stated adapter outputs inputs None None no_limits limit
-builder_with (Points adapter outputs inputs) (line.Heartbeat heartbeat) = with_profile adapter outputs inputs None None no_limits heartbeat
-builder_with (Configured adapter outputs inputs point) (line.Description described) = Some (Stated adapter outputs inputs (Some point) (Some described) no_limits)
-builder_with (Configured adapter outputs inputs point) (line.Limit limit) = with_stated adapter outputs inputs (Some point) None no_limits limit
-builder_with (Configured adapter outputs inputs point) (line.Heartbeat heartbeat) = with_profile adapter outputs inputs (Some point) None no_limits heartbeat
-builder_with (Stated adapter outputs inputs settings described limits) (line.Limit limit) = with_stated adapter outputs inputs settings described limits limit
-builder_with (Stated adapter outputs inputs settings described limits) (line.Heartbeat heartbeat) = with_profile adapter outputs inputs settings described limits heartbeat
+builder_with (Points adapter outputs inputs) (line.Description described) = Some (Stated (front_of adapter outputs inputs None (Some described)))
+builder_with (Points adapter outputs inputs) (line.Limit limit) = with_stated (front_of adapter outputs inputs None None) limit
+builder_with (Points adapter outputs inputs) (line.Object class) = with_object (front_of adapter outputs inputs None None) [] class
+builder_with (Points adapter outputs inputs) (line.Heartbeat heartbeat) = with_profile (front_of adapter outputs inputs None None) [] heartbeat
+builder_with (Configured adapter outputs inputs point) (line.Description described) = Some (Stated (front_of adapter outputs inputs (Some point) (Some described)))
+builder_with (Configured adapter outputs inputs point) (line.Limit limit) = with_stated (front_of adapter outputs inputs (Some point) None) limit
+builder_with (Configured adapter outputs inputs point) (line.Object class) = with_object (front_of adapter outputs inputs (Some point) None) [] class
+builder_with (Configured adapter outputs inputs point) (line.Heartbeat heartbeat) = with_profile (front_of adapter outputs inputs (Some point) None) [] heartbeat
+builder_with (Stated front) (line.Limit limit) = with_stated front limit
+builder_with (Stated front) (line.Object class) = with_object front [] class
+builder_with (Stated front) (line.Heartbeat heartbeat) = with_profile front [] heartbeat
+builder_with (Objects front objects) (line.Object class) = with_object front objects class
+builder_with (Objects front objects) (line.Heartbeat heartbeat) = with_profile front objects heartbeat
 builder_with (Slots scanner slots) (line.Slot slot) = Some (Slots scanner (slots ++ slot ∷ []))
 builder_with (Slots scanner slots) (line.Event event) = Some (Events (config.Scanner (scanner_with scanner slots)) [] (Some (event, None)))
 builder_with (Events made_of entries last) (line.Event event) = Some (Events made_of (entries ++ option_to_list last) (Some (event, None)))

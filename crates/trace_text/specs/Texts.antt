@@ -37,7 +37,8 @@ heartbeat_line_of profile = record { input_only = profile.input_only; listen_onl
 abbrev pub scanner_line_of : ScannerProfile → ScannerLine
 scanner_line_of profile = record { incarnation = profile.incarnation; node = profile.node; vendor = profile.vendor; serial = profile.serial; open_timeout = profile.open_timeout; retry = profile.retry }
 
--- a profile: an adapter's outputs, inputs, configuration, description, limits and heartbeats, or a scanner's slots
+-- a profile: an adapter's outputs, inputs, configuration, description, limits, own classes and heartbeats, or a scanner's
+-- slots
 abbrev pub config_values : Config → List TraceLine
 config_values (config.Adapter profile) =
     line.Adapter (adapter_line_of profile)
@@ -46,7 +47,8 @@ config_values (config.Adapter profile) =
     ++ (map line.Config (option_to_list profile.config)
     ++ (map line.Description (option_to_list profile.description)
     ++ (map line.Limit (limit_lines profile.limits)
-    ++ line.Heartbeat (heartbeat_line_of profile) ∷ [])))))
+    ++ (map line.Object profile.objects
+    ++ line.Heartbeat (heartbeat_line_of profile) ∷ []))))))
 config_values (config.Scanner profile) = line.Scanner (scanner_line_of profile) ∷ map line.Slot profile.slots
 
 -- an outcome: the verdict, the frames, the datagrams and the notices, or the fault

@@ -1,9 +1,9 @@
 //! The part of a trace that was read so far.
 
-ghost use Rattle.std.specs.Prelude.{◌≡◌, ◌==◌, ◌+◌, [], length, ◌++◌, OnOk, option_to_list};
+ghost use Rattle.std.specs.Prelude.{◌≡◌, ◌==◌, ◌+◌, [], length, ◌++◌, OnOk, option_to_list, Some};
 ghost use Rattle.trace_words.specs.Reader.{Finds};
 ghost use Rattle.cip_tables.specs.declared.table.Config.{Config};
-ghost use Rattle.trace_text.specs.Reading.{with_stated, builder_with, Leaves};
+ghost use Rattle.trace_text.specs.Reading.{front_of, with_stated, with_object, with_profile, builder_with, Leaves};
 
 use crate::forms::TraceLine;
 use crate::kept::Recorded;
@@ -14,9 +14,22 @@ use cip_types::{Items, OutOfMemory};
 use scanner_table::SlotConfig;
 use std::alloc::Global;
 use std::mem;
-use trace_lines::{AdapterLine, LimitLine, ScannerLine, profile_with, scanner_with, with_limit};
+use trace_lines::{
+    AdapterLine, HeartbeatLine, LimitLine, ScannerLine, profile_with, scanner_with, with_limit,
+};
 use trace_outcomes::Part;
 use trace_words::TextFault;
+
+/// A profile up to what its maker states: its description and its limits.
+#[derive(Drop)]
+pub struct ProfileFront {
+    pub adapter: AdapterLine,
+    pub outputs: Items<OutputPoint>,
+    pub inputs: Items<InputPoint>,
+    pub config: Option<InputPoint>,
+    pub description: Option<Description>,
+    pub limits: MakerLimits,
+}
 
 /// The part of a trace in the lines so far.
 #[derive(Drop)]
@@ -36,15 +49,10 @@ pub enum TraceBuilder {
         inputs: Items<InputPoint>,
         config: InputPoint,
     },
-    /// A profile up to what its maker states: its description and its limits.
-    Stated {
-        adapter: AdapterLine,
-        outputs: Items<OutputPoint>,
-        inputs: Items<InputPoint>,
-        config: Option<InputPoint>,
-        description: Option<Description>,
-        limits: MakerLimits,
-    },
+    /// A profile up to what its maker states.
+    Stated(ProfileFront),
+    /// A profile up to the classes of its maker's own objects.
+    Objects(ProfileFront, Items<u32>),
     /// A scanner's profile up to its slots.
     Slots {
         scanner: ScannerLine,
@@ -100,23 +108,8 @@ fn builder_with(
             inputs,
             config,
         } => after_config(alloc, adapter, outputs, inputs, config, parsed),
-        TraceBuilder::Stated {
-            adapter,
-            outputs,
-            inputs,
-            config,
-            description,
-            limits,
-        } => after_stated(
-            alloc,
-            adapter,
-            outputs,
-            inputs,
-            config,
-            description,
-            limits,
-            parsed,
-        ),
+        TraceBuilder::Stated(front) => after_stated(alloc, front, parsed),
+        TraceBuilder::Objects(front, objects) => after_objects(alloc, front, objects, parsed),
         TraceBuilder::Slots { scanner, slots } => after_slots(alloc, scanner, slots, parsed),
         TraceBuilder::Events {
             config,
@@ -169,22 +162,20 @@ fn after_points(
             inputs,
             config,
         }),
-        TraceLine::Description(description) => Ok(TraceBuilder::Stated {
-            adapter,
-            outputs,
-            inputs,
-            config: None,
-            description: Some(description),
-            limits: MakerLimits::NONE,
-        }),
+        TraceLine::Description(described) => {
+            let front = front_of(adapter, outputs, inputs, None, Some(described));
+            Ok(TraceBuilder::Stated(front))
+        }
         TraceLine::Limit(limit) => {
-            let limits = MakerLimits::NONE;
-            with_stated(adapter, outputs, inputs, None, None, limits, limit)
+            with_stated(front_of(adapter, outputs, inputs, None, None), limit)
+        }
+        TraceLine::Object(class) => {
+            let front = front_of(adapter, outputs, inputs, None, None);
+            with_object(front, Items::new(alloc), class)
         }
         TraceLine::Heartbeat(heartbeat) => {
-            let limits = MakerLimits::NONE;
-            let profile = profile_with(adapter, outputs, inputs, None, None, limits, heartbeat);
-            Ok(after_profile(alloc, Config::Adapter(profile), None))
+            let front = front_of(adapter, outputs, inputs, None, None);
+            Ok(with_profile(alloc, front, Items::new(alloc), heartbeat))
         }
         _ => Err(TextFault::Bad),
     }
@@ -201,87 +192,125 @@ fn after_config(
     ensures { Finds (builder_with (TraceBuilder.Configured adapter outputs inputs config) parsed) result }
 {
     match parsed {
-        TraceLine::Description(description) => Ok(TraceBuilder::Stated {
-            adapter,
-            outputs,
-            inputs,
-            config: Some(config),
-            description: Some(description),
-            limits: MakerLimits::NONE,
-        }),
+        TraceLine::Description(described) => {
+            let front = front_of(adapter, outputs, inputs, Some(config), Some(described));
+            Ok(TraceBuilder::Stated(front))
+        }
         TraceLine::Limit(limit) => {
-            let limits = MakerLimits::NONE;
-            with_stated(adapter, outputs, inputs, Some(config), None, limits, limit)
+            with_stated(
+                front_of(adapter, outputs, inputs, Some(config), None),
+                limit,
+            )
+        }
+        TraceLine::Object(class) => {
+            let front = front_of(adapter, outputs, inputs, Some(config), None);
+            with_object(front, Items::new(alloc), class)
         }
         TraceLine::Heartbeat(heartbeat) => {
-            let limits = MakerLimits::NONE;
-            let profile = profile_with(
-                adapter,
-                outputs,
-                inputs,
-                Some(config),
-                None,
-                limits,
-                heartbeat,
-            );
-            Ok(after_profile(alloc, Config::Adapter(profile), None))
+            let front = front_of(adapter, outputs, inputs, Some(config), None);
+            Ok(with_profile(alloc, front, Items::new(alloc), heartbeat))
         }
         _ => Err(TextFault::Bad),
     }
 }
 
-/// One limit more, behind the description or where that is left out.
-fn with_stated(
+/// A profile up to its description, if it has one, before its limits.
+fn front_of(
     adapter: AdapterLine,
     outputs: Items<OutputPoint>,
     inputs: Items<InputPoint>,
     config: Option<InputPoint>,
     description: Option<Description>,
-    limits: MakerLimits,
-    limit: LimitLine,
-) -> Result<TraceBuilder, TextFault>
-    ensures { Finds (with_stated adapter outputs inputs config description limits limit) result }
+) -> ProfileFront
+    ensures { result ≡ front_of adapter outputs inputs config description }
 {
-    let limits = with_limit(limits, limit).ok_or(TextFault::Bad)?;
-    Ok(TraceBuilder::Stated {
+    ProfileFront {
+        adapter,
+        outputs,
+        inputs,
+        config,
+        description,
+        limits: MakerLimits::NONE,
+    }
+}
+
+/// One limit more, behind the description or where that is left out.
+fn with_stated(front: ProfileFront, limit: LimitLine) -> Result<TraceBuilder, TextFault>
+    ensures { Finds (with_stated front limit) result }
+{
+    let limits = with_limit(front.limits, limit).ok_or(TextFault::Bad)?;
+    Ok(TraceBuilder::Stated(ProfileFront { limits, ..front }))
+}
+
+/// One class of the maker's own objects more.
+fn with_object(
+    front: ProfileFront,
+    objects: Items<u32>,
+    class: u32,
+) -> Result<TraceBuilder, TextFault>
+    ensures { Finds (with_object front objects class) result }
+{
+    Ok(TraceBuilder::Objects(front, with_item(objects, class)?))
+}
+
+/// The whole profile of an adapter.
+fn with_profile(
+    alloc: Global,
+    front: ProfileFront,
+    objects: Items<u32>,
+    heartbeat: HeartbeatLine,
+) -> TraceBuilder
+    ensures { Some result ≡ with_profile front objects heartbeat }
+{
+    let ProfileFront {
         adapter,
         outputs,
         inputs,
         config,
         description,
         limits,
-    })
+    } = front;
+    let profile = profile_with(
+        adapter,
+        outputs,
+        inputs,
+        config,
+        description,
+        limits,
+        objects,
+        heartbeat,
+    );
+    after_profile(alloc, Config::Adapter(profile), None)
 }
 
 fn after_stated(
     alloc: Global,
-    adapter: AdapterLine,
-    outputs: Items<OutputPoint>,
-    inputs: Items<InputPoint>,
-    config: Option<InputPoint>,
-    description: Option<Description>,
-    limits: MakerLimits,
+    front: ProfileFront,
     parsed: TraceLine,
 ) -> Result<TraceBuilder, TextFault>
-    ensures { Finds
-        (builder_with (TraceBuilder.Stated adapter outputs inputs config description limits) parsed) result }
+    ensures { Finds (builder_with (TraceBuilder.Stated front) parsed) result }
 {
     match parsed {
-        TraceLine::Limit(limit) => {
-            with_stated(adapter, outputs, inputs, config, description, limits, limit)
-        }
+        TraceLine::Limit(limit) => with_stated(front, limit),
+        TraceLine::Object(class) => with_object(front, Items::new(alloc), class),
         TraceLine::Heartbeat(heartbeat) => {
-            let profile = profile_with(
-                adapter,
-                outputs,
-                inputs,
-                config,
-                description,
-                limits,
-                heartbeat,
-            );
-            Ok(after_profile(alloc, Config::Adapter(profile), None))
+            Ok(with_profile(alloc, front, Items::new(alloc), heartbeat))
         }
+        _ => Err(TextFault::Bad),
+    }
+}
+
+fn after_objects(
+    alloc: Global,
+    front: ProfileFront,
+    objects: Items<u32>,
+    parsed: TraceLine,
+) -> Result<TraceBuilder, TextFault>
+    ensures { Finds (builder_with (TraceBuilder.Objects front objects) parsed) result }
+{
+    match parsed {
+        TraceLine::Object(class) => with_object(front, objects, class),
+        TraceLine::Heartbeat(heartbeat) => Ok(with_profile(alloc, front, objects, heartbeat)),
         _ => Err(TextFault::Bad),
     }
 }

@@ -15,6 +15,8 @@ pub enum TraceLine {
     Config(InputPoint),
     Description(Description),
     Limit(LimitLine),
+    /// A class of the maker's own objects.
+    Object(u32),
     Heartbeat(HeartbeatLine),
     Scanner(ScannerLine),
     Slot(SlotConfig),

@@ -3,7 +3,7 @@
 ghost use Rattle.std.specs.Prelude.{◌≡◌, take, option_map, if◌then◌else◌, Some, None};
 ghost use Rattle.trace_words.specs.Reader.{unread_words, Takes, Finds, meaning};
 ghost use Rattle.trace_words.specs.Words.{number_of};
-ghost use Rattle.trace_text.specs.Forms.{event_of, explicit_reader, is_ascii, line_of, line_meanings, line_reader, numbered};
+ghost use Rattle.trace_text.specs.Forms.{event_of, answer_reader, explicit_reader, is_ascii, line_of, line_meanings, line_reader, numbered};
 
 use crate::forms::TraceLine;
 use cip_tables::Event;
@@ -11,8 +11,8 @@ use std::alloc::Global;
 use std::str;
 use trace_lines::{
     read_adapter, read_description, read_heartbeat, read_least_rpi, read_mode, read_newer,
-    read_node_connections, read_output, read_own_closers, read_places, read_point, read_scanner,
-    read_slot,
+    read_node_connections, read_object, read_output, read_own_closers, read_places, read_point,
+    read_scanner, read_slot,
 };
 use trace_outcomes::read_part;
 use trace_words::{TextFault, Words, read_u64};
@@ -101,10 +101,10 @@ fn read_words(alloc: Global, words: &mut Words<'_>) -> Result<TraceLine, TextFau
     }
 }
 
-/// What follows the word of a request, of an inquiry, of a stream's event or of a profile's line, or the number of an
-/// event.
+/// What follows the word of a request, of an inquiry, of an answer, of a stream's event or of a profile's line, or the
+/// number of an event.
 fn read_other(alloc: Global, words: &mut Words<'_>, word: &str) -> Result<TraceLine, TextFault>
-    ensures { Takes (meaning (take 19 line_meanings) (numbered (number_of 64 word.now)) word.now
+    ensures { Takes (meaning (take 21 line_meanings) (numbered (number_of 64 word.now)) word.now
         (unread_words words.old)) result (unread_words words.new) }
 {
     match word {
@@ -123,6 +123,7 @@ fn read_other(alloc: Global, words: &mut Words<'_>, word: &str) -> Result<TraceL
                 .map(TraceLine::Event)
         }
         "explicit" => read_explicit(alloc, words).map(TraceLine::Event),
+        "answer" => read_answer(alloc, words).map(TraceLine::Event),
         "frame" => {
             let stream = words.u16()?;
             let bytes = words.bytes(alloc)?;
@@ -159,13 +160,25 @@ fn read_explicit(alloc: Global, words: &mut Words<'_>) -> Result<Event, TextFaul
     words.last(explicit)
 }
 
+/// What follows `answer`: `NUMBER STATUS HEX`.
+fn read_answer(alloc: Global, words: &mut Words<'_>) -> Result<Event, TextFault>
+    ensures { Takes (answer_reader (unread_words words.old)) result (unread_words words.new) }
+{
+    let answer = Event::Respond {
+        number: words.u64()?,
+        status: words.general(alloc)?,
+        bytes: words.bytes(alloc)?,
+    };
+    words.last(answer)
+}
+
 /// What follows the word of a profile's line, or the number of an event.
 fn read_profile_line(
     alloc: Global,
     words: &mut Words<'_>,
     word: &str,
 ) -> Result<TraceLine, TextFault>
-    ensures { Takes (meaning (take 13 line_meanings) (numbered (number_of 64 word.now)) word.now
+    ensures { Takes (meaning (take 14 line_meanings) (numbered (number_of 64 word.now)) word.now
         (unread_words words.old)) result (unread_words words.new) }
 {
     match word {
@@ -179,6 +192,7 @@ fn read_profile_line(
         "node-connections" => read_node_connections(words).map(TraceLine::Limit),
         "closers" => read_own_closers(words).map(TraceLine::Limit),
         "newer" => read_newer(words).map(TraceLine::Limit),
+        "object" => read_object(words).map(TraceLine::Object),
         "heartbeat" => read_heartbeat(words).map(TraceLine::Heartbeat),
         "scanner" => read_scanner(words).map(TraceLine::Scanner),
         "slot" => read_slot(alloc, words).map(TraceLine::Slot),

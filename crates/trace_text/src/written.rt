@@ -12,7 +12,7 @@ use cip_types::{Node, OutOfMemory};
 use std::alloc::Global;
 use trace_lines::{push_profile, push_scanner};
 use trace_outcomes::push_outcome;
-use trace_words::{push_last_bytes, push_node};
+use trace_words::{push_digits, push_last_bytes, push_node};
 
 /// The text of a trace. The recorded outcome of an event follows its line.
 #[tactic(auto, unfolding(crate::specs::Written::trace_text))]
@@ -75,6 +75,11 @@ pub fn push_event(out: &mut String, event: &Event) -> Result<(), OutOfMemory>
             number,
             bytes,
         } => push_explicit(out, *target, *number, bytes.as_slice()),
+        Event::Respond {
+            number,
+            status,
+            bytes,
+        } => push_answer(out, *number, *status, bytes.as_slice()),
         Event::Write { point, bytes } => { push_of_number(out, "write", *point, bytes.as_slice()) }
         Event::Read { point } => push_number(out, "read", *point),
         Event::Tick { ms } => push_number(out, "tick", *ms),
@@ -122,6 +127,17 @@ fn push_explicit(
     push_node(out, target)?;
     // (what is behind the address is as behind a keyword)
     push_of_number(out, "", number, bytes)?;
+    Ok(())
+}
+
+fn push_answer(out: &mut String, number: u64, status: u8, bytes: &[u8]) -> Result<(), OutOfMemory>
+    ensures { OnOk result
+        (string_bytes out.new ≡ string_bytes out.old
+        ++ line_text (event_words (Event.Respond number status bytes.now))) }
+{
+    write!(out, "answer {number} ")?;
+    push_digits(out, &[status])?;
+    push_last_bytes(out, bytes)?;
     Ok(())
 }
 

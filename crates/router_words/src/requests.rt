@@ -1,8 +1,11 @@
 //! Requests to the message router in words.
 
-use crate::connections::{push_direction, push_multiplier, push_path, push_trigger};
+use crate::connections::{
+    push_direction, push_message_path, push_multiplier, push_path, push_trigger,
+};
 use crate::values::{push_data, push_id, push_triad};
 use cip_fwdopen::{CloseRequest, OpenRequest, OpenService};
+use cip_netparams::is_message_trigger;
 use cip_router::{RouterRequest, Status, read_router_request};
 use cip_tables::Config;
 use cip_types::OutOfMemory;
@@ -44,7 +47,7 @@ fn push_close(out: &mut String, request: &CloseRequest<&[u8]>) -> Result<(), Out
 }
 
 /// A service of the attribute of an instance of a class.
-fn push_object(
+pub fn push_object(
     alloc: Global,
     out: &mut String,
     service: u8,
@@ -122,5 +125,8 @@ fn push_open(
     push_text(out, "; ")?;
     push_trigger(out, request.trigger)?;
     push_text(out, "; ")?;
+    if is_message_trigger(request.trigger) {
+        return push_message_path(alloc, out, request.path);
+    }
     push_path(alloc, out, config, request.o_t_params.size, request.path)
 }

@@ -1,8 +1,8 @@
 //! The parameters and the path of a connection in words.
 
 use crate::values::{push_data, push_interval};
-use cip_epath::{ConnPath, ElectronicKey, read_path};
-use cip_netparams::{ConnectionType, NetParams, Trigger};
+use cip_epath::{ConnPath, ElectronicKey, read_message_path, read_path};
+use cip_netparams::{ConnectionType, NetParams, Trigger, is_message_trigger};
 use cip_tables::Config;
 use cip_types::OutOfMemory;
 use std::alloc::Global;
@@ -48,6 +48,7 @@ pub fn push_trigger(out: &mut String, byte: u8) -> Result<(), OutOfMemory> {
     match Trigger::read(byte) {
         Some(Trigger::Cyclic) => push_text(out, "class 1 cyclic"),
         Some(Trigger::ChangeOfState) => push_text(out, "class 1 at change of state"),
+        None if is_message_trigger(byte) => push_text(out, "class 3 server"),
         None => Ok(write!(out, "class and trigger {byte:#04x} (not served)")?),
     }
 }
@@ -66,6 +67,23 @@ pub fn push_path(
         Ok(path) => push_points(alloc, out, kind_words(config, size, path.consumed), &path),
         Err(fault) => {
             write!(out, "a path that does not read ({fault}), ")?;
+            push_data(alloc, out, path)
+        }
+    }
+}
+
+/// The path of a class 3 connection: the message router, and its key.
+///
+/// Volume 1, chapter 3, connection path.
+pub fn push_message_path(alloc: Global, out: &mut String, path: &[u8]) -> Result<(), OutOfMemory> {
+    match read_message_path(path) {
+        Ok(Some(key)) => {
+            push_text(out, "message router")?;
+            push_key(out, key)
+        }
+        Ok(None) => push_text(out, "message router"),
+        Err(fault) => {
+            write!(out, "a path that is not the message router's ({fault}), ")?;
             push_data(alloc, out, path)
         }
     }

@@ -4,11 +4,12 @@ use crate::requests::service_name;
 use crate::values::{push_data, push_id, push_interval, push_triad};
 use cip_fwdopen::service::{FORWARD_CLOSE, FORWARD_OPEN, LARGE_FORWARD_OPEN, REPLY};
 use cip_fwdopen::{
-    CloseAnswer, GetAnswer, OpenAnswer, Opened, Refused, read_close_reply, read_get_reply,
-    read_open_reply,
+    CloseAnswer, GetAnswer, OpenAnswer, Opened, ReadFault, Refused, read_close_reply,
+    read_get_reply, read_open_reply,
 };
+use cip_router::read_router_reply;
 use cip_types::OutOfMemory;
-use status_words::push_fault;
+use status_words::{push_fault, push_general};
 use std::alloc::Global;
 use trace_words::push_text;
 
@@ -110,9 +111,27 @@ fn push_get_reply(alloc: Global, out: &mut String, bytes: &[u8]) -> Result<(), O
                 push_fault(out, fault)
             }
         },
-        Err(fault) => {
-            write!(out, "it does not read ({fault}), ")?;
-            push_data(alloc, out, bytes)
+        Err(fault) => push_other_reply(alloc, out, bytes, fault),
+    }
+}
+
+/// A refusal with data of an object's own, or bytes that are no reply.
+///
+/// Volume 1, chapter 2, message router response.
+fn push_other_reply(
+    alloc: Global,
+    out: &mut String,
+    bytes: &[u8],
+    fault: ReadFault,
+) -> Result<(), OutOfMemory> {
+    if let Some(reply) = read_router_reply(bytes) {
+        if reply.status != 0 && reply.additional.is_empty() {
+            push_text(out, "refused with ")?;
+            push_general(out, reply.status)?;
+            push_text(out, ", ")?;
+            return push_data(alloc, out, reply.content);
         }
     }
+    write!(out, "it does not read ({fault}), ")?;
+    push_data(alloc, out, bytes)
 }
