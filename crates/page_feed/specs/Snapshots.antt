@@ -85,12 +85,17 @@ parts_text (config.Adapter profile) table = adapter_text profile.outputs profile
 parts_text (config.Scanner profile) table = scanner_text profile.slots table
 
 -- how much of a device is in use
-abbrev pub totals_text : DeviceTotals → List ℕ
-totals_text totals =
+abbrev pub in_use_text : DeviceTotals → List ℕ
+in_use_text totals =
     codes ",\"totals\":{\"streams\":" ++ (decimal totals.streams
     ++ (codes ",\"sessions\":" ++ (decimal totals.sessions
-    ++ (codes ",\"connections\":" ++ (decimal totals.connections
-    ++ (codes ",\"ids_left\":" ++ (decimal totals.ids_left ++ codes "}")))))))
+    ++ (codes ",\"connections\":" ++ decimal totals.connections))))
+
+abbrev pub totals_text : DeviceTotals → List ℕ
+totals_text totals =
+    in_use_text totals
+    ++ (codes ",\"class_3\":" ++ (decimal totals.dialogues
+    ++ (codes ",\"ids_left\":" ++ (decimal totals.ids_left ++ codes "}"))))
 
 -- what a device of a configuration is at a moment, without the events and the end of the object
 abbrev pub device_text : Config → DeviceTable → StationFacts → List ℕ

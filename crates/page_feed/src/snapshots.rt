@@ -228,10 +228,12 @@ fn push_device_totals(out: &mut String, totals: DeviceTotals) -> Result<(), OutO
     ensures { OnOk result (string_bytes out.new ≡ string_bytes out.old ++ totals_text totals) }
 {
     let (streams, sessions) = (totals.streams, totals.sessions);
-    let (connections, ids_left) = (totals.connections, totals.ids_left);
+    let (connections, dialogues) = (totals.connections, totals.dialogues);
     write!(
         out,
-        ",\"totals\":{{\"streams\":{streams},\"sessions\":{sessions},\"connections\":{connections},\"ids_left\":{ids_left}}}"
+        ",\"totals\":{{\"streams\":{streams},\"sessions\":{sessions},\"connections\":{connections}"
     )?;
+    let ids_left = totals.ids_left;
+    write!(out, ",\"class_3\":{dialogues},\"ids_left\":{ids_left}}}")?;
     Ok(())
 }

@@ -11,7 +11,7 @@ use cip_events::{Answer, Delivery, Event, Outcome, Verdict};
 use cip_tables::{Config, Device};
 use cip_types::{Node, OutOfMemory};
 use page_feed::{PageFeed, StationFacts};
-use station_lines::{EventMoment, LineSink, has_news};
+use station_lines::{EventMoment, LineSink, has_news, push_own};
 use station_record::{RecordFault, RecordSink, Recorder};
 use station_watch::{ClosingSlots, ConnectedPeers, SlotDuty, SlotWatches, Starved, StationTraffic};
 use std::alloc::Global;
@@ -219,27 +219,28 @@ impl<W: RecordSink + Drop, O: LineSink, E: LineSink> StationObserver<W, O, E> {
         Ok(())
     }
 
-    /// Prints the outcome of the last event, and what it says of attributes that were requested.
-    fn print_news(&mut self, outcome: &Outcome) -> Result<(), OutOfMemory>
+    /// Prints the outcome of the last event, if it is to be printed, and what its answer says of requests.
+    fn print_news(&mut self, event: &Event, outcome: &Outcome) -> Result<(), OutOfMemory>
         ensures kept { self.new.recorder ≡ self.old.recorder }
     {
-        self.print_outcome(outcome)?;
-        self.print_attributes(outcome)
+        if has_news(event, outcome) {
+            self.print_outcome(outcome)?;
+        }
+        self.print_requests(outcome)
     }
 
-    /// Prints what an answer says of attributes that were requested.
-    fn print_attributes(&mut self, outcome: &Outcome) -> Result<(), OutOfMemory>
+    /// Prints what an answer says of attributes that were requested, and a request that the application is to answer.
+    fn print_requests(&mut self, outcome: &Outcome) -> Result<(), OutOfMemory>
         ensures kept { self.new.recorder ≡ self.old.recorder }
     {
         let Ok(answer) = outcome else {
             return Ok(());
         };
         let mut text = String::new(self.alloc);
-        let moment = ReplyMoment {
-            number: self.count(),
-            ms: self.now_ms(),
-        };
+        let (number, ms) = (self.count(), self.now_ms());
+        let moment = ReplyMoment { number, ms };
         self.requested.push_answer(&mut text, moment, answer)?;
+        push_own(&mut text, &answer.verdict, EventMoment { number, ms })?;
         self.print(text.as_bytes());
         Ok(())
     }
@@ -271,7 +272,7 @@ impl<W: RecordSink + Drop, O: LineSink, E: LineSink> StationObserver<W, O, E> {
         self.requested.note(event)
     }
 
-    /// Notes a step. Reports why the record has ended, if it has, and prints the outcome, if it is to be printed.
+    /// Notes a step. Reports why the record has ended, if it has, and prints what there is to print.
     fn report_step(&mut self, event: &Event, outcome: &Outcome, ended: Option<RecordFault>)
         ensures kept { self.new.recorder ≡ self.old.recorder }
     {
@@ -281,7 +282,7 @@ impl<W: RecordSink + Drop, O: LineSink, E: LineSink> StationObserver<W, O, E> {
         if self.note(event, outcome).is_err() {
             self.fault = Some(EarlyEnd::OutOfMemory);
         }
-        if has_news(event, outcome) && self.print_news(outcome).is_err() {
+        if self.print_news(event, outcome).is_err() {
             self.fault = Some(EarlyEnd::OutOfMemory);
         }
     }

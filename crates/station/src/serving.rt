@@ -418,7 +418,7 @@ impl<P: KeptPort, C: Clock, D: Device, W: RecordSink + Drop, O: LineSink, E: Lin
         let number = self.lines;
         if write!(
             &mut self.text,
-            "eip_station: line {number} of standard input is no call: write POINT HEX, read POINT, mode run, mode idle, start SLOT, stop SLOT, get NODE CLASS INSTANCE ATTRIBUTE, set NODE CLASS INSTANCE ATTRIBUTE HEX, explicit NODE NUMBER HEX, status\n"
+            "eip_station: line {number} of standard input is no call: write POINT HEX, read POINT, mode run, mode idle, start SLOT, stop SLOT, get NODE CLASS INSTANCE ATTRIBUTE, set NODE CLASS INSTANCE ATTRIBUTE HEX, explicit NODE NUMBER HEX, answer NUMBER STATUS HEX, status\n"
         )
         .is_err()
         {

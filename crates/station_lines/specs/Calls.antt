@@ -20,6 +20,7 @@ is_call (event.Mode run) = true
 is_call (event.Start slot) = true
 is_call (event.Stop slot) = true
 is_call (event.Explicit target number bytes) = true
+is_call (event.Respond number status bytes) = true
 is_call other = false
 
 -- the call that a line writes

@@ -77,7 +77,8 @@ use_text totals =
     codes "status streams " ++ (decimal totals.streams
     ++ (codes " sessions " ++ (decimal totals.sessions
     ++ (codes " connections " ++ (decimal totals.connections
-    ++ (codes " ids " ++ decimal totals.ids_left))))))
+    ++ (codes " class-3 " ++ (decimal totals.dialogues
+    ++ (codes " ids " ++ decimal totals.ids_left))))))))
 
 abbrev pub traffic_text : TrafficTotals → List ℕ
 traffic_text totals =

@@ -10,7 +10,7 @@ use cip_types::OutOfMemory;
 use std::alloc::Global;
 use trace_text::{TextFault, ascii_text, read_event_line};
 
-/// Whether an event is a call of the application: `write`, `read`, `mode`, `start`, `stop` or `explicit`.
+/// Whether an event is a call of the application: `write`, `read`, `mode`, `start`, `stop`, `explicit` or `answer`.
 pub fn is_call(event: &Event) -> bool
     ensures { result ≡ is_call event.now }
 {
@@ -21,6 +21,7 @@ pub fn is_call(event: &Event) -> bool
         Event::Start { slot: _ } => true,
         Event::Stop { slot: _ } => true,
         Event::Explicit { .. } => true,
+        Event::Respond { .. } => true,
         _ => false,
     }
 }

@@ -14,3 +14,4 @@ pub use lines::{CallBuffer, CallLines, InputRead, NextLine, NoLines, input_read}
 pub use points::{EventMoment, Points};
 pub use reports::{push_report, push_starved};
 pub use sink::LineSink;
+pub use status::push_own;

@@ -1,10 +1,12 @@
-//! The lines of the call `status`: what a device says of itself, and what was counted of its datagrams.
+//! The lines of the call `status`, and that of a request that the application is to answer.
 
 ghost use Rattle.std.specs.Prelude.{◌≡◌, ◌++◌, OnOk, slice_get, string_bytes};
 ghost use Rattle.cip_tables.specs.States.{connection_in, totals_of};
+ghost use Rattle.station_lines.specs.OwnRequests.{own_request_line, said_line};
 ghost use Rattle.station_lines.specs.Status.{age_text, apis_text, config_text, connection_at, connection_head, connection_line, connection_lines, counts_text, id_text, kind_word, mode_word, moment_text, owner_line, owner_text, point_head, point_status, points_status, purpose_text, slot_kind_text, slot_line, slot_of, slot_state, state_word, status_lines, status_text, target_text, terms_text, totals_line};
 
 use crate::points::{EventMoment, PointKind, SlotTerms, WatchedPoint};
+use cip_events::Verdict;
 use cip_tables::{
     Age, ConnectionReport, Device, DeviceTotals, Kind, Mode, SlotReport, TargetReport,
 };
@@ -12,6 +14,7 @@ use cip_types::OutOfMemory;
 use cip_types::limits::MOST_CONNECTIONS;
 use datagram_counts::DatagramCounts;
 use station_watch::{CountedConnection, StationTraffic, TrafficTotals};
+use trace_outcomes::push_verdict;
 use trace_words::{push_digits, push_node, push_text};
 
 /// Appends the lines of a device's state: one of its totals, then one for each connection of an adapter in the order of the
@@ -70,6 +73,26 @@ fn push_moment(out: &mut String, at: EventMoment) -> Result<(), OutOfMemory>
     Ok(())
 }
 
+/// Appends the line of a request to an object of the maker's own, if the verdict is one.
+pub fn push_own(out: &mut String, verdict: &Verdict, at: EventMoment) -> Result<(), OutOfMemory>
+    ensures { OnOk result (string_bytes out.new ≡ string_bytes out.old ++ own_request_line at verdict.now) }
+{
+    match verdict {
+        Verdict::Asked { .. } => push_said(out, verdict, at),
+        _ => Ok(()),
+    }
+}
+
+/// Appends a verdict behind the number of the event and the time.
+fn push_said(out: &mut String, verdict: &Verdict, at: EventMoment) -> Result<(), OutOfMemory>
+    ensures { OnOk result (string_bytes out.new ≡ string_bytes out.old ++ said_line at verdict.now) }
+{
+    push_moment(out, at)?;
+    push_verdict(out, verdict)?;
+    push_text(out, "\n")?;
+    Ok(())
+}
+
 /// Appends the line of these totals.
 fn push_totals_line(
     out: &mut String,
@@ -81,10 +104,10 @@ fn push_totals_line(
 {
     push_moment(out, at)?;
     let (streams, sessions) = (device.streams, device.sessions);
-    let (connections, ids) = (device.connections, device.ids_left);
+    let (connections, dialogues, ids) = (device.connections, device.dialogues, device.ids_left);
     write!(
         out,
-        "status streams {streams} sessions {sessions} connections {connections} ids {ids}"
+        "status streams {streams} sessions {sessions} connections {connections} class-3 {dialogues} ids {ids}"
     )?;
     let (received, sent) = (traffic.received, traffic.sent);
     let (applied, lost) = (traffic.applied, traffic.lost);

@@ -212,8 +212,9 @@ function renderTotals(snapshot) {
   const { totals, counts } = snapshot;
   show('totals', table(['', ''], [
     ['streams, sessions', `${totals.streams}, ${totals.sessions}`], ['connections', totals.connections],
-    ['connection ids left', totals.ids_left], ['datagrams received, sent', `${counts.received}, ${counts.sent}`],
-    ['datagrams whose data were applied', counts.applied], ['sequence numbers lost', counts.lost]]));
+    ['class 3 connections', totals.class_3], ['connection ids left', totals.ids_left],
+    ['datagrams received, sent', `${counts.received}, ${counts.sent}`], ['datagrams whose data were applied', counts.applied],
+    ['sequence numbers lost', counts.lost]]));
 }
 
 function renderEvents(known) {

@@ -27,12 +27,8 @@ is_lost WrongSize = false
 is_lost Malformed = true
 
 abbrev pub is_lost_by : Verdict → Bool
-is_lost_by verdict.Done = false
-is_lost_by verdict.BadFrame = false
-is_lost_by verdict.Ignored = false
-is_lost_by (verdict.Value bytes) = false
 is_lost_by (verdict.Delivered delivery) = is_lost delivery
-is_lost_by (verdict.Replied number status additional content) = false
+is_lost_by other = false
 
 -- the outcome is that of such a datagram
 abbrev pub is_for_none : Outcome → Bool

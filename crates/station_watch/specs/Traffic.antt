@@ -18,6 +18,7 @@ use Rattle.cip_tables.specs.declared.table.Config.TheVariants as config
 use Rattle.scanner_table.specs.declared.profile.SlotConfig.{SlotConfig}
 use Rattle.datagram_counts.specs.Counts.{counted, is_accepted, missed, no_counts, with_more}
 use Rattle.station_watch.specs.Groups.{opened_data, u32_behind}
+use Rattle.station_watch.specs.Openings.{opens_dialogue}
 use Rattle.station_watch.specs.declared.groups.OpenedData.{OpenedData}
 use Rattle.station_watch.specs.declared.traffic.CountedConnection.{CountedConnection}
 use Rattle.station_watch.specs.declared.traffic.DataSource.{DataSource}
@@ -160,10 +161,14 @@ abbrev pub reply_id : Event → Option ℕ
 reply_id (event.Frame stream bytes) = id_of (opened_data bytes)
 reply_id other = None
 
--- after a notice in the answer to an event: a connection that was opened is the last one, one that has ended gives its place
--- up, and one that timed out keeps it
+-- a connection that was opened is the last one; one of class 3 has no datagrams, and no place
+abbrev pub with_opened : Event → Triad → ℕ → List CountedConnection → List CountedConnection
+with_opened given triad id connections =
+    if opens_dialogue given then connections else with_connection (begun (source.Originator triad) (Some id)) (without_originator triad connections)
+
+-- after a notice in the answer to an event: a connection that has ended gives its place up, and one that timed out keeps it
 abbrev pub after_notice : Event → Notice → List CountedConnection → List CountedConnection
-after_notice given (notice.Opened triad id) connections = with_connection (begun (source.Originator triad) (Some id.0)) (without_originator triad connections)
+after_notice given (notice.Opened triad id) connections = with_opened given triad id.0 connections
 after_notice given (notice.Closed triad) connections = without_originator triad connections
 after_notice given (notice.Dropped triad) connections = without_originator triad connections
 after_notice given (notice.Replaced triad) connections = without_originator triad connections

@@ -4,6 +4,7 @@
 
 mod closing;
 mod groups;
+mod openings;
 mod peers;
 mod slots;
 mod traffic;

@@ -3,6 +3,7 @@
 ghost use Rattle.std.specs.Prelude.{◌≡◌, OnOk};
 ghost use Rattle.station_watch.specs.Peers.{change_of, has_triad, connections_after, connections_through, is_change, with_connection, without};
 
+use crate::openings::opens_dialogue;
 use cip_events::{Event, Notice};
 use cip_types::limits::{MOST_CONNECTIONS, MOST_STREAMS};
 use cip_types::{Node, OutOfMemory, Triad};
@@ -57,8 +58,11 @@ impl ConnectedPeers {
         note_all(&mut self.held, notices, peer)
     }
 
-    /// The peer whose request an event brings.
+    /// The peer whose request an event brings, unless it opens a class 3 connection, which has no datagrams.
     fn peer_of(&self, event: &Event) -> Option<Node> {
+        if opens_dialogue(event) {
+            return None;
+        }
         match event {
             Event::Request { peer, bytes: _ } => Some(*peer),
             Event::Frame { stream, bytes: _ } => *self.streams.get(usize::from(*stream))?,

@@ -4,6 +4,7 @@ ghost use Rattle.std.specs.Prelude.{◌≡◌, find, map, IfOk, OnOk};
 ghost use Rattle.station_watch.specs.Traffic.{after_datagram, after_event, after_notice, after_notices, applied_by, arrived, begun, counted_one, fresh_slot, fresh_traffic, is_for, is_from, is_id, is_of, lost_by, lost_of, noted, received_datagram, reply_id, sent_totals, slot_changed, totals_after, with_connection, with_slot, without_originator};
 
 use crate::groups::{datagram_id, datagram_sequence, opened_data};
+use crate::openings::opens_dialogue;
 use cip_events::{Answer, Delivery, Event, Notice, SlotPhase, Verdict};
 use cip_tables::{Config, SlotConfig};
 use cip_types::limits::MOST_CONNECTIONS;
@@ -323,7 +324,7 @@ fn note_all(
 }
 
 /// Notes a notice in the answer to an event: a connection that was opened is the last one, one that has ended gives its place
-/// up, and one that timed out keeps it. The fault: an allocation was refused.
+/// up, and one that timed out keeps it. A class 3 connection has no place. The fault: an allocation was refused.
 fn note_one(
     connections: &mut Vec<CountedConnection>,
     event: &Event,
@@ -332,6 +333,7 @@ fn note_one(
     ensures { OnOk result (connections.new.items ≡ after_notice event.now notice.now connections.old.items) }
 {
     match notice {
+        Notice::Opened(_, _) if opens_dialogue(event) => Ok(()),
         Notice::Opened(triad, id) => {
             remove(connections, *triad);
             add(

@@ -23,11 +23,22 @@ use Rattle.adapter_table.specs.Opening.{is_replaced, is_replaced_by, opened_tabl
 use Rattle.adapter_table.specs.Productions.{produced_row, changed_row}
 use Rattle.adapter_table.specs.Sound.{OpensBefore, OpeningsRise, TriadsDiffer}
 use Rattle.adapter_table.specs.Step.{written_table, changed_table}
-use Rattle.adapter_table.specs.Ticks.{has_expired, expired, expired_row, expired_rows, expiry_notices, clocked_table, expired_table, produced_table}
+use Rattle.adapter_table.specs.Ticks.{has_expired, expired, expired_row, expired_rows, expiry_notices, clocked_table, expired_table, produced_table, late_notice, aged_next}
 use Rattle.adapter_table.specs.Lemmas.LikeLemmas.{Keeps, changed_keeps, due_keeps, fed_keeps, written_keeps}
 use Rattle.adapter_table.specs.Lemmas.SoundLemmas.{any_opened, triads_filter}
+use Rattle.adapter_table.specs.Messages.{messages_table}
+use Rattle.adapter_table.specs.Requests.{Next}
+use Rattle.adapter_table.specs.Streams.{ended_notice, ended_notices, without_stream}
+use Rattle.messaging.specs.declared.dialogue.Dialogue.{Dialogue}
+use Rattle.messaging.specs.declared.table.Messaging.{Messaging}
+use Rattle.messaging.specs.Changes.{stream_dialogues}
+use Rattle.messaging.specs.Dialogues.{is_on_stream}
+use Rattle.messaging.specs.Sound.{EachOf}
+use Rattle.messaging.specs.Times.{late_dialogues}
+use Rattle.messaging.specs.Lemmas.EachOfLemmas.{each_left}
+use Rattle.station_watch.specs.Openings.{opens_dialogue}
 use Rattle.traffic_laws.specs.Places.{AreAtPlaces}
-use Rattle.station_watch.specs.Traffic.{after_notices, begun, with_connection, without_originator}
+use Rattle.station_watch.specs.Traffic.{after_notice, after_notices, begun, with_connection, with_opened, without_originator}
 use Rattle.station_watch.specs.declared.traffic.CountedConnection.{CountedConnection}
 use Rattle.station_watch.specs.declared.traffic.DataSource.TheVariants as source
 use Rattle.traffic_laws.proofs.PlaceLemmas.{Alone, NamesStay, all_left, at_dropped, at_mapped, at_opened, at_removed, expired_stay, removed_all, same_others, triad_alone}
@@ -71,6 +82,66 @@ keeps_closed given t removed differ = λ counts at.
     at_staying given (without_originator removed.triad counts) (without_triad removed.triad t.rows) (triads_filter (λ row. not (has_triad removed.triad row)) t.rows differ)
     (at_removed removed.triad counts t.rows at)
 
+-- CLASS 3 CONNECTIONS
+
+-- no connection of class 1 has its triad
+abbrev pub IsApart : List Row → Dialogue → Type 0
+IsApart rows d = list_any (has_triad d.triad) rows ≡ false
+
+-- what has another triad stays
+at_apart : (triad : Triad) (counts : List CountedConnection) (rows : List Row) → list_any (has_triad triad) rows ≡ false → AreAtPlaces counts rows → AreAtPlaces (without_originator triad counts) rows
+at_apart triad counts rows none at =
+    subst (λ (xs : List Row). AreAtPlaces (without_originator triad counts) xs) (all_left (has_triad triad) rows none) (at_removed triad counts rows at)
+
+-- other messages, and the same connections of class 1
+pub keeps_messaged : (given : Event) (t : AdapterTable) (next_id : ℕ) (m : Messaging) → KeepsPlaces given t [] (messages_table t next_id m)
+unfolding messages_table
+keeps_messaged given t next_id m = λ counts at. at
+
+-- a step of class 1, and then other messages
+pub keeps_then : (given : Event) (t : AdapterTable) (notices : List Notice) (next : AdapterTable) (m : Messaging) → KeepsPlaces given t notices next → KeepsPlaces given t notices (messages_table next next.next_id m)
+unfolding messages_table
+keeps_then given t notices next m keeps = keeps
+
+class_3 : (b : Bool) (old new : List CountedConnection) (rows : List Row) → b ≡ true → AreAtPlaces old rows → AreAtPlaces (cond b old new) rows
+class_3 true old new rows is at = at
+class_3 false old new rows is at = absurd cc
+
+-- one that opens has no place
+pub keeps_begun : (given : Event) (t : AdapterTable) (next_id : ℕ) (m : Messaging) (d : Dialogue) → opens_dialogue given ≡ true → KeepsPlaces given t (notice.Opened d.triad d.o_t_id ∷ []) (messages_table t next_id m)
+unfolding messages_table
+keeps_begun given t next_id m d three = λ counts at.
+    class_3 (opens_dialogue given) counts (with_connection (begun (source.Originator d.triad) (Some d.o_t_id.0)) (without_originator d.triad counts)) t.rows three at
+
+-- one that is closed had none
+pub keeps_ended : (given : Event) (t : AdapterTable) (m : Messaging) (d : Dialogue) → IsApart t.rows d → KeepsPlaces given t (notice.Closed d.triad ∷ []) (messages_table t t.next_id m)
+unfolding messages_table
+keeps_ended given t m d apart = λ counts at. at_apart d.triad counts t.rows apart at
+
+at_ended : (given : Event) (ended : List Dialogue) (counts : List CountedConnection) (rows : List Row) → EachOf (IsApart rows) ended → AreAtPlaces counts rows → AreAtPlaces (after_notices given (map ended_notice ended) counts) rows
+at_ended given [] counts rows apart at = at
+at_ended given (d ∷ ended) counts rows apart at = at_ended given ended (without_originator d.triad counts) rows apart.1 (at_apart d.triad counts rows apart.0 at)
+
+-- nor had those of a stream
+pub keeps_unstreamed : (given : Event) (t : AdapterTable) (number : ℕ) → EachOf (IsApart t.rows) t.messaging.dialogues → KeepsPlaces given t (ended_notices t number) (without_stream t number)
+unfolding without_stream
+keeps_unstreamed given t number apart = λ counts at.
+    at_ended given (stream_dialogues t.messaging number) counts t.rows (each_left (IsApart t.rows) (is_on_stream number) t.messaging.dialogues apart) at
+
+late_alone : (given : Event) (late : List Dialogue) (counts : List CountedConnection) → after_notices given (map late_notice late) counts ≡ counts
+late_alone given [] counts = refl
+late_alone given (d ∷ late) counts = late_alone given late counts
+
+late_stay : (given : Event) (notices : List Notice) (late : List Dialogue) (counts : List CountedConnection) → after_notices given (notices ++ map late_notice late) counts ≡ after_notices given notices counts
+late_stay given [] late counts = late_alone given late counts
+late_stay given (first ∷ notices) late counts = late_stay given notices late (after_notice given first counts)
+
+-- nor had those that time out
+pub keeps_aged : (given : Event) (t : AdapterTable) (next : Next) → KeepsPlaces given t next.0.notices next.1 → KeepsPlaces given t (aged_next next).0.notices (aged_next next).1
+unfolding messages_table
+keeps_aged given t next keeps = λ counts at.
+    subst (λ (list : List CountedConnection). AreAtPlaces list next.1.rows) (sym (late_stay given next.0.notices (late_dialogues next.1.clock next.1.messaging) counts)) (keeps counts at)
+
 -- AN OPENING
 
 other_opening : (a b c : ℕ) → a < b → (a == c) ≡ true → (b == c) ≡ false
@@ -92,28 +163,32 @@ none_found : (p : Row → Bool) (rows : List Row) → find p rows ≡ None → l
 none_found p [] is = refl
 none_found p (row ∷ rows) is = none_step (p row) p row rows is (none_found p rows)
 
--- the new connection is the last one
-at_new : (row : Row) (counts : List CountedConnection) (left : List Row) → list_any (has_triad row.triad) left ≡ false → length left + 1 ≤ 64 → AreAtPlaces counts left → AreAtPlaces (with_connection (begun (source.Originator row.triad) (Some row.o_t_id.0)) (without_originator row.triad counts)) (left ++ row ∷ [])
-at_new row counts left none few at =
-    let left_over : AreAtPlaces (without_originator row.triad counts) left =
-    subst (λ (xs : List Row). AreAtPlaces (without_originator row.triad counts) xs) (all_left (has_triad row.triad) left none) (at_removed row.triad counts left at) in
-    at_opened (without_originator row.triad counts) left (begun (source.Originator row.triad) (Some row.o_t_id.0)) row left_over few (record { source = refl; id = refl })
+class_1 : (b : Bool) (old new : List CountedConnection) (rows : List Row) → b ≡ false → AreAtPlaces new rows → AreAtPlaces (cond b old new) rows
+class_1 true old new rows is at = absurd cc
+class_1 false old new rows is at = at
 
-at_replaced : (given : Event) (row : Row) (p : Row → Bool) (rows : List Row) (found : Option Row) (counts : List CountedConnection) → find p rows ≡ found → TriadsDiffer rows → Alone p rows → list_any (has_triad row.triad) (others p rows) ≡ false → length (others p rows) + 1 ≤ 64 → AreAtPlaces counts rows → AreAtPlaces (after_notices given (replaced_notices (option_map triad_of found) ++ notice.Opened row.triad row.o_t_id ∷ []) counts) (others p rows ++ row ∷ [])
-at_replaced given row p rows None counts is differ alone none few at =
-    at_new row counts (others p rows) none few (subst (λ (xs : List Row). AreAtPlaces counts xs) (sym (all_left p rows (none_found p rows is))) at)
-at_replaced given row p rows (Some old) counts is differ alone none few at =
-    at_new row (without_originator old.triad counts) (others p rows) none few
+-- the new connection is the last one
+at_new : (given : Event) (row : Row) (counts : List CountedConnection) (left : List Row) → opens_dialogue given ≡ false → list_any (has_triad row.triad) left ≡ false → length left + 1 ≤ 64 → AreAtPlaces counts left → AreAtPlaces (with_opened given row.triad row.o_t_id.0 counts) (left ++ row ∷ [])
+at_new given row counts left one none few at =
+    let new = begun (source.Originator row.triad) (Some row.o_t_id.0) in
+    class_1 (opens_dialogue given) counts (with_connection new (without_originator row.triad counts)) (left ++ row ∷ []) one
+    (at_opened (without_originator row.triad counts) left new row (at_apart row.triad counts left none at) few (record { source = refl; id = refl }))
+
+at_replaced : (given : Event) (row : Row) (p : Row → Bool) (rows : List Row) (found : Option Row) (counts : List CountedConnection) → opens_dialogue given ≡ false → find p rows ≡ found → TriadsDiffer rows → Alone p rows → list_any (has_triad row.triad) (others p rows) ≡ false → length (others p rows) + 1 ≤ 64 → AreAtPlaces counts rows → AreAtPlaces (after_notices given (replaced_notices (option_map triad_of found) ++ notice.Opened row.triad row.o_t_id ∷ []) counts) (others p rows ++ row ∷ [])
+at_replaced given row p rows None counts one is differ alone none few at =
+    at_new given row counts (others p rows) one none few (subst (λ (xs : List Row). AreAtPlaces counts xs) (sym (all_left p rows (none_found p rows is))) at)
+at_replaced given row p rows (Some old) counts one is differ alone none few at =
+    at_new given row (without_originator old.triad counts) (others p rows) one none few
     (subst (λ (xs : List Row). AreAtPlaces (without_originator old.triad counts) xs) (sym (same_others p (has_triad old.triad) rows old is (grind (arith, nat_tests)) alone (triad_alone old.triad rows differ)))
     (at_removed old.triad counts rows at))
 
 -- the connection that is replaced gives its place up, and the new one is the last
-pub keeps_opened : (given : Event) (t : AdapterTable) (row : Row) (admitted : Admitted) → TriadsDiffer t.rows → OpeningsRise t.rows → length (opened_table t row admitted).rows ≤ 64 → KeepsPlaces given t (opened_notices t.rows row) (opened_table t row admitted)
+pub keeps_opened : (given : Event) (t : AdapterTable) (row : Row) (admitted : Admitted) → opens_dialogue given ≡ false → TriadsDiffer t.rows → OpeningsRise t.rows → length (opened_table t row admitted).rows ≤ 64 → KeepsPlaces given t (opened_notices t.rows row) (opened_table t row admitted)
 unfolding opened_table
-keeps_opened given t row admitted differ rise few = λ counts at.
+keeps_opened given t row admitted one differ rise few = λ counts at.
     let b = list_any (has_triad row.triad) t.rows in
     let c = nat_le most_rows (length t.rows) in
-    at_replaced given row (is_replaced t.rows row.triad) t.rows (find (is_replaced t.rows row.triad) t.rows) counts refl differ
+    at_replaced given row (is_replaced t.rows row.triad) t.rows (find (is_replaced t.rows row.triad) t.rows) counts one refl differ
     (replaced_alone b c (find is_timed_out t.rows) row.triad t.rows differ rise)
     (any_opened b c row.triad t.rows refl) (grind (arith, common_steps)) at
 
