@@ -119,6 +119,21 @@ static void print_reply(const eip_item *item, size_t *at)
     putchar('\n');
 }
 
+/* A request that the application is to answer. Its path is the item at *at. */
+static void print_asked(const eip_item *item, size_t *at)
+{
+    eip_item path;
+    if (!eip_next(answer, size, at, &path) || path.kind != EIP_ITEM_ASKED_PATH)
+        stop("a request has no path");
+    printf("asked %llu %u %u %u ", (unsigned long long)eip_asked(item), item->c, path.a, path.b);
+    if (path.c)
+        printf("%u ", path.d);
+    else
+        printf("- ");
+    print_bytes(item->bytes, item->size);
+    putchar('\n');
+}
+
 static void print_item(const eip_item *item, size_t *at)
 {
     if (item->kind >= EIP_ITEM_OPENED) {
@@ -128,6 +143,10 @@ static void print_item(const eip_item *item, size_t *at)
     printf("%lu ", number);
     if (item->kind == EIP_ITEM_REPLIED) {
         print_reply(item, at);
+        return;
+    }
+    if (item->kind == EIP_ITEM_ASKED) {
+        print_asked(item, at);
         return;
     }
     if (item->kind < sizeof verdicts / sizeof *verdicts) {
@@ -252,6 +271,15 @@ static void explicit_event(const char *target, const char *asked, char *request)
     print_answer(eip_explicit(&device, node_of(target), n, (const uint8_t *)request, len, answer, room, &size));
 }
 
+/* The application answers a request of its device. */
+static void answer_event(const char *asked, const char *general, char *data)
+{
+    size_t len = bytes_of(data);
+    uint64_t n = strtoull(asked, NULL, 10);
+    uint8_t status = (uint8_t)strtoul(general, NULL, 16);
+    print_answer(eip_respond(&device, n, status, (const uint8_t *)data, len, answer, room, &size));
+}
+
 /* Time passes. A tick that comes before the device needs one answers nothing. */
 static uint32_t passed(uint32_t ms)
 {
@@ -297,10 +325,14 @@ static void event(char *line)
         print_value((uint32_t)strtoul(one, NULL, 10));
         return;
     }
-    if (!strcmp(word, "explicit")) {
-        char *request = strtok(NULL, " \n");
-        if (two && request)
-            explicit_event(one, two, request);
+    if (!strcmp(word, "explicit") || !strcmp(word, "answer")) {
+        char *bytes = strtok(NULL, " \n");
+        if (!two || !bytes)
+            return;
+        if (!strcmp(word, "explicit"))
+            explicit_event(one, two, bytes);
+        else
+            answer_event(one, two, bytes);
         return;
     }
     for (i = 0; two && i < 5; i++)
@@ -315,7 +347,7 @@ static bool is_profile(const char *line)
 {
     static const char *const words[] = {"adapter ",   "output ", "input ",            "config ",  "describe ",
                                         "least-rpi ", "places ", "node-connections ", "closers ", "newer ",
-                                        "heartbeat ", "scanner ", "slot "};
+                                        "object ",    "heartbeat ", "scanner ",         "slot "};
     size_t i;
     for (i = 0; i < sizeof words / sizeof *words; i++)
         if (!strncmp(line, words[i], strlen(words[i])))

@@ -55,7 +55,7 @@ enum eip_status {
     EIP_BAD_LINE = 11,         /* *number is that of the first bad line, from 1 */
     EIP_BAD_PROFILE = 12,      /* no line is bad, and *number is that of the first fault of the profile: 1 incarnation,
                                   2 address, 3 points, 4 the same instance twice, 5 length, 6 timing, 7 identity,
-                                  8 description, 9 limits */
+                                  8 description, 9 limits, 10 classes of own objects */
     /* eip_inquiry */
     EIP_NO_INQUIRY = 13,       /* the message is no inquiry: nothing is to be sent, and *size is 0 */
     EIP_LONG_NAME = 14,        /* the name has more than 32 bytes: nothing is written */
@@ -71,10 +71,11 @@ enum eip_delivery {
     EIP_APPLIED = 0,     /* its run-mode data is applied to the output */
     EIP_IDLE = 1,        /* it is in idle mode, and the output takes its idle action */
     EIP_HEARTBEAT = 2,   /* its connection has no O->T data */
-    EIP_DUPLICATE = 3,   /* its sequence count repeats that of the last accepted one: its data is not new */
+    EIP_DUPLICATE = 3,   /* its sequence count repeats that of the last accepted one: its data is not new. A message of a
+                            class 3 connection: it is not executed again */
     EIP_OLD = 4,         /* its sequence number is not newer than the last accepted one */
-    EIP_UNKNOWN_ID = 5,  /* no established connection of the peer has its connection id */
-    EIP_WRONG_SIZE = 6,  /* its size is not the connection's */
+    EIP_UNKNOWN_ID = 5,  /* no established connection of the peer, or of the stream, has its connection id */
+    EIP_WRONG_SIZE = 6,  /* its size is not the connection's. A message is longer than its connection's */
     EIP_MALFORMED = 7    /* its bytes are no datagram */
 };
 
@@ -156,6 +157,8 @@ uint32_t eip_c_inquiry(const eip_identity *identity, const uint8_t *name, size_t
                        size_t len, uint8_t *out, size_t room, size_t *size);
 uint32_t eip_c_explicit(eip_device *device, uint32_t target, uint32_t number, const uint8_t *bytes, size_t len, uint8_t *out,
                         size_t room, size_t *size);
+uint32_t eip_c_respond(eip_device *device, uint64_t number, uint8_t status, const uint8_t *bytes, size_t len, uint8_t *out,
+                       size_t room, size_t *size);
 uint32_t eip_c_write(eip_device *device, uint32_t point, const uint8_t *bytes, size_t len, uint8_t *out, size_t room,
                      size_t *size);
 uint32_t eip_c_read(eip_device *device, uint32_t point, uint8_t *out, size_t room, size_t *size);
@@ -370,6 +373,22 @@ static inline uint32_t eip_explicit(eip_device *device, uint32_t target, uint32_
     EIP_CALL(bytes, len, eip_c_explicit(device, target, number, eip_bytes(bytes), len, out, room, size));
 }
 
+/* OBJECTS OF THE MAKER'S OWN
+ *
+ * A profile names their classes in lines `object CLASS`. A request to such a class is answered by nothing at once: the answer
+ * of the event that brings it has EIP_ITEM_ASKED and EIP_ITEM_ASKED_PATH. Within 10,000 ms the application answers it by its
+ * number, else the device does, with general status 0x1F. At most 16 requests wait. */
+
+/* The application of an adapter answers the request of this number: a general status, 0 for success, and the data of the
+ * reply. The answer has what is to be sent: a frame over the stream of the request, or the reply to its peer, or nothing if a
+ * class 3 connection has gone on since. EIP_NOT_ALLOWED_NOW if no request of this number waits; EIP_WRONG_LENGTH if there are
+ * more than 1400 bytes. */
+static inline uint32_t eip_respond(eip_device *device, uint64_t number, uint8_t status, const uint8_t *bytes, size_t len,
+                                   uint8_t *out, size_t room, size_t *size)
+{
+    EIP_CALL(bytes, len, eip_c_respond(device, number, status, eip_bytes(bytes), len, out, room, size));
+}
+
 /* INQUIRIES
  *
  * A device whose profile has a line describe answers them itself: eip_inquire. For any other one this call answers them, of
@@ -409,6 +428,8 @@ enum eip_kind {
     EIP_ITEM_DELIVERED = 5,         /* a: enum eip_delivery */
     EIP_ITEM_REPLIED = 6,           /* the reply to explicit request a: general status b; data: those of the reply */
     EIP_ITEM_ADDITIONAL_STATUS = 7, /* behind EIP_ITEM_REPLIED; data: its additional status, two bytes a word */
+    EIP_ITEM_ASKED = 8,             /* a request that the application is to answer: eip_asked; service c; data: its data */
+    EIP_ITEM_ASKED_PATH = 9,        /* behind EIP_ITEM_ASKED; class a, instance b; if c is 1, attribute d */
     /* to send */
     EIP_ITEM_FRAME = 16,            /* data: bytes for stream a */
     EIP_ITEM_REPLY = 17,            /* data: the reply to the request or inquiry of node a */
@@ -418,7 +439,8 @@ enum eip_kind {
     EIP_ITEM_OPENED = 48,           /* d: the O->T connection id */
     EIP_ITEM_CLOSED = 49,
     EIP_ITEM_EXPIRED = 50,
-    EIP_ITEM_DROPPED = 51,          /* a listen-only connection that nothing supports any more */
+    EIP_ITEM_DROPPED = 51,          /* a listen-only connection that nothing supports any more, or one of class 3 whose stream
+                                       ended */
     EIP_ITEM_REPLACED = 52,         /* a timed-out connection whose place was needed */
     EIP_ITEM_STREAM_CLOSED = 53,    /* close stream a after the frames */
     EIP_ITEM_SLOT = 54,             /* slot a is in state b */
@@ -451,6 +473,12 @@ typedef struct eip_item {
 static inline uint32_t eip_number(const uint8_t *bytes)
 {
     return bytes[0] | (uint32_t)bytes[1] << 8 | (uint32_t)bytes[2] << 16 | (uint32_t)bytes[3] << 24;
+}
+
+/* The number of the request of an EIP_ITEM_ASKED. */
+static inline uint64_t eip_asked(const eip_item *item)
+{
+    return item->a | (uint64_t)item->b << 32;
 }
 
 /* Reads the item at *at of an answer, and moves *at behind it. False at the end, and where a pointer is NULL. Begin with

@@ -82,13 +82,13 @@ class Delivery(enum.IntEnum):
     HEARTBEAT = 2
     """Its connection has no O->T data."""
     DUPLICATE = 3
-    """Its sequence count repeats that of the last accepted one."""
+    """Its sequence count repeats that of the last accepted one. A message of a class 3 connection is not executed again."""
     OLD = 4
     """Its sequence number is not newer than the last accepted one."""
     UNKNOWN_ID = 5
-    """No established connection of the peer has its connection id."""
+    """No established connection of the peer, or of the stream, has its connection id."""
     WRONG_SIZE = 6
-    """Its size is not the connection's."""
+    """Its size is not the connection's. A message is longer than its connection's."""
     MALFORMED = 7
     """Its bytes are no datagram."""
 
@@ -106,8 +106,12 @@ class Verdict(enum.IntEnum):
     """Too few bytes to be answered, or a wrong length where there is no reply."""
     IGNORED = 3
     """A message that the scanner does not expect."""
+    DELIVERED = 5
+    """A message of a class 3 connection that is not executed: `Answer.delivery`."""
     REPLIED = 6
     """The reply of a target to an explicit request: `Answer.reply`."""
+    ASKED = 8
+    """A request that the application is to answer: `Answer.asked`."""
 
 
 class NoticeKind(enum.IntEnum):
@@ -117,7 +121,7 @@ class NoticeKind(enum.IntEnum):
     CLOSED = 49
     EXPIRED = 50
     DROPPED = 51
-    """A listen-only connection that nothing supports any more."""
+    """A listen-only connection that nothing supports any more, or one of class 3 whose stream ended."""
     REPLACED = 52
     """A timed-out connection whose place was needed."""
     STREAM_CLOSED = 53
@@ -194,6 +198,8 @@ class ProfileFault(enum.IntEnum):
     IDENTITY = 7
     DESCRIPTION = 8
     LIMITS = 9
+    OBJECTS = 10
+    """The classes of the maker's own objects."""
 
 
 # ERRORS
@@ -366,6 +372,22 @@ class ExplicitReply:
 
 
 @dataclass(frozen=True)
+class AskedRequest:
+    """A request to an object of the maker's own: answer it by `Device.respond`, within 10,000 ms."""
+
+    number: int
+    """The number that the device gave the request."""
+    service: int
+    """The service code."""
+    class_id: int
+    """The class, which a line `object` of the profile names."""
+    instance: int
+    attribute: Optional[int]
+    """None if the path has none."""
+    data: bytes
+
+
+@dataclass(frozen=True)
 class Answer:
     """What a device answers to an event: its verdict, what is to be sent, and what changed."""
 
@@ -376,11 +398,16 @@ class Answer:
     notices: tuple[Notice, ...] = ()
     reply: Optional[ExplicitReply] = None
     """The reply of a target, if the verdict is REPLIED."""
+    asked: Optional[AskedRequest] = None
+    """The request that the application is to answer, if the verdict is ASKED."""
+    delivery: Optional[Delivery] = None
+    """DUPLICATE, UNKNOWN_ID or WRONG_SIZE, if the verdict is DELIVERED."""
 
     @property
     def is_plain(self) -> bool:
         """Whether it has a verdict alone."""
-        return not (self.frames or self.replies or self.datagrams or self.notices or self.reply)
+        said = self.reply or self.asked or self.delivery is not None
+        return not (self.frames or self.replies or self.datagrams or self.notices or said)
 
 
 @dataclass(frozen=True)
@@ -435,7 +462,8 @@ class Slot:
 
 
 _HEAD = struct.Struct("<IIIIIQ")
-_REPLIED, _ADDITIONAL, _FRAME, _REPLY, _DATAGRAM, _CONSUMER = 6, 7, 16, 17, 32, 33
+_DELIVERED, _REPLIED, _ADDITIONAL, _ASKED, _ASKED_PATH = 5, 6, 7, 8, 9
+_FRAME, _REPLY, _DATAGRAM, _CONSUMER = 16, 17, 32, 33
 _VERDICTS = {int(verdict): verdict for verdict in Verdict}
 _NOTICES = {int(kind): kind for kind in NoticeKind}
 _DELIVERIES = tuple(Delivery)
@@ -470,6 +498,8 @@ def read_answer(raw: bytes) -> Answer:
     """Reads the bytes of an answer: the items that include/eip.h describes."""
     verdict = Verdict.DONE
     reply: Optional[ExplicitReply] = None
+    asked: Optional[AskedRequest] = None
+    delivery: Optional[Delivery] = None
     frames: list[Frame] = []
     replies: list[Reply] = []
     datagrams: list[tuple[str, list[str], bytes]] = []
@@ -490,14 +520,20 @@ def read_answer(raw: bytes) -> Answer:
             replies.append(Reply(node_text(a), data))
         elif kind == _ADDITIONAL and reply:
             reply = replace(reply, additional=data)
+        elif kind == _ASKED_PATH and asked:
+            asked = replace(asked, class_id=a, instance=b, attribute=d if c else None)
         elif kind in _VERDICTS:
             verdict = _VERDICTS[kind]
             if kind == _REPLIED:
                 reply = ExplicitReply(a, b, b"", data)
+            if kind == _ASKED:
+                asked = AskedRequest(a | b << 32, c, 0, 0, None, data)
+            if kind == _DELIVERED:
+                delivery = _DELIVERIES[a]
         else:
             notices.append(_notice(_NOTICES[kind], a, b, c, d))
     sent = tuple(Datagram(address, tuple(nodes), data) for address, nodes, data in datagrams)
-    return Answer(verdict, tuple(frames), tuple(replies), sent, tuple(notices), reply)
+    return Answer(verdict, tuple(frames), tuple(replies), sent, tuple(notices), reply, asked, delivery)
 
 
 # ADDRESSES
@@ -579,6 +615,7 @@ _FUNCTIONS: dict[str, list[Any]] = {
     "datagram": [_AT, _U32, *_BYTES],
     "inquire": [_AT, _U32, *_BYTES, *_OUT],
     "explicit": [_AT, _U32, _U32, *_BYTES, *_OUT],
+    "respond": [_AT, ctypes.c_uint64, ctypes.c_uint8, *_BYTES, *_OUT],
     "write": [_AT, _U32, *_BYTES, *_OUT],
     "read": [_AT, _U32, *_OUT],
     "tick": [_AT, _U32, *_OUT],
@@ -743,6 +780,15 @@ class Device:
         """
         number = _number(number, 0xFFFFFFFF, "number")
         return self._event(self._calls.eip_c_explicit, node_number(target), number, data, len(data))
+
+    def respond(self, number: int, status: int = 0, data: bytes = b"") -> Answer:
+        """Answers the request of `Answer.asked` with this number: a general status, 0 for success, and the data of the reply.
+
+        What is to be sent is in `frames`, or in `replies` if the request came without a stream. Refused if no request of this
+        number waits, as 10,000 ms after it came, and with more than 1,400 bytes.
+        """
+        number = _number(number, 0xFFFFFFFFFFFFFFFF, "number")
+        return self._event(self._calls.eip_c_respond, number, _number(status, 0xFF, "status"), data, len(data))
 
     # Points
 

@@ -1,5 +1,5 @@
 #!/usr/bin/env python3
-"""Tests of python/eip.py, python/plant.py and docs/PYTHON.md. What is expected comes from docs/PROFILE.md, and by hand."""
+"""Tests of python/eip.py, python/plant.py, docs/PYTHON.md and the Python of docs/GUIDE.md. What is expected comes from docs/PROFILE.md, and by hand."""
 
 import contextlib
 import copy
@@ -17,7 +17,7 @@ import eip
 import plant
 import trace_lines
 from eip import (
-    Answer, AnswerKept, BadLine, BadProfile, Connection, ConnectionKind, ConnectionNotice, Datagram, Delivery, Device,
+    Answer, AnswerKept, AskedRequest, BadLine, BadProfile, Connection, ConnectionKind, ConnectionNotice, Datagram, Delivery, Device,
     DeviceClosed, Frame, Identity, Mode, NoAnswer, NoticeKind, ProfileFault, RefusalNotice, Refused, Reply, ResetNotice, Slot,
     SlotNotice, SlotState, Status, ExplicitReply, UnansweredNotice,
     StreamNotice, Verdict, inquiry, node_number, node_text, read_answer,
@@ -246,6 +246,18 @@ class Devices(unittest.TestCase):
             self.assertEqual(read_answer(raw), answer)
             self.assertEqual(outcome_lines(9, answer), ["9 done", f"9 note {words}"])
 
+    def test_a_request_to_the_application_reads(self):
+        """Its number has 64 bits, in two numbers of an item; its path is an item of its own."""
+        for c, d, attribute, word in [(1, 7, 7, "7"), (0, 0, None, "-")]:
+            items = [((8, 5, 1, 14, 0), b"\x0a"), ((9, 100, 2, c, d), b"")]
+            raw = b"".join(
+                b"".join(n.to_bytes(4, "little") for n in item) + len(data).to_bytes(8, "little") + data for item, data in items
+            )
+            answer = Answer(Verdict.ASKED, asked=AskedRequest(0x1_0000_0005, 14, 100, 2, attribute, b"\x0a"))
+            self.assertEqual(read_answer(raw), answer)
+            self.assertEqual(outcome_lines(9, answer), [f"9 asked 4294967301 14 100 2 {word} 0a"])
+            self.assertFalse(answer.is_plain)
+
     def test_a_closed_device(self):
         device = Device(ADAPTER)
         device.close()
@@ -343,6 +355,130 @@ class Inquiries(unittest.TestCase):
             scanner.explicit("192.168.1.10", 7, get)
             (lost,) = scanner.cut(0).notices
             self.assertEqual(lost, UnansweredNotice(NoticeKind.NO_REPLY_LOST, 7))
+
+
+class OwnObjects(unittest.TestCase):
+    PROFILE = ADAPTER.replace("heartbeat", "object 100\nheartbeat")
+    # service 4B of class 100 instance 1, with two bytes; Get_Attribute_Single of its attribute 7
+    REQUEST = bytes.fromhex("4b02206424010102")
+    GET = bytes.fromhex("0e03206424013007")
+
+    def test_the_application_answers(self):
+        with RecordedDevice(self.PROFILE) as device:
+            asked = AskedRequest(1, 0x4B, 100, 1, None, bytes.fromhex("0102"))
+            self.assertEqual(device.request(OWNER, self.REQUEST), Answer(Verdict.ASKED, asked=asked))
+            self.assertEqual(device.request(OWNER, self.GET).asked, AskedRequest(2, 0x0E, 100, 1, 7, b""))
+            self.assertEqual(device.respond(2, 0x14).replies, (Reply(OWNER, bytes.fromhex("8e001400")),))
+            answer = device.respond(1, 0, bytes.fromhex("abcd"))
+            self.assertEqual(answer, Answer(Verdict.DONE, replies=(Reply(OWNER, bytes.fromhex("cb000000abcd")),)))
+            lines = device.trace().split("\n")
+            self.assertEqual(lines[6:8], [f"request {OWNER} 4b02206424010102", "1 asked 1 75 100 1 - 0102"])
+            self.assertEqual(lines[10:13], ["answer 2 14 -", "3 done", f"3 reply {OWNER} 8e001400"])
+            for number in 1, 3:
+                with self.assertRaises(Refused) as refused:
+                    device.respond(number)
+                self.assertEqual(refused.exception.status, Status.NOT_ALLOWED_NOW)
+
+    def test_an_answer_is_not_too_long_and_not_too_late(self):
+        with Device(self.PROFILE) as device:
+            device.request(OWNER, self.REQUEST)
+            with self.assertRaises(Refused) as refused:
+                device.respond(1, 0, bytes(1401))
+            self.assertEqual(refused.exception.status, Status.WRONG_LENGTH)
+            self.assertEqual(device.tick(9999), Answer(Verdict.DONE))
+            self.assertEqual(device.next_wake(), 1)
+            self.assertEqual(device.tick(1).replies, (Reply(OWNER, bytes.fromhex("cb001f00")),))
+            with self.assertRaises(Refused) as refused:
+                device.respond(1)
+            self.assertEqual(refused.exception.status, Status.NOT_ALLOWED_NOW)
+
+    def test_sixteen_requests_wait(self):
+        with Device(self.PROFILE) as device:
+            for number in range(1, 17):
+                self.assertEqual(device.request(OWNER, self.REQUEST).asked.number, number)
+            answer = device.request(OWNER, self.REQUEST)
+            self.assertEqual(answer, Answer(Verdict.DONE, replies=(Reply(OWNER, bytes.fromhex("cb000200")),)))
+
+    def test_a_stream_brings_a_request_and_takes_it_along(self):
+        """The reply has the session and the sender context of the request; with the stream the request ends."""
+        head = bytes.fromhex("6f00" "1800" "01000000" "00000000" "0102030405060708" "00000000")
+        items = bytes.fromhex("00000000" "0000" "0200" "00000000" "b200" "0800")
+        reply = bytes.fromhex(
+            "6f00" "1600" "01000000" "00000000" "0102030405060708" "00000000" "00000000" "0000" "0200" "00000000" "b200" "0600"
+            "cb000000abcd"
+        )  # fmt: skip
+        with Device(self.PROFILE) as device:
+            device.stream(0, OWNER)
+            device.frame(0, REGISTER)
+            for number in 1, 2:
+                self.assertEqual(device.frame(0, head + items + self.REQUEST).asked.number, number)
+            self.assertEqual(device.respond(1, 0, bytes.fromhex("abcd")).frames, (Frame(0, reply),))
+            device.cut(0)
+            with self.assertRaises(Refused) as refused:
+                device.respond(2)
+            self.assertEqual(refused.exception.status, Status.NOT_ALLOWED_NOW)
+
+    def test_bad_classes(self):
+        for lines in "object 4\n", "object 0\n", "object 100\nobject 100\n":
+            with self.assertRaises(BadProfile) as bad:
+                Device(ADAPTER.replace("heartbeat", f"{lines}heartbeat"))
+            self.assertEqual(bad.exception.fault, ProfileFault.OBJECTS)
+
+
+class ClassThree(unittest.TestCase):
+    # Get_Attribute_Single of attribute 3 of assembly 100
+    GET = bytes.fromhex("0e03200424643003")
+    # a Forward_Open with class and trigger A3: sizes of at most 20 bytes, 10 ms both ways, the path 20 02 24 01
+    OPEN = bytes.fromhex("5402200624010a0e0000000005000020050034127856341202000000102700001442102700001442a30220022401")
+
+    def open(self):
+        device = Device(ADAPTER)
+        self.addCleanup(device.close)
+        device.stream(0, OWNER)
+        device.frame(0, REGISTER)
+        head = bytes.fromhex("6f00" "3e00" "01000000" "00000000" "0102030405060708" "00000000")
+        items = bytes.fromhex("00000000" "0000" "0200" "00000000" "b200" "2e00")
+        opened = ConnectionNotice(NoticeKind.OPENED, 5, 4660, 305419896, 0x10000001)
+        self.assertEqual(device.frame(0, head + items + self.OPEN).notices, (opened,))
+        return device
+
+    def unit(self, request, count, connection="01000010"):
+        """SendUnitData with this count and request."""
+        size = len(request)
+        head = bytes.fromhex("7000") + (size + 22).to_bytes(2, "little") + bytes.fromhex("01000000" "00000000" "0000000000000000" "00000000")
+        items = bytes.fromhex("00000000" "0000" "0200" "a100" "0400" + connection + "b100") + (size + 2).to_bytes(2, "little")
+        return head + items + count.to_bytes(2, "little") + request
+
+    def reply(self, data, count):
+        """The frame with the reply, to the id that the originator chose."""
+        return (Frame(0, self.unit(data, count, "05000020")),)
+
+    def test_a_message_is_executed_once(self):
+        device = self.open()
+        zeros = self.reply(bytes.fromhex("8e000000" "00000000"), 7)
+        self.assertEqual(device.frame(0, self.unit(self.GET, 7)), Answer(Verdict.DONE, zeros))
+        device.write(100, bytes.fromhex("01020304"))
+        again = device.frame(0, self.unit(self.GET, 7))
+        self.assertEqual(again, Answer(Verdict.DELIVERED, zeros, delivery=Delivery.DUPLICATE))
+        self.assertEqual(outcome_lines(9, again), ["9 duplicate", f"9 frame 0 {zeros[0].data.hex()}"])
+        fresh = self.reply(bytes.fromhex("8e000000" "01020304"), 8)
+        self.assertEqual(device.frame(0, self.unit(self.GET, 8)), Answer(Verdict.DONE, fresh))
+
+    def test_messages_that_are_left_aside(self):
+        device = self.open()
+        for frame, delivery, words in [
+            (self.unit(self.GET, 1, "02000010"), Delivery.UNKNOWN_ID, "unknown"),
+            (self.unit(self.GET + bytes(11), 1), Delivery.WRONG_SIZE, "wrong-size"),
+        ]:
+            answer = device.frame(0, frame)
+            self.assertEqual(answer, Answer(Verdict.DELIVERED, delivery=delivery))
+            self.assertFalse(answer.is_plain)
+            self.assertEqual(outcome_lines(9, answer), [f"9 {words}"])
+
+    def test_a_connection_ends_with_its_stream(self):
+        device = self.open()
+        dropped = ConnectionNotice(NoticeKind.DROPPED, 5, 4660, 305419896)
+        self.assertEqual(device.cut(0), Answer(Verdict.DONE, notices=(dropped,)))
 
 
 class Plants(unittest.TestCase):
@@ -502,18 +638,19 @@ class Documents(unittest.TestCase):
                     names = set(inspect.signature(call).parameters) - {"self", "cls"}
                     self.assertLessEqual(names, set(typed), call)
 
-    def test_the_code_of_the_page_runs(self):
-        """Each block of code of docs/PYTHON.md runs, behind those before it, and prints the block of text behind it."""
+    def test_the_code_of_the_pages_runs(self):
+        """Each block of Python of a page runs, behind those before it, and prints the block of text behind it."""
         os.chdir(TOP)
-        page = (TOP / "docs" / "PYTHON.md").read_text()
-        blocks = re.findall(r"^```python\n(.*?)^```\n+(?:```\n(.*?)^```)?", page, re.M | re.S)
-        self.assertGreater(len(blocks), 2)
-        names = {}
-        for code, printed in blocks:
-            out = io.StringIO()
-            with contextlib.redirect_stdout(out):
-                exec(code, names)
-            self.assertEqual(out.getvalue(), printed, code)
+        for name, least in ("PYTHON.md", 3), ("GUIDE.md", 1):
+            page = (TOP / "docs" / name).read_text()
+            blocks = re.findall(r"^```python\n(.*?)^```\n+(?:```\n(.*?)^```)?", page, re.M | re.S)
+            self.assertGreaterEqual(len(blocks), least)
+            names = {}
+            for code, printed in blocks:
+                out = io.StringIO()
+                with contextlib.redirect_stdout(out):
+                    exec(code, names)
+                self.assertEqual(out.getvalue(), printed, code)
 
 
 if __name__ == "__main__":

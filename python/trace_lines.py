@@ -41,7 +41,7 @@ UNANSWERED = {
 }  # fmt: skip
 PROFILE_WORDS = {
     "adapter", "output", "input", "config", "describe", "least-rpi", "places", "node-connections", "closers", "newer",
-    "heartbeat", "scanner", "slot",
+    "object", "heartbeat", "scanner", "slot",
 }  # fmt: skip
 
 
@@ -94,9 +94,14 @@ def outcome_lines(number: int, outcome: Outcome) -> list[str]:
         return [f"{number} {DELIVERIES[outcome]}"]
     if isinstance(outcome, bytes):
         return [f"{number} value {hex_of(outcome)}"]
-    reply = outcome.reply
+    reply, asked = outcome.reply, outcome.asked
     if reply:
         words = f"replied {reply.number} {reply.status:02x} {hex_of(reply.additional)} {hex_of(reply.data)}"
+    elif asked:
+        attribute = "-" if asked.attribute is None else asked.attribute
+        words = f"asked {asked.number} {asked.service} {asked.class_id} {asked.instance} {attribute} {hex_of(asked.data)}"
+    elif outcome.delivery is not None:
+        words = DELIVERIES[outcome.delivery]
     else:
         words = VERDICTS[outcome.verdict]
     lines = [f"{number} {words}"]
@@ -118,6 +123,7 @@ CALLS: dict[str, Callable[[Device, list[str]], Union[Answer, Delivery, bytes]]] 
     "datagram": lambda device, words: device.datagram(words[0], bytes_of(words[1])),
     "inquiry": lambda device, words: device.inquire(words[0], bytes_of(words[1])),
     "explicit": lambda device, words: device.explicit(words[0], int(words[1]), bytes_of(words[2])),
+    "answer": lambda device, words: device.respond(int(words[0]), int(words[1], 16), bytes_of(words[2])),
     "write": lambda device, words: device.write(int(words[0]), bytes_of(words[1])),
     "read": lambda device, words: device.read(int(words[0])),
     "tick": lambda device, words: device.tick(int(words[0])),
@@ -202,6 +208,10 @@ class RecordedDevice(Device):
     def explicit(self, target: Address, number: int, data: bytes) -> Answer:
         event = f"explicit {_node(target)} {number} {hex_of(data)}"
         return self._recorded(event, lambda: super(RecordedDevice, self).explicit(target, number, data))
+
+    def respond(self, number: int, status: int = 0, data: bytes = b"") -> Answer:
+        event = f"answer {number} {status:02x} {hex_of(data)}"
+        return self._recorded(event, lambda: super(RecordedDevice, self).respond(number, status, data))
 
     def write(self, point: int, data: bytes) -> Answer:
         return self._recorded(f"write {point} {hex_of(data)}", lambda: super(RecordedDevice, self).write(point, data))

@@ -5,7 +5,7 @@
 #![tactic(auto)]
 
 ghost use Rattle.std.specs.Prelude.{◌≡◌, ◌<◌, ◌≤◌, Ok};
-ghost use Rattle.cip_events.specs.declared.event.Event.TheVariants.{Request, StreamOpened, Frame, StreamCut, Datagram, Inquiry, Write, Tick, Mode, Start, Stop, Explicit};
+ghost use Rattle.cip_events.specs.declared.event.Event.TheVariants.{Request, StreamOpened, Frame, StreamCut, Datagram, Inquiry, Write, Tick, Mode, Start, Stop, Explicit, Respond};
 ghost use Rattle.cip_events.specs.declared.event.Verdict.TheVariants.{Delivered};
 ghost use Rattle.cip_events.specs.Answers.{plain_answer};
 ghost use Rattle.cip_events.specs.Clock.{longest_tick};
@@ -243,6 +243,33 @@ pub extern "C" fn eip_c_explicit(
     let event = Event::Explicit {
         target: Node(target),
         number,
+        bytes,
+    };
+    device.answered(&event, out, size)
+}
+
+// OBJECTS OF THE MAKER'S OWN
+
+/// The application of an adapter answers the request that the device gave it with this number: general status, and data.
+#[unsafe(no_mangle)]
+pub extern "C" fn eip_c_respond(
+    alloc: Global,
+    device: &mut Handle,
+    number: u64,
+    status: u8,
+    bytes: &[u8],
+    out: &mut [u8],
+    size: &mut usize,
+) -> u32
+    ensures { Answers (Respond number status bytes.now)
+        device.old.value result device.new.value (out.old, size.old) (out.new, size.new) }
+{
+    let Ok(bytes) = Items::copy_of(alloc, bytes) else {
+        return OUT_OF_MEMORY;
+    };
+    let event = Event::Respond {
+        number,
+        status,
         bytes,
     };
     device.answered(&event, out, size)

@@ -23,6 +23,7 @@ adapter_profile incarnation node mask = record {
   listen_only = 153;
   description = None;
   limits = no_limits;
+  objects = [];
 }
 
 -- a slot that owns output 150 of its target and gathers input 100, each every 10 ms

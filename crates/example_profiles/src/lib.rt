@@ -88,6 +88,7 @@ pub fn adapter(
         listen_only: 153,
         description: None,
         limits: MakerLimits::NONE,
+        objects: Items::new(alloc),
     })
 }
 

@@ -18,6 +18,8 @@
 --      5  verdict: delivered             delivery
 --      6  verdict: reply of a target     number    status                         data of the reply
 --      7  additional status of it        number                                   bytes of the additional status
+--      8  verdict: request to answer     low       high     service               data of the request
+--      9  path of it                     class     instance 1 or 0      attribute
 --     16  frame over a stream            stream                                   bytes
 --     17  reply to a peer                node                                     bytes
 --     32  datagram                       address                                  bytes
@@ -43,8 +45,9 @@
 --     74  no reply: encapsulation        number    status
 --     75  no reply: unreadable           number
 --
--- A number without a meaning is 0. A 1 in c says that there is an extended status.
-use Rattle.std.specs.Prelude.{ℕ, ◌==◌, if◌then◌else◌, List, [], ◌++◌, length, flat_map, Option, Some, None}
+-- A number without a meaning is 0. A 1 in c says that there is an extended status, or an attribute. The number of a request
+-- to answer has 64 bits: the lower 32 are in a, the higher ones in b.
+use Rattle.std.specs.Prelude.{ℕ, ◌==◌, ◌%◌, ◌/◌, if◌then◌else◌, List, [], ◌++◌, length, flat_map, Option, Some, None}
 use Rattle.std.specs.Int.{w32, w64, to_le_bytes}
 use Rattle.cip_types.specs.declared.names.Fault.{Fault}
 use Rattle.cip_types.specs.declared.names.Mismatch.{Mismatch}
@@ -65,7 +68,7 @@ use Rattle.cip_events.specs.declared.event.Recipient.TheVariants.{Stream, Peer}
 use Rattle.cip_events.specs.declared.event.Unanswered.{Unanswered}
 use Rattle.cip_events.specs.declared.event.Unanswered.TheVariants as unanswered
 use Rattle.cip_events.specs.declared.event.Verdict.{Verdict}
-use Rattle.cip_events.specs.declared.event.Verdict.TheVariants.{Done, BadFrame, Ignored, Value, Delivered, Replied}
+use Rattle.cip_events.specs.declared.event.Verdict.TheVariants.{Done, BadFrame, Ignored, Value, Delivered, Replied, Asked}
 use Rattle.flat_answers.specs.declared.head.ItemHeader.{ItemHeader}
 
 -- ITEMS
@@ -106,6 +109,19 @@ delivery_of n =
 abbrev pub reply_items : ℕ → ℕ → List ℕ → List ℕ → List ℕ
 reply_items number status additional content = item (head 6 number status 0 0) content ++ item (head 7 number 0 0 0) additional
 
+-- a request that the application is to answer: its number and service; its data follow
+abbrev pub own_request_head : (number service : ℕ) → ItemHeader
+own_request_head number service = head 8 (number % 4294967296) (number / 4294967296) service 0
+
+-- the path of such a request
+abbrev pub path_head : (class instance : ℕ) → Option ℕ → ItemHeader
+path_head class instance None = head 9 class instance 0 0
+path_head class instance (Some attribute) = head 9 class instance 1 attribute
+
+-- an item with data, and one without behind it
+abbrev pub two_items : ItemHeader → List ℕ → ItemHeader → List ℕ
+two_items first content second = item first content ++ item second []
+
 abbrev pub verdict_item : Verdict → List ℕ
 verdict_item Done = item (head 1 0 0 0 0) []
 verdict_item BadFrame = item (head 2 0 0 0 0) []
@@ -113,6 +129,7 @@ verdict_item Ignored = item (head 3 0 0 0 0) []
 verdict_item (Value bytes) = item (head 4 0 0 0 0) bytes
 verdict_item (Delivered delivery) = item (head 5 (delivery_number delivery) 0 0 0) []
 verdict_item (Replied number status additional content) = reply_items number status additional content
+verdict_item (Asked number service class instance attribute content) = two_items (own_request_head number service) content (path_head class instance attribute)
 
 -- FRAMES AND DATAGRAMS
 

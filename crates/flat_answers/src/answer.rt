@@ -1,7 +1,7 @@
 //! Answers as items.
 
 ghost use Rattle.std.specs.Prelude.{◌≡◌, ◌+◌, ◌≤◌, ◌++◌, length, drop, flat_map};
-ghost use Rattle.flat_answers.specs.Flat.{delivery_number, delivery_of, reply_items, verdict_item, recipient_head, frame_item, consumer_item, datagram_items, notice_item, answer_bytes};
+ghost use Rattle.flat_answers.specs.Flat.{own_request_head, delivery_number, delivery_of, path_head, reply_items, two_items, verdict_item, recipient_head, frame_item, consumer_item, datagram_items, notice_item, answer_bytes};
 ghost use Rattle.flat_answers.specs.Places.{Puts};
 
 use crate::head::{ItemHeader, one_number, put_item};
@@ -62,7 +62,71 @@ fn put_verdict(out: &mut [u8], at: usize, verdict: &Verdict) -> usize
             additional.as_slice(),
             data.as_slice(),
         ),
+        Verdict::Asked {
+            number,
+            service,
+            class,
+            instance,
+            attribute,
+            data,
+        } => put_two(
+            out,
+            at,
+            own_request_head(*number, *service),
+            data.as_slice(),
+            path_head(*class, *instance, *attribute),
+        ),
     }
+}
+
+/// The number and the service of a request that the application is to answer.
+fn own_request_head(number: u64, service: u8) -> ItemHeader
+    ensures { result ≡ own_request_head number service }
+{
+    ItemHeader {
+        kind: 8,
+        a: (number % 4_294_967_296) as u32,
+        b: (number / 4_294_967_296) as u32,
+        c: service as u32,
+        d: 0,
+    }
+}
+
+/// The class, the instance and the attribute of such a request.
+fn path_head(class: u32, instance: u32, attribute: Option<u32>) -> ItemHeader
+    ensures { result ≡ path_head class instance attribute }
+{
+    match attribute {
+        Some(attribute) => ItemHeader {
+            kind: 9,
+            a: class,
+            b: instance,
+            c: 1,
+            d: attribute,
+        },
+        None => ItemHeader {
+            kind: 9,
+            a: class,
+            b: instance,
+            c: 0,
+            d: 0,
+        },
+    }
+}
+
+/// Writes an item with these data, and one without behind it.
+fn put_two(
+    out: &mut [u8],
+    at: usize,
+    first: ItemHeader,
+    content: &[u8],
+    second: ItemHeader,
+) -> usize
+    requires { at + length (two_items first content.now second) ≤ length out.old }
+    ensures { Puts (two_items first content.now second) at out.old result out.new }
+{
+    let at = put_item(out, at, first, content);
+    put_item(out, at, second, &[])
 }
 
 /// Writes the items of a reply to the explicit request of this number.

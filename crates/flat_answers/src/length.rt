@@ -3,7 +3,7 @@
 //! A sum that 64 bits do not count is the greatest `usize`, which no room has.
 
 ghost use Rattle.std.specs.Prelude.{ℕ, ◌≡◌, ◌+◌, ◌*◌, length, flat_map};
-ghost use Rattle.flat_answers.specs.Flat.{item, reply_items, verdict_item, frame_item, datagram_items, answer_bytes};
+ghost use Rattle.flat_answers.specs.Flat.{item, reply_items, two_items, verdict_item, frame_item, datagram_items, answer_bytes};
 ghost use Rattle.flat_answers.specs.declared.head.ItemHeader.{ItemHeader};
 ghost use Rattle.flat_answers.specs.Places.{counted};
 
@@ -48,6 +48,7 @@ fn verdict_len(verdict: &Verdict) -> usize
             data,
             ..
         } => reply_len(additional.as_slice(), data.as_slice()),
+        Verdict::Asked { data, .. } => two_len(data.as_slice()),
         Verdict::Value(bytes) => item_len(bytes.as_slice()),
         Verdict::Done | Verdict::BadFrame | Verdict::Ignored | Verdict::Delivered(_) => HEAD_LEN,
     }
@@ -58,6 +59,13 @@ fn reply_len(additional: &[u8], content: &[u8]) -> usize
     ensures { (number status : ℕ) → result ≡ counted (length (reply_items number status additional.now content.now)) }
 {
     item_len(content).saturating_add(item_len(additional))
+}
+
+/// The number of bytes of an item with these data, and of one without.
+fn two_len(content: &[u8]) -> usize
+    ensures { (first second : ItemHeader) → result ≡ counted (length (two_items first content.now second)) }
+{
+    item_len(content).saturating_add(item_len(&[]))
 }
 
 fn frames_len(frames: &[Frame]) -> usize

@@ -49,6 +49,7 @@ fn profile(alloc: Global) -> Result<Profile, OutOfMemory> {
         listen_only: 153,
         description: None,
         limits: MakerLimits::NONE,
+        objects: Items::new(alloc),
     })
 }
 
