@@ -41,7 +41,7 @@ fn point_of(small: u8) -> u32 {
 fn event_of(alloc: Global, record: &Record<'_>) -> Result<Event, OutOfMemory> {
     let small = record.small;
     let stream = u16::from(small % 4);
-    Ok(match record.kind % 11 {
+    Ok(match record.kind % 12 {
         0 => Event::Request {
             peer: node_of(small),
             bytes: Items::copy_of(alloc, record.bytes)?,
@@ -60,6 +60,11 @@ fn event_of(alloc: Global, record: &Record<'_>) -> Result<Event, OutOfMemory> {
         },
         4 => Event::Write {
             point: point_of(small),
+            bytes: Items::copy_of(alloc, record.bytes)?,
+        },
+        11 => Event::Respond {
+            number: u64::from(small % 32),
+            status: if small % 64 < 32 { 0 } else { 0x14 },
             bytes: Items::copy_of(alloc, record.bytes)?,
         },
         kind => plain_event(kind, small),

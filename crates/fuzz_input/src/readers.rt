@@ -1,8 +1,8 @@
 //! Readers of the codecs.
 
 use cip_datagram::{read_datagram, read_header};
-use cip_encap::{Splitter, read_items, read_message};
-use cip_epath::{read_path, read_target};
+use cip_encap::{Splitter, read_connected_items, read_items, read_message};
+use cip_epath::{read_message_path, read_path, read_target};
 use cip_fwdopen::{
     OpenService, read_close, read_close_reply, read_get_reply, read_open, read_open_reply,
     read_request,
@@ -14,6 +14,7 @@ use std::alloc::Global;
 /// Gives the bytes to each reader of a codec. Returns true: what they read is theirs to say.
 pub fn read_all(bytes: &[u8]) -> bool {
     let _path = read_path(bytes).is_ok();
+    let _router = read_message_path(bytes).is_ok();
     let _target = read_target(bytes).is_ok();
     let _request = read_request(bytes).is_ok();
     let _open = read_open(OpenService::ForwardOpen, bytes).is_ok();
@@ -35,6 +36,7 @@ fn read_packets(bytes: &[u8]) -> bool {
     let _header = read_header(bytes).is_some();
     let _message = read_message(bytes).is_ok();
     let _items = read_items(bytes).is_ok();
+    let _connected = read_connected_items(bytes).is_ok();
     read_parameters(bytes)
 }
 

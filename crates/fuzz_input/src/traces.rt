@@ -12,9 +12,9 @@ use trace_text::{Trace, TraceFault, read_trace};
 /// The fast device of a profile of either kind.
 type FastDevice = AnyDevice<FastAdapter, FastScanner>;
 
-/// The profile of the adapter: two outputs, three inputs of which one is long, a configuration.
+/// The profile of the adapter: two outputs, three inputs of which one is long, a configuration, two own classes.
 const ADAPTER: &[u8] =
-    b"adapter 16 192.168.1.10 255.255.255.0 1 12 7 2 3\noutput 150 4 zero hold\noutput 149 4 hold zero\ninput 100 4\ninput 101 4\ninput 102 1400\nconfig 151 2\nheartbeat 152 153\n";
+    b"adapter 16 192.168.1.10 255.255.255.0 1 12 7 2 3\noutput 150 4 zero hold\noutput 149 4 hold zero\ninput 100 4\ninput 101 4\ninput 102 1400\nconfig 151 2\nobject 100\nobject 768\nheartbeat 152 153\n";
 
 /// The profile of the scanner: four slots of two targets, of each kind.
 const SCANNER: &[u8] =

@@ -1,7 +1,10 @@
 //! Texts of codecs, and a stream that is cut into messages.
 
 use crate::calls::{Difference, MemoryCall, Refusals, Trial};
-use cip_encap::{MessageView, SocketAddress, SplitFault, Splitter, write_items, write_message};
+use cip_encap::{
+    MessageView, SocketAddress, SplitFault, Splitter, put_connected_header, write_items,
+    write_message,
+};
 use cip_epath::{ConnPath, Target, write_path, write_target};
 use cip_fwdopen::{
     CloseRequest, OpenRequest, OpenService, Opened, write_close, write_closed, write_get,
@@ -58,9 +61,11 @@ enum Text {
     Closed,
     Refused,
     Reply,
+    OwnReply,
+    Connected,
 }
 
-const TEXTS: [Text; 12] = [
+const TEXTS: [Text; 14] = [
     Text::Message,
     Text::Packet,
     Text::Path,
@@ -73,6 +78,8 @@ const TEXTS: [Text; 12] = [
     Text::Closed,
     Text::Refused,
     Text::Reply,
+    Text::OwnReply,
+    Text::Connected,
 ];
 
 /// A message of the encapsulation.
@@ -152,6 +159,13 @@ fn refused(alloc: Global) -> Result<Vec<u8>, OutOfMemory> {
     write_refused(alloc, 0x54, fault, Some(TRIAD))
 }
 
+/// The items before a connected message of eight bytes.
+fn connected(alloc: Global) -> Result<Vec<u8>, OutOfMemory> {
+    let mut out = Vec::new(alloc);
+    put_connected_header(&mut out, ConnId(0x2000_0001), 7, 8)?;
+    Ok(out)
+}
+
 /// A text of a writer.
 struct Writing;
 
@@ -176,6 +190,8 @@ impl MemoryCall for Writing {
             Text::Closed => write_closed(alloc, TRIAD),
             Text::Refused => refused(alloc),
             Text::Reply => Reply::Closed(TRIAD).write(alloc),
+            Text::OwnReply => Reply::Own(0x4B, 0, &BYTES).write(alloc),
+            Text::Connected => connected(alloc),
         }
     }
 

@@ -93,11 +93,12 @@ fn call_kind(call: &LocalCall) -> u8 {
         LocalCall::Tick { .. } => 5,
         LocalCall::Inquiry { .. } => 10,
         LocalCall::Explicit { .. } => 11,
+        LocalCall::Respond { .. } => 12,
     }
 }
 
 /// The number of the point or slot of a call, the number of milliseconds, the address of the peer, or the number of an
-/// explicit request.
+/// explicit request or of a request that is answered.
 fn call_number(call: &LocalCall) -> u64 {
     match call {
         LocalCall::Write { point, .. } | LocalCall::Read { point } => u64::from(*point),
@@ -106,6 +107,7 @@ fn call_number(call: &LocalCall) -> u64 {
         LocalCall::Tick { ms } => u64::from(*ms),
         LocalCall::Inquiry { peer, .. } => u64::from(peer.0),
         LocalCall::Explicit { number, .. } => u64::from(*number),
+        LocalCall::Respond { number, .. } => *number,
     }
 }
 
