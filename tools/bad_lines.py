@@ -19,6 +19,8 @@ BAD_EVENTS = [
     ("read 150\n1 done\n1 done\n", "bad line 7: it is not allowed at this place"),
     ("input 101 4\n", "bad line 5: it is not allowed at this place"),
     ("closers own\n", "bad line 5: it is not allowed at this place"),
+    ("object 100\n", "bad line 5: it is not allowed at this place"),
+    ("answer 1 00 -\n1 asked 1 75 100 1 - -\n1 asked 2 75 100 1 - -\n", "bad line 7: it is not allowed at this place"),
     ("read 150\n1 note unanswered 7 late\n", "bad line 6: no part of an outcome follows the event's number"),
 ]
 
@@ -50,6 +52,7 @@ FORMS = [
     ("node-connections 4", [U8]),
     ("closers own", [NAME]),
     ("newer 1000", [U32]),
+    ("object 100", [U32]),
     ("heartbeat 152 153", [U32, U32]),
     ("scanner 9 10.0.0.2 1 77 1000 500", [U8, ADDRESS, U16, U32, U64, U64]),
     ("slot 10.0.0.1 exclusive 151 150 100 4 4 10000 10000 2 p2p 0100020003008104 0102",
@@ -57,6 +60,7 @@ FORMS = [
     ("slot 10.0.0.1 listen - 153 100 0 4 10000 10000 2 multicast - - change 5", [NAME, U8]),
     ("request 10.0.0.1 0e", [ADDRESS, HEX]),
     ("explicit 10.0.0.1 7 0e", [ADDRESS, U32, HEX]),
+    ("answer 7 00 0e", [U64, STATUS, HEX]),
     ("stream 1 10.0.0.1", [U16, ADDRESS]),
     ("frame 1 0e", [U16, HEX]),
     ("cut 1", [U16]),
@@ -72,6 +76,7 @@ FORMS = [
     ("1 send 10.0.0.1 10.0.0.1,10.0.0.2 0e", [ADDRESS, ADDRESSES, HEX]),
     ("1 value 0e", [HEX]),
     ("1 replied 7 00 0106 0e", [U32, STATUS, HEX, HEX]),
+    ("1 asked 7 75 100 1 - 0e", [U64, U8, U32, U32, U32, HEX]),
 ]
 
 

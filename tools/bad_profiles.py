@@ -93,6 +93,17 @@ BAD_PROFILES = [
      "bad profile 9: line 7: word 2: numbers are accepted within 1 of the newest, and that is 2 to 2,147,483,648"),
     (adapter(points=POINTS + "newer 2147483649\n"),
      "bad profile 9: line 4: word 2: numbers are accepted within 2147483649 of the newest, and that is 2 to 2,147,483,648"),
+    # an adapter: the classes of its maker's own objects
+    (adapter(points=POINTS + "object 0\n"),
+     "bad profile 10: line 4: word 2: class 0 is none, and a class is 1 to 65,535"),
+    (adapter(points=POINTS + "object 100\n# and one past two bytes\nobject 65536\n"),
+     "bad profile 10: line 6: word 2: class 65536 is none, and a class is 1 to 65,535"),
+    (adapter(points=POINTS + "closers own\nobject 100\nobject 246\n"),
+     "bad profile 10: line 6: word 2: class 246 is that of an object that each device has"),
+    (adapter(points=POINTS + "object 100\nobject 101\nobject 101\nobject 4\n"),
+     "bad profile 10: line 5: word 2: class 101 is named twice"),
+    (adapter(points=POINTS + "".join(f"object {100 + n}\n" for n in range(17))),
+     "bad profile 10: line 20: word 2: class 116 is one too many, and an adapter has at most 16 own classes"),
     # a scanner: incarnation and slots
     (scanner(slot(), first="scanner 0 10.0.0.2 1 77 1000 500\n"),
      "bad profile 1: line 1: word 2: the incarnation is 0, and an incarnation is 1 to 255"),

@@ -43,7 +43,8 @@ static void check_numbers(void)
     static const int deliveries[] = {EIP_APPLIED, EIP_IDLE,       EIP_HEARTBEAT,  EIP_DUPLICATE,
                                      EIP_OLD,     EIP_UNKNOWN_ID, EIP_WRONG_SIZE, EIP_MALFORMED};
     static const int verdicts[] = {EIP_ITEM_DONE,      EIP_ITEM_BAD_FRAME, EIP_ITEM_IGNORED,          EIP_ITEM_VALUE,
-                                   EIP_ITEM_DELIVERED, EIP_ITEM_REPLIED,   EIP_ITEM_ADDITIONAL_STATUS};
+                                   EIP_ITEM_DELIVERED, EIP_ITEM_REPLIED,   EIP_ITEM_ADDITIONAL_STATUS, EIP_ITEM_ASKED,
+                                   EIP_ITEM_ASKED_PATH};
     static const int sent[] = {EIP_ITEM_FRAME, EIP_ITEM_REPLY};
     static const int datagrams[] = {EIP_ITEM_DATAGRAM, EIP_ITEM_CONSUMER};
     static const int notices[] = {EIP_ITEM_OPENED,   EIP_ITEM_CLOSED,        EIP_ITEM_EXPIRED, EIP_ITEM_DROPPED,
@@ -91,6 +92,7 @@ static void check_refusals(eip_device *device)
     check(eip_read(device, 99, out, sizeof out, &size) == EIP_NO_SUCH_POINT, "a read of no point");
     check(eip_start(device, 0, out, sizeof out, &size) == EIP_NOT_ALLOWED_NOW, "a slot of an adapter");
     check(eip_frame(device, 3, four, 4, out, sizeof out, &size) == EIP_NOT_ALLOWED_NOW, "a frame of no stream");
+    check(eip_respond(device, 1, 0, four, 4, out, sizeof out, &size) == EIP_NOT_ALLOWED_NOW, "an answer to no request");
     check(eip_tick(device, 1, NULL, 1, &size) == EIP_NULL, "room NULL");
     check(eip_tick(device, 1, out, sizeof out, NULL) == EIP_NULL, "a size NULL");
     check(eip_request(device, 1, NULL, 1, out, sizeof out, &size) == EIP_NULL, "bytes NULL");
@@ -122,6 +124,7 @@ static void check_null(eip_device *device)
         check(eip_frame(device, 0, NULL, len, out, sizeof out, &size) == EIP_NULL, "a frame NULL");
         check(eip_inquire(device, 1, NULL, len, out, sizeof out, &size) == EIP_NULL, "an inquiry NULL of a device");
         check(eip_explicit(device, 1, 1, NULL, len, out, sizeof out, &size) == EIP_NULL, "an explicit request NULL");
+        check(eip_respond(device, 1, 0, NULL, len, out, sizeof out, &size) == EIP_NULL, "the data of an answer NULL");
         check(eip_datagram(device, 1, NULL, len, &delivery) == EIP_NULL && delivery == EIP_IDLE, "a datagram NULL");
         check(eip_write(device, 100, NULL, len, out, sizeof out, &size) == EIP_NULL, "a value NULL");
         check(eip_tick(device, 1, NULL, len, &size) == EIP_NULL, "room NULL of any length");

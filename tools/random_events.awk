@@ -1,12 +1,13 @@
 # Prints a trace of events at an adapter that are drawn by a fixed generator: opens of every kind, among them such that
-# are refused, closes, datagrams that are new, old, idle or none, times short and long, writes, reads and messages over
-# streams.
+# are refused, closes, datagrams that are new, old, idle or none, times short and long, writes, reads, messages over
+# streams, class 3 connections with messages that repeat, and answers to the requests of an own object.
 #
-#   awk -v events=10000 -v seed=42 -f tools/random_events.awk [OUTCOMES]
+#   awk -v events=10000 -v seed=42 -v round=50 -f tools/random_events.awk [OUTCOMES]
 #
-# Datagrams are for connections that were opened shortly before, as far as these are known: from the outcomes that
-# `eip_line step` printed for the trace that the same seed gave before. So the second or third trace has most of its
-# datagrams delivered.
+# Datagrams, connected messages and answers are for what was opened or asked shortly before, as far as that is known: from
+# the outcomes that `eip_line step` printed for the shorter trace of the same seed. An event looks at the outcomes before its
+# round of `round` events (50) alone. So a trace that is made longer by one round at a time, and played each time, keeps its
+# beginning (tools/drawn_adapter).
 
 function draw(bound) {
     state = (state * 16807) % 2147483647
@@ -73,7 +74,28 @@ function close_request() {
     return "4e02200624010a0e" triad(draw(96)) "0300" "20042497" "2c98"
 }
 
-# an open, a close, or a reading of an assembly
+# a Forward_Open of a class 3 connection, which lives on the stream over which it comes; its packet intervals are 2 s or 100 ms
+function dialogue_request(    serial, interval) {
+    serial = 200 + draw(8)
+    interval = draw(4) ? "80841e00" : "a0860100"
+    return "5402200624010ac8" "00000000" word(serial) "0050" triad(serial) byte(draw(6)) "000000" interval "6442" interval \
+        "6442" "a302" "20022401"
+}
+
+# a message of the class 3 connection that was opened last on this stream: a new one, or the last one again; now and then
+# of another connection, or longer than the connection's size
+function unit(stream,    id, text, length_of) {
+    id = draw(16) ? last_dialogue[stream] + 0 : 7
+    unit_count[stream] += draw(3) ? 1 : 0
+    text = draw(2) ? "0e03200424" byte(100 + draw(5)) "3003" : "0e03206424013007"
+    text = draw(16) ? text : close_request()
+    text = draw(16) ? text : text sprintf("%0200d", 0)
+    length_of = length(text) / 2
+    return "7000" word(length_of + 22) long_word(stream + 1) "00000000" "0000000000000000" "00000000" "00000000" "0000" \
+        "0200" "a1000400" long_word(id) "b100" word(length_of + 2) word(unit_count[stream] % 65536) text
+}
+
+# an open, a close, a reading of an assembly, or a request to an own object
 function request(    kind) {
     kind = draw(16)
     if (kind < 10)
@@ -82,23 +104,33 @@ function request(    kind) {
         return open_request(1 + draw(6))
     if (kind < 15)
         return close_request()
-    return "0e03200424" byte(96 + draw(16)) "3003"
+    return draw(2) ? "0e03200424" byte(96 + draw(16)) "3003" : "4b0220642401" byte(draw(256))
+}
+
+function registration() {
+    return "6500" "0400" "00000000" "00000000" "0102030405060708" "00000000" "01000000"
+}
+
+# a request over a stream, within its session
+function unconnected(stream, text,    length_of) {
+    length_of = length(text) / 2
+    return "6f00" word(length_of + 16) long_word(stream + 1) "00000000" "0102030405060708" "00000000" "00000000" "0000" \
+        "0200" "00000000" "b200" word(length_of) text
 }
 
 # a message over a stream: a registration, its end, a list of services, or a request
-function message(stream,    kind, rest, length_of) {
+function message(stream,    kind, rest) {
     kind = draw(8)
     rest = "00000000" "0102030405060708" "00000000"
     if (kind < 3)
-        return "6500" "0400" "00000000" rest "01000000"
+        return registration()
     if (kind == 3)
         return "6600" (draw(2) ? "0400" : "0000") long_word(stream + 1) rest
     if (kind == 4)
         return "0400" (draw(2) ? "0400" : "0000") "00000000" rest
-    rest = rest "00000000" "0000" "0200" "00000000" "b200"
-    kind = request()
-    length_of = length(kind) / 2
-    return "6f00" word(length_of + 16) long_word(stream + 1) rest word(length_of) kind
+    if (kind == 7 && draw(4))
+        return unit(stream)
+    return unconnected(stream, kind == 7 ? dialogue_request() : request())
 }
 
 function peer() {
@@ -146,6 +178,20 @@ function streamed(    stream, kind) {
     return "frame " stream " " message(stream)
 }
 
+# over a stream of its own, which seldom ends: class 3 connections and their messages
+function connected(    kind) {
+    kind = draw(64)
+    talked += 1
+    if (talked == 1)
+        return "stream 4 " peer()
+    if (talked == 2)
+        return "frame 4 " registration()
+    if (kind > 0)
+        return "frame 4 " (kind < 8 ? unconnected(4, dialogue_request()) : unit(4))
+    talked = 0
+    return "cut 4"
+}
+
 function event(    kind, node) {
     kind = draw(32)
     node = peer()
@@ -159,19 +205,48 @@ function event(    kind, node) {
         return "write " (100 + draw(5)) " " (draw(16) ? long_word(draw(256)) : "010203")
     if (kind == 26)
         return "read " (draw(2) ? 150 : 100 + draw(5))
-    if (kind < 31)
+    if (kind < 29)
         return streamed()
-    return "mode run"
+    if (kind < 31)
+        return connected()
+    return "answer " last_asked + draw(4) " " (draw(4) ? "00" : "14") " " long_word(draw(256))
 }
 
-# what connections were opened at an event, when this trace was played before
-/ note opened / {
+# what connections were opened at an event, when this trace was played before; those of class 3 by the stream of the reply
+$2 == "frame" {
+    stream_at[$1] = $3
+}
+
+/ note opened / && $4 >= 200 {
+    dialogue_at[$1] = number_of($NF)
+}
+
+/ note opened / && $4 < 200 {
     id_at[$1] = number_of($NF)
     owner_at[$1] = $4 >= 90
 }
 
+# which requests were given to the application
+$2 == "asked" {
+    asked_at[$1] = $3
+}
+
+# what was opened and asked at an event is known from now on
+function take_up(place) {
+    if (place in dialogue_at)
+        last_dialogue[stream_at[place]] = dialogue_at[place]
+    if (place in asked_at)
+        last_asked = asked_at[place]
+    if (place in id_at && owner_at[place])
+        last_owner = id_at[place]
+    else if (place in id_at)
+        last_opened = id_at[place]
+}
+
 END {
+    known = last_asked = 0
     state = seed == "" ? 42 : seed
+    round = round == "" ? 50 : round
     print "adapter 16 192.168.1.10 255.255.255.0 1 12 7 2 3"
     print "output 150 4 zero hold"
     print "output 149 4 hold zero"
@@ -180,12 +255,12 @@ END {
     print "input 102 4"
     print "input 103 4"
     print "config 151 0"
+    print "object 100"
     print "heartbeat 152 153"
     for (place = 1; place <= events; place++) {
+        if (place % round == 1)
+            while (known < place - 1)
+                take_up(++known)
         print event()
-        if (place in id_at && owner_at[place])
-            last_owner = id_at[place]
-        else if (place in id_at)
-            last_opened = id_at[place]
     }
 }

@@ -264,6 +264,7 @@ def run_unread_record(bench, adapter):
     need(len(unread) == MOST, "they have not closed their ends")
     for it in unread:
         it.close()
+    time.sleep(1.2)  # (all of their places are free)
     run_slowly_read_record(bench, adapter)
 
 

@@ -6,7 +6,7 @@ from rim.host import Station, holds, listens, need, run, sure, until, wait
 from rim.peers import INPUT_ONLY, MULTICAST, POINT_TO_POINT, Originator, Silent, Target
 
 CALLS = ["write POINT HEX", "read POINT", "mode run", "mode idle", "start SLOT", "stop SLOT",
-         "get NODE CLASS INSTANCE ATTRIBUTE", "set NODE CLASS INSTANCE ATTRIBUTE HEX", "explicit NODE NUMBER HEX", "status"]
+         "get NODE CLASS INSTANCE ATTRIBUTE", "set NODE CLASS INSTANCE ATTRIBUTE HEX", "explicit NODE NUMBER HEX", "answer NUMBER STATUS HEX", "status"]
 MUTE = "scanner 32 {owner} 1 101 1000 1000\nslot {adapter} input - 152 100 0 4 10000 10000 2 multicast - -\n"
 FED = "slot {adapter} input - 152 100 0 4 10000 10000 2 p2p - -\n"
 
