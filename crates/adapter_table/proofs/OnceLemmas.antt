@@ -92,13 +92,15 @@ found_changed number id f keeps (x ∷ dialogues) d differ found =
 
 -- ---- the message comes again
 
--- the message, once more: this reply, and nothing but a deadline changes
+-- the message, once more: this reply, and nothing but the deadline of its connection changes
 abbrev Again : streams.Stream → ConnectedFields → Option FrameReply → AdapterTable → Type 0
 Again stream unit reply table =
-    (d : Dialogue) × (unit_replied table stream (Ok unit) ≡ record { reply = reply; verdict = Delivered Duplicate; notices = []; table = repeated_table table d })
+    (d : Dialogue) ×
+    ((find (is_dialogue stream.number (record { 0 = unit.connection })) table.messaging.dialogues ≡ Some d) ×
+    (unit_replied table stream (Ok unit) ≡ record { reply = reply; verdict = Delivered Duplicate; notices = []; table = repeated_table table d }))
 
 again_by : (table : AdapterTable) (stream : streams.Stream) (unit : ConnectedFields) (d : Dialogue) (reply : Option FrameReply) → find (is_dialogue stream.number (record { 0 = unit.connection })) table.messaging.dialogues ≡ Some d → nat_lt d.o_t_size (2 + length unit.message) ≡ false → repeats_last d unit.count ≡ true → kept_reply d unit.count d.reply ≡ reply → Again stream unit reply table
-again_by table stream unit d reply found fits repeats kept = (d, rw (found, fits, repeats, kept) refl)
+again_by table stream unit d reply found fits repeats kept = (d, (found, rw (found, fits, repeats, kept) refl))
 
 -- a message that is executed or comes again: its connection is found, and has room for it
 record Comes (t : AdapterTable) (stream : streams.Stream) (unit : ConnectedFields) (d : Dialogue) : Type 0 where

@@ -22,10 +22,13 @@ use Rattle.adapter_table.specs.Whole.{IsWhole}
 
 -- MESSAGES
 
--- the message comes again: the reply is that of the first time, nothing is executed, and all but the deadline stays
-abbrev pub IsRepeated : Handled → Handled → Type 0
-IsRepeated first again =
-    (d : Dialogue) × (again ≡ record { reply = first.reply; verdict = Delivered Duplicate; notices = []; table = repeated_table first.table d })
+-- The message comes again: the reply is that of the first time, nothing is executed, and all but the deadline of its own connection
+-- stays.
+abbrev pub IsRepeated : Stream → ConnectedFields → Handled → Handled → Type 0
+IsRepeated stream unit first again =
+    (d : Dialogue) ×
+    ((find (is_dialogue stream.number (record { 0 = unit.connection })) first.table.messaging.dialogues ≡ Some d) ×
+    (again ≡ record { reply = first.reply; verdict = Delivered Duplicate; notices = []; table = repeated_table first.table d }))
 
 -- whatever became of a message of a class 3 connection, once more it is a repetition
 abbrev pub MessagesExecuteOnce : Type 0
@@ -33,7 +36,7 @@ MessagesExecuteOnce =
     (t : AdapterTable) (stream : Stream) (unit : ConnectedFields) (d : Dialogue) → IsWhole t →
     find (is_dialogue stream.number (record { 0 = unit.connection })) t.messaging.dialogues ≡ Some d →
     nat_lt d.o_t_size (2 + length unit.message) ≡ false → unit.message ≢ [] →
-    IsRepeated (unit_replied t stream (Ok unit)) (unit_replied (unit_replied t stream (Ok unit)).table stream (Ok unit))
+    IsRepeated stream unit (unit_replied t stream (Ok unit)) (unit_replied (unit_replied t stream (Ok unit)).table stream (Ok unit))
 
 -- ANSWERS
 
