@@ -33,6 +33,7 @@ mod GroupSamples
 mod OrderSamples
 mod CircleSamples
 mod OnceSamples
+mod ExecutionSamples
 mod Passing
 mod Testing
 mod NameTesting
