@@ -1,5 +1,5 @@
 -- Samples of the counts of the messages that are executed on a class 3 connection, which the law of their run speaks of.
-use Rattle.std.proofs.Common.{◌≡◌, refl, ℕ, List, [], ◌∷◌, ◌++◌, Some, None}
+use Rattle.std.proofs.Common.{◌≡◌, refl, ℕ, [], ◌∷◌, ◌++◌, Some, None}
 use Rattle.cip_types.specs.declared.names.ConnId.{ConnId}
 use Rattle.cip_events.specs.declared.event.Event.{Event}
 use Rattle.cip_events.specs.declared.event.Event.TheVariants.{Frame}
