@@ -14,30 +14,34 @@ use Rattle.adapter_table.specs.declared.row.Connection.{Connection}
 use Rattle.adapter_table.specs.declared.row.Mode.{Mode}
 use Rattle.adapter_table.specs.declared.maker_limits.Places.{Places}
 use Rattle.adapter_table.specs.declared.maker_limits.MakerLimits.{MakerLimits}
+use Rattle.adapter_table.specs.declared.maker_limits.NodeLimits.{NodeLimits}
 use Rattle.adapter_table.specs.declared.profile.Action.{Action}
 use Rattle.adapter_table.specs.declared.profile.OutputPoint.{OutputPoint}
 use Rattle.adapter_table.specs.declared.profile.InputPoint.{InputPoint}
 use Rattle.adapter_table.specs.declared.profile.Description.{Description}
 use Rattle.adapter_table.specs.declared.profile.Profile.{Profile}
+use Rattle.opening_rates.specs.declared.rates.NodeOpenings.{NodeOpenings}
 use Rattle.adapter_table.specs.declared.table.PointValue.{PointValue}
 use Rattle.adapter_table.specs.declared.table.Stream.{Stream}
 use Rattle.adapter_table.specs.declared.table.AdapterTable.{AdapterTable}
-use Rattle.messaging.specs.declared.dialogue.Dialogue.{Dialogue}
+use Rattle.messaging.specs.declared.class3.Class3Connection.{Class3Connection}
 use Rattle.messaging.specs.declared.requests.Requester.{Requester}
 use Rattle.messaging.specs.declared.requests.Waiting.{Waiting}
 use Rattle.messaging.specs.declared.table.Messaging.{Messaging}
-use Rattle.messaging.specs.contracts.dialogue.DialoguePartialEq.TheImpl as dialogue
+use Rattle.messaging.specs.contracts.class3.Class3ConnectionPartialEq.TheImpl as class3
 use Rattle.messaging.specs.contracts.requests.RequesterPartialEq.TheImpl as asker
 use Rattle.messaging.specs.contracts.requests.WaitingPartialEq.TheImpl as waiting
 use Rattle.messaging.specs.contracts.table.MessagingPartialEq.TheImpl as messaging
 use Rattle.cip_types.specs.contracts.names.IdentityPartialEq.TheImpl as identity
 use Rattle.adapter_table.specs.contracts.maker_limits.PlacesPartialEq.TheImpl as places
+use Rattle.adapter_table.specs.contracts.maker_limits.NodeLimitsPartialEq.TheImpl as node_limits
 use Rattle.adapter_table.specs.contracts.maker_limits.MakerLimitsPartialEq.TheImpl as limits
 use Rattle.adapter_table.specs.contracts.profile.ActionPartialEq.TheImpl as action
 use Rattle.adapter_table.specs.contracts.profile.OutputPointPartialEq.TheImpl as output
 use Rattle.adapter_table.specs.contracts.profile.InputPointPartialEq.TheImpl as input
 use Rattle.adapter_table.specs.contracts.profile.DescriptionPartialEq.TheImpl as description
 use Rattle.adapter_table.specs.contracts.profile.ProfilePartialEq.TheImpl as profile
+use Rattle.opening_rates.specs.contracts.rates.NodeOpeningsPartialEq.TheImpl as openings
 use Rattle.adapter_table.specs.contracts.row.State.{the_row as state_row}
 use Rattle.adapter_table.specs.contracts.row.StatePartialEq.TheImpl as state
 use Rattle.adapter_table.specs.contracts.row.ModePartialEq.TheImpl as mode
@@ -88,13 +92,14 @@ connection_decides P states d decides a b =
     (Decides-and _ _ (id_decides a.t_o_id b.t_o_id)
     (Decides-and _ _ (Decides-eqb a.o_t_api_ms b.o_t_api_ms)
     (Decides-and _ _ (Decides-eqb a.t_o_api_ms b.t_o_api_ms)
+    (Decides-and _ _ (Decides-eqb a.o_t_pace_ms b.o_t_pace_ms)
     (Decides-and _ _ (ms_decides a.watchdog b.watchdog)
     (Decides-and _ _ (booleans_Decides a.multicast b.multicast)
     (Decides-and _ _ (Decides-eqb a.opening b.opening)
     (Decides-and _ _ (last_decides a.last b.last)
     (Decides-and _ _ (mode_decides a.mode b.mode)
     (Decides-and _ _ (ms_decides a.deadline b.deadline)
-    (decides a.state b.state))))))))))))))))
+    (decides a.state b.state)))))))))))))))))
 
 -- ---- tables
 
@@ -118,15 +123,32 @@ described_decides a b = search (rules, description_decides)
 numbers_decide : (a b : Option ℕ) → Decides (option_eq ◌==◌ a b) (a ≡ b)
 numbers_decide a b = search (rules, Decides-eqb)
 
+one_places_decide : (a b : Places) → Decides ((places.ghosts).eq a b) (a ≡ b)
+one_places_decide a b =
+    Decides-like ((places.ghosts).eq a b) (λ p. search rules) (λ e. search rules)
+    (Decides-and _ _ (Decides-eqb a.owners b.owners)
+    (Decides-and _ _ (Decides-eqb a.readers b.readers)
+    (Decides-and _ _ (Decides-eqb a.listeners b.listeners)
+    (numbers_decide a.class3_connections b.class3_connections))))
+
 places_decide : (a b : Option Places) → Decides (option_eq (places.ghosts).eq a b) (a ≡ b)
-places_decide a b = search rules
+places_decide a b = search (rules, one_places_decide)
+
+node_limits_decide : (a b : NodeLimits) → Decides ((node_limits.ghosts).eq a b) (a ≡ b)
+node_limits_decide a b =
+    Decides-like ((node_limits.ghosts).eq a b) (λ p. search rules) (λ e. search rules)
+    (Decides-and _ _ (Decides-eqb a.connections b.connections)
+    (numbers_decide a.openings b.openings))
+
+nodes_decide : (a b : Option NodeLimits) → Decides (option_eq (node_limits.ghosts).eq a b) (a ≡ b)
+nodes_decide a b = search (rules, node_limits_decide)
 
 limits_decide : (a b : MakerLimits) → Decides ((limits.ghosts).eq a b) (a ≡ b)
 limits_decide a b =
     Decides-like ((limits.ghosts).eq a b) (λ p. search rules) (λ e. search rules)
     (Decides-and _ _ (numbers_decide a.least_rpi b.least_rpi)
     (Decides-and _ _ (places_decide a.places b.places)
-    (Decides-and _ _ (numbers_decide a.node_connections b.node_connections)
+    (Decides-and _ _ (nodes_decide a.node_connections b.node_connections)
     (Decides-and _ _ (booleans_Decides a.own_closers b.own_closers)
     (numbers_decide a.newer b.newer)))))
 
@@ -154,9 +176,9 @@ stream_decides a b = search rules
 last_count_decides : (a b : Option ℕ) → Decides (option_eq ◌==◌ a b) (a ≡ b)
 last_count_decides a b = search (rules, Decides-eqb)
 
-dialogue_decides : (a b : Dialogue) → Decides ((dialogue.ghosts).eq a b) (a ≡ b)
-dialogue_decides a b =
-    Decides-like ((dialogue.ghosts).eq a b) (λ p. search rules) (λ e. search rules)
+class3_decides : (a b : Class3Connection) → Decides ((class3.ghosts).eq a b) (a ≡ b)
+class3_decides a b =
+    Decides-like ((class3.ghosts).eq a b) (λ p. search rules) (λ e. search rules)
     (Decides-and _ _ (triad_decides a.triad b.triad)
     (Decides-and _ _ (node_decides a.peer b.peer)
     (Decides-and _ _ (Decides-eqb a.stream b.stream)
@@ -179,16 +201,24 @@ waiting_decides : (a b : Waiting) → Decides ((waiting.ghosts).eq a b) (a ≡ b
 waiting_decides a b =
     Decides-like ((waiting.ghosts).eq a b) (λ p. search rules) (λ e. search rules)
     (Decides-and _ _ (Decides-eqb a.number b.number)
+    (Decides-and _ _ (node_decides a.peer b.peer)
     (Decides-and _ _ (asker_decides a.asker b.asker)
     (Decides-and _ _ (Decides-eqb a.service b.service)
-    (ms_decides a.deadline b.deadline))))
+    (ms_decides a.deadline b.deadline)))))
 
 messaging_decides : (a b : Messaging) → Decides ((messaging.ghosts).eq a b) (a ≡ b)
 messaging_decides a b =
     Decides-like ((messaging.ghosts).eq a b) (λ p. search rules) (λ e. search rules)
-    (Decides-and _ _ (pointwise_decides dialogue_decides a.dialogues b.dialogues)
+    (Decides-and _ _ (pointwise_decides class3_decides a.class3_connections b.class3_connections)
     (Decides-and _ _ (pointwise_decides waiting_decides a.waiting b.waiting)
     (Decides-eqb a.next_number b.next_number)))
+
+openings_decide : (a b : NodeOpenings) → Decides ((openings.ghosts).eq a b) (a ≡ b)
+openings_decide a b =
+    Decides-like ((openings.ghosts).eq a b) (λ p. search rules) (λ e. search rules)
+    (Decides-and _ _ (node_decides a.node b.node)
+    (Decides-and _ _ (ms_decides a.since b.since)
+    (Decides-eqb a.count b.count)))
 
 -- two tables that pass the test are equal, and equal tables pass it
 pub adapter_decides : (a b : AdapterTable) → Decides ((adapter.ghosts).eq a b) (a ≡ b)
@@ -200,4 +230,5 @@ adapter_decides a b =
     (Decides-and _ _ (ms_decides a.clock b.clock)
     (Decides-and _ _ (Decides-eqb a.next_id b.next_id)
     (Decides-and _ _ (pointwise_decides stream_decides a.streams b.streams)
-    (messaging_decides a.messaging b.messaging)))))))
+    (Decides-and _ _ (messaging_decides a.messaging b.messaging)
+    (pointwise_decides openings_decide a.openings b.openings))))))))

@@ -15,7 +15,8 @@ pub mod ScratchSteps
 pub mod EqLemmas
 pub mod NewestSteps
 pub mod LimitSteps
+pub mod RateSteps
 pub mod OnceLemmas
 mod NewestSamples
 mod LimitSamples
-mod DialogueSamples
+mod Class3Samples

@@ -1,14 +1,17 @@
 -- The limits that a maker states, at both sides of each edge, and without them: samples, by hand.
-use Rattle.std.proofs.Common.{◌≡◌, ℕ, true, false, List, [], ◌∷◌, Option, Some, None, Result, Ok, Err, refl}
+use Rattle.std.proofs.Common.{◌≡◌, ℕ, ◌+◌, true, false, List, [], ◌∷◌, Option, Some, None, Result, Ok, Err, refl}
+use Rattle.cip_types.specs.declared.names.Ms.{Ms}
 use Rattle.cip_types.specs.declared.names.Node.{Node}
 use Rattle.cip_types.specs.declared.names.Triad.{Triad}
 use Rattle.cip_datagram.specs.Datagram.{DatagramFields}
 use Rattle.cip_netparams.specs.declared.NetParams.{NetParams}
 use Rattle.cip_netparams.specs.declared.ConnectionType.TheVariants.{PointToPoint}
 use Rattle.cip_netparams.specs.declared.Priority.TheVariants.{Scheduled}
-use Rattle.cip_netparams.specs.declared.Trigger.TheVariants.{Cyclic}
+use Rattle.cip_netparams.specs.declared.Trigger.TheVariants.{Cyclic, ChangeOfState}
+use Rattle.cip_epath.specs.Path.{PathFields}
 use Rattle.cip_fwdopen.specs.Open.{OpenFields}
 use Rattle.cip_fwdopen.specs.Close.{CloseFields}
+use Rattle.cip_events.specs.declared.event.Delivery.{Delivery}
 use Rattle.cip_events.specs.declared.event.Delivery.TheVariants.{Applied, Old, WrongSize}
 use Rattle.cip_events.specs.declared.event.Notice.TheVariants as notice
 use Rattle.cip_events.specs.declared.profile_fault.ProfileFault.{ProfileFault}
@@ -19,6 +22,7 @@ use Rattle.cip_router.specs.Replies.{closed, refused}
 use Rattle.cip_productions.specs.declared.kind.Kind.{Kind}
 use Rattle.cip_productions.specs.declared.kind.Kind.TheVariants.{ExclusiveOwner, InputOnly, ListenOnly}
 use Rattle.cip_productions.specs.Productions.{first_production}
+use Rattle.cip_productions.specs.Window.{pace_of, is_within}
 use Rattle.adapter_table.specs.declared.profile.Action.TheVariants.{Zero}
 use Rattle.adapter_table.specs.declared.profile.Description.{Description}
 use Rattle.adapter_table.specs.declared.profile.Profile.{Profile}
@@ -29,8 +33,8 @@ use Rattle.adapter_table.specs.declared.table.AdapterTable.{AdapterTable}
 use Rattle.adapter_table.specs.Connections.{Row}
 use Rattle.adapter_table.specs.Profiles.{no_limits, profile_fault}
 use Rattle.adapter_table.specs.Rows.{kind_count, node_count}
-use Rattle.adapter_table.specs.Checks.{Admitted, is_below_least}
-use Rattle.adapter_table.specs.StatedLimits.{exceeds, limited, is_near}
+use Rattle.adapter_table.specs.Checks.{Admitted, is_below_least, lacks_pace}
+use Rattle.adapter_table.specs.StatedLimits.{exceeds, limited, paced}
 use Rattle.adapter_table.specs.Closing.{closed_table}
 use Rattle.adapter_table.specs.Datagrams.{row_delivery}
 use Rattle.adapter_table.specs.Requests.{Served, served_close}
@@ -57,10 +61,16 @@ abbrev least_of : ℕ → MakerLimits
 least_of us = record no_limits { least_rpi = Some us }
 
 abbrev places_of : (owners readers listeners : ℕ) → MakerLimits
-places_of owners readers listeners = record no_limits { places = Some (record { owners = owners; readers = readers; listeners = listeners }) }
+places_of owners readers listeners = record no_limits { places = Some (record { owners = owners; readers = readers; listeners = listeners; class3_connections = None }) }
 
 abbrev node_of : ℕ → MakerLimits
-node_of number = record no_limits { node_connections = Some number }
+node_of number = record no_limits { node_connections = Some (record { connections = number; openings = None }) }
+
+abbrev rate_of : (connections openings : ℕ) → MakerLimits
+rate_of connections openings = record no_limits { node_connections = Some (record { connections = connections; openings = Some openings }) }
+
+abbrev shared_of : ℕ → MakerLimits
+shared_of class3_connections = record no_limits { places = Some (record { owners = 1; readers = 30; listeners = 8; class3_connections = Some class3_connections }) }
 
 abbrev own : MakerLimits
 own = record no_limits { own_closers = true }
@@ -100,6 +110,22 @@ nodes_in_range = (refl, refl)
 nodes_out_of_range : (fault_of (node_of 0) ≡ Some Limits) × (fault_of (node_of 65) ≡ Some Limits)
 unfolding profile_fault lib.Count.ones
 nodes_out_of_range = (refl, refl)
+
+class_3_in_range : (fault_of (shared_of 0) ≡ None) × (fault_of (shared_of 64) ≡ None)
+unfolding profile_fault lib.Count.ones
+class_3_in_range = (refl, refl)
+
+class_3_out_of_range : fault_of (shared_of 65) ≡ Some Limits
+unfolding profile_fault lib.Count.ones
+class_3_out_of_range = refl
+
+openings_in_range : (fault_of (rate_of 4 1) ≡ None) × (fault_of (rate_of 4 65535) ≡ None)
+unfolding profile_fault lib.Count.ones
+openings_in_range = (refl, refl)
+
+openings_out_of_range : fault_of (rate_of 4 0) ≡ Some Limits
+unfolding profile_fault lib.Count.ones
+openings_out_of_range = refl
 
 numbers_in_range : (fault_of (within_of 2) ≡ None) × (fault_of (within_of 0x80000000) ≡ None)
 unfolding profile_fault lib.Count.ones
@@ -175,6 +201,7 @@ row_of kind node state = record {
   t_o_id = record { 0 = 9 };
   o_t_api_ms = 10;
   t_o_api_ms = 10;
+  o_t_pace_ms = 10;
   watchdog = record { 0 = 40 };
   multicast = false;
   opening = 5;
@@ -252,6 +279,10 @@ admitted_with_a_place = refl
 refused_without_a_place : says (places_of 1 2 1) (Ok admits) ≡ Err refusal.OutOfConnections
 refused_without_a_place = refl
 
+-- what has its place is refused where its node has opened enough in its second
+refused_without_a_second : (paced true (Ok admits) ≡ Err refusal.OutOfConnections) × (paced false (Ok admits) ≡ Ok admits) × (paced true (Err refusal.NoSupport) ≡ Err refusal.NoSupport)
+refused_without_a_second = (refl, refl, refl)
+
 -- ---- closes
 
 abbrev table : MakerLimits → List Row → AdapterTable
@@ -293,28 +324,83 @@ an_unknown_triad = refl
 abbrev datagram : ℕ → DatagramFields
 datagram number = record { connection = 0x10000005; sequence = number; count = 4; payload = 1 ∷ 0 ∷ 0 ∷ 0 ∷ 0xAA ∷ 0xBB ∷ [] }
 
+-- so many milliseconds after the owner accepted number 7, which it did at 9,960: its deadline is 10,000, its time-out 40
+abbrev later : ℕ → Ms
+later ms = record { 0 = 9960 + ms }
+
+-- the delivery of this number to an owner so many milliseconds later
+abbrev after : MakerLimits → ℕ → Row → ℕ → Delivery
+after limits ms row number = row_delivery (profile limits) (later ms) row (datagram number)
+
 -- 7 was accepted: 16 is ahead by 9
-a_near_number : row_delivery (profile (within_of 10)) owner (datagram 16) ≡ Applied
+a_near_number : after (within_of 10) 0 owner 16 ≡ Applied
 a_near_number = refl
 
-a_far_number : row_delivery (profile (within_of 10)) owner (datagram 17) ≡ Old
+a_far_number : after (within_of 10) 0 owner 17 ≡ Old
 a_far_number = refl
 
-any_newer_number : (row_delivery (profile no_limits) owner (datagram 17) ≡ Applied) × (row_delivery (profile no_limits) owner (datagram 0x80000006) ≡ Applied)
+any_newer_number : (after no_limits 0 owner 17 ≡ Applied) × (after no_limits 0 owner 0x80000006 ≡ Applied)
 any_newer_number = (refl, refl)
 
 -- the next number is taken by the narrowest limit, the last one again by none
-the_next_number : (row_delivery (profile (within_of 2)) owner (datagram 8) ≡ Applied) × (row_delivery (profile (within_of 2)) owner (datagram 7) ≡ Old)
+the_next_number : (after (within_of 2) 0 owner 8 ≡ Applied) × (after (within_of 2) 0 owner 7 ≡ Old)
 the_next_number = (refl, refl)
 
+-- the window is larger by two for each whole interval that has passed: not yet after 9 ms, by two after 10 and 19 ms
+a_window_that_waits : (after (within_of 10) 9 owner 17 ≡ Old) × (after (within_of 10) 10 owner 18 ≡ Applied)
+a_window_that_waits = (refl, refl)
+
+a_window_grown_once : (after (within_of 10) 10 owner 19 ≡ Old) × (after (within_of 10) 19 owner 19 ≡ Old) × (after (within_of 10) 20 owner 19 ≡ Applied)
+a_window_grown_once = (refl, refl, refl)
+
+-- nine datagrams in a row are lost, numbers 8 to 16: the tenth comes 100 ms after number 7, and is taken; at once it is not
+nine_lost : (after (within_of 8) 100 owner 17 ≡ Applied) × (after (within_of 8) 0 owner 17 ≡ Old)
+nine_lost = (refl, refl)
+
+-- a grown window takes no older number, nor the last one again
+old_numbers_stay_old : (after (within_of 8) 100 owner 7 ≡ Old) × (after (within_of 8) 100 owner 6 ≡ Old)
+old_numbers_stay_old = (refl, refl)
+
+-- where changes of state are held back for 4 ms, five intervals pass in 20 ms: 26 is ahead by 19, and 27 by 20
+abbrev changing : Row
+changing = record owner { o_t_pace_ms = 4 }
+
+a_window_of_changes : (after (within_of 10) 20 changing 26 ≡ Applied) × (after (within_of 10) 20 changing 27 ≡ Old)
+a_window_of_changes = (refl, refl)
+
+-- without an interval it does not grow
+a_window_without_pace : (after (within_of 10) 30 (record owner { o_t_pace_ms = 0 }) 16 ≡ Applied) × (after (within_of 10) 30 (record owner { o_t_pace_ms = 0 }) 17 ≡ Old)
+a_window_without_pace = (refl, refl)
+
+-- the pace of a cyclic connection is its packet interval, that of another its inhibit time
+paces_are : (pace_of Cyclic 10 0 ≡ 10) × (pace_of ChangeOfState 10 4 ≡ 4)
+paces_are = (refl, refl)
+
 -- the first number is near
-the_first_number : is_near (Some 2) None 0x12345678 ≡ true
+the_first_number : is_within (Some 2) 0 10 None 0x12345678 ≡ true
 the_first_number = refl
 
 -- numbers wrap: 4 is ahead of 2^32 - 6 by 10
-a_number_behind_the_wrap : (is_near (Some 11) (Some (record { number = 0xFFFFFFFA; count = 0 })) 4 ≡ true) × (is_near (Some 10) (Some (record { number = 0xFFFFFFFA; count = 0 })) 4 ≡ false)
+a_number_behind_the_wrap : (is_within (Some 11) 0 10 (Some (record { number = 0xFFFFFFFA; count = 0 })) 4 ≡ true) × (is_within (Some 10) 0 10 (Some (record { number = 0xFFFFFFFA; count = 0 })) 4 ≡ false)
 a_number_behind_the_wrap = (refl, refl)
 
 -- another size is looked at first
-a_wrong_size_first : row_delivery (profile (within_of 10)) owner (record (datagram 17) { payload = [] }) ≡ WrongSize
+a_wrong_size_first : row_delivery (profile (within_of 10)) (later 0) owner (record (datagram 17) { payload = [] }) ≡ WrongSize
 a_wrong_size_first = refl
+
+-- ---- paces
+
+-- a request of this trigger byte: 0x01 is cyclic, 0x11 of change of state
+abbrev triggered : ℕ → OpenFields
+triggered byte = record (requests 10000 10000) { trigger = byte }
+
+abbrev held_back : Option ℕ → Option PathFields
+held_back inhibit = Some (record { key = None; class = 4; config = None; consumed = 150; produced = 100; segment = None; inhibit = inhibit })
+
+-- without a limit, or cyclic, or held back, a request has a pace
+has_pace : (lacks_pace None (triggered 0x11) (held_back None) ≡ false) × (lacks_pace (Some 8) (triggered 0x01) (held_back None) ≡ false) × (lacks_pace (Some 8) (triggered 0x11) (held_back (Some 1)) ≡ false)
+has_pace = (refl, refl, refl)
+
+-- changes of state that are never held back have none
+unpaced : (lacks_pace (Some 8) (triggered 0x11) (held_back None) ≡ true) × (lacks_pace (Some 8) (triggered 0x11) (held_back (Some 0)) ≡ true) × (lacks_pace (Some 8) (triggered 0x11) None ≡ true)
+unpaced = (refl, refl, refl)

@@ -17,6 +17,7 @@ use Rattle.cip_productions.specs.declared.kind.Kind.TheVariants.{ExclusiveOwner,
 use Rattle.cip_productions.specs.Kinds.{same_kind}
 use Rattle.adapter_table.specs.declared.maker_limits.Places.{Places}
 use Rattle.adapter_table.specs.declared.maker_limits.MakerLimits.{MakerLimits}
+use Rattle.adapter_table.specs.declared.maker_limits.NodeLimits.{NodeLimits}
 use Rattle.adapter_table.specs.declared.profile.Profile.{Profile}
 use Rattle.adapter_table.specs.declared.row.State.{State}
 use Rattle.adapter_table.specs.declared.row.State.TheVariants.{TimedOut}
@@ -26,6 +27,7 @@ use Rattle.adapter_table.specs.Profiles.{all_places, are_few_places, is_from, ar
 use Rattle.adapter_table.specs.Rows.{lives, is_established, is_timed_out, has_triad, is_of_kind, kind_count, is_of_node, node_count, written_state, written_row}
 use Rattle.adapter_table.specs.Checks.{Admitted}
 use Rattle.adapter_table.specs.StatedLimits.{places_of, has_no_place, has_node_enough, limited_admission, AreWithinPlaces, AreWithinNodes, AreWithin, IsWithinLimits, PlacesAreKept}
+use Rattle.adapter_table.specs.Class3Opening.{opened_class3}
 use Rattle.adapter_table.specs.Opening.{is_replaced, opened_row, opened_table}
 use Rattle.adapter_table.specs.Closing.{without_triad, stays, closed_table}
 use Rattle.adapter_table.specs.Streams.{with_stream, without_stream, registered_table}
@@ -33,6 +35,7 @@ use Rattle.adapter_table.specs.Datagrams.{is_for, row_delivery, accepted_row, ac
 use Rattle.adapter_table.specs.Productions.{produced_state, produced_row, changed_state, changed_row}
 use Rattle.adapter_table.specs.Requests.{Next}
 use Rattle.messaging.specs.declared.table.Messaging.{Messaging}
+use Rattle.messaging.specs.Changes.{with_class3}
 use Rattle.messaging.specs.Times.{aged}
 use Rattle.adapter_table.specs.Messages.{messages_table}
 use Rattle.adapter_table.specs.Ticks.{has_expired, expired_row, expired_rows, clocked_table, expired_table, produced_table, advanced}
@@ -130,7 +133,7 @@ places_fewer : (places : Option Places) (rows after : List Row) → Fewer rows a
 places_fewer None rows after fewer within = tt
 places_fewer (Some places) rows after fewer within = λ kind. omega (arith, fewer.kinds kind, within kind)
 
-nodes_fewer : (most : Option ℕ) (rows after : List Row) → Fewer rows after → AreWithinNodes most rows → AreWithinNodes most after
+nodes_fewer : (most : Option NodeLimits) (rows after : List Row) → Fewer rows after → AreWithinNodes most rows → AreWithinNodes most after
 nodes_fewer None rows after fewer within = tt
 nodes_fewer (Some most) rows after fewer within = λ node. omega (arith, fewer.nodes node, within node)
 
@@ -183,12 +186,12 @@ places_opened (Some places) rows left new fewer free within = λ kind.
     (one_step (is_of_kind kind new) (kind_count left kind) (kind_count rows kind) (places_of places kind) (fewer.kinds kind) (within kind)
     (λ is. subst (λ (k : Kind). kind_count rows k < places_of places k) (kinds_same new.kind kind (and_parts (is_established new) _ is).1) (below _ _ free)))
 
-nodes_opened : (most : Option ℕ) (rows left : List Row) (new : Row) → Fewer rows left → has_node_enough most rows new.peer ≡ false → AreWithinNodes most rows → AreWithinNodes most (left ++ new ∷ [])
+nodes_opened : (most : Option NodeLimits) (rows left : List Row) (new : Row) → Fewer rows left → has_node_enough most rows new.peer ≡ false → AreWithinNodes most rows → AreWithinNodes most (left ++ new ∷ [])
 nodes_opened None rows left new fewer free within = tt
-nodes_opened (Some most) rows left new fewer free within = λ node.
+nodes_opened (Some limits) rows left new fewer free within = λ node.
     rw (count_new (is_of_node node) left new)
-    (one_step (is_of_node node new) (node_count left node) (node_count rows node) most (fewer.nodes node) (within node)
-    (λ is. subst (λ (n : ℕ). length (filter (λ (row : Row). is_established row && row.peer.0 == n) rows) < most) (eqb-true new.peer.0 node.0 (and_parts (is_established new) _ is).1) (below _ _ free)))
+    (one_step (is_of_node node new) (node_count left node) (node_count rows node) limits.connections (fewer.nodes node) (within node)
+    (λ is. subst (λ (n : ℕ). length (filter (λ (row : Row). is_established row && row.peer.0 == n) rows) < limits.connections) (eqb-true new.peer.0 node.0 (and_parts (is_established new) _ is).1) (below _ _ free)))
 
 within_opened : (t : AdapterTable) (peer : Node) (request : OpenFields) (admitted : Admitted) → limited_admission t peer request ≡ Ok admitted → IsWithinLimits t → IsWithinLimits (opened_table t (opened_row t peer request admitted) admitted)
 unfolding opened_table opened_row
@@ -255,6 +258,9 @@ requests_are_within = record {
   unstreamed = within_without;
   registered = within_registered;
   messaged = λ t next_id m goes within. within_messaged t next_id m within;
+  connected = λ t stream request passes carried within.
+      let more = within_messaged t (t.next_id + 1) (with_class3 t.messaging (opened_class3 t stream request)) within in
+      record { places = more.places; nodes = more.nodes };
 }
 
 -- ---- an event
@@ -266,7 +272,7 @@ within_judged false t fed delivery within is = within
 within_found : (t : AdapterTable) (peer : Node) (d : DatagramFields) (found : Option Row) → IsWithinLimits t → IsWithinLimits (found_datagram t peer d found).1
 within_found t peer d None within = within
 within_found t peer d (Some row) within =
-    let delivery = row_delivery t.profile row d in
+    let delivery = row_delivery t.profile t.clock row d in
     within_judged (is_accepted delivery) t (accepted_table t peer d row delivery) delivery within (within_fed t peer d row delivery within)
 
 within_datagram : (t : AdapterTable) (peer : Node) (reading : Result DatagramFields DatagramFault) → IsWithinLimits t → IsWithinLimits (datagram_of t peer reading).1
@@ -287,7 +293,7 @@ fresh_places : (places : Option Places) → AreWithinPlaces places []
 fresh_places None = tt
 fresh_places (Some places) = λ kind. omega arith
 
-fresh_nodes : (most : Option ℕ) → AreWithinNodes most []
+fresh_nodes : (most : Option NodeLimits) → AreWithinNodes most []
 fresh_nodes None = tt
 fresh_nodes (Some most) = λ node. omega arith
 
@@ -310,7 +316,9 @@ kinds_sum (row ∷ rows) none =
       sum_step true ListenOnly owners readers listeners live sum = omega arith
 
 few_by : (places : Places) → are_few_places (Some places) ≡ true → all_places places ≤ 64
-few_by places few = grind (arith, nat_tests)
+few_by places few =
+    let parts = and_parts (nat_le 1 (all_places places) && nat_le (all_places places) 64) (is_from 0 64 places.class3_connections) few in
+    grind (arith, nat_tests, parts.0)
 
 places_are_few : (profile : Profile) (places : Places) → profile_fault profile ≡ None → profile.limits.places ≡ Some places → all_places places ≤ 64
 unfolding profile_fault

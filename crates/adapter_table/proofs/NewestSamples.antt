@@ -1,5 +1,6 @@
 -- What two connections accept: samples, by hand.
 use Rattle.std.proofs.Common.{◌≡◌, ℕ, true, false, List, [], ◌∷◌, Some, None, refl}
+use Rattle.cip_types.specs.declared.names.Ms.{Ms}
 use Rattle.cip_datagram.specs.Datagram.{DatagramFields}
 use Rattle.cip_productions.specs.declared.kind.Kind.{Kind}
 use Rattle.cip_productions.specs.declared.kind.Kind.TheVariants.{ExclusiveOwner, InputOnly}
@@ -39,6 +40,7 @@ opened_fifth kind consumed = record {
   t_o_id = record { 0 = 9 };
   o_t_api_ms = 10;
   t_o_api_ms = 10;
+  o_t_pace_ms = 10;
   watchdog = record { 0 = 0 };
   multicast = false;
   opening = 5;
@@ -48,6 +50,10 @@ opened_fifth kind consumed = record {
   state = TimedOut;
 }
 
+-- five seconds before its deadline
+abbrev now : Ms
+now = record { 0 = 5000 }
+
 abbrev owner : Row
 owner = opened_fifth ExclusiveOwner 150
 
@@ -55,28 +61,28 @@ abbrev datagram : ℕ → ℕ → List ℕ → DatagramFields
 datagram number count payload = record { connection = 0x10000005; sequence = number; count = count; payload = payload }
 
 -- new data with the run bit are applied
-new_run_data : accepted_found 5 profile (datagram 8 4 (1 ∷ 0 ∷ 0 ∷ 0 ∷ 0xAA ∷ 0xBB ∷ [])) (Some owner) ≡ record { datagram = record { number = 8; count = 4 }; says_run = true; applied = true } ∷ []
+new_run_data : accepted_found 5 profile now (datagram 8 4 (1 ∷ 0 ∷ 0 ∷ 0 ∷ 0xAA ∷ 0xBB ∷ [])) (Some owner) ≡ record { datagram = record { number = 8; count = 4 }; says_run = true; applied = true } ∷ []
 new_run_data = refl
 
 -- with the old count they are accepted, and not applied
-old_count : accepted_found 5 profile (datagram 8 3 (1 ∷ 0 ∷ 0 ∷ 0 ∷ 0xAA ∷ 0xBB ∷ [])) (Some owner) ≡ record { datagram = record { number = 8; count = 3 }; says_run = true; applied = false } ∷ []
+old_count : accepted_found 5 profile now (datagram 8 3 (1 ∷ 0 ∷ 0 ∷ 0 ∷ 0xAA ∷ 0xBB ∷ [])) (Some owner) ≡ record { datagram = record { number = 8; count = 3 }; says_run = true; applied = false } ∷ []
 old_count = refl
 
 -- idle data neither
-idle_data : accepted_found 5 profile (datagram 8 4 (0 ∷ 0 ∷ 0 ∷ 0 ∷ 0xAA ∷ 0xBB ∷ [])) (Some owner) ≡ record { datagram = record { number = 8; count = 4 }; says_run = false; applied = false } ∷ []
+idle_data : accepted_found 5 profile now (datagram 8 4 (0 ∷ 0 ∷ 0 ∷ 0 ∷ 0xAA ∷ 0xBB ∷ [])) (Some owner) ≡ record { datagram = record { number = 8; count = 4 }; says_run = false; applied = false } ∷ []
 idle_data = refl
 
 -- the last number again is not accepted, nor an older one
-last_number : accepted_found 5 profile (datagram 7 4 (1 ∷ 0 ∷ 0 ∷ 0 ∷ 0xAA ∷ 0xBB ∷ [])) (Some owner) ≡ []
+last_number : accepted_found 5 profile now (datagram 7 4 (1 ∷ 0 ∷ 0 ∷ 0 ∷ 0xAA ∷ 0xBB ∷ [])) (Some owner) ≡ []
 last_number = refl
 
-older_number : accepted_found 5 profile (datagram 6 4 (1 ∷ 0 ∷ 0 ∷ 0 ∷ 0xAA ∷ 0xBB ∷ [])) (Some owner) ≡ []
+older_number : accepted_found 5 profile now (datagram 6 4 (1 ∷ 0 ∷ 0 ∷ 0 ∷ 0xAA ∷ 0xBB ∷ [])) (Some owner) ≡ []
 older_number = refl
 
 -- a heartbeat is accepted, and not applied
-heartbeat : accepted_found 5 profile (datagram 8 4 []) (Some (opened_fifth InputOnly 152)) ≡ record { datagram = record { number = 8; count = 4 }; says_run = false; applied = false } ∷ []
+heartbeat : accepted_found 5 profile now (datagram 8 4 []) (Some (opened_fifth InputOnly 152)) ≡ record { datagram = record { number = 8; count = 4 }; says_run = false; applied = false } ∷ []
 heartbeat = refl
 
 -- it is no other connection's
-other_opening : accepted_found 6 profile (datagram 8 4 []) (Some (opened_fifth InputOnly 152)) ≡ []
+other_opening : accepted_found 6 profile now (datagram 8 4 []) (Some (opened_fifth InputOnly 152)) ≡ []
 other_opening = refl

@@ -24,13 +24,15 @@ use Rattle.adapter_table.specs.Connections.{Row}
 use Rattle.adapter_table.specs.declared.row.State.{State}
 use Rattle.adapter_table.specs.declared.row.State.TheVariants.{TimedOut}
 use Rattle.adapter_table.specs.declared.table.AdapterTable.{AdapterTable}
+use Rattle.adapter_table.specs.Rates.{with_openings}
 use Rattle.adapter_table.specs.Rows.{is_established, has_triad, Each, written_state, written_row}
 use Rattle.adapter_table.specs.Checks.{Admitted}
 use Rattle.cip_types.specs.Ids.{connection_id}
 use Rattle.adapter_table.specs.Opening.{opened_row, opened_table, is_replaced}
 use Rattle.adapter_table.specs.Closing.{without_triad, stays, closed_table}
 use Rattle.adapter_table.specs.Streams.{with_stream, without_stream, registered_table}
-use Rattle.adapter_table.specs.StatedLimits.{is_near, accepts_number}
+use Rattle.adapter_table.specs.StatedLimits.{accepts_at}
+use Rattle.cip_productions.specs.Window.{since_accepted, is_within}
 use Rattle.adapter_table.specs.Datagrams.{is_for, expected_len, run_bit, moded, accepted_delivery, row_delivery, accepted_row, accepted_if_for, accepted_table, delivered, found_datagram, datagram_of, received}
 use Rattle.adapter_table.specs.Productions.{produced_row, changed_state, changed_row}
 use Rattle.adapter_table.specs.Requests.{Next}
@@ -87,10 +89,10 @@ other_count (Some last) next duplicate = λ same. differ next.datagram.count las
   differ : (a b : ℕ) → (a == b) ≡ false → a ≢ b
   differ a b h same = absurd (grind (arith, nat_tests))
 
-applied_new : (profile : Profile) (row : Row) (d : DatagramFields) → IsAppliedNew row.last (acceptance_of d (row_delivery profile row d))
-applied_new profile row d = λ applied.
-    let parts = applied_parts (length d.payload == expected_len profile row) (accepts_number profile.limits.newer row.last d.sequence) (is_owner row.kind) (is_duplicate row.last d.count) (moded (header_at d.payload)) applied in
-    (applied_mode (header_at d.payload) parts.1, other_count row.last (acceptance_of d (row_delivery profile row d)) parts.0)
+applied_new : (profile : Profile) (clock : Ms) (row : Row) (d : DatagramFields) → IsAppliedNew row.last (acceptance_of d (row_delivery profile clock row d))
+applied_new profile clock row d = λ applied.
+    let parts = applied_parts (length d.payload == expected_len profile row) (accepts_at profile.limits.newer clock row d.sequence) (is_owner row.kind) (is_duplicate row.last d.count) (moded (header_at d.payload)) applied in
+    (applied_mode (header_at d.payload) parts.1, other_count row.last (acceptance_of d (row_delivery profile clock row d)) parts.0)
 
 not_again : (last : Option Accepted) (next : Acceptance) → IsAppliedNew last next → IsNotAgain last next
 not_again None next new = tt
@@ -165,6 +167,7 @@ requests_remember opening last = record {
   unstreamed = λ t number remembers. remembers_without opening last t number remembers;
   registered = λ t number remembers. remembers_registered opening last t number remembers;
   messaged = λ t next_id m goes remembers. remembers_messaged opening last t next_id m goes.later remembers;
+  counted = λ t next openings goes remembers. remembers_rows opening last next (with_openings next openings) (omega arith) (goes remembers).there (goes remembers);
 }
 
 -- ---- a datagram is accepted
@@ -263,7 +266,7 @@ Goes R opening last taken next = EachAfter R last taken × TableRemembers openin
 
 -- what R has to hold of: each datagram that a connection accepts, after what it remembers
 abbrev pub OfAccepted : (Option Accepted → Acceptance → Type 0) → Type 0
-OfAccepted R = (profile : Profile) (row : Row) (d : DatagramFields) → is_accepted (row_delivery profile row d) ≡ true → R row.last (acceptance_of d (row_delivery profile row d))
+OfAccepted R = (profile : Profile) (clock : Ms) (row : Row) (d : DatagramFields) → is_accepted (row_delivery profile clock row d) ≡ true → R row.last (acceptance_of d (row_delivery profile clock row d))
 
 goes_judged : (R : Option Accepted → Acceptance → Type 0) (accepted own : Bool) (opening : ℕ) (last : Option Accepted) (t : AdapterTable) (peer : Node) (d : DatagramFields) (row : Row) (delivery : Delivery) → find (is_for peer d.connection) t.rows ≡ Some row → (row.opening == opening) ≡ own → IsSound t → (accepted ≡ true → R row.last (acceptance_of d delivery)) → TableRemembers opening last t → Goes R opening last (cond (own && accepted) (acceptance_of d delivery ∷ []) []) (cond accepted (delivered delivery (accepted_table t peer d row delivery)) (delivered delivery t)).1
 goes_judged R true true opening last t peer d row delivery found own sound holds remembers =
@@ -277,10 +280,10 @@ goes_judged R true false opening last t peer d row delivery found own sound hold
 goes_judged R false true opening last t peer d row delivery found own sound holds remembers = (tt, remembers)
 goes_judged R false false opening last t peer d row delivery found own sound holds remembers = (tt, remembers)
 
-goes_found : (R : Option Accepted → Acceptance → Type 0) → OfAccepted R → (opening : ℕ) (last : Option Accepted) (t : AdapterTable) (peer : Node) (d : DatagramFields) (found : Option Row) → find (is_for peer d.connection) t.rows ≡ found → IsSound t → TableRemembers opening last t → Goes R opening last (accepted_found opening t.profile d found) (found_datagram t peer d found).1
+goes_found : (R : Option Accepted → Acceptance → Type 0) → OfAccepted R → (opening : ℕ) (last : Option Accepted) (t : AdapterTable) (peer : Node) (d : DatagramFields) (found : Option Row) → find (is_for peer d.connection) t.rows ≡ found → IsSound t → TableRemembers opening last t → Goes R opening last (accepted_found opening t.profile t.clock d found) (found_datagram t peer d found).1
 goes_found R holds opening last t peer d None is sound remembers = (tt, remembers)
 goes_found R holds opening last t peer d (Some row) is sound remembers =
-    goes_judged R (is_accepted (row_delivery t.profile row d)) (row.opening == opening) opening last t peer d row (row_delivery t.profile row d) is refl sound (holds t.profile row d) remembers
+    goes_judged R (is_accepted (row_delivery t.profile t.clock row d)) (row.opening == opening) opening last t peer d row (row_delivery t.profile t.clock row d) is refl sound (holds t.profile t.clock row d) remembers
 
 goes_read : (R : Option Accepted → Acceptance → Type 0) → OfAccepted R → (opening : ℕ) (last : Option Accepted) (t : AdapterTable) (peer : Node) (reading : Result DatagramFields DatagramFault) → IsSound t → TableRemembers opening last t → Goes R opening last (accepted_read opening t peer reading) (datagram_of t peer reading).1
 goes_read R holds opening last t peer (Err fault) sound remembers = (tt, remembers)
@@ -307,15 +310,15 @@ steps_accept R holds opening last t (Tick ms) next is sound remembers = (tt, rem
 steps_accept R holds opening last t other next is sound remembers = (tt, control_does (λ t next. TableRemembers opening last t → TableRemembers opening last next) (requests_remember opening last) (λ t number peer free. remembers_with opening last t number peer) t other next refl is remembers)
 
 pub steps_accept_newer : StepsAcceptAfter HasNewerNumber
-steps_accept_newer = steps_accept HasNewerNumber (λ profile row d is. newer_than row.last (acceptance_of d (row_delivery profile row d))
-    (and_parts (accepts_sequence row.last d.sequence) (is_near profile.limits.newer row.last d.sequence)
-    (accepted_newer (length d.payload == expected_len profile row) (accepts_number profile.limits.newer row.last d.sequence) (accepted_delivery row d) is)).0)
+steps_accept_newer = steps_accept HasNewerNumber (λ profile clock row d is. newer_than row.last (acceptance_of d (row_delivery profile clock row d))
+    (and_parts (accepts_sequence row.last d.sequence) (is_within profile.limits.newer (since_accepted clock row.watchdog row.deadline) row.o_t_pace_ms row.last d.sequence)
+    (accepted_newer (length d.payload == expected_len profile row) (accepts_at profile.limits.newer clock row d.sequence) (accepted_delivery row d) is)).0)
 
 pub steps_apply_new : StepsAcceptAfter IsAppliedNew
-steps_apply_new = steps_accept IsAppliedNew (λ profile row d is. applied_new profile row d)
+steps_apply_new = steps_accept IsAppliedNew (λ profile clock row d is. applied_new profile clock row d)
 
 pub steps_apply_once : StepsAcceptAfter IsNotAgain
-steps_apply_once = steps_accept IsNotAgain (λ profile row d is. not_again row.last (acceptance_of d (row_delivery profile row d)) (applied_new profile row d))
+steps_apply_once = steps_accept IsNotAgain (λ profile clock row d is. not_again row.last (acceptance_of d (row_delivery profile clock row d)) (applied_new profile clock row d))
 
 pub faults_accept_nothing : RefusalsAcceptNothing
 faults_accept_nothing opening t (Datagram peer bytes) fault is = absurd cc

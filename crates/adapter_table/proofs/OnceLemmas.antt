@@ -20,11 +20,11 @@ use Rattle.cip_router.specs.declared.refusal.Status.TheVariants as status
 use Rattle.cip_router.specs.Frames.{FrameReply, connected}
 use Rattle.cip_router.specs.Replies.{ReplyFields, opened, closed, object_reply, own, refused as refused_reply, reply_text, object_reply_text, own_reply_text}
 use Rattle.cip_router.specs.Requests.{RouterRequestFields, nothing, refused, closing, object, opening, is_manager, request_to_open, request_to_close, request_to_manager, router_request_of, router_request_reading}
-use Rattle.messaging.specs.declared.dialogue.Dialogue.{Dialogue}
+use Rattle.messaging.specs.declared.class3.Class3Connection.{Class3Connection}
 use Rattle.messaging.specs.declared.requests.Waiting.{Waiting}
 use Rattle.messaging.specs.declared.table.Messaging.{Messaging}
-use Rattle.messaging.specs.Dialogues.{has_dialogue_id, is_dialogue, repeats_last, first_changed, executed_dialogue, repeated_dialogue}
-use Rattle.messaging.specs.Changes.{longest_answer, has_request_number, lacks_room, executed, repeated, referred, referred_over, answered}
+use Rattle.messaging.specs.Class3Connections.{has_class3_id, is_class3, repeats_last, first_changed, executed_class3, repeated_class3}
+use Rattle.messaging.specs.Changes.{longest_answer, has_request_number, executed, repeated, referred, referred_over, answered}
 use Rattle.messaging.specs.Sound.{EachOf, EachTwoOf, IdsDiffer, IsNumberedBelow}
 use Rattle.messaging.specs.Lemmas.EachOfLemmas.{each_weaker}
 use Rattle.messaging.specs.Lemmas.KeptLemmas.{without_stream_keeps, answered_once}
@@ -41,7 +41,7 @@ use Rattle.adapter_table.specs.Messages.{messages_table}
 use Rattle.adapter_table.specs.MessagesSound.{IsCarried, IsInPlace, IsSettled}
 use Rattle.adapter_table.specs.Objects.{ObjectAnswer, said, denied, resetting, object_answer}
 use Rattle.adapter_table.specs.Opening.{opened_table}
-use Rattle.adapter_table.specs.Own.{OwnRequest, own_of, referred_verdict}
+use Rattle.adapter_table.specs.Own.{OwnRequest, own_of, cannot_ask, referred_verdict}
 use Rattle.adapter_table.specs.Requests.{Next, open_service, router_refusal, object_served, served_object}
 use Rattle.adapter_table.specs.Step.{written_table, changed_table}
 use Rattle.adapter_table.specs.Streams.{with_stream, without_stream, registered_table}
@@ -64,48 +64,48 @@ each_found P p (first ∷ xs) x is all = found_step P (p first) first x (find p 
 -- ---- the connection of a message, after a change of it
 
 -- a change that leaves the stream, the ids and the O->T size
-record KeepsRoute (f : Dialogue → Dialogue) : Type 0 where
-  stream : (d : Dialogue) → (f d).stream ≡ d.stream
-  id : (d : Dialogue) → (f d).o_t_id ≡ d.o_t_id
+record KeepsRoute (f : Class3Connection → Class3Connection) : Type 0 where
+  stream : (d : Class3Connection) → (f d).stream ≡ d.stream
+  id : (d : Class3Connection) → (f d).o_t_id ≡ d.o_t_id
 
-changed_here : (number : ℕ) (id : ConnId) (f : Dialogue → Dialogue) → KeepsRoute f → (x d : Dialogue) (rest : List Dialogue) → is_dialogue number id x ≡ true → x ≡ d → find (is_dialogue number id) (f x ∷ rest) ≡ Some (f d)
-changed_here number id f keeps x d rest is same = here_step (is_dialogue number id (f x)) (f x) (f d) (find (is_dialogue number id) rest) (rw (keeps.stream x, keeps.id x) is) (ap f same) where
-  here_step : (b : Bool) (a c : Dialogue) (later : Option Dialogue) → b ≡ true → a ≡ c → cond b (Some a) later ≡ Some c
-  here_step true a c later is same = ap (λ (d : Dialogue). Some d) same
+changed_here : (number : ℕ) (id : ConnId) (f : Class3Connection → Class3Connection) → KeepsRoute f → (x d : Class3Connection) (rest : List Class3Connection) → is_class3 number id x ≡ true → x ≡ d → find (is_class3 number id) (f x ∷ rest) ≡ Some (f d)
+changed_here number id f keeps x d rest is same = here_step (is_class3 number id (f x)) (f x) (f d) (find (is_class3 number id) rest) (rw (keeps.stream x, keeps.id x) is) (ap f same) where
+  here_step : (b : Bool) (a c : Class3Connection) (later : Option Class3Connection) → b ≡ true → a ≡ c → cond b (Some a) later ≡ Some c
+  here_step true a c later is same = ap (λ (d : Class3Connection). Some d) same
   here_step false a c later is same = absurd cc
 
-changed_step : (b c : Bool) (number : ℕ) (id : ConnId) (f : Dialogue → Dialogue) → KeepsRoute f → (x d : Dialogue) (rest new : List Dialogue) → is_dialogue number id x ≡ b → has_dialogue_id d.o_t_id x ≡ c → cond b (Some x) (find (is_dialogue number id) rest) ≡ Some d → (find (is_dialogue number id) rest ≡ Some d → has_dialogue_id x.o_t_id d ≡ false) → (find (is_dialogue number id) rest ≡ Some d → find (is_dialogue number id) new ≡ Some (f d)) → find (is_dialogue number id) (cond c (f x ∷ rest) (x ∷ new)) ≡ Some (f d)
+changed_step : (b c : Bool) (number : ℕ) (id : ConnId) (f : Class3Connection → Class3Connection) → KeepsRoute f → (x d : Class3Connection) (rest new : List Class3Connection) → is_class3 number id x ≡ b → has_class3_id d.o_t_id x ≡ c → cond b (Some x) (find (is_class3 number id) rest) ≡ Some d → (find (is_class3 number id) rest ≡ Some d → has_class3_id x.o_t_id d ≡ false) → (find (is_class3 number id) rest ≡ Some d → find (is_class3 number id) new ≡ Some (f d)) → find (is_class3 number id) (cond c (f x ∷ rest) (x ∷ new)) ≡ Some (f d)
 changed_step true true number id f keeps x d rest new is has found other later = changed_here number id f keeps x d rest is cc
 changed_step true false number id f keeps x d rest new is has found other later =
-    let same : x ≡ d = cc in absurd (let own : has_dialogue_id d.o_t_id d ≡ false = subst (λ (y : Dialogue). has_dialogue_id d.o_t_id y ≡ false) same has in let yes = same_number d.o_t_id.0 in cc)
+    let same : x ≡ d = cc in absurd (let own : has_class3_id d.o_t_id d ≡ false = subst (λ (y : Class3Connection). has_class3_id d.o_t_id y ≡ false) same has in let yes = same_number d.o_t_id.0 in cc)
 changed_step false true number id f keeps x d rest new is has found other later = absurd (apart (other found)) where
-  apart : has_dialogue_id x.o_t_id d ≡ false → ⊥
+  apart : has_class3_id x.o_t_id d ≡ false → ⊥
   apart differs = grind (arith, nat_tests)
 changed_step false false number id f keeps x d rest new is has found other later = rw is (later found)
 
-found_changed : (number : ℕ) (id : ConnId) (f : Dialogue → Dialogue) → KeepsRoute f → (dialogues : List Dialogue) (d : Dialogue) → EachTwoOf IdsDiffer dialogues → find (is_dialogue number id) dialogues ≡ Some d → find (is_dialogue number id) (first_changed (has_dialogue_id d.o_t_id) f dialogues) ≡ Some (f d)
+found_changed : (number : ℕ) (id : ConnId) (f : Class3Connection → Class3Connection) → KeepsRoute f → (class3_connections : List Class3Connection) (d : Class3Connection) → EachTwoOf IdsDiffer class3_connections → find (is_class3 number id) class3_connections ≡ Some d → find (is_class3 number id) (first_changed (has_class3_id d.o_t_id) f class3_connections) ≡ Some (f d)
 found_changed number id f keeps [] d differ found = absurd cc
-found_changed number id f keeps (x ∷ dialogues) d differ found =
-    changed_step (is_dialogue number id x) (has_dialogue_id d.o_t_id x) number id f keeps x d dialogues (first_changed (has_dialogue_id d.o_t_id) f dialogues) refl refl found
-    (λ later. each_found (IdsDiffer x) (is_dialogue number id) dialogues d later differ.0)
-    (λ later. found_changed number id f keeps dialogues d differ.1 later)
+found_changed number id f keeps (x ∷ class3_connections) d differ found =
+    changed_step (is_class3 number id x) (has_class3_id d.o_t_id x) number id f keeps x d class3_connections (first_changed (has_class3_id d.o_t_id) f class3_connections) refl refl found
+    (λ later. each_found (IdsDiffer x) (is_class3 number id) class3_connections d later differ.0)
+    (λ later. found_changed number id f keeps class3_connections d differ.1 later)
 
 -- ---- the message comes again
 
 -- the message, once more: this reply, and nothing but the deadline of its connection changes
 abbrev Again : streams.Stream → ConnectedFields → Option FrameReply → AdapterTable → Type 0
 Again stream unit reply table =
-    (d : Dialogue) ×
-    ((find (is_dialogue stream.number (record { 0 = unit.connection })) table.messaging.dialogues ≡ Some d) ×
+    (d : Class3Connection) ×
+    ((find (is_class3 stream.number (record { 0 = unit.connection })) table.messaging.class3_connections ≡ Some d) ×
     (unit_replied table stream (Ok unit) ≡ record { reply = reply; verdict = Delivered Duplicate; notices = []; table = repeated_table table d }))
 
-again_by : (table : AdapterTable) (stream : streams.Stream) (unit : ConnectedFields) (d : Dialogue) (reply : Option FrameReply) → find (is_dialogue stream.number (record { 0 = unit.connection })) table.messaging.dialogues ≡ Some d → nat_lt d.o_t_size (2 + length unit.message) ≡ false → repeats_last d unit.count ≡ true → kept_reply d unit.count d.reply ≡ reply → Again stream unit reply table
+again_by : (table : AdapterTable) (stream : streams.Stream) (unit : ConnectedFields) (d : Class3Connection) (reply : Option FrameReply) → find (is_class3 stream.number (record { 0 = unit.connection })) table.messaging.class3_connections ≡ Some d → nat_lt d.o_t_size (2 + length unit.message) ≡ false → repeats_last d unit.count ≡ true → kept_reply d unit.count d.reply ≡ reply → Again stream unit reply table
 again_by table stream unit d reply found fits repeats kept = (d, (found, rw (found, fits, repeats, kept) refl))
 
 -- a message that is executed or comes again: its connection is found, and has room for it
-record Comes (t : AdapterTable) (stream : streams.Stream) (unit : ConnectedFields) (d : Dialogue) : Type 0 where
-  differ : EachTwoOf IdsDiffer t.messaging.dialogues
-  found : find (is_dialogue stream.number (record { 0 = unit.connection })) t.messaging.dialogues ≡ Some d
+record Comes (t : AdapterTable) (stream : streams.Stream) (unit : ConnectedFields) (d : Class3Connection) : Type 0 where
+  differ : EachTwoOf IdsDiffer t.messaging.class3_connections
+  found : find (is_class3 stream.number (record { 0 = unit.connection })) t.messaging.class3_connections ≡ Some d
   fits : nat_lt d.o_t_size (2 + length unit.message) ≡ false
 
 text_some : (reply : ReplyFields) → 1 ≤ length (reply_text reply)
@@ -116,32 +116,32 @@ text_some (object_reply service value) = omega arith
 text_some (own service status content) = omega arith
 text_some (refused_reply service fault triad) = omega arith
 
-kept_text : (d : Dialogue) (count : ℕ) (text : List ℕ) → 1 ≤ length text → kept_reply d count text ≡ Some (connected d.t_o_id.0 count text)
+kept_text : (d : Class3Connection) (count : ℕ) (text : List ℕ) → 1 ≤ length text → kept_reply d count text ≡ Some (connected d.t_o_id.0 count text)
 kept_text d count [] some = absurd (omega (arith, some))
 kept_text d count (first ∷ rest) some = refl
 
-again_executed : (t : AdapterTable) (stream : streams.Stream) (unit : ConnectedFields) (d : Dialogue) (text : List ℕ) → Comes t stream unit d → 1 ≤ length text → Again stream unit (Some (connected d.t_o_id.0 unit.count text)) (executed_table t d unit.count text)
+again_executed : (t : AdapterTable) (stream : streams.Stream) (unit : ConnectedFields) (d : Class3Connection) (text : List ℕ) → Comes t stream unit d → 1 ≤ length text → Again stream unit (Some (connected d.t_o_id.0 unit.count text)) (executed_table t d unit.count text)
 unfolding messages_table executed
 again_executed t stream unit d text comes some =
-    let f = executed_dialogue unit.count text (next_deadline t d) in
+    let f = executed_class3 unit.count text (next_deadline t d) in
     again_by (executed_table t d unit.count text) stream unit (f d) _
-    (found_changed stream.number (record { 0 = unit.connection }) f (record { stream = λ d. refl; id = λ d. refl }) t.messaging.dialogues d comes.differ comes.found)
+    (found_changed stream.number (record { 0 = unit.connection }) f (record { stream = λ d. refl; id = λ d. refl }) t.messaging.class3_connections d comes.differ comes.found)
     comes.fits (same_number unit.count) (kept_text (f d) unit.count text some)
 
-again_asking : (t : AdapterTable) (stream : streams.Stream) (unit : ConnectedFields) (d : Dialogue) (asks : OwnRequest) → Comes t stream unit d → Again stream unit None (asking_table t d unit.count asks)
+again_asking : (t : AdapterTable) (stream : streams.Stream) (unit : ConnectedFields) (d : Class3Connection) (asks : OwnRequest) → Comes t stream unit d → Again stream unit None (asking_table t d unit.count asks)
 unfolding messages_table referred_over referred executed
 again_asking t stream unit d asks comes =
-    let f = executed_dialogue unit.count [] (next_deadline t d) in
+    let f = executed_class3 unit.count [] (next_deadline t d) in
     again_by (asking_table t d unit.count asks) stream unit (f d) None
-    (found_changed stream.number (record { 0 = unit.connection }) f (record { stream = λ d. refl; id = λ d. refl }) t.messaging.dialogues d comes.differ comes.found)
+    (found_changed stream.number (record { 0 = unit.connection }) f (record { stream = λ d. refl; id = λ d. refl }) t.messaging.class3_connections d comes.differ comes.found)
     comes.fits (same_number unit.count) refl
 
-again_repeated : (t : AdapterTable) (stream : streams.Stream) (unit : ConnectedFields) (d : Dialogue) → Comes t stream unit d → repeats_last d unit.count ≡ true → Again stream unit (kept_reply d unit.count d.reply) (repeated_table t d)
+again_repeated : (t : AdapterTable) (stream : streams.Stream) (unit : ConnectedFields) (d : Class3Connection) → Comes t stream unit d → repeats_last d unit.count ≡ true → Again stream unit (kept_reply d unit.count d.reply) (repeated_table t d)
 unfolding messages_table repeated
 again_repeated t stream unit d comes repeats =
-    let f = repeated_dialogue (next_deadline t d) in
+    let f = repeated_class3 (next_deadline t d) in
     again_by (repeated_table t d) stream unit (f d) _
-    (found_changed stream.number (record { 0 = unit.connection }) f (record { stream = λ d. refl; id = λ d. refl }) t.messaging.dialogues d comes.differ comes.found)
+    (found_changed stream.number (record { 0 = unit.connection }) f (record { stream = λ d. refl; id = λ d. refl }) t.messaging.class3_connections d comes.differ comes.found)
     comes.fits repeats refl
 
 -- ---- whatever became of it
@@ -149,10 +149,10 @@ again_repeated t stream unit d comes repeats =
 abbrev AgainAfter : streams.Stream → ConnectedFields → Handled → Type 0
 AgainAfter stream unit done = Again stream unit done.reply done.table
 
-again_fitted : (t : AdapterTable) (stream : streams.Stream) (unit : ConnectedFields) (d : Dialogue) (service : ℕ) (reply : ReplyFields) → Comes t stream unit d → Again stream unit (Some (connected d.t_o_id.0 unit.count (fitted_text d service reply))) (executed_table t d unit.count (fitted_text d service reply))
+again_fitted : (t : AdapterTable) (stream : streams.Stream) (unit : ConnectedFields) (d : Class3Connection) (service : ℕ) (reply : ReplyFields) → Comes t stream unit d → Again stream unit (Some (connected d.t_o_id.0 unit.count (fitted_text d service reply))) (executed_table t d unit.count (fitted_text d service reply))
 again_fitted t stream unit d service reply comes = again_executed t stream unit d (fitted_text d service reply) comes (text_some (fitted d.t_o_size service reply))
 
-again_object : (t : AdapterTable) (stream : streams.Stream) (unit : ConnectedFields) (d : Dialogue) (first service : ℕ) (answer : ObjectAnswer) → Comes t stream unit d → AgainAfter stream unit (message_replied d unit.count first (object_served t service answer))
+again_object : (t : AdapterTable) (stream : streams.Stream) (unit : ConnectedFields) (d : Class3Connection) (first service : ℕ) (answer : ObjectAnswer) → Comes t stream unit d → AgainAfter stream unit (message_replied d unit.count first (object_served t service answer))
 again_object t stream unit d first service (said by value) comes = again_fitted t stream unit d first (object_served t service (said by value)).reply comes
 again_object t stream unit d first service (denied why) comes = again_fitted t stream unit d first (object_served t service (denied why)).reply comes
 again_object t stream unit d first service (resetting kind) comes = again_fitted t stream unit d first (object_served t service (resetting kind)).reply comes
@@ -162,7 +162,7 @@ abbrev IsRequest : RouterRequestFields → Type 0
 IsRequest nothing = ⊥
 IsRequest other = Unit {0}
 
-again_served : (t : AdapterTable) (stream : streams.Stream) (unit : ConnectedFields) (d : Dialogue) (first : ℕ) (request : RouterRequestFields) → IsRequest request → Comes t stream unit d → AgainAfter stream unit (message_served t d unit.count first (connected_served t d.peer request))
+again_served : (t : AdapterTable) (stream : streams.Stream) (unit : ConnectedFields) (d : Class3Connection) (first : ℕ) (request : RouterRequestFields) → IsRequest request → Comes t stream unit d → AgainAfter stream unit (message_served t d unit.count first (connected_served t d.peer request))
 unfolding served_object
 again_served t stream unit d first nothing some comes = absurd some
 again_served t stream unit d first (refused service why) some comes = again_fitted t stream unit d first (router_refusal t service why).reply comes
@@ -170,15 +170,15 @@ again_served t stream unit d first (closing request) some comes = again_fitted t
 again_served t stream unit d first (object service class instance attribute body) some comes = again_object t stream unit d first service (object_answer t service class instance attribute body) comes
 again_served t stream unit d first (opening large request) some comes = again_fitted t stream unit d first (router_refusal t (open_service large) status.Service).reply comes
 
-again_own : (t : AdapterTable) (stream : streams.Stream) (unit : ConnectedFields) (d : Dialogue) (asks : OwnRequest) (b : Bool) → Comes t stream unit d → AgainAfter stream unit (cond b (message_replied d unit.count asks.service (router_refusal t asks.service status.ResourceUnavailable)) (record { reply = None; verdict = referred_verdict t asks; notices = []; table = asking_table t d unit.count asks }))
+again_own : (t : AdapterTable) (stream : streams.Stream) (unit : ConnectedFields) (d : Class3Connection) (asks : OwnRequest) (b : Bool) → Comes t stream unit d → AgainAfter stream unit (cond b (message_replied d unit.count asks.service (router_refusal t asks.service status.ResourceUnavailable)) (record { reply = None; verdict = referred_verdict t asks; notices = []; table = asking_table t d unit.count asks }))
 again_own t stream unit d asks true comes = again_fitted t stream unit d asks.service (router_refusal t asks.service status.ResourceUnavailable).reply comes
 again_own t stream unit d asks false comes = again_asking t stream unit d asks comes
 
-again_new : (t : AdapterTable) (stream : streams.Stream) (unit : ConnectedFields) (d : Dialogue) (first : ℕ) (request : RouterRequestFields) (asks : Option OwnRequest) → IsRequest request → Comes t stream unit d → AgainAfter stream unit (message_executed t d unit.count first request asks)
+again_new : (t : AdapterTable) (stream : streams.Stream) (unit : ConnectedFields) (d : Class3Connection) (first : ℕ) (request : RouterRequestFields) (asks : Option OwnRequest) → IsRequest request → Comes t stream unit d → AgainAfter stream unit (message_executed t d unit.count first request asks)
 again_new t stream unit d first request None some comes = again_served t stream unit d first request some comes
-again_new t stream unit d first request (Some asks) some comes = again_own t stream unit d asks (lacks_room t.messaging) comes
+again_new t stream unit d first request (Some asks) some comes = again_own t stream unit d asks (cannot_ask t d.peer) comes
 
-again_either : (b : Bool) (t : AdapterTable) (stream : streams.Stream) (unit : ConnectedFields) (d : Dialogue) (new : Handled) → repeats_last d unit.count ≡ b → Comes t stream unit d → AgainAfter stream unit new → AgainAfter stream unit (cond b (message_repeated t d unit.count) new)
+again_either : (b : Bool) (t : AdapterTable) (stream : streams.Stream) (unit : ConnectedFields) (d : Class3Connection) (new : Handled) → repeats_last d unit.count ≡ b → Comes t stream unit d → AgainAfter stream unit new → AgainAfter stream unit (cond b (message_repeated t d unit.count) new)
 again_either true t stream unit d new repeats comes executes = again_repeated t stream unit d comes repeats
 again_either false t stream unit d new repeats comes executes = executes
 
@@ -209,7 +209,7 @@ unfolding router_request_reading
 message_is [] some = absurd (some refl)
 message_is (service ∷ rest) some = request_is service (request_reading (service ∷ rest))
 
-once_step : (t : AdapterTable) (stream : streams.Stream) (unit : ConnectedFields) (d : Dialogue) (done : Handled) → Comes t stream unit d → unit.message ≢ [] → unit_replied t stream (Ok unit) ≡ done → AgainAfter stream unit done
+once_step : (t : AdapterTable) (stream : streams.Stream) (unit : ConnectedFields) (d : Class3Connection) (done : Handled) → Comes t stream unit d → unit.message ≢ [] → unit_replied t stream (Ok unit) ≡ done → AgainAfter stream unit done
 once_step t stream unit d done comes some is = subst (AgainAfter stream unit) is (rw (comes.found, comes.fits)
     (again_either (repeats_last d unit.count) t stream unit d _ refl comes
     (again_new t stream unit d (service_in unit.message) (router_request_reading unit.message) (own_of t.profile.objects (router_request_reading unit.message)) (message_is unit.message some) comes)))
@@ -283,6 +283,7 @@ settled_effects number = record {
   unstreamed = λ t stream settled. settled_unstreamed number t stream settled;
   registered = λ t number settled. settled;
   messaged = λ t next_id m goes settled. settled_messaged number t next_id m (goes.settled number settled);
+  counted = λ t openings settled. settled;
 }
 
 pub steps_settle : (number : ℕ) → StepsKeep (λ t. IsSettled number t.messaging)
@@ -291,11 +292,11 @@ steps_settle number t event next is settled = adapter_keeps (λ t. IsSettled num
 -- ---- connections
 
 pub streams_carry : StreamsCarry
-streams_carry t whole = each_weaker (IsInPlace t.rows t.streams) (λ d. IsCarried t.streams d.stream) (λ d is. is.stream) t.messaging.dialogues whole.messages.dialogues
+streams_carry t whole = each_weaker (IsInPlace t.rows t.streams) (λ d. IsCarried t.streams d.stream) (λ d is. is.stream) t.messaging.class3_connections whole.messages.class3_connections
 
 pub names_differ : (t : AdapterTable) → IsWhole t → NamesDiffer t
 names_differ t whole = record {
   triads = whole.messages.own.triads_differ;
   ids = whole.messages.own.ids_differ;
-  alone = each_weaker (IsInPlace t.rows t.streams) (IsNamedAlone t) (λ d is. (is.triad, is.id)) t.messaging.dialogues whole.messages.dialogues;
+  alone = each_weaker (IsInPlace t.rows t.streams) (IsNamedAlone t) (λ d is. (is.triad, is.id)) t.messaging.class3_connections whole.messages.class3_connections;
 }

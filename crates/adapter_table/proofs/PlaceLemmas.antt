@@ -9,15 +9,15 @@ use Rattle.cip_types.specs.declared.names.ConnId.{ConnId}
 use Rattle.cip_types.specs.declared.names.Ms.{Ms}
 use Rattle.cip_types.specs.declared.names.Node.{Node}
 use Rattle.cip_types.specs.declared.names.Triad.{Triad}
-use Rattle.messaging.specs.declared.dialogue.Dialogue as kept
+use Rattle.messaging.specs.declared.class3.Class3Connection as kept
 use Rattle.messaging.specs.declared.requests.Requester.{Requester}
-use Rattle.messaging.specs.declared.requests.Requester.TheVariants.{Peer, Stream, Dialogue}
+use Rattle.messaging.specs.declared.requests.Requester.TheVariants.{Peer, Stream, Class3Connection}
 use Rattle.messaging.specs.Askers.{is_over_stream}
 use Rattle.messaging.specs.Changes as messages
-use Rattle.messaging.specs.Dialogues.{is_on_stream, has_dialogue_triad}
+use Rattle.messaging.specs.Class3Connections.{is_on_stream, has_class3_triad}
 use Rattle.messaging.specs.Sound.{EachOf, IsDrawn}
 use Rattle.messaging.specs.Lemmas.EachOfLemmas.{each_weaker}
-use Rattle.messaging.specs.Lemmas.KeptLemmas.{without_stream_keeps, ended_dialogues, ended_waiting}
+use Rattle.messaging.specs.Lemmas.KeptLemmas.{without_stream_keeps, ended_class3_connections, ended_waiting}
 use Rattle.messaging.specs.Lemmas.SoundLemmas.{fresh_sound, sound_later, without_stream_sound}
 use Rattle.adapter_table.specs.declared.profile.Profile.{Profile}
 use Rattle.adapter_table.specs.declared.table.AdapterTable.{AdapterTable}
@@ -53,22 +53,22 @@ names_expired clock rows = record { triads = λ triad none. any_triad_expired cl
 pub names_then : (a b c : List Row) → NoNewNames a b → NoNewNames b c → NoNewNames a c
 names_then a b c first second = record { triads = λ triad none. second.triads triad (first.triads triad none); ids = λ id none. second.ids id (first.ids id none) }
 
-place_rows : (rows after : List Row) (open_streams : List streams.Stream) → NoNewNames rows after → (d : kept.Dialogue) → IsInPlace rows open_streams d → IsInPlace after open_streams d
+place_rows : (rows after : List Row) (open_streams : List streams.Stream) → NoNewNames rows after → (d : kept.Class3Connection) → IsInPlace rows open_streams d → IsInPlace after open_streams d
 place_rows rows after open_streams names d is = record { triad = names.triads d.triad is.triad; id = names.ids d.o_t_id is.id; stream = is.stream; watchdog = is.watchdog; o_t_api_ms = is.o_t_api_ms; t_o_api_ms = is.t_o_api_ms; reply = is.reply }
 
 -- other connections of class 1, other values and another time
 pub messages_beside : (t : AdapterTable) (rows : List Row) (values : List PointValue) (clock : Ms) → NoNewNames t.rows rows → AreMessagesSound t → AreMessagesSound (record t { rows = rows; values = values; clock = clock })
 messages_beside t rows values clock names sound = record {
   own = sound.own;
-  dialogues = each_weaker (IsInPlace t.rows t.streams) (IsInPlace rows t.streams) (place_rows t.rows rows t.streams names) t.messaging.dialogues sound.dialogues;
+  class3_connections = each_weaker (IsInPlace t.rows t.streams) (IsInPlace rows t.streams) (place_rows t.rows rows t.streams names) t.messaging.class3_connections sound.class3_connections;
   waiting = sound.waiting;
 }
 
 -- ---- a connection of class 1 is opened
 
 -- it has a triad that no class 3 connection has, and draws its O->T id
-record IsBeside (incarnation next_id : ℕ) (dialogues : List kept.Dialogue) (row : Row) : Type 0 where
-  triad : list_any (has_dialogue_triad row.triad) dialogues ≡ false
+record IsBeside (incarnation next_id : ℕ) (class3_connections : List kept.Class3Connection) (row : Row) : Type 0 where
+  triad : list_any (has_class3_triad row.triad) class3_connections ≡ false
   id : row.o_t_id ≡ connection_id incarnation next_id
 
 no_more : (q : Row → Bool) (left : List Row) (row : Row) → list_any q left ≡ false → q row ≡ false → list_any q (left ++ row ∷ []) ≡ false
@@ -78,17 +78,17 @@ no_more q left row none other = list_any-append q left (row ∷ []) ∙ neither 
   neither false true first second = absurd cc
   neither false false first second = refl
 
-drawn_other : (incarnation next_id : ℕ) (d : kept.Dialogue) (row : Row) → row.o_t_id ≡ connection_id incarnation next_id → IsDrawn incarnation next_id d → has_o_t_id d.o_t_id row ≡ false
+drawn_other : (incarnation next_id : ℕ) (d : kept.Class3Connection) (row : Row) → row.o_t_id ≡ connection_id incarnation next_id → IsDrawn incarnation next_id d → has_o_t_id d.o_t_id row ≡ false
 drawn_other incarnation next_id d row is drawn =
     let own : d.o_t_id.0 ≡ incarnation * 2 ^ 24 + d.opening = ap (λ (id : ConnId). id.0) drawn.id in
     let new : row.o_t_id.0 ≡ incarnation * 2 ^ 24 + next_id = ap (λ (id : ConnId). id.0) is in
     let below : d.opening < next_id = drawn.below in
     grind (arith, nat_tests)
 
-places_opened : (incarnation next_id : ℕ) (rows left : List Row) (row : Row) (open_streams : List streams.Stream) (dialogues : List kept.Dialogue) → NoNewNames rows left → IsBeside incarnation next_id dialogues row → EachOf (IsDrawn incarnation next_id) dialogues → EachOf (IsInPlace rows open_streams) dialogues → EachOf (IsInPlace (left ++ row ∷ []) open_streams) dialogues
+places_opened : (incarnation next_id : ℕ) (rows left : List Row) (row : Row) (open_streams : List streams.Stream) (class3_connections : List kept.Class3Connection) → NoNewNames rows left → IsBeside incarnation next_id class3_connections row → EachOf (IsDrawn incarnation next_id) class3_connections → EachOf (IsInPlace rows open_streams) class3_connections → EachOf (IsInPlace (left ++ row ∷ []) open_streams) class3_connections
 places_opened incarnation next_id rows left row open_streams [] names beside drawn places = tt
-places_opened incarnation next_id rows left row open_streams (d ∷ dialogues) names beside drawn places =
-    let apart = or_parts (has_dialogue_triad row.triad d) (list_any (has_dialogue_triad row.triad) dialogues) beside.triad in
+places_opened incarnation next_id rows left row open_streams (d ∷ class3_connections) names beside drawn places =
+    let apart = or_parts (has_class3_triad row.triad d) (list_any (has_class3_triad row.triad) class3_connections) beside.triad in
     let kept_place = place_rows rows left open_streams names d places.0 in
     let here : IsInPlace (left ++ row ∷ []) open_streams d = record {
       triad = no_more (has_triad d.triad) left row kept_place.triad (same_sym d.triad row.triad apart.0);
@@ -99,12 +99,12 @@ places_opened incarnation next_id rows left row open_streams (d ∷ dialogues) n
       t_o_api_ms = kept_place.t_o_api_ms;
       reply = kept_place.reply;
     } in
-    (here, places_opened incarnation next_id rows left row open_streams dialogues names (record { triad = apart.1; id = beside.id }) drawn.1 places.1)
+    (here, places_opened incarnation next_id rows left row open_streams class3_connections names (record { triad = apart.1; id = beside.id }) drawn.1 places.1)
 
-pub messages_opened : (t : AdapterTable) (left : List Row) (row : Row) (values : List PointValue) (next_id : ℕ) → t.next_id ≤ next_id → NoNewNames t.rows left → list_any (has_dialogue_triad row.triad) t.messaging.dialogues ≡ false → row.o_t_id ≡ connection_id t.profile.incarnation t.next_id → AreMessagesSound t → AreMessagesSound (record t { rows = left ++ row ∷ []; values = values; next_id = next_id })
+pub messages_opened : (t : AdapterTable) (left : List Row) (row : Row) (values : List PointValue) (next_id : ℕ) → t.next_id ≤ next_id → NoNewNames t.rows left → list_any (has_class3_triad row.triad) t.messaging.class3_connections ≡ false → row.o_t_id ≡ connection_id t.profile.incarnation t.next_id → AreMessagesSound t → AreMessagesSound (record t { rows = left ++ row ∷ []; values = values; next_id = next_id })
 messages_opened t left row values next_id later names triad id sound = record {
   own = sound_later t.profile.incarnation t.next_id next_id t.messaging later sound.own;
-  dialogues = places_opened t.profile.incarnation t.next_id t.rows left row t.streams t.messaging.dialogues names (record { triad = triad; id = id }) sound.own.are_drawn sound.dialogues;
+  class3_connections = places_opened t.profile.incarnation t.next_id t.rows left row t.streams t.messaging.class3_connections names (record { triad = triad; id = id }) sound.own.are_drawn sound.class3_connections;
   waiting = sound.waiting;
 }
 
@@ -113,7 +113,7 @@ messages_opened t left row values next_id later names triad id sound = record {
 pub messages_later : (t : AdapterTable) (counter : ℕ) → t.next_id ≤ counter → AreMessagesSound t → AreMessagesSound (record t { next_id = counter })
 messages_later t counter later sound = record {
   own = sound_later t.profile.incarnation t.next_id counter t.messaging later sound.own;
-  dialogues = sound.dialogues;
+  class3_connections = sound.class3_connections;
   waiting = sound.waiting;
 }
 
@@ -123,7 +123,7 @@ messages_later t counter later sound = record {
 CarryOn : List streams.Stream → List streams.Stream → ℕ → Type 0
 CarryOn before after number = IsCarried before number → IsCarried after number
 
-place_streams : (rows : List Row) (before after : List streams.Stream) (d : kept.Dialogue) → CarryOn before after d.stream → IsInPlace rows before d → IsInPlace rows after d
+place_streams : (rows : List Row) (before after : List streams.Stream) (d : kept.Class3Connection) → CarryOn before after d.stream → IsInPlace rows before d → IsInPlace rows after d
 unfolding CarryOn
 place_streams rows before after d on is = record { triad = is.triad; id = is.id; stream = on is.stream; watchdog = is.watchdog; o_t_api_ms = is.o_t_api_ms; t_o_api_ms = is.t_o_api_ms; reply = is.reply }
 
@@ -131,12 +131,12 @@ route_streams : (before after : List streams.Stream) (from : Requester) → ((nu
 unfolding CarryOn
 route_streams before after (Peer node) on opens = tt
 route_streams before after (Stream number context) on opens = on number opens
-route_streams before after (Dialogue id count) on opens = tt
+route_streams before after (Class3Connection id count) on opens = tt
 
 messages_on : (t : AdapterTable) (after : List streams.Stream) → ((number : ℕ) → CarryOn t.streams after number) → AreMessagesSound t → AreMessagesSound (record t { streams = after })
 messages_on t after on sound = record {
   own = sound.own;
-  dialogues = each_weaker (IsInPlace t.rows t.streams) (IsInPlace t.rows after) (λ d. place_streams t.rows t.streams after d (on d.stream)) t.messaging.dialogues sound.dialogues;
+  class3_connections = each_weaker (IsInPlace t.rows t.streams) (IsInPlace t.rows after) (λ d. place_streams t.rows t.streams after d (on d.stream)) t.messaging.class3_connections sound.class3_connections;
   waiting = each_weaker (CanGoBack t.streams) (CanGoBack after) (λ w. route_streams t.streams after w.asker on) t.messaging.waiting sound.waiting;
 }
 
@@ -195,7 +195,7 @@ route_left : (before after : List streams.Stream) (ended : ℕ) (from : Requeste
 unfolding CarryOn
 route_left before after ended (Peer node) on opens elsewhere = tt
 route_left before after ended (Stream number context) on opens elsewhere = on number elsewhere opens
-route_left before after ended (Dialogue id count) on opens elsewhere = tt
+route_left before after ended (Class3Connection id count) on opens elsewhere = tt
 
 pub messages_without : (t : AdapterTable) (number : ℕ) → AreMessagesSound t → AreMessagesSound (without_stream t number)
 unfolding without_stream
@@ -205,9 +205,9 @@ messages_without t number sound =
     let keeps = without_stream_keeps (IsInPlace t.rows t.streams) (CanGoBack t.streams) t.messaging number in
     record {
       own = without_stream_sound t.profile.incarnation t.next_id t.messaging number sound.own;
-      dialogues =
+      class3_connections =
           each_zip (IsInPlace t.rows t.streams) (λ d. not (is_on_stream number d) ≡ true) (IsInPlace t.rows after)
-          (λ d is elsewhere. place_streams t.rows t.streams after d (on_left number d.stream t.streams elsewhere) is) left.dialogues (keeps.dialogues sound.dialogues) (ended_dialogues t.messaging number);
+          (λ d is elsewhere. place_streams t.rows t.streams after d (on_left number d.stream t.streams elsewhere) is) left.class3_connections (keeps.class3_connections sound.class3_connections) (ended_class3_connections t.messaging number);
       waiting =
           each_zip (CanGoBack t.streams) (λ w. not (is_over_stream number w.asker) ≡ true) (CanGoBack after)
           (λ w opens elsewhere. route_left t.streams after number w.asker (λ n other. on_left number n t.streams other) opens elsewhere) left.waiting (keeps.waiting sound.waiting) (ended_waiting t.messaging number);
@@ -216,4 +216,4 @@ messages_without t number sound =
 -- ---- a fresh table
 
 pub messages_fresh : (profile : Profile) → AreMessagesSound (adapter_table profile)
-messages_fresh profile = record { own = fresh_sound profile.incarnation 1; dialogues = tt; waiting = tt }
+messages_fresh profile = record { own = fresh_sound profile.incarnation 1; class3_connections = tt; waiting = tt }

@@ -122,9 +122,9 @@ feeds_judged t peer d row UnknownId shaped = feeds_none t row
 feeds_judged t peer d row WrongSize shaped = feeds_none t row
 feeds_judged t peer d row Malformed shaped = feeds_none t row
 
-feeds_found : (t : AdapterTable) (peer : Node) (d : DatagramFields) (found : Option Row) → IsShaped t.profile t.values → Feeds t (found_datagram t peer d found).1 (λ point. accepted_by point t.profile d found)
+feeds_found : (t : AdapterTable) (peer : Node) (d : DatagramFields) (found : Option Row) → IsShaped t.profile t.values → Feeds t (found_datagram t peer d found).1 (λ point. accepted_by point t.profile t.clock d found)
 feeds_found t peer d None shaped = feeds_nothing t
-feeds_found t peer d (Some row) shaped = feeds_judged t peer d row (row_delivery t.profile row d) shaped
+feeds_found t peer d (Some row) shaped = feeds_judged t peer d row (row_delivery t.profile t.clock row d) shaped
 
 feeds_read : (t : AdapterTable) (peer : Node) (reading : Result DatagramFields DatagramFault) → IsShaped t.profile t.values → Feeds t (datagram_of t peer reading).1 (λ point. read_accepted point t peer reading)
 feeds_read t peer (Err fault) shaped = feeds_nothing t

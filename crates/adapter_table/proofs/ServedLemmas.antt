@@ -136,4 +136,5 @@ requests_lose = record {
   unstreamed = λ t number whole. loses_without t number;
   registered = λ t number whole. loses_registered t number;
   messaged = λ t next_id m goes whole. loses_messaged t next_id m;
+  counted = λ t next openings loses. loses;
 }

@@ -11,7 +11,9 @@ use Rattle.cip_datagram.specs.Datagram.{DatagramFields}
 use Rattle.cip_events.specs.declared.event.Delivery.{Delivery}
 use Rattle.adapter_table.specs.declared.profile.Profile.{Profile}
 use Rattle.adapter_table.specs.Connections.{Row}
+use Rattle.opening_rates.specs.declared.rates.NodeOpenings.{NodeOpenings}
 use Rattle.adapter_table.specs.declared.table.AdapterTable.{AdapterTable}
+use Rattle.adapter_table.specs.Rates.{with_openings}
 use Rattle.adapter_table.specs.declared.table.PointValue.{PointValue}
 use Rattle.adapter_table.specs.declared.table.Stream.{Stream}
 use Rattle.adapter_table.specs.Rows.{others, drives, drivers, written_row, is_established, is_timed_out, has_triad, holds_triad, is_member, is_supported}
@@ -278,6 +280,21 @@ sound_messaged t next_id m goes sound = record {
   streams_differ = sound.streams_differ;
 }
 
+pub sound_counted : (t : AdapterTable) (openings : List NodeOpenings) → IsSound t → IsSound (with_openings t openings)
+sound_counted t openings sound = record {
+  few = sound.few;
+  one_owner = sound.one_owner;
+  triads_differ = sound.triads_differ;
+  ids_differ = sound.ids_differ;
+  ids_are_drawn = sound.ids_are_drawn;
+  listeners_are_supported = sound.listeners_are_supported;
+  groups_agree = sound.groups_agree;
+  producers = sound.producers;
+  ids_are_left = sound.ids_are_left;
+  few_streams = sound.few_streams;
+  streams_differ = sound.streams_differ;
+}
+
 -- ---- each effect
 
 pub sound_effects : EffectsKeep IsSound
@@ -291,6 +308,7 @@ sound_effects = record {
   unstreamed = sound_without;
   registered = sound_registered;
   messaged = sound_messaged;
+  counted = sound_counted;
 }
 
 pub sound_fresh : (profile : Profile) → IsSound (adapter_table profile)

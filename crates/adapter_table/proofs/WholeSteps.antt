@@ -9,7 +9,9 @@ use Rattle.cip_events.specs.declared.event.Event.{Event}
 use Rattle.adapter_table.specs.declared.profile.InputPoint.{InputPoint}
 use Rattle.adapter_table.specs.declared.profile.Profile.{Profile}
 use Rattle.adapter_table.specs.Connections.{Row}
+use Rattle.opening_rates.specs.declared.rates.NodeOpenings.{NodeOpenings}
 use Rattle.adapter_table.specs.declared.table.AdapterTable.{AdapterTable}
+use Rattle.adapter_table.specs.Rates.{with_openings}
 use Rattle.adapter_table.specs.Profiles.{is_at, profile_fault}
 use Rattle.adapter_table.specs.Rows.{has_triad, others, written_row}
 use Rattle.messaging.specs.declared.table.Messaging.{Messaging}
@@ -34,7 +36,7 @@ use Rattle.adapter_table.proofs.ConsumerLemmas.{consume_kept, consume_expired, a
 use Rattle.adapter_table.specs.Lemmas.FedLemmas.{shaped_fed}
 use Rattle.adapter_table.specs.Laws.{EffectsKeep}
 use Rattle.adapter_table.specs.Lemmas.EffectLemmas.{adapter_keeps}
-use Rattle.adapter_table.proofs.StepLemmas.{sound_fresh, sound_opened, sound_closed, sound_written, sound_fed, sound_advanced, sound_with, sound_without, sound_registered, sound_messaged}
+use Rattle.adapter_table.proofs.StepLemmas.{sound_fresh, sound_opened, sound_closed, sound_written, sound_fed, sound_advanced, sound_with, sound_without, sound_registered, sound_messaged, sound_counted}
 use Rattle.adapter_table.specs.RowLimits.{fits_written, fits_expired}
 use Rattle.adapter_table.proofs.PlaceLemmas.{names_left, names_kept, names_expired, names_then, messages_beside, messages_opened, messages_with, messages_without, messages_registered, messages_fresh}
 use Rattle.adapter_table.proofs.WholeLemmas.{fits_due, fits_changed, fits_fed, fits_opened}
@@ -46,9 +48,10 @@ whole_opened t peer request admitted e whole =
     let row = opened_row t peer request admitted in
     let stays_there : Row → Bool = λ r. not (is_replaced t.rows request.triad r) in
     let left = others (is_replaced t.rows request.triad) t.rows in
+    let messages = messages_opened t left row (configured t.profile.config admitted.segment t.values) (t.next_id + drawn_ids admitted.multicast admitted.group) (omega arith) (names_left stays_there t.rows) is.triad_is_new refl whole.messages in
     record {
       sound = sound_opened t peer request admitted e whole.sound;
-      messages = messages_opened t left row (configured t.profile.config admitted.segment t.values) (t.next_id + drawn_ids admitted.multicast admitted.group) (omega arith) (names_left stays_there t.rows) is.triad_is_new refl whole.messages;
+      messages = record { own = messages.own; class3_connections = messages.class3_connections; waiting = messages.waiting };
       shaped =
           shaped_configured t.profile t.profile.config admitted.segment t.values refl
           (λ point bytes known stands. stored_len t.profile.config is.config is.segment point bytes known (sym is.segment_is ∙ stands) is.segment_fits) whole.shaped;
@@ -84,12 +87,12 @@ whole_written t point bytes input is long whole =
       clock = whole.clock;
     }
 
-pub whole_fed : (t : AdapterTable) (peer : Node) (d : DatagramFields) (row : Row) (delivery : Delivery) → row_delivery t.profile row d ≡ delivery → find (is_for peer d.connection) t.rows ≡ Some row → IsWhole t → IsWhole (accepted_table t peer d row delivery)
+pub whole_fed : (t : AdapterTable) (peer : Node) (d : DatagramFields) (row : Row) (delivery : Delivery) → row_delivery t.profile t.clock row d ≡ delivery → find (is_for peer d.connection) t.rows ≡ Some row → IsWhole t → IsWhole (accepted_table t peer d row delivery)
 unfolding accepted_table
 whole_fed t peer d row delivery is found whole = record {
   sound = sound_fed t peer d row delivery whole.sound;
   messages = messages_beside t (map (accepted_if_for t.clock peer d) t.rows) (accepted_values t.profile row.consumed d delivery t.values) t.clock (names_kept (accepted_if_for t.clock peer d) (fed_keeps t.clock peer d) t.rows) whole.messages;
-  shaped = shaped_fed t.profile row d delivery t.values is (each_found (ConsumesOutput t.profile) (is_for peer d.connection) t.rows row found whole.consume) whole.shaped;
+  shaped = shaped_fed t.profile t.clock row d delivery t.values is (each_found (ConsumesOutput t.profile) (is_for peer d.connection) t.rows row found whole.consume) whole.shaped;
   consume = consume_kept (accepted_if_for t.clock peer d) (fed_keeps t.clock peer d) t.profile t.rows whole.consume;
   fits = each_map FitsRow (accepted_if_for t.clock peer d) (fits_fed t.clock peer d) t.rows whole.fits;
   clock = whole.clock;
@@ -128,6 +131,16 @@ pub whole_messaged : (t : AdapterTable) (next_id : ℕ) (m : Messaging) → Mess
 unfolding messages_table
 whole_messaged t next_id m goes whole = record { sound = sound_messaged t next_id m goes whole.sound; messages = goes.sound whole.sound whole.messages; shaped = whole.shaped; consume = whole.consume; fits = whole.fits; clock = whole.clock }
 
+pub whole_counted : (t : AdapterTable) (openings : List NodeOpenings) → IsWhole t → IsWhole (with_openings t openings)
+whole_counted t openings whole = record {
+  sound = sound_counted t openings whole.sound;
+  messages = record { own = whole.messages.own; class3_connections = whole.messages.class3_connections; waiting = whole.messages.waiting };
+  shaped = whole.shaped;
+  consume = whole.consume;
+  fits = whole.fits;
+  clock = whole.clock;
+}
+
 pub whole_effects : EffectsKeep IsWhole
 whole_effects = record {
   opened = whole_opened;
@@ -139,6 +152,7 @@ whole_effects = record {
   unstreamed = whole_without;
   registered = whole_registered;
   messaged = whole_messaged;
+  counted = whole_counted;
 }
 
 pub whole_step : (t : AdapterTable) (event : Event) (next : Next) → adapter_step t event ≡ Ok next → IsWhole t → IsWhole next.1

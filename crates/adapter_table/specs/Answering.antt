@@ -8,12 +8,12 @@ use Rattle.cip_events.specs.declared.event.StepFault.TheVariants.{NotAllowedNow,
 use Rattle.cip_events.specs.declared.event.Verdict.TheVariants.{Done}
 use Rattle.cip_router.specs.Frames.{RequestHeader, router_reply, connected}
 use Rattle.cip_router.specs.Replies.{ReplyFields, own}
-use Rattle.messaging.specs.declared.dialogue.Dialogue as kept
+use Rattle.messaging.specs.declared.class3.Class3Connection as kept
 use Rattle.messaging.specs.declared.requests.Requester.{Requester}
-use Rattle.messaging.specs.declared.requests.Requester.TheVariants.{Peer, Stream, Dialogue}
+use Rattle.messaging.specs.declared.requests.Requester.TheVariants.{Peer, Stream, Class3Connection}
 use Rattle.messaging.specs.declared.requests.Waiting.{Waiting}
 use Rattle.messaging.specs.declared.table.Messaging.{Messaging}
-use Rattle.messaging.specs.Dialogues.{is_last_message}
+use Rattle.messaging.specs.Class3Connections.{is_last_message}
 use Rattle.messaging.specs.Changes.{longest_answer, has_request_number, answered, replied}
 use Rattle.adapter_table.specs.declared.table.AdapterTable.{AdapterTable}
 use Rattle.adapter_table.specs.Connected.{fitted_text}
@@ -32,29 +32,29 @@ abbrev pub unit_header : (stream : ℕ) → RequestHeader
 unit_header stream = record { command = 0x70; session = stream + 1; context = 0 }
 
 -- the frame of a reply to the last message of a class 3 connection
-abbrev pub dialogue_frames : (count service : ℕ) → ReplyFields → Option kept.Dialogue → List Frame
-dialogue_frames count service reply None = []
-dialogue_frames count service reply (Some d) =
+abbrev pub class3_frames : (count service : ℕ) → ReplyFields → Option kept.Class3Connection → List Frame
+class3_frames count service reply None = []
+class3_frames count service reply (Some d) =
     reply_frames d.stream (unit_header d.stream) (Some (connected d.t_o_id.0 count (fitted_text d service reply)))
 
 -- the frame of a reply, by the route of its request
 abbrev pub route_frames : Messaging → Requester → (service : ℕ) → ReplyFields → List Frame
 route_frames m (Peer node) service reply = reply_frame node reply ∷ []
 route_frames m (Stream number context) service reply = reply_frames number (rr_header number context) (Some (router_reply reply None))
-route_frames m (Dialogue id count) service reply = dialogue_frames count service reply (find (is_last_message id count) m.dialogues)
+route_frames m (Class3Connection id count) service reply = class3_frames count service reply (find (is_last_message id count) m.class3_connections)
 
 -- THE ANSWER
 
 -- the class 3 connection keeps the reply to its last message
-abbrev pub dialogue_keeps : Messaging → ConnId → (count service : ℕ) → ReplyFields → Option kept.Dialogue → Messaging
-dialogue_keeps m id count service reply None = m
-dialogue_keeps m id count service reply (Some d) = replied m id count (fitted_text d service reply)
+abbrev pub class3_keeps : Messaging → ConnId → (count service : ℕ) → ReplyFields → Option kept.Class3Connection → Messaging
+class3_keeps m id count service reply None = m
+class3_keeps m id count service reply (Some d) = replied m id count (fitted_text d service reply)
 
 -- the same, if such a connection brought the request
 abbrev pub with_reply : Messaging → Requester → (service : ℕ) → ReplyFields → Messaging
 with_reply m (Peer node) service reply = m
 with_reply m (Stream number context) service reply = m
-with_reply m (Dialogue id count) service reply = dialogue_keeps m id count service reply (find (is_last_message id count) m.dialogues)
+with_reply m (Class3Connection id count) service reply = class3_keeps m id count service reply (find (is_last_message id count) m.class3_connections)
 
 -- the reply goes out, and the request waits no more
 abbrev pub responded : AdapterTable → Waiting → ReplyFields → Next

@@ -27,7 +27,7 @@ use Rattle.cip_router.specs.declared.refusal.Refusal.TheVariants as refusal
 use Rattle.cip_productions.specs.declared.kind.Kind.{Kind}
 use Rattle.cip_productions.specs.declared.kind.Kind.TheVariants.{ExclusiveOwner, InputOnly, ListenOnly}
 use Rattle.cip_productions.specs.Kinds.{is_owner, is_listener}
-use Rattle.messaging.specs.Dialogues.{has_dialogue_triad}
+use Rattle.messaging.specs.Class3Connections.{has_class3_triad}
 use Rattle.adapter_table.specs.declared.profile.InputPoint.{InputPoint}
 use Rattle.adapter_table.specs.declared.profile.OutputPoint.{OutputPoint}
 use Rattle.adapter_table.specs.declared.profile.Profile.{Profile}
@@ -108,7 +108,7 @@ config_bytes values (Some config) = bytes_at values config.instance
 -- the same, looked up in a table
 abbrev pub view_of : AdapterTable → Triad → View
 view_of t triad =
-    view_at t.profile (config_bytes t.values t.profile.config) t.rows t.next_id (list_any (has_dialogue_triad triad) t.messaging.dialogues) triad
+    view_at t.profile (config_bytes t.values t.profile.config) t.rows t.next_id (list_any (has_class3_triad triad) t.messaging.class3_connections) triad
 
 -- SEGMENTS AND KEY
 
@@ -178,6 +178,12 @@ inhibit_of (Some path) = unwrap_or path.inhibit 0
 -- changes of state are to be held back for longer than the T->O packet interval
 abbrev pub has_inhibit_fault : OpenFields → Option PathFields → Bool
 has_inhibit_fault request path = is_change_of_state (trigger_of request.trigger) && nat_lt (interval_ms request.t_o_rpi) (inhibit_of path)
+
+-- the maker states how far ahead numbers can be, and changes of state are never held back: nothing says how fast the
+-- numbers rise
+abbrev pub lacks_pace : Option ℕ → OpenFields → Option PathFields → Bool
+lacks_pace None request path = false
+lacks_pace (Some within) request path = is_change_of_state (trigger_of request.trigger) && inhibit_of path == 0
 
 -- POINTS
 
@@ -388,10 +394,11 @@ checks view request path points =
     -- 7: the multiplier is above 7, or a redundant owner is requested (0x0108)
     ∷ check (is_unserved request) refusal.Parameter
     -- 8: a packet interval is 0 or above 10 seconds, or below the maker's least (0x0111), the inhibit time is longer
-    --    than it (0x011B)
+    --    than it, or is 0 at changes of state where the maker states how far ahead numbers can be (0x011B)
     ∷ check (not (are_intervals request)) refusal.PacketInterval
     ∷ check (is_below_least view.profile.limits.least_rpi request) refusal.PacketInterval
     ∷ check (has_inhibit_fault request (result_ok path)) refusal.InhibitTime
+    ∷ check (lacks_pace view.profile.limits.newer request (result_ok path)) refusal.InhibitTime
     -- 9: the path does not read, or is not of the Assembly class (0x0117); it names another configuration
     --    (0x0129), an unknown consumed (0x012A), an unknown produced point (0x012B)
     ∷ points_check points

@@ -4,8 +4,8 @@ use Rattle.std.specs.Prelude.{not, Bool, if◌then◌else◌, List, ◌∷◌, m
 use Rattle.cip_types.specs.declared.names.Triad.{Triad}
 use Rattle.cip_events.specs.declared.event.Notice.{Notice}
 use Rattle.cip_events.specs.declared.event.Notice.TheVariants as notice
-use Rattle.messaging.specs.declared.dialogue.Dialogue.{Dialogue}
-use Rattle.messaging.specs.Changes.{without_dialogue}
+use Rattle.messaging.specs.declared.class3.Class3Connection.{Class3Connection}
+use Rattle.messaging.specs.Changes.{without_class3}
 use Rattle.adapter_table.specs.declared.profile.Profile.{Profile}
 use Rattle.adapter_table.specs.Connections.{Row}
 use Rattle.adapter_table.specs.declared.table.PointValue.{PointValue}
@@ -47,5 +47,5 @@ abbrev pub closed_notices : List Row → Row → List Notice
 closed_notices rows row = notice.Closed row.triad ∷ map dropped_notice (unsupported (without_triad row.triad rows))
 
 -- the class 3 connection is removed, and what it asked waits no more
-abbrev pub dialogue_closed_table : AdapterTable → Dialogue → AdapterTable
-dialogue_closed_table t d = with_messages t (without_dialogue t.messaging d.triad)
+abbrev pub class3_closed_table : AdapterTable → Class3Connection → AdapterTable
+class3_closed_table t d = with_messages t (without_class3 t.messaging d.triad)

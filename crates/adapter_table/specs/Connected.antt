@@ -7,7 +7,7 @@ use Rattle.cip_router.specs.declared.refusal.Status.TheVariants as status
 use Rattle.cip_router.specs.Refusals.{status_fault}
 use Rattle.cip_router.specs.Replies.{ReplyFields, refused, reply_text}
 use Rattle.cip_router.specs.Requests.{RouterRequestFields, closing, opening}
-use Rattle.messaging.specs.declared.dialogue.Dialogue.{Dialogue}
+use Rattle.messaging.specs.declared.class3.Class3Connection.{Class3Connection}
 use Rattle.messaging.specs.Changes.{longest_answer, repeated, executed, referred_over}
 use Rattle.adapter_table.specs.declared.table.AdapterTable.{AdapterTable}
 use Rattle.adapter_table.specs.Messages.{with_messages}
@@ -32,7 +32,7 @@ fitted size service reply =
     if nat_le (length (reply_text reply)) (most_reply size) then reply else refused service (status_fault status.ReplyTooLarge) None
 
 -- its bytes
-abbrev pub fitted_text : Dialogue → ℕ → ReplyFields → List ℕ
+abbrev pub fitted_text : Class3Connection → ℕ → ReplyFields → List ℕ
 fitted_text d service reply = reply_text (fitted d.t_o_size service reply)
 
 -- WHAT IS SERVED
@@ -46,17 +46,17 @@ connected_served t peer other = served t peer other
 -- THE TABLE AFTER IT
 
 -- the next message is due before the connection's time-out
-abbrev pub next_deadline : AdapterTable → Dialogue → Ms
+abbrev pub next_deadline : AdapterTable → Class3Connection → Ms
 next_deadline t d = record { 0 = t.clock.0 + d.watchdog.0 }
 
 -- the last message was repeated
-abbrev pub repeated_table : AdapterTable → Dialogue → AdapterTable
+abbrev pub repeated_table : AdapterTable → Class3Connection → AdapterTable
 repeated_table t d = with_messages t (repeated t.messaging d.o_t_id (next_deadline t d))
 
 -- the message of this count was executed, and the connection keeps the reply
-abbrev pub executed_table : AdapterTable → Dialogue → ℕ → List ℕ → AdapterTable
+abbrev pub executed_table : AdapterTable → Class3Connection → ℕ → List ℕ → AdapterTable
 executed_table t d count reply = with_messages t (executed t.messaging d.o_t_id count reply (next_deadline t d))
 
 -- the message of this count asks the application
-abbrev pub asking_table : AdapterTable → Dialogue → ℕ → OwnRequest → AdapterTable
-asking_table t d count own = with_messages t (referred_over t.messaging d.o_t_id count own.service (next_deadline t d) t.clock)
+abbrev pub asking_table : AdapterTable → Class3Connection → ℕ → OwnRequest → AdapterTable
+asking_table t d count own = with_messages t (referred_over t.messaging d.peer d.o_t_id count own.service (next_deadline t d) t.clock)

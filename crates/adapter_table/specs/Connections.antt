@@ -18,6 +18,7 @@ with_state state c = record {
   t_o_id = c.t_o_id;
   o_t_api_ms = c.o_t_api_ms;
   t_o_api_ms = c.t_o_api_ms;
+  o_t_pace_ms = c.o_t_pace_ms;
   watchdog = c.watchdog;
   multicast = c.multicast;
   opening = c.opening;

@@ -23,7 +23,7 @@ use Rattle.adapter_table.specs.Profiles.{is_output_at}
 use Rattle.adapter_table.specs.Points.{put_value, idle_values}
 use Rattle.cip_productions.specs.Kinds.{is_owner}
 use Rattle.adapter_table.specs.Rows.{is_established}
-use Rattle.adapter_table.specs.StatedLimits.{accepts_number}
+use Rattle.adapter_table.specs.StatedLimits.{accepts_at}
 use Rattle.adapter_table.specs.Requests.{Next}
 use Rattle.cip_events.specs.Answers.{plain_answer, is_accepted}
 use Rattle.cip_productions.specs.Acceptance.{is_duplicate}
@@ -60,11 +60,12 @@ abbrev pub accepted_delivery : {P : Type 0} → Connection P → DatagramFields 
 accepted_delivery row d = if is_owner row.kind then owned_delivery row d else Heartbeat
 
 -- the delivery of a datagram that has the connection's size
-abbrev pub sized_delivery : {P : Type 0} → Option ℕ → Connection P → DatagramFields → Delivery
-sized_delivery within row d = if accepts_number within row.last d.sequence then accepted_delivery row d else Old
+abbrev pub sized_delivery : {P : Type 0} → Option ℕ → Ms → Connection P → DatagramFields → Delivery
+sized_delivery within clock row d = if accepts_at within clock row d.sequence then accepted_delivery row d else Old
 
-abbrev pub row_delivery : {P : Type 0} → Profile → Connection P → DatagramFields → Delivery
-row_delivery profile row d = if length d.payload == expected_len profile row then sized_delivery profile.limits.newer row d else WrongSize
+-- the delivery of a datagram at this time
+abbrev pub row_delivery : {P : Type 0} → Profile → Ms → Connection P → DatagramFields → Delivery
+row_delivery profile clock row d = if length d.payload == expected_len profile row then sized_delivery profile.limits.newer clock row d else WrongSize
 
 -- WHAT IT CHANGES
 
@@ -128,7 +129,7 @@ judged_datagram t peer d row delivery =
 
 abbrev pub found_datagram : AdapterTable → Node → DatagramFields → Option Row → Next
 found_datagram t peer d None = delivered UnknownId t
-found_datagram t peer d (Some row) = judged_datagram t peer d row (row_delivery t.profile row d)
+found_datagram t peer d (Some row) = judged_datagram t peer d row (row_delivery t.profile t.clock row d)
 
 abbrev pub datagram_of : AdapterTable → Node → Result DatagramFields DatagramFault → Next
 datagram_of t peer (Err fault) = delivered Malformed t

@@ -24,15 +24,14 @@ use Rattle.cip_events.specs.declared.event.StepFault.{StepFault}
 use Rattle.cip_events.specs.declared.event.StepFault.TheVariants.{NotAllowedNow}
 use Rattle.cip_events.specs.declared.event.Verdict.{Verdict}
 use Rattle.cip_events.specs.declared.event.Verdict.TheVariants.{Done, BadFrame, Delivered}
-use Rattle.messaging.specs.declared.dialogue.Dialogue.{Dialogue}
+use Rattle.messaging.specs.declared.class3.Class3Connection.{Class3Connection}
 use Rattle.messaging.specs.declared.requests.Requester.TheVariants as asker
-use Rattle.messaging.specs.Dialogues.{is_dialogue, repeats_last}
-use Rattle.messaging.specs.Changes.{lacks_room}
+use Rattle.messaging.specs.Class3Connections.{is_class3, repeats_last}
 use Rattle.adapter_table.specs.declared.table.Stream.{Stream}
 use Rattle.adapter_table.specs.declared.table.AdapterTable.{AdapterTable}
 use Rattle.cip_router.specs.Requests.{RouterRequestFields, router_request_reading}
-use Rattle.adapter_table.specs.Own.{OwnRequest, own_of, referred_verdict, referred_table}
-use Rattle.adapter_table.specs.DialogueOpening.{stream_served}
+use Rattle.adapter_table.specs.Own.{OwnRequest, own_of, cannot_ask, referred_verdict, referred_table}
+use Rattle.adapter_table.specs.Class3Opening.{stream_served}
 use Rattle.adapter_table.specs.Connected.{service_in, fitted_text, connected_served, repeated_table, executed_table, asking_table}
 use Rattle.adapter_table.specs.Inquiries.{frame_alone, inquiry_reply}
 use Rattle.adapter_table.specs.Requests.{Next, Served, router_refusal}
@@ -95,8 +94,8 @@ request_replied t (Some s) = record { reply = Some (router_reply s.reply s.addre
 -- a request to an object of the maker's own is refused (0x02) where no more can wait, else it waits
 abbrev pub own_replied : AdapterTable → Stream → (context : ℕ) → OwnRequest → Handled
 own_replied t stream context own =
-    if lacks_room t.messaging then request_replied t (Some (router_refusal t own.service router_status.ResourceUnavailable))
-    else record { reply = None; verdict = referred_verdict t own; notices = []; table = referred_table t (asker.Stream stream.number context) own }
+    if cannot_ask t stream.peer then request_replied t (Some (router_refusal t own.service router_status.ResourceUnavailable))
+    else record { reply = None; verdict = referred_verdict t own; notices = []; table = referred_table t stream.peer (asker.Stream stream.number context) own }
 
 -- a request of the stream's peer
 abbrev pub request_handled : AdapterTable → Stream → (context : ℕ) → RouterRequestFields → Option OwnRequest → Handled
@@ -121,12 +120,12 @@ abbrev pub undelivered : AdapterTable → Delivery → Handled
 undelivered t why = record { reply = None; verdict = Delivered why; notices = []; table = t }
 
 -- the reply that the connection keeps, if it has one yet
-abbrev pub kept_reply : Dialogue → (count : ℕ) → List ℕ → Option FrameReply
+abbrev pub kept_reply : Class3Connection → (count : ℕ) → List ℕ → Option FrameReply
 kept_reply d count [] = None
 kept_reply d count (first ∷ rest) = Some (connected d.t_o_id.0 count (first ∷ rest))
 
 -- the last message again: its reply again, and nothing is executed
-abbrev pub message_repeated : AdapterTable → Dialogue → (count : ℕ) → Handled
+abbrev pub message_repeated : AdapterTable → Class3Connection → (count : ℕ) → Handled
 message_repeated t d count = record {
   reply = kept_reply d count d.reply;
   verdict = Delivered Duplicate;
@@ -135,7 +134,7 @@ message_repeated t d count = record {
 }
 
 -- a message was served: the reply goes out, and the connection keeps it
-abbrev pub message_replied : Dialogue → (count service : ℕ) → Served → Handled
+abbrev pub message_replied : Class3Connection → (count service : ℕ) → Served → Handled
 message_replied d count service s = record {
   reply = Some (connected d.t_o_id.0 count (fitted_text d service s.reply));
   verdict = Done;
@@ -144,23 +143,23 @@ message_replied d count service s = record {
 }
 
 -- a message to an object of the maker's own is refused (0x02) where no more can wait, else it waits
-abbrev pub own_message : AdapterTable → Dialogue → (count : ℕ) → OwnRequest → Handled
+abbrev pub own_message : AdapterTable → Class3Connection → (count : ℕ) → OwnRequest → Handled
 own_message t d count own =
-    if lacks_room t.messaging then message_replied d count own.service (router_refusal t own.service router_status.ResourceUnavailable)
+    if cannot_ask t d.peer then message_replied d count own.service (router_refusal t own.service router_status.ResourceUnavailable)
     else record { reply = None; verdict = referred_verdict t own; notices = []; table = asking_table t d count own }
 
 -- a message without a request is refused
-abbrev pub message_served : AdapterTable → Dialogue → (count service : ℕ) → Option Served → Handled
+abbrev pub message_served : AdapterTable → Class3Connection → (count service : ℕ) → Option Served → Handled
 message_served t d count service None = refusal t status.IncorrectData
 message_served t d count service (Some s) = message_replied d count service s
 
 -- a message with a new count
-abbrev pub message_executed : AdapterTable → Dialogue → (count service : ℕ) → RouterRequestFields → Option OwnRequest → Handled
+abbrev pub message_executed : AdapterTable → Class3Connection → (count service : ℕ) → RouterRequestFields → Option OwnRequest → Handled
 message_executed t d count service request None = message_served t d count service (connected_served t d.peer request)
 message_executed t d count service request (Some own) = own_message t d count own
 
 -- a message of a class 3 connection: longer than its O->T size, or the last one again, or new
-abbrev pub message_handled : AdapterTable → Dialogue → (count : ℕ) → List ℕ → Handled
+abbrev pub message_handled : AdapterTable → Class3Connection → (count : ℕ) → List ℕ → Handled
 message_handled t d count message = first_case_or (
     message_executed t d count (service_in message) (router_request_reading message) (own_of t.profile.objects (router_request_reading message))
     ) (
@@ -169,7 +168,7 @@ message_handled t d count message = first_case_or (
     ∷ [])
 
 -- the same of the connection that is found, if one is
-abbrev pub message_found : AdapterTable → (count : ℕ) → List ℕ → Option Dialogue → Handled
+abbrev pub message_found : AdapterTable → (count : ℕ) → List ℕ → Option Class3Connection → Handled
 message_found t count message None = undelivered t UnknownId
 message_found t count message (Some d) = message_handled t d count message
 
@@ -177,7 +176,7 @@ message_found t count message (Some d) = message_handled t d count message
 abbrev pub unit_replied : AdapterTable → Stream → Result ConnectedFields ItemFault → Handled
 unit_replied t stream (Err fault) = refusal t status.IncorrectData
 unit_replied t stream (Ok unit) =
-    message_found t unit.count unit.message (find (is_dialogue stream.number (record { 0 = unit.connection })) t.messaging.dialogues)
+    message_found t unit.count unit.message (find (is_class3 stream.number (record { 0 = unit.connection })) t.messaging.class3_connections)
 
 -- SendUnitData: within its session, a connected message; outside it is refused as an unknown command is
 abbrev pub send_unit_data : AdapterTable → Stream → (session : ℕ) → List ℕ → Handled

@@ -3,6 +3,7 @@
 use Rattle.std.specs.Prelude.{ℕ, ◌≡◌, ◌≤◌, ◌+◌, ◌^◌, [], List, find, length, is_some, replicate, true, false, Option, Some, None, Ok, Err}
 use Rattle.std.specs.Option.{option_map}
 use Rattle.cip_types.specs.declared.names.Node.{Node}
+use Rattle.cip_types.specs.declared.names.Ms.{Ms}
 use Rattle.cip_fwdopen.specs.Open.{OpenFields}
 use Rattle.cip_datagram.specs.Datagram.{DatagramFields}
 use Rattle.cip_datagram.specs.Header.{header_at}
@@ -15,6 +16,7 @@ use Rattle.messaging.specs.declared.table.Messaging.{Messaging}
 use Rattle.adapter_table.specs.declared.profile.InputPoint.{InputPoint}
 use Rattle.adapter_table.specs.declared.profile.OutputPoint.{OutputPoint}
 use Rattle.adapter_table.specs.declared.profile.Profile.{Profile}
+use Rattle.opening_rates.specs.declared.rates.NodeOpenings.{NodeOpenings}
 use Rattle.adapter_table.specs.Connections.{Row}
 use Rattle.adapter_table.specs.declared.table.AdapterTable.{AdapterTable}
 use Rattle.adapter_table.specs.Profiles.{is_at, is_output_at}
@@ -26,6 +28,7 @@ use Rattle.adapter_table.specs.Datagrams.{row_delivery, run_data, accepted_table
 use Rattle.adapter_table.specs.Shapes.{len_in, len_of}
 use Rattle.adapter_table.specs.Ticks.{clocked_table, expired_table, produced_table}
 use Rattle.adapter_table.specs.Points.{bytes_at}
+use Rattle.adapter_table.specs.Rates.{with_openings}
 use Rattle.adapter_table.specs.Requests.{Next}
 use Rattle.adapter_table.specs.Step.{adapter_step, adapter_table, written_table, changed_table}
 use Rattle.adapter_table.specs.Messages.{messages_table}
@@ -66,17 +69,18 @@ abbrev pub RefusalsAcceptNothing : Type 0
 RefusalsAcceptNothing = (opening : ℕ) (t : AdapterTable) (event : Event) (fault : StepFault) → adapter_step t event ≡ Err fault → accepted_at opening t event ≡ []
 
 -- each effect keeps it: a connection is opened, closed, an input written, a datagram accepted, time passes, a stream
--- begins, ends, a session is registered, class 3 connections and waiting requests change
+-- begins, ends, a session is registered, class 3 connections and waiting requests change, openings are counted
 pub record EffectsKeep (P : AdapterTable → Type 0) : Type 0 where
   pub opened : (t : AdapterTable) (peer : Node) (request : OpenFields) (admitted : Admitted) → admission t request ≡ Ok admitted → P t → P (opened_table t (opened_row t peer request admitted) admitted)
   pub closed : (t : AdapterTable) (row : Row) → P t → P (closed_table t row)
   pub written : (t : AdapterTable) (point : ℕ) (bytes : List ℕ) (input : InputPoint) → find (is_at point) t.profile.inputs ≡ Some input → length bytes ≡ input.len → P t → P (changed_table (written_table t point bytes) point)
-  pub fed : (t : AdapterTable) (peer : Node) (d : DatagramFields) (row : Row) (delivery : Delivery) → row_delivery t.profile row d ≡ delivery → find (is_for peer d.connection) t.rows ≡ Some row → P t → P (accepted_table t peer d row delivery)
+  pub fed : (t : AdapterTable) (peer : Node) (d : DatagramFields) (row : Row) (delivery : Delivery) → row_delivery t.profile t.clock row d ≡ delivery → find (is_for peer d.connection) t.rows ≡ Some row → P t → P (accepted_table t peer d row delivery)
   pub advanced : (t : AdapterTable) (ms : ℕ) → t.clock.0 + ms ≤ 2 ^ 48 → P t → P (produced_table (expired_table (clocked_table t ms)))
   pub streamed : (t : AdapterTable) (number : ℕ) (peer : Node) → is_taken t.streams number ≡ false → P t → P (with_stream t number peer)
   pub unstreamed : (t : AdapterTable) (number : ℕ) → P t → P (without_stream t number)
   pub registered : (t : AdapterTable) (number : ℕ) → P t → P (registered_table t number)
   pub messaged : (t : AdapterTable) (next_id : ℕ) (m : Messaging) → MessagesGoOn t next_id m → P t → P (messages_table t next_id m)
+  pub counted : (t : AdapterTable) (openings : List NodeOpenings) → P t → P (with_openings t openings)
 
 -- the times and the id of an admitted request
 pub record IsTimed (t : AdapterTable) (request : OpenFields) (admitted : Admitted) : Type 0 where
@@ -97,7 +101,7 @@ StoredSegmentsFit = (t : AdapterTable) (request : OpenFields) (admitted : Admitt
 
 -- data that are applied have an output, and as many bytes
 abbrev pub AppliedDataHaveOutputs : Type 0
-AppliedDataHaveOutputs = (profile : Profile) (row : Row) (d : DatagramFields) → ConsumesOutput profile row → row_delivery profile row d ≡ Applied → is_some (find (is_output_at row.consumed) profile.outputs) ≡ true
+AppliedDataHaveOutputs = (profile : Profile) (clock : Ms) (row : Row) (d : DatagramFields) → ConsumesOutput profile row → row_delivery profile clock row d ≡ Applied → is_some (find (is_output_at row.consumed) profile.outputs) ≡ true
 
 abbrev pub AppliedDataFit : Type 0
-AppliedDataFit = (profile : Profile) (row : Row) (d : DatagramFields) → ConsumesOutput profile row → row_delivery profile row d ≡ Applied → len_of profile row.consumed ≡ Some (length (run_data (header_at d.payload)))
+AppliedDataFit = (profile : Profile) (clock : Ms) (row : Row) (d : DatagramFields) → ConsumesOutput profile row → row_delivery profile clock row d ≡ Applied → len_of profile row.consumed ≡ Some (length (run_data (header_at d.payload)))

@@ -4,7 +4,7 @@ pub mod Closing
 pub mod Connected
 pub mod Connections
 pub mod Datagrams
-pub mod DialogueOpening
+pub mod Class3Opening
 pub mod Encapsulation
 pub mod Judging
 pub mod MessageLaws
@@ -17,6 +17,7 @@ pub mod Inquiries
 pub mod Points
 pub mod Productions
 pub mod Profiles
+pub mod Rates
 pub mod Requests
 pub mod Rows
 pub mod States

@@ -6,8 +6,8 @@ use Rattle.cip_encap.specs.Connected.{ConnectedFields}
 use Rattle.cip_events.specs.declared.event.Delivery.TheVariants.{Duplicate}
 use Rattle.cip_events.specs.declared.event.StepFault.TheVariants.{NotAllowedNow}
 use Rattle.cip_events.specs.declared.event.Verdict.TheVariants.{Delivered}
-use Rattle.messaging.specs.declared.dialogue.Dialogue.{Dialogue}
-use Rattle.messaging.specs.Dialogues.{is_dialogue}
+use Rattle.messaging.specs.declared.class3.Class3Connection.{Class3Connection}
+use Rattle.messaging.specs.Class3Connections.{is_class3}
 use Rattle.messaging.specs.Sound.{EachOf, EachTwoOf, TriadsDiffer, IdsDiffer}
 use Rattle.adapter_table.specs.declared.table.AdapterTable.{AdapterTable}
 use Rattle.adapter_table.specs.declared.table.Stream.{Stream}
@@ -26,15 +26,15 @@ use Rattle.adapter_table.specs.Whole.{IsWhole}
 -- stays.
 abbrev pub IsRepeated : Stream → ConnectedFields → Handled → Handled → Type 0
 IsRepeated stream unit first again =
-    (d : Dialogue) ×
-    ((find (is_dialogue stream.number (record { 0 = unit.connection })) first.table.messaging.dialogues ≡ Some d) ×
+    (d : Class3Connection) ×
+    ((find (is_class3 stream.number (record { 0 = unit.connection })) first.table.messaging.class3_connections ≡ Some d) ×
     (again ≡ record { reply = first.reply; verdict = Delivered Duplicate; notices = []; table = repeated_table first.table d }))
 
 -- whatever became of a message of a class 3 connection, once more it is a repetition
 abbrev pub MessagesExecuteOnce : Type 0
 MessagesExecuteOnce =
-    (t : AdapterTable) (stream : Stream) (unit : ConnectedFields) (d : Dialogue) → IsWhole t →
-    find (is_dialogue stream.number (record { 0 = unit.connection })) t.messaging.dialogues ≡ Some d →
+    (t : AdapterTable) (stream : Stream) (unit : ConnectedFields) (d : Class3Connection) → IsWhole t →
+    find (is_class3 stream.number (record { 0 = unit.connection })) t.messaging.class3_connections ≡ Some d →
     nat_lt d.o_t_size (2 + length unit.message) ≡ false → unit.message ≢ [] →
     IsRepeated stream unit (unit_replied t stream (Ok unit)) (unit_replied (unit_replied t stream (Ok unit)).table stream (Ok unit))
 
@@ -54,14 +54,14 @@ SettledAreRefused = (t : AdapterTable) (number status : ℕ) (bytes : List ℕ) 
 
 -- the stream of each class 3 connection is open, and has a session
 abbrev pub StreamsCarry : Type 0
-StreamsCarry = (t : AdapterTable) → IsWhole t → EachOf (λ (d : Dialogue). IsCarried t.streams d.stream) t.messaging.dialogues
+StreamsCarry = (t : AdapterTable) → IsWhole t → EachOf (λ (d : Class3Connection). IsCarried t.streams d.stream) t.messaging.class3_connections
 
 -- no connection of class 1 has its triad or its O->T id
-abbrev pub IsNamedAlone : AdapterTable → Dialogue → Type 0
+abbrev pub IsNamedAlone : AdapterTable → Class3Connection → Type 0
 IsNamedAlone t d = (list_any (has_triad d.triad) t.rows ≡ false) × (list_any (has_o_t_id d.o_t_id) t.rows ≡ false)
 
 -- no two connections of any class have one triad or one O->T id
 pub record NamesDiffer (t : AdapterTable) : Type 0 where
-  pub triads : EachTwoOf TriadsDiffer t.messaging.dialogues
-  pub ids : EachTwoOf IdsDiffer t.messaging.dialogues
-  pub alone : EachOf (IsNamedAlone t) t.messaging.dialogues
+  pub triads : EachTwoOf TriadsDiffer t.messaging.class3_connections
+  pub ids : EachTwoOf IdsDiffer t.messaging.class3_connections
+  pub alone : EachOf (IsNamedAlone t) t.messaging.class3_connections

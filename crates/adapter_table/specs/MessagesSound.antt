@@ -2,9 +2,9 @@
 -- beside what holds of them alone, no other connection has their names, and their streams are open.
 use Rattle.std.specs.Prelude.{ℕ, ◌≡◌, ◌≤◌, ◌<◌, ◌+◌, ◌&&◌, Bool, true, false, List, length}
 use Rattle.std.specs.List.{list_any}
-use Rattle.messaging.specs.declared.dialogue.Dialogue as kept
+use Rattle.messaging.specs.declared.class3.Class3Connection as kept
 use Rattle.messaging.specs.declared.requests.Requester.{Requester}
-use Rattle.messaging.specs.declared.requests.Requester.TheVariants.{Peer, Stream, Dialogue}
+use Rattle.messaging.specs.declared.requests.Requester.TheVariants.{Peer, Stream, Class3Connection}
 use Rattle.messaging.specs.declared.requests.Waiting.{Waiting}
 use Rattle.messaging.specs.declared.table.Messaging.{Messaging}
 use Rattle.messaging.specs.Changes.{has_request_number}
@@ -27,7 +27,7 @@ IsCarried open_streams number = list_any (carries number) open_streams ≡ true
 
 -- A class 3 connection has the triad and the O->T id of no connection of class 1. Its stream is open, and has a session. Its
 -- times are within the limits of an adapter, and its reply is short.
-pub record IsInPlace (rows : List Row) (open_streams : List streams.Stream) (d : kept.Dialogue) : Type 0 where
+pub record IsInPlace (rows : List Row) (open_streams : List streams.Stream) (d : kept.Class3Connection) : Type 0 where
   pub triad : list_any (has_triad d.triad) rows ≡ false
   pub id : list_any (has_o_t_id d.o_t_id) rows ≡ false
   pub stream : IsCarried open_streams d.stream
@@ -40,14 +40,14 @@ pub record IsInPlace (rows : List Row) (open_streams : List streams.Stream) (d :
 abbrev pub RouteIsOpen : List streams.Stream → Requester → Type 0
 RouteIsOpen open_streams (Peer node) = Unit {0}
 RouteIsOpen open_streams (Stream number context) = IsCarried open_streams number
-RouteIsOpen open_streams (Dialogue id count) = Unit {0}
+RouteIsOpen open_streams (Class3Connection id count) = Unit {0}
 
 abbrev pub CanGoBack : List streams.Stream → Waiting → Type 0
 CanGoBack open_streams w = RouteIsOpen open_streams w.asker
 
 pub record AreMessagesSound (t : AdapterTable) : Type 0 where
   pub own : IsSoundMessaging t.profile.incarnation t.next_id t.messaging
-  pub dialogues : EachOf (IsInPlace t.rows t.streams) t.messaging.dialogues
+  pub class3_connections : EachOf (IsInPlace t.rows t.streams) t.messaging.class3_connections
   pub waiting : EachOf (CanGoBack t.streams) t.messaging.waiting
 
 -- the request of this number was asked, and waits no more

@@ -3,6 +3,7 @@
 -- address item).
 use Rattle.std.specs.Prelude.{ℕ, ◌≡◌, ◌≢◌, ◌≤◌, ◌==◌, ◌&&◌, Bool, true, false, if◌then◌else◌, List, [], ◌∷◌, find, Option, Some, None, Result, Ok, Err}
 use Rattle.cip_types.specs.declared.names.Node.{Node}
+use Rattle.cip_types.specs.declared.names.Ms.{Ms}
 use Rattle.cip_types.specs.Circle.{IsNewer}
 use Rattle.cip_datagram.specs.declared.datagram.DatagramFault.{DatagramFault}
 use Rattle.cip_datagram.specs.Datagram.{DatagramFields}
@@ -50,19 +51,19 @@ acceptance_of d delivery = record {
 abbrev pub was_opened_as : ℕ → Row → Bool
 was_opened_as opening row = row.opening == opening
 
--- the datagram that the connection of an opening number accepts, of one for a connection
-abbrev pub accepted_by : ℕ → Profile → DatagramFields → Row → List Acceptance
-accepted_by opening profile d row =
-    if was_opened_as opening row && is_accepted (row_delivery profile row d) then acceptance_of d (row_delivery profile row d) ∷ [] else []
+-- the datagram that the connection of an opening number accepts at a time, of one for a connection
+abbrev pub accepted_by : ℕ → Profile → Ms → DatagramFields → Row → List Acceptance
+accepted_by opening profile clock d row =
+    if was_opened_as opening row && is_accepted (row_delivery profile clock row d) then acceptance_of d (row_delivery profile clock row d) ∷ [] else []
 
 -- the same, if the datagram is for a connection
-abbrev pub accepted_found : ℕ → Profile → DatagramFields → Option Row → List Acceptance
-accepted_found opening profile d None = []
-accepted_found opening profile d (Some row) = accepted_by opening profile d row
+abbrev pub accepted_found : ℕ → Profile → Ms → DatagramFields → Option Row → List Acceptance
+accepted_found opening profile clock d None = []
+accepted_found opening profile clock d (Some row) = accepted_by opening profile clock d row
 
 abbrev pub accepted_read : ℕ → AdapterTable → Node → Result DatagramFields DatagramFault → List Acceptance
 accepted_read opening t peer (Err fault) = []
-accepted_read opening t peer (Ok d) = accepted_found opening t.profile d (find (is_for peer d.connection) t.rows)
+accepted_read opening t peer (Ok d) = accepted_found opening t.profile t.clock d (find (is_for peer d.connection) t.rows)
 
 -- the datagram that the connection of an opening number accepts at an event
 abbrev pub accepted_at : ℕ → AdapterTable → Event → List Acceptance

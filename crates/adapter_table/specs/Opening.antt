@@ -22,10 +22,12 @@ use Rattle.adapter_table.specs.declared.table.PointValue.{PointValue}
 use Rattle.adapter_table.specs.declared.table.AdapterTable.{AdapterTable}
 use Rattle.adapter_table.specs.Profiles.{host_id, is_at}
 use Rattle.adapter_table.specs.Points.{put_value}
+use Rattle.adapter_table.specs.Rates.{counted_at}
 use Rattle.adapter_table.specs.Rows.{most_rows, has_triad, is_timed_out, others}
 use Rattle.adapter_table.specs.Checks.{Admitted, drawn_ids}
 use Rattle.cip_productions.specs.Productions.{first_production}
 use Rattle.cip_productions.specs.Watchdog.{first_deadline}
+use Rattle.cip_productions.specs.Window.{pace_of}
 
 -- THE CONNECTION THAT IS REPLACED
 
@@ -92,6 +94,7 @@ opened_row t peer request admitted = record {
   t_o_id = opened_t_o_id t request admitted.multicast admitted.group;
   o_t_api_ms = admitted.o_t_api_ms;
   t_o_api_ms = admitted.t_o_api_ms;
+  o_t_pace_ms = pace_of admitted.trigger admitted.o_t_api_ms admitted.inhibit;
   watchdog = admitted.watchdog;
   multicast = admitted.multicast;
   opening = t.next_id;
@@ -109,12 +112,14 @@ configured None segment values = values
 configured (Some config) None values = values
 configured (Some config) (Some segment) values = put_value config.instance segment values
 
--- the replaced connection is removed, the new one is the last, its data segment is stored, its ids are drawn
+-- the replaced connection is removed, the new one is the last, its data segment is stored, its ids are drawn, its opening is
+-- counted
 unfoldable pub opened_table : AdapterTable → Row → Admitted → AdapterTable
 opened_table t row admitted = record t {
   rows = others (is_replaced t.rows row.triad) t.rows ++ row ∷ [];
   values = configured t.profile.config admitted.segment t.values;
   next_id = t.next_id + drawn_ids admitted.multicast admitted.group;
+  openings = counted_at t row.peer;
 }
 
 -- THE REPLY AND THE NOTICES

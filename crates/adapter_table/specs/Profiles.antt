@@ -1,6 +1,6 @@
 -- The profile of an adapter, and its first fault
 -- (Volume 1, chapter 3, connection points; Volume 2, chapter 3, multicast addresses need a host id).
-use Rattle.std.specs.Prelude.{ℕ, ◌+◌, ◌-◌, ◌%◌, ◌^◌, ◌==◌, ◌&&◌, not, nat_le, Bool, true, false, List, [], ◌∷◌, ◌++◌, length, map, Option, Some, None, option_to_list}
+use Rattle.std.specs.Prelude.{ℕ, ◌+◌, ◌-◌, ◌%◌, ◌^◌, ◌==◌, ◌&&◌, not, nat_le, Bool, true, false, List, [], ◌∷◌, ◌++◌, length, map, Option, Some, None, option_to_list, is_some}
 use Rattle.std.specs.Int.{is_power_of_two}
 use Rattle.std.specs.List.{list_any, list_all}
 use Rattle.cip_types.specs.Cases.{Case, first_case}
@@ -10,6 +10,7 @@ use Rattle.adapter_table.specs.declared.profile.InputPoint.{InputPoint}
 use Rattle.adapter_table.specs.declared.profile.Description.{Description}
 use Rattle.adapter_table.specs.declared.maker_limits.Places.{Places}
 use Rattle.adapter_table.specs.declared.maker_limits.MakerLimits.{MakerLimits}
+use Rattle.adapter_table.specs.declared.maker_limits.NodeLimits.{NodeLimits}
 use Rattle.adapter_table.specs.declared.profile.Profile.{Profile}
 use Rattle.cip_events.specs.declared.profile_fault.ProfileFault.{ProfileFault}
 use Rattle.cip_events.specs.declared.profile_fault.ProfileFault.TheVariants.{Incarnation, Address, Points, SameInstance, Length, Identity as IdentityFault, Description as DescriptionFault, Limits, Objects}
@@ -104,20 +105,39 @@ abbrev pub is_from : ℕ → ℕ → Option ℕ → Bool
 is_from least most None = true
 is_from least most (Some value) = nat_le least value && nat_le value most
 
+-- how many connections a node can open in its second, if the maker states it
+abbrev pub most_openings : Option NodeLimits → Option ℕ
+most_openings None = None
+most_openings (Some limits) = limits.openings
+
+-- how many class 3 connections there can be, if the maker states it
+abbrev pub class3_places : Option Places → Option ℕ
+class3_places None = None
+class3_places (Some places) = places.class3_connections
+
+-- then the requests that wait for the application are shared by node
+abbrev pub shares_requests : Option Places → Bool
+shares_requests places = is_some (class3_places places)
+
 -- the places of all application types
 abbrev pub all_places : Places → ℕ
 all_places places = places.owners + (places.readers + places.listeners)
 
--- they are absent, or 1 to 64 in all
+-- they are absent, or 1 to 64 in all, and at most 64 of class 3 beside them
 abbrev pub are_few_places : Option Places → Bool
 are_few_places None = true
-are_few_places (Some places) = nat_le 1 (all_places places) && nat_le (all_places places) 64
+are_few_places (Some places) = (nat_le 1 (all_places places) && nat_le (all_places places) 64) && is_from 0 64 places.class3_connections
 
--- a packet interval of at most 10 seconds, 1 to 64 places, 1 to 64 connections of a node, and numbers that are ahead
+-- they are absent, or 1 to 64 connections, and 1 to 65,535 openings in a second
+abbrev pub are_node_limits : Option NodeLimits → Bool
+are_node_limits None = true
+are_node_limits (Some limits) = (nat_le 1 limits.connections && nat_le limits.connections 64) && is_from 1 65535 limits.openings
+
+-- a packet interval of at most 10 seconds, places, what a node can have, and numbers that are ahead
 -- by less than 2 to 2^31
 abbrev pub are_limits : MakerLimits → Bool
 are_limits limits =
-    is_from 1 10000000 limits.least_rpi && (are_few_places limits.places && (is_from 1 64 limits.node_connections && is_from 2 (2 ^ 31) limits.newer))
+    is_from 1 10000000 limits.least_rpi && (are_few_places limits.places && (are_node_limits limits.node_connections && is_from 2 (2 ^ 31) limits.newer))
 
 -- OBJECTS OF THE MAKER'S OWN
 

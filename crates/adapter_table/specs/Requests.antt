@@ -17,7 +17,7 @@ use Rattle.adapter_table.specs.Connections.{Row}
 use Rattle.adapter_table.specs.Rows.{has_triad}
 use Rattle.cip_router.specs.declared.object_service.ObjectService.TheVariants.{Reset as ResetService}
 use Rattle.adapter_table.specs.Objects.{ObjectAnswer, said, denied, resetting, object_answer}
-use Rattle.adapter_table.specs.Closing.{closed_table, closed_notices, dialogue_closed_table}
+use Rattle.adapter_table.specs.Closing.{closed_table, closed_notices, class3_closed_table}
 use Rattle.cip_router.specs.declared.refusal.Refusal.TheVariants as refusal
 use Rattle.cip_router.specs.Replies.{ReplyFields, opened, closed, object_reply, reply_text}
 use Rattle.cip_router.specs.Replies as replies
@@ -26,11 +26,10 @@ use Rattle.cip_router.specs.declared.refusal.Status.{Status}
 use Rattle.cip_router.specs.declared.refusal.Status.TheVariants as status
 use Rattle.cip_router.specs.Refusals.{refusal_fault, status_fault}
 use Rattle.adapter_table.specs.Checks.{Admitted}
-use Rattle.messaging.specs.declared.dialogue.Dialogue.{Dialogue}
+use Rattle.messaging.specs.declared.class3.Class3Connection.{Class3Connection}
 use Rattle.messaging.specs.declared.requests.Requester.TheVariants as asker
-use Rattle.messaging.specs.Dialogues.{has_dialogue_triad}
-use Rattle.messaging.specs.Changes.{lacks_room}
-use Rattle.adapter_table.specs.Own.{OwnRequest, own_of, referred_verdict, referred_table}
+use Rattle.messaging.specs.Class3Connections.{has_class3_triad}
+use Rattle.adapter_table.specs.Own.{OwnRequest, own_of, cannot_ask, referred_verdict, referred_table}
 use Rattle.adapter_table.specs.StatedLimits.{limited_admission, is_wrong_closer, is_wrong_ender}
 use Rattle.adapter_table.specs.Opening.{opened_row, opened_table, opened_reply, opened_address, opened_notices}
 use Rattle.cip_events.specs.Answers.{plain_answer}
@@ -112,27 +111,27 @@ unfoldable pub served_close : AdapterTable → Node → CloseFields → Served
 served_close t peer request = close_of t peer request (find (has_triad request.triad) t.rows)
 
 -- the close of a class 3 connection
-abbrev pub known_dialogue_close : AdapterTable → Dialogue → Served
-known_dialogue_close t d = record {
+abbrev pub known_class3_close : AdapterTable → Class3Connection → Served
+known_class3_close t d = record {
   reply = closed d.triad;
   address = None;
   notices = notice.Closed d.triad ∷ [];
-  table = dialogue_closed_table t d;
+  table = class3_closed_table t d;
 }
 
 -- only its own node may close it, if the maker says so
-abbrev pub found_dialogue_close : AdapterTable → Node → CloseFields → Dialogue → Served
-found_dialogue_close t peer request d =
-    if is_wrong_ender t.profile.limits peer d then refused_close t request (status_fault status.PrivilegeViolation) else known_dialogue_close t d
+abbrev pub found_class3_close : AdapterTable → Node → CloseFields → Class3Connection → Served
+found_class3_close t peer request d =
+    if is_wrong_ender t.profile.limits peer d then refused_close t request (status_fault status.PrivilegeViolation) else known_class3_close t d
 
 -- a class 3 connection of the triad is looked for first
-abbrev pub end_of : AdapterTable → Node → CloseFields → Option Dialogue → Served
+abbrev pub end_of : AdapterTable → Node → CloseFields → Option Class3Connection → Served
 end_of t peer request None = served_close t peer request
-end_of t peer request (Some d) = found_dialogue_close t peer request d
+end_of t peer request (Some d) = found_class3_close t peer request d
 
 -- a Forward_Close, of a connection of any class
 unfoldable pub served_end : AdapterTable → Node → CloseFields → Served
-served_end t peer request = end_of t peer request (find (has_dialogue_triad request.triad) t.messaging.dialogues)
+served_end t peer request = end_of t peer request (find (has_class3_triad request.triad) t.messaging.class3_connections)
 
 abbrev pub router_refusal : AdapterTable → ℕ → Status → Served
 router_refusal t service why = record { reply = replies.refused service (status_fault why) None; address = None; notices = []; table = t }
@@ -183,8 +182,8 @@ answered t peer (Some s) = replied peer s
 -- a request to an object of the maker's own is refused (0x02) where no more can wait, else it waits
 abbrev pub own_answered : AdapterTable → Node → OwnRequest → Next
 own_answered t peer own =
-    if lacks_room t.messaging then replied peer (router_refusal t own.service status.ResourceUnavailable)
-    else (plain_answer (referred_verdict t own), referred_table t (asker.Peer peer) own)
+    if cannot_ask t peer then replied peer (router_refusal t own.service status.ResourceUnavailable)
+    else (plain_answer (referred_verdict t own), referred_table t peer (asker.Peer peer) own)
 
 abbrev pub requested_by : AdapterTable → Node → RouterRequestFields → Option OwnRequest → Next
 requested_by t peer request None = answered t peer (served t peer request)

@@ -3,6 +3,7 @@
 use Rattle.std.specs.Prelude.{ℕ, ◌≡◌, ◌==◌, ◌&&◌, not, Bool, if◌then◌else◌, List, find, replicate, Option, Some, None, Result, Ok, Err}
 use Rattle.std.specs.List.{list_any}
 use Rattle.cip_types.specs.declared.names.Node.{Node}
+use Rattle.cip_types.specs.declared.names.Ms.{Ms}
 use Rattle.cip_datagram.specs.declared.datagram.DatagramFault.{DatagramFault}
 use Rattle.cip_datagram.specs.Datagram.{DatagramFields}
 use Rattle.cip_datagram.specs.Header.{header_at}
@@ -54,17 +55,17 @@ left_accepted output d WrongSize = None
 left_accepted output d Malformed = None
 
 -- the same at one output, of a datagram for this connection
-abbrev pub accepted_at : ℕ → Profile → DatagramFields → Row → Option (List ℕ)
-accepted_at point profile d row =
-    if row.consumed == point then left_accepted (find (is_output_at point) profile.outputs) d (row_delivery profile row d) else None
+abbrev pub accepted_at : ℕ → Profile → Ms → DatagramFields → Row → Option (List ℕ)
+accepted_at point profile clock d row =
+    if row.consumed == point then left_accepted (find (is_output_at point) profile.outputs) d (row_delivery profile clock row d) else None
 
-abbrev pub accepted_by : ℕ → Profile → DatagramFields → Option Row → Option (List ℕ)
-accepted_by point profile d None = None
-accepted_by point profile d (Some row) = accepted_at point profile d row
+abbrev pub accepted_by : ℕ → Profile → Ms → DatagramFields → Option Row → Option (List ℕ)
+accepted_by point profile clock d None = None
+accepted_by point profile clock d (Some row) = accepted_at point profile clock d row
 
 abbrev pub read_accepted : ℕ → AdapterTable → Node → Result DatagramFields DatagramFault → Option (List ℕ)
 read_accepted point t peer (Err fault) = None
-read_accepted point t peer (Ok d) = accepted_by point t.profile d (find (is_for peer d.connection) t.rows)
+read_accepted point t peer (Ok d) = accepted_by point t.profile t.clock d (find (is_for peer d.connection) t.rows)
 
 -- the bytes that the datagram of an event leaves at an output
 abbrev pub data_left : ℕ → AdapterTable → Event → Option (List ℕ)

@@ -1,23 +1,25 @@
 -- The limits that the maker of an adapter states, where they refuse what every other adapter takes: a connection that
 -- the fifteen checks admit, the close of another node's connection, and a datagram whose number is far ahead
 -- (Volume 1, chapter 3, Connection Manager, and class 1 transport).
-use Rattle.std.specs.Prelude.{ℕ, ◌≡◌, ◌≤◌, ◌<◌, ◌==◌, ◌&&◌, ◌||◌, not, nat_lt, nat_le, Bool, true, false, if◌then◌else◌, List, Option, Some, None, Result, Ok, Err}
+use Rattle.std.specs.Prelude.{ℕ, ◌≡◌, ◌≤◌, ◌<◌, ◌==◌, ◌&&◌, ◌||◌, not, nat_le, Bool, false, if◌then◌else◌, List, Option, Some, None, Result, Ok, Err}
 use Rattle.cip_types.specs.declared.names.Node.{Node}
 use Rattle.cip_types.specs.declared.names.Triad.{Triad}
-use Rattle.cip_types.specs.Circle.{distance}
+use Rattle.cip_types.specs.declared.names.Ms.{Ms}
 use Rattle.cip_fwdopen.specs.Open.{OpenFields}
 use Rattle.cip_router.specs.declared.refusal.Refusal.{Refusal}
 use Rattle.cip_router.specs.declared.refusal.Refusal.TheVariants as refusal
 use Rattle.cip_productions.specs.declared.kind.Kind.{Kind}
 use Rattle.cip_productions.specs.declared.kind.Kind.TheVariants.{ExclusiveOwner, InputOnly, ListenOnly}
-use Rattle.cip_productions.specs.declared.acceptance.Accepted.{Accepted}
-use Rattle.cip_productions.specs.Acceptance.{accepts_sequence}
-use Rattle.messaging.specs.declared.dialogue.Dialogue.{Dialogue}
+use Rattle.cip_productions.specs.Window.{since_accepted, accepts_number}
+use Rattle.messaging.specs.declared.class3.Class3Connection.{Class3Connection}
 use Rattle.adapter_table.specs.declared.maker_limits.Places.{Places}
 use Rattle.adapter_table.specs.declared.maker_limits.MakerLimits.{MakerLimits}
+use Rattle.adapter_table.specs.declared.maker_limits.NodeLimits.{NodeLimits}
+use Rattle.adapter_table.specs.declared.row.Connection.{Connection}
 use Rattle.adapter_table.specs.Connections.{Row}
 use Rattle.adapter_table.specs.declared.table.AdapterTable.{AdapterTable}
 use Rattle.adapter_table.specs.Rows.{kind_count, node_count}
+use Rattle.adapter_table.specs.Rates.{has_opened_enough_at}
 use Rattle.adapter_table.specs.Profiles.{profile_fault}
 use Rattle.adapter_table.specs.Checks.{Admitted, view_of, lacks_capacity, admission}
 
@@ -35,9 +37,9 @@ has_no_place None rows kind = false
 has_no_place (Some places) rows kind = nat_le (places_of places kind) (kind_count rows kind)
 
 -- the node has as many established connections as one node can have
-abbrev pub has_node_enough : Option ℕ → List Row → Node → Bool
+abbrev pub has_node_enough : Option NodeLimits → List Row → Node → Bool
 has_node_enough None rows peer = false
-has_node_enough (Some most) rows peer = nat_le most (node_count rows peer)
+has_node_enough (Some limits) rows peer = nat_le limits.connections (node_count rows peer)
 
 -- a connection of this application type, opened by this node, is one too many
 abbrev pub exceeds : MakerLimits → List Row → Node → Kind → Bool
@@ -49,9 +51,14 @@ abbrev pub limited : MakerLimits → List Row → Node → Result Admitted Refus
 limited limits rows peer (Err why) = Err why
 limited limits rows peer (Ok admitted) = if exceeds limits rows peer admitted.kind then Err refusal.OutOfConnections else Ok admitted
 
+-- 16, too: a connection that has its place is refused if its node has opened as many in its second as it can (0x0113)
+abbrev pub paced : Bool → Result Admitted Refusal → Result Admitted Refusal
+paced enough (Err why) = Err why
+paced enough (Ok admitted) = if enough then Err refusal.OutOfConnections else Ok admitted
+
 -- the same at a table
 abbrev pub limited_admission : AdapterTable → Node → OpenFields → Result Admitted Refusal
-limited_admission t peer request = limited t.profile.limits t.rows peer (admission t request)
+limited_admission t peer request = paced (has_opened_enough_at t peer) (limited t.profile.limits t.rows peer (admission t request))
 
 -- CLOSES
 
@@ -60,20 +67,14 @@ abbrev pub is_wrong_closer : MakerLimits → Node → Row → Bool
 is_wrong_closer limits peer row = limits.own_closers && not (row.peer.0 == peer.0)
 
 -- the same of a class 3 connection
-abbrev pub is_wrong_ender : MakerLimits → Node → Dialogue → Bool
+abbrev pub is_wrong_ender : MakerLimits → Node → Class3Connection → Bool
 is_wrong_ender limits peer d = limits.own_closers && not (d.peer.0 == peer.0)
 
 -- NUMBERS
 
--- the number is ahead of the last accepted one by less than this
-abbrev pub is_near : Option ℕ → Option Accepted → ℕ → Bool
-is_near None last number = true
-is_near (Some within) None number = true
-is_near (Some within) (Some last) number = nat_lt (distance number last.number) within
-
--- the number is accepted: it is newer than the last accepted one, and near it
-abbrev pub accepts_number : Option ℕ → Option Accepted → ℕ → Bool
-accepts_number within last number = accepts_sequence last number && is_near within last number
+-- at this time the connection accepts the number: it is newer than the last accepted one, and near it
+abbrev pub accepts_at : {P : Type 0} → Option ℕ → Ms → Connection P → ℕ → Bool
+accepts_at within clock row number = accepts_number within (since_accepted clock row.watchdog row.deadline) row.o_t_pace_ms row.last number
 
 -- WITHIN THE LIMITS
 
@@ -83,9 +84,9 @@ AreWithinPlaces None rows = Unit {0}
 AreWithinPlaces (Some places) rows = (kind : Kind) → kind_count rows kind ≤ places_of places kind
 
 -- no node has more established connections than one node can have
-abbrev pub AreWithinNodes : Option ℕ → List Row → Type 0
+abbrev pub AreWithinNodes : Option NodeLimits → List Row → Type 0
 AreWithinNodes None rows = Unit {0}
-AreWithinNodes (Some most) rows = (node : Node) → node_count rows node ≤ most
+AreWithinNodes (Some limits) rows = (node : Node) → node_count rows node ≤ limits.connections
 
 -- no more connections are established than the maker states
 pub record AreWithin (limits : MakerLimits) (rows : List Row) : Type 0 where

@@ -76,7 +76,7 @@ adapter_step t (Stop slot) = Err fault.NotAllowedNow
 adapter_step t (Explicit target number bytes) = Err fault.NotAllowedNow
 adapter_step t (Respond number status bytes) = respond t number status bytes
 
--- the table of a fresh adapter: no connections, zeros at all points, clock 0, the first id, no streams, no messages
+-- the table of a fresh adapter: no connections, zeros at all points, clock 0, the first id, no streams, no messages, no openings
 abbrev pub adapter_table : Profile → AdapterTable
 adapter_table profile = record {
   profile = profile;
@@ -86,4 +86,5 @@ adapter_table profile = record {
   next_id = 1;
   streams = [];
   messaging = fresh_messaging;
+  openings = [];
 }

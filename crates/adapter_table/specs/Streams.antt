@@ -8,7 +8,7 @@ use Rattle.cip_events.specs.declared.event.Notice.TheVariants.{Dropped}
 use Rattle.cip_events.specs.declared.event.StepFault.{StepFault}
 use Rattle.cip_events.specs.declared.event.StepFault.TheVariants.{NotAllowedNow}
 use Rattle.cip_events.specs.declared.event.Verdict.TheVariants.{Done}
-use Rattle.messaging.specs.declared.dialogue.Dialogue.{Dialogue}
+use Rattle.messaging.specs.declared.class3.Class3Connection.{Class3Connection}
 use Rattle.messaging.specs.Changes as messages
 use Rattle.adapter_table.specs.declared.table.Stream.{Stream}
 use Rattle.adapter_table.specs.declared.table.AdapterTable.{AdapterTable}
@@ -49,12 +49,12 @@ without_stream t number = record t {
   messaging = messages.without_stream t.messaging number;
 }
 
-abbrev pub ended_notice : Dialogue → Notice
+abbrev pub ended_notice : Class3Connection → Notice
 ended_notice d = Dropped d.triad
 
 -- a notice for each class 3 connection of the stream
 abbrev pub ended_notices : AdapterTable → ℕ → List Notice
-ended_notices t number = map ended_notice (messages.stream_dialogues t.messaging number)
+ended_notices t number = map ended_notice (messages.stream_class3_connections t.messaging number)
 
 -- SESSIONS
 

@@ -13,10 +13,10 @@ use Rattle.cip_events.specs.declared.event.StepFault.{StepFault}
 use Rattle.cip_events.specs.declared.event.StepFault.TheVariants as fault
 use Rattle.cip_events.specs.declared.event.Verdict.TheVariants.{Done}
 use Rattle.cip_router.specs.Replies.{own}
-use Rattle.messaging.specs.declared.dialogue.Dialogue.{Dialogue}
+use Rattle.messaging.specs.declared.class3.Class3Connection.{Class3Connection}
 use Rattle.messaging.specs.declared.requests.Waiting.{Waiting}
 use Rattle.messaging.specs.declared.table.Messaging.{Messaging}
-use Rattle.messaging.specs.Times.{late_dialogues, without_late_dialogues, late_waiting, aged}
+use Rattle.messaging.specs.Times.{late_class3_connections, without_late_class3_connections, late_waiting, aged}
 use Rattle.adapter_table.specs.declared.profile.Profile.{Profile}
 use Rattle.adapter_table.specs.Connections.{Row}
 use Rattle.adapter_table.specs.declared.row.State.TheVariants.{TimedOut}
@@ -99,7 +99,7 @@ advanced clocked =
 
 -- CLASS 3 CONNECTIONS, AND REQUESTS THAT WAIT
 
-abbrev pub late_notice : Dialogue → Notice
+abbrev pub late_notice : Class3Connection → Notice
 late_notice d = notice.Expired d.triad
 
 -- the reply to a request that the application did not answer in time: general status 0x1F, no data
@@ -110,10 +110,10 @@ late_frames m w = route_frames m w.asker w.service (own w.service 0x1F [])
 -- the application did not answer in time, but for those that such a connection brought
 abbrev pub aged_answer : Ms → Messaging → Answer → Answer
 aged_answer clock m answer =
-    let left = without_late_dialogues clock m in
+    let left = without_late_class3_connections clock m in
     record answer {
       frames = flat_map (late_frames left) (late_waiting clock left);
-      notices = answer.notices ++ map late_notice (late_dialogues clock m);
+      notices = answer.notices ++ map late_notice (late_class3_connections clock m);
     }
 
 -- what time does to all other connections, and to these

@@ -5,14 +5,14 @@ ghost use Rattle.cip_datagram.specs.Datagram.{view_datagram};
 ghost use Rattle.cip_datagram.specs.Header.{header_at};
 ghost use Rattle.adapter_table.specs.Datagrams.{is_for, expected_len, run_data, owned_delivery, accepted_delivery, row_delivery, mode_after, accepted_row, accepted_if_for};
 ghost use Rattle.adapter_table.specs.Judging.{IsJudged, judged_delivery};
-ghost use Rattle.adapter_table.specs.StatedLimits.{is_near, accepts_number};
+ghost use Rattle.adapter_table.specs.StatedLimits.{accepts_at};
 
 use crate::profile::Profile;
 use crate::row::{Connection, Mode, Row};
 use crate::rows::is_established;
 use cip_datagram::{Datagram, read_header};
 use cip_events::Delivery;
-use cip_productions::{Accepted, Kind, accepts_sequence, is_duplicate};
+use cip_productions::{Accepted, Kind, accepts_number, is_duplicate, since_accepted};
 use cip_types::{ConnId, Ms, Node};
 
 /// The bytes of a run/idle header.
@@ -29,7 +29,7 @@ pub enum Judgement<'a> {
     Heartbeat,
     /// It is accepted, and its data are those of the last one.
     Duplicate,
-    /// Its sequence number is not newer than the last accepted one.
+    /// Its sequence number is not newer than the last accepted one, or too far ahead of it.
     Old,
     /// It has another size than the connection's datagrams.
     WrongSize,
@@ -73,21 +73,12 @@ fn has_expected_len<P>(profile: &Profile, row: &Connection<P>, len: u64) -> bool
     }
 }
 
-/// Whether a number is ahead of the last accepted one by less than the limit, if there are both.
-fn is_near(within: Option<u32>, last: Option<Accepted>, number: u32) -> bool
-    ensures { result ≡ is_near within last number }
+/// Whether a connection accepts a number at this time: it is newer than the last accepted one, and near it.
+fn accepts_at<P>(within: Option<u32>, clock: Ms, row: &Connection<P>, number: u32) -> bool
+    ensures { result ≡ accepts_at within clock row.now number }
 {
-    match (within, last) {
-        (Some(within), Some(last)) => number.wrapping_sub(last.number) < within,
-        (None, _) | (Some(_), None) => true,
-    }
-}
-
-/// Whether a number is newer than the last accepted one, and near it.
-fn accepts_number(within: Option<u32>, last: Option<Accepted>, number: u32) -> bool
-    ensures { result ≡ accepts_number within last number }
-{
-    accepts_sequence(last, number) && is_near(within, last, number)
+    let since = since_accepted(clock, row.watchdog, row.deadline);
+    accepts_number(within, since, row.o_t_pace_ms, row.last, number)
 }
 
 /// The judgement of an owner's datagram that is newer than the last accepted one.
@@ -115,23 +106,24 @@ fn judge_accepted<'a, P>(row: &Connection<P>, datagram: &Datagram<'a>) -> Judgem
     judge_owned(row, datagram)
 }
 
-/// The judgement of a datagram that is for a connection. It is refused if it has another size than the connection's
-/// (`WrongSize`), then if its number is not newer than the last accepted one, or farther ahead of it than the maker
-/// states (`Old`); otherwise it is accepted. Takes no memory.
+/// The judgement of a datagram that is for a connection, at this time. It is refused if it has another size than the
+/// connection's (`WrongSize`), then if its number is not newer than the last accepted one, or farther ahead of it than
+/// the maker states (`Old`); otherwise it is accepted. Takes no memory.
 ///
 /// Volume 1, chapter 3, class 1 transport and run/idle.
 pub fn judge<'a, P>(
     profile: &Profile,
+    clock: Ms,
     row: &Connection<P>,
     datagram: &Datagram<'a>,
 ) -> Judgement<'a>
-    ensures { IsJudged (row_delivery profile.now row.now (view_datagram datagram.now))
+    ensures { IsJudged (row_delivery profile.now clock row.now (view_datagram datagram.now))
         (run_data (header_at (view_datagram datagram.now).payload)) result }
 {
     if !has_expected_len(profile, row, datagram.data.len() as u64) {
         return Judgement::WrongSize;
     }
-    if !accepts_number(profile.limits.newer, row.last, datagram.sequence) {
+    if !accepts_at(profile.limits.newer, clock, row, datagram.sequence) {
         return Judgement::Old;
     }
     judge_accepted(row, datagram)

@@ -8,6 +8,7 @@ ghost use Rattle.adapter_table.specs.declared.table.AdapterTable.{AdapterTable};
 ghost use Rattle.adapter_table.specs.Step.{adapter_table};
 ghost use Rattle.adapter_table.specs.MessagesSound.{IsSettled};
 ghost use Rattle.adapter_table.specs.MessageLaws.{MessagesExecuteOnce, AnswersSettle, SettledAreRefused, StreamsCarry, NamesDiffer};
+ghost use Rattle.adapter_table.specs.Rates.{OpensWithinLimits};
 ghost use Rattle.adapter_table.specs.Sound.{IsSound};
 ghost use Rattle.adapter_table.specs.Whole.{IsWhole};
 ghost use Rattle.adapter_table.specs.StatedLimits.{IsWithinLimits, PlacesAreKept};
@@ -77,6 +78,13 @@ pub fn places_are_kept()
     ensures places { PlacesAreKept }
 {}
 
+/// Where the maker states how many connections a node can open in a second, each node has at most so many openings in
+/// its second, which is the 1,000 ms from the first of them on. At most 64 nodes are counted at one time.
+pub fn openings_are_bounded()
+    ensures fresh { (profile : Profile) → OpensWithinLimits (adapter_table profile) }
+    ensures steps { StepsKeep OpensWithinLimits }
+{}
+
 /// A message of a class 3 connection is executed at most once for each count that follows another: whatever became of
 /// it, once more it gets the same reply, executes nothing, and leaves all but the deadline of its connection.
 pub fn messages_are_executed_once()
@@ -93,7 +101,7 @@ pub fn requests_are_answered_once()
 
 /// The stream of each class 3 connection is open, and has a session; and no two connections of any class have one triad
 /// or one O->T id.
-pub fn dialogues_live_on_streams()
+pub fn class3_connections_live_on_streams()
     ensures streams { StreamsCarry }
     ensures names { (t : AdapterTable) → IsWhole t → NamesDiffer t }
 {}

@@ -19,12 +19,11 @@ mod table;
 pub use acceptance::{Judgement, accept_if_for, is_for, judge};
 pub use admission::{Admission, ConsumedPoint};
 pub use expiry::{by_deadline, expired_row, has_expired};
-pub use maker_limits::{MakerLimits, Places};
+pub use maker_limits::{MakerLimits, NodeLimits, Places};
 pub use objects::IoState;
 pub use profile::{Action, Description, InputPoint, OutputPoint, Profile};
 pub use profile_check::{
-    FARTHEST_NUMBER, LARGEST_CLASS, LONGEST_INACTIVITY, MOST_OWN_CLASSES, PHYSICAL_ADDRESS,
-    is_free_class,
+    LARGEST_CLASS, LONGEST_INACTIVITY, MOST_OWN_CLASSES, PHYSICAL_ADDRESS, is_free_class,
 };
 pub use report::{ConnectionReport, ConsumerCounts, consumes, report_of};
 pub use row::{Connection, Mode, Row, State};

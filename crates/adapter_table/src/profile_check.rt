@@ -2,11 +2,12 @@
 
 ghost use Rattle.std.specs.Prelude.{◌≡◌, ◌↔◌, ◌++◌, Some, None, IsOk, IfErr, map};
 ghost use Rattle.std.specs.List.{list_any, list_all};
-ghost use Rattle.adapter_table.specs.Profiles.{is_address, is_at, is_output_at, as_point, points_beside, are_distinct, are_few, has_output_len, has_input_len, has_config_len, are_long_enough, is_revision, is_described, is_point_len, is_from, are_few_places, are_limits, is_class, is_free_class, are_own_classes, are_objects, profile_fault};
+ghost use Rattle.adapter_table.specs.Profiles.{is_address, is_at, is_output_at, as_point, points_beside, are_distinct, are_few, has_output_len, has_input_len, has_config_len, are_long_enough, is_revision, is_described, is_point_len, is_from, are_few_places, are_node_limits, are_limits, is_class, is_free_class, are_own_classes, are_objects, profile_fault};
 
-use crate::maker_limits::{MakerLimits, Places};
+use crate::maker_limits::{MakerLimits, NodeLimits, Places};
 use crate::profile::{Description, InputPoint, OutputPoint, Profile};
 use cip_events::ProfileFault;
+use cip_productions::FARTHEST_NUMBER;
 use cip_types::limits::{LONGEST_CONFIG, LONGEST_POINT, LONGEST_RPI_US, MOST_POINTS};
 use cip_types::{Identity, Node};
 use list_identity::LONGEST_NAME;
@@ -18,11 +19,6 @@ pub const PHYSICAL_ADDRESS: usize = 6;
 ///
 /// Volume 2, chapter 5, TCP/IP Interface object, attribute 13.
 pub const LONGEST_INACTIVITY: u16 = 3600;
-
-/// The largest limit on how far ahead an accepted sequence number is: all that are newer are ahead by less.
-///
-/// Volume 2, chapter 2, sequenced address item.
-pub const FARTHEST_NUMBER: u32 = 1 << 31;
 
 /// The most classes of the maker's own objects.
 pub const MOST_OWN_CLASSES: usize = 16;
@@ -180,11 +176,33 @@ fn is_from(least: u32, most: u32, value: Option<u32>) -> bool
     }
 }
 
-fn is_connection_number(number: Option<u8>) -> bool
-    ensures { result ≡ is_from 1 64 number }
+fn is_opening_number(number: Option<u16>) -> bool
+    ensures { result ≡ is_from 1 65535 number }
 {
     match number {
-        Some(number) => 1 <= number && number <= 64,
+        Some(number) => 1 <= number,
+        None => true,
+    }
+}
+
+fn are_node_limits(limits: Option<NodeLimits>) -> bool
+    ensures { result ≡ are_node_limits limits }
+{
+    match limits {
+        Some(limits) => {
+            1 <= limits.connections
+                && limits.connections <= 64
+                && is_opening_number(limits.openings)
+        }
+        None => true,
+    }
+}
+
+fn are_few_class3_connections(number: Option<u8>) -> bool
+    ensures { result ≡ is_from 0 64 number }
+{
+    match number {
+        Some(number) => number <= 64,
         None => true,
     }
 }
@@ -196,6 +214,7 @@ fn are_few_places(places: Option<Places>) -> bool
         Some(places) => {
             let others = u16::from(places.readers) + u16::from(places.listeners);
             (1..=64).contains(&(u16::from(places.owners) + others))
+                && are_few_class3_connections(places.class3_connections)
         }
         None => true,
     }
@@ -206,7 +225,7 @@ fn are_limits(limits: &MakerLimits) -> bool
 {
     is_from(1, LONGEST_RPI_US, limits.least_rpi)
         && are_few_places(limits.places)
-        && is_connection_number(limits.node_connections)
+        && are_node_limits(limits.node_connections)
         && is_from(2, FARTHEST_NUMBER, limits.newer)
 }
 

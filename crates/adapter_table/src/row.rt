@@ -27,8 +27,9 @@ pub enum Mode {
 }
 
 /// One connection: its triad and peer, its application type and points, its ids, its actual packet intervals in
-/// milliseconds and the time-out of its inactivity watchdog, the number of its opening, the last datagram that it
-/// accepted, the mode of the newest data that it accepted, its deadline, and what is known of its production.
+/// milliseconds, the least milliseconds between two of its O->T datagrams, the time-out of its inactivity watchdog, the
+/// number of its opening, the last datagram that it accepted, the mode of the newest data that it accepted, its deadline,
+/// and what is known of its production.
 ///
 /// The mode is None before the first datagram, and of a connection without O->T data. A duplicate brings no new data.
 ///
@@ -44,6 +45,7 @@ pub struct Connection<P> {
     pub t_o_id: ConnId,
     pub o_t_api_ms: u32,
     pub t_o_api_ms: u32,
+    pub o_t_pace_ms: u32,
     pub watchdog: Ms,
     pub multicast: bool,
     pub opening: u32,
@@ -68,6 +70,7 @@ impl<P> Connection<P> {
             t_o_id: self.t_o_id,
             o_t_api_ms: self.o_t_api_ms,
             t_o_api_ms: self.t_o_api_ms,
+            o_t_pace_ms: self.o_t_pace_ms,
             watchdog: self.watchdog,
             multicast: self.multicast,
             opening: self.opening,

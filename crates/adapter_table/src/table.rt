@@ -5,6 +5,7 @@ use crate::row::Row;
 use cip_types::{Items, Ms, Node};
 use messaging::Messaging;
 use open_streams::Numbered;
+use opening_rates::NodeOpenings;
 
 /// The bytes of a point.
 #[derive(PartialEq, Drop)]
@@ -32,8 +33,8 @@ impl Numbered for Stream {
 }
 
 /// An adapter: its profile, its connections in opening order, the bytes of its points, its clock, the counter
-/// part of the next connection id, its open streams in the order in which they were opened, and its class 3 connections
-/// with the requests that wait for its application.
+/// part of the next connection id, its open streams in the order in which they were opened, its class 3 connections
+/// with the requests that wait for its application, and the openings of each node in its second.
 #[derive(PartialEq, Drop)]
 pub struct AdapterTable {
     pub profile: Profile,
@@ -43,4 +44,5 @@ pub struct AdapterTable {
     pub next_id: u32,
     pub streams: Items<Stream>,
     pub messaging: Messaging,
+    pub openings: Items<NodeOpenings>,
 }

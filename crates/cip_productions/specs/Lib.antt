@@ -1,4 +1,5 @@
 pub mod Acceptance
+pub mod Window
 pub mod Watchdog
 pub mod Productions
 pub mod Kinds

@@ -9,6 +9,7 @@ mod kind;
 mod outgoing;
 mod producing;
 mod production;
+mod window;
 
 pub use acceptance::{Accepted, accepts_sequence, is_duplicate};
 pub use age::{Age, age_of};
@@ -20,3 +21,6 @@ pub use producing::{
     produced,
 };
 pub use production::{Producer, Production};
+pub use window::{
+    FARTHEST_NUMBER, accepts_number, is_near, pace_of, since_accepted, steady_numbers_are_near,
+};

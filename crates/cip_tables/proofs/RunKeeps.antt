@@ -14,6 +14,7 @@ use Rattle.adapter_table.specs.Whole.{IsWhole}
 use Rattle.adapter_table.specs.Laws.{StepsKeep}
 use Rattle.adapter_table.specs.MessagesSound.{IsSettled}
 use Rattle.adapter_table.specs.MessageLaws.{AnswersSettle, SettledAreRefused}
+use Rattle.adapter_table.specs.Rates.{OpensWithinLimits}
 use Rattle.adapter_table.specs.StatedLimits.{IsWithinLimits, PlacesAreKept}
 use Rattle.scanner_table.specs.declared.profile.ScannerProfile.{ScannerProfile}
 use Rattle.scanner_table.specs.declared.table.ScannerTable.{ScannerTable}
@@ -31,7 +32,7 @@ use Rattle.cip_tables.specs.Step.{DeviceNext, as_adapter, as_scanner, step, open
 use Rattle.cip_tables.specs.Messages.{OverEveryWholeRun, AnswersAreOnce}
 use Rattle.cip_tables.specs.Run.{Runs}
 use Rattle.cip_tables.specs.Sound.{IsSoundDevice, OverEveryRun, StepsCountOn, RunsCountOn}
-use Rattle.cip_tables.specs.StatedLimits.{RunsStayWithin, FreshDevicesStayWithin, TypesHavePlaces}
+use Rattle.cip_tables.specs.StatedLimits.{FreshDevicesOpenWithin, RunsStayWithin, FreshDevicesStayWithin, TypesHavePlaces}
 use Rattle.cip_tables.specs.Whole.{IsWholeDevice, next_id_of, RunsKeepWhole, FreshDevicesAreWhole, TablesAreWhole}
 
 -- one thing holds of an adapter, another of a scanner
@@ -210,3 +211,15 @@ reached_within steps fresh made events outcomes t ran = run_keeps IsWithinLimits
 pub types_have_places : StepsKeep IsWithinLimits → FreshWithin → PlacesAreKept → TablesAreWhole → TypesHavePlaces
 types_have_places steps fresh kept wholes made events outcomes t places kind triad none ran stated free =
     kept t places kind triad (wholes made events outcomes t none ran).shaped.faultless stated (reached_within steps fresh made events outcomes t ran) free
+
+-- ---- openings in a second
+
+abbrev pub FreshOpensWithin : Type 0
+FreshOpensWithin = (profile : Profile) → OpensWithinLimits (adapter_table profile)
+
+fresh_opens : FreshOpensWithin → (made : Config) → IfAdapter OpensWithinLimits (opening_table made)
+fresh_opens fresh (config.Adapter profile) = fresh profile
+fresh_opens fresh (config.Scanner profile) = tt
+
+pub reached_opens : StepsKeep OpensWithinLimits → FreshOpensWithin → FreshDevicesOpenWithin
+reached_opens steps fresh made events outcomes t ran = run_keeps OpensWithinLimits (λ t. Unit {0}) steps all_keep (opening_table made) events outcomes (Adapter t) ran (fresh_opens fresh made)

@@ -6,6 +6,7 @@ use Rattle.cip_events.specs.Outcomes.{Outcome}
 use Rattle.cip_productions.specs.declared.kind.Kind.{Kind}
 use Rattle.adapter_table.specs.declared.maker_limits.Places.{Places}
 use Rattle.adapter_table.specs.declared.table.AdapterTable.{AdapterTable}
+use Rattle.adapter_table.specs.Rates.{OpensWithinLimits}
 use Rattle.adapter_table.specs.Rows.{kind_count}
 use Rattle.adapter_table.specs.Checks.{view_of, lacks_capacity}
 use Rattle.adapter_table.specs.StatedLimits.{places_of, has_no_place, IsWithinLimits}
@@ -25,6 +26,12 @@ abbrev pub FreshDevicesStayWithin : Type 0
 FreshDevicesStayWithin =
     (made : Config) (events : List Event) (outcomes : List Outcome) (t : AdapterTable) →
     Runs (opening_table made) events outcomes (Adapter t) → IsWithinLimits t
+
+-- no node has more openings in its second than the maker states
+abbrev pub FreshDevicesOpenWithin : Type 0
+FreshDevicesOpenWithin =
+    (made : Config) (events : List Event) (outcomes : List Outcome) (t : AdapterTable) →
+    Runs (opening_table made) events outcomes (Adapter t) → OpensWithinLimits t
 
 -- in a run of a fresh device without a fault, while fewer connections of an application type are established than it
 -- has places, neither check 15 nor 16 refuses another of this type for want of a place

@@ -36,13 +36,13 @@ totals_of (Adapter t) = record {
   streams = length t.streams;
   sessions = length (filter is_registered t.streams);
   connections = length t.rows;
-  dialogues = length t.messaging.dialogues;
+  class3_connections = length t.messaging.class3_connections;
   ids_left = 16777216 - t.next_id;
 }
 totals_of (Scanner t) = record {
   streams = length t.streams;
   sessions = length (filter is_up t.streams);
   connections = length (filter is_open t.slots);
-  dialogues = 0;
+  class3_connections = 0;
   ids_left = 16777216 - t.next_id;
 }

@@ -11,7 +11,7 @@ ghost use Rattle.adapter_table.specs.MessageLaws.{NamesDiffer};
 ghost use Rattle.cip_tables.specs.Messages.{OverEveryWholeRun, AnswersAreOnce};
 ghost use Rattle.cip_tables.specs.Newest.{OverEveryConnection};
 ghost use Rattle.cip_tables.specs.Scratch.{OutputsAreFromScratch, FreshOutputsAreFromScratch};
-ghost use Rattle.cip_tables.specs.StatedLimits.{RunsStayWithin, FreshDevicesStayWithin, TypesHavePlaces};
+ghost use Rattle.cip_tables.specs.StatedLimits.{RunsStayWithin, FreshDevicesOpenWithin, FreshDevicesStayWithin, TypesHavePlaces};
 ghost use Rattle.cip_tables.specs.Whole.{TablesAreWhole, RunsKeepWhole, FreshDevicesAreWhole};
 ghost use Rattle.cip_tables.specs.Sound.{OverEveryRun, StepsCountOn, RunsCountOn};
 ghost use Rattle.adapter_table.specs.Newest.{HasNewerNumber, IsAppliedNew, IsNotAgain};
@@ -221,11 +221,20 @@ pub fn places_are_kept()
     tables_are_whole();
 }
 
-/// The stream of each class 3 connection is open, and has a session: none outlives its stream.
-pub fn dialogues_live_on_streams()
-    ensures { OverEveryWholeRun (λ t. EachOf (λ d. IsCarried t.streams d.stream) t.messaging.dialogues) }
+/// Where the maker of an adapter states how many connections a node can open in a second, each node has at most so many
+/// openings in its second, which is the 1,000 ms from the first of them on, at each table that a run of a fresh device
+/// of any configuration leads to.
+pub fn openings_are_bounded()
+    ensures { FreshDevicesOpenWithin }
 {
-    laws::dialogues_live_on_streams();
+    laws::openings_are_bounded();
+}
+
+/// The stream of each class 3 connection is open, and has a session: none outlives its stream.
+pub fn class3_connections_live_on_streams()
+    ensures { OverEveryWholeRun (λ t. EachOf (λ d. IsCarried t.streams d.stream) t.messaging.class3_connections) }
+{
+    laws::class3_connections_live_on_streams();
     tables_are_whole();
 }
 
@@ -233,7 +242,7 @@ pub fn dialogues_live_on_streams()
 pub fn names_are_distinct()
     ensures { OverEveryWholeRun NamesDiffer }
 {
-    laws::dialogues_live_on_streams();
+    laws::class3_connections_live_on_streams();
     tables_are_whole();
 }
 

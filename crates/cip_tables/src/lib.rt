@@ -12,7 +12,7 @@ mod totals;
 
 pub use adapter_table::{
     Action, AdapterTable, Admission, ConnectionReport, ConsumedPoint, ConsumerCounts, InputPoint,
-    MakerLimits, Mode, OutputPoint, Places, PointValue, Profile, Row, State, Stream,
+    MakerLimits, Mode, NodeLimits, OutputPoint, Places, PointValue, Profile, Row, State, Stream,
 };
 pub use any_device::AnyDevice;
 pub use cip_events::{

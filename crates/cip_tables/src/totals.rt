@@ -10,7 +10,7 @@ pub struct DeviceTotals {
     /// The connections of an adapter, timed-out ones included, or the established slots of a scanner.
     pub connections: usize,
     /// The class 3 connections of an adapter. A scanner has none.
-    pub dialogues: usize,
+    pub class3_connections: usize,
     /// How many connection ids can still be drawn, of 16,777,215.
     pub ids_left: u32,
 }

@@ -1,5 +1,5 @@
 pub mod Askers
-pub mod Dialogues
+pub mod Class3Connections
 pub mod Changes
 pub mod Times
 pub mod Endings

@@ -5,35 +5,35 @@ use Rattle.std.specs.List.{list_any}
 use Rattle.cip_types.specs.declared.names.Ms.{Ms}
 use Rattle.cip_types.specs.Order.{in_order}
 use Rattle.cip_fwdopen.specs.Reply.{reply_service}
-use Rattle.messaging.specs.declared.dialogue.Dialogue as kept
+use Rattle.messaging.specs.declared.class3.Class3Connection as kept
 use Rattle.messaging.specs.declared.requests.Requester.{Requester}
-use Rattle.messaging.specs.declared.requests.Requester.TheVariants.{Peer, Stream, Dialogue}
+use Rattle.messaging.specs.declared.requests.Requester.TheVariants.{Peer, Stream, Class3Connection}
 use Rattle.messaging.specs.declared.requests.Waiting.{Waiting}
 use Rattle.messaging.specs.declared.table.Messaging.{Messaging}
-use Rattle.messaging.specs.Changes.{with_dialogues, replied}
+use Rattle.messaging.specs.Changes.{with_class3_connections, replied}
 
 -- ---- class 3 connections
 
 -- no message came before the connection's deadline
-abbrev pub is_late_dialogue : Ms → kept.Dialogue → Bool
-is_late_dialogue clock d = nat_le d.deadline.0 clock.0
+abbrev pub is_late_class3 : Ms → kept.Class3Connection → Bool
+is_late_class3 clock d = nat_le d.deadline.0 clock.0
 
 -- by deadlines, and then in the order of openings
-abbrev pub by_dialogue_deadline : kept.Dialogue → kept.Dialogue → Bool
-by_dialogue_deadline d other =
+abbrev pub by_class3_deadline : kept.Class3Connection → kept.Class3Connection → Bool
+by_class3_deadline d other =
     nat_lt d.deadline.0 other.deadline.0 || (d.deadline.0 == other.deadline.0 && nat_lt d.opening other.opening)
 
 -- those that expire
-abbrev pub late_dialogues : Ms → Messaging → List kept.Dialogue
-late_dialogues clock m = in_order by_dialogue_deadline (filter (is_late_dialogue clock) m.dialogues)
+abbrev pub late_class3_connections : Ms → Messaging → List kept.Class3Connection
+late_class3_connections clock m = in_order by_class3_deadline (filter (is_late_class3 clock) m.class3_connections)
 
 -- those that do not
-abbrev pub on_time : Ms → List kept.Dialogue → List kept.Dialogue
-on_time clock dialogues = filter (λ d. not (is_late_dialogue clock d)) dialogues
+abbrev pub on_time : Ms → List kept.Class3Connection → List kept.Class3Connection
+on_time clock class3_connections = filter (λ d. not (is_late_class3 clock d)) class3_connections
 
 -- the late ones end, and what they asked waits no more
-unfoldable pub without_late_dialogues : Ms → Messaging → Messaging
-without_late_dialogues clock m = with_dialogues m (on_time clock m.dialogues)
+unfoldable pub without_late_class3_connections : Ms → Messaging → Messaging
+without_late_class3_connections clock m = with_class3_connections m (on_time clock m.class3_connections)
 
 -- ---- requests to the application
 
@@ -53,7 +53,7 @@ late_text service = reply_service service ∷ 0 ∷ 0x1F ∷ 0 ∷ []
 abbrev pub late_reply : Requester → ℕ → Messaging → Messaging
 late_reply (Peer node) service m = m
 late_reply (Stream number context) service m = m
-late_reply (Dialogue id count) service m = replied m id count (late_text service)
+late_reply (Class3Connection id count) service m = replied m id count (late_text service)
 
 abbrev pub late_replies : List Waiting → Messaging → Messaging
 late_replies [] m = m
@@ -68,11 +68,11 @@ without_late_waiting clock m =
 
 -- Late connections end. Then late requests are answered, which those that such a connection asked are not.
 unfoldable pub aged : Ms → Messaging → Messaging
-aged clock m = without_late_waiting clock (without_late_dialogues clock m)
+aged clock m = without_late_waiting clock (without_late_class3_connections clock m)
 
 -- no deadline has come
 abbrev pub is_idle : Ms → Messaging → Bool
-is_idle clock m = not (list_any (is_late_dialogue clock) m.dialogues || list_any (is_late_request clock) m.waiting)
+is_idle clock m = not (list_any (is_late_class3 clock) m.class3_connections || list_any (is_late_request clock) m.waiting)
 
 -- ---- the first moment
 
@@ -85,12 +85,12 @@ abbrev pub first_of : {A : Type 0} → (A → ℕ) → List A → ℕ
 first_of moment [] = no_moment
 first_of moment (x ∷ xs) = min (moment x) (first_of moment xs)
 
-abbrev pub dialogue_end : kept.Dialogue → ℕ
-dialogue_end d = d.deadline.0
+abbrev pub class3_end : kept.Class3Connection → ℕ
+class3_end d = d.deadline.0
 
 abbrev pub request_end : Waiting → ℕ
 request_end w = w.deadline.0
 
 -- when the first connection expires or the first request is answered in place of the application, if only time passes
 unfoldable pub first_moment : Messaging → ℕ
-first_moment m = min (first_of dialogue_end m.dialogues) (first_of request_end m.waiting)
+first_moment m = min (first_of class3_end m.class3_connections) (first_of request_end m.waiting)

@@ -5,11 +5,11 @@ ghost use Rattle.std.specs.List.{list_any};
 ghost use Rattle.std.specs.Option.{option_map};
 ghost use Rattle.cip_types.specs.Order.{in_order};
 ghost use Rattle.messaging.specs.Changes.{can_be_answered};
-ghost use Rattle.messaging.specs.Dialogues.{dialogue_triad, is_last_message};
+ghost use Rattle.messaging.specs.Class3Connections.{class3_triad, is_last_message};
 ghost use Rattle.messaging.specs.Endings.{by_ending, ending_of, ending_triad};
-ghost use Rattle.messaging.specs.Times.{by_dialogue_deadline, dialogue_end, first_of, is_late_dialogue, is_late_request, late_text, on_time, request_end};
+ghost use Rattle.messaging.specs.Times.{by_class3_deadline, class3_end, first_of, is_late_class3, is_late_request, late_text, on_time, request_end};
 
-use crate::dialogue::Dialogue;
+use crate::class3::Class3Connection;
 use crate::requests::{Requester, Waiting};
 use cip_fwdopen::service::REPLY;
 use cip_types::{ConnId, Items, Ms, Order, OutOfMemory, Triad, sorted};
@@ -19,7 +19,7 @@ use std::alloc::Global;
 
 /// When a connection ends, and which one it is.
 #[derive(Clone, Copy)]
-pub(crate) struct DialogueEnd {
+pub(crate) struct Class3End {
     triad: Triad,
     deadline: Ms,
     opening: u32,
@@ -28,10 +28,10 @@ pub(crate) struct DialogueEnd {
 /// The order by deadlines, and then by openings.
 struct ByEnding;
 
-impl Order<DialogueEnd> for ByEnding {
+impl Order<Class3End> for ByEnding {
     ghost before = { λ _ ending other. by_ending ending other };
 
-    fn is_before(&self, item: &DialogueEnd, other: &DialogueEnd) -> bool {
+    fn is_before(&self, item: &Class3End, other: &Class3End) -> bool {
         let (deadline, later) = (item.deadline.0, other.deadline.0);
         deadline < later || (deadline == later && item.opening < other.opening)
     }
@@ -40,34 +40,34 @@ impl Order<DialogueEnd> for ByEnding {
 /// Whether a connection's deadline has come. Takes no memory.
 ///
 /// Volume 1, chapter 3, inactivity watchdog.
-pub(crate) fn is_late_dialogue(dialogue: &Dialogue, clock: Ms) -> bool
-    ensures { result ≡ is_late_dialogue clock dialogue.now }
+pub(crate) fn is_late_class3(class3: &Class3Connection, clock: Ms) -> bool
+    ensures { result ≡ is_late_class3 clock class3.now }
 {
-    dialogue.deadline.0 <= clock.0
+    class3.deadline.0 <= clock.0
 }
 
 fn endings(
     alloc: Global,
-    dialogues: &[Dialogue],
+    class3_connections: &[Class3Connection],
     clock: Ms,
-) -> Result<Vec<DialogueEnd>, OutOfMemory>
+) -> Result<Vec<Class3End>, OutOfMemory>
     ensures { IfOk result
-        (λ endings. endings.items ≡ map ending_of (filter (is_late_dialogue clock) dialogues.now)) }
+        (λ endings. endings.items ≡ map ending_of (filter (is_late_class3 clock) class3_connections.now)) }
 {
     let mut endings = Vec::new(alloc);
-    for dialogue in dialogues {
-        if is_late_dialogue(dialogue, clock) {
-            endings.push(DialogueEnd {
-                triad: dialogue.triad,
-                deadline: dialogue.deadline,
-                opening: dialogue.opening,
+    for class3 in class3_connections {
+        if is_late_class3(class3, clock) {
+            endings.push(Class3End {
+                triad: class3.triad,
+                deadline: class3.deadline,
+                opening: class3.opening,
             })?;
         }
     }
     Ok(endings)
 }
 
-fn triads_of(alloc: Global, endings: &[DialogueEnd]) -> Result<Vec<Triad>, OutOfMemory>
+fn triads_of(alloc: Global, endings: &[Class3End]) -> Result<Vec<Triad>, OutOfMemory>
     ensures { IfOk result (λ triads. triads.items ≡ map ending_triad endings.now) }
 {
     let mut triads = Vec::new(alloc);
@@ -83,41 +83,41 @@ fn triads_of(alloc: Global, endings: &[DialogueEnd]) -> Result<Vec<Triad>, OutOf
 /// Volume 1, chapter 3, inactivity watchdog.
 pub(crate) fn late_triads(
     alloc: Global,
-    dialogues: &[Dialogue],
+    class3_connections: &[Class3Connection],
     clock: Ms,
 ) -> Result<Vec<Triad>, OutOfMemory>
     ensures { IfOk result
         (λ triads. triads.items
-        ≡ map dialogue_triad (in_order by_dialogue_deadline (filter (is_late_dialogue clock) dialogues.now))) }
+        ≡ map class3_triad (in_order by_class3_deadline (filter (is_late_class3 clock) class3_connections.now))) }
 {
-    let endings = endings(alloc, dialogues, clock)?;
+    let endings = endings(alloc, class3_connections, clock)?;
     let ordered = sorted(alloc, &endings, &ByEnding)?;
     triads_of(alloc, &ordered)
 }
 
 /// Removes the connections whose deadline has come. Takes no memory.
-pub(crate) fn keep_on_time(dialogues: &mut Vec<Dialogue>, clock: Ms)
-    ensures { dialogues.new.items ≡ on_time clock dialogues.old.items }
+pub(crate) fn keep_on_time(class3_connections: &mut Vec<Class3Connection>, clock: Ms)
+    ensures { class3_connections.new.items ≡ on_time clock class3_connections.old.items }
 {
-    dialogues.retain(|dialogue| !is_late_dialogue(dialogue, clock));
+    class3_connections.retain(|class3| !is_late_class3(class3, clock));
 }
 
 /// Whether the deadline of a connection has come. Takes no memory.
-pub(crate) fn has_late_dialogue(dialogues: &[Dialogue], clock: Ms) -> bool
-    ensures { result ≡ list_any (is_late_dialogue clock) dialogues.now }
+pub(crate) fn has_late_class3(class3_connections: &[Class3Connection], clock: Ms) -> bool
+    ensures { result ≡ list_any (is_late_class3 clock) class3_connections.now }
 {
-    dialogues
+    class3_connections
         .iter()
-        .any(|dialogue| is_late_dialogue(dialogue, clock))
+        .any(|class3| is_late_class3(class3, clock))
 }
 
 /// The first deadline of the connections; `u64::MAX` if there is none. Takes no memory.
-pub(crate) fn first_dialogue_end(dialogues: &[Dialogue]) -> u64
-    ensures { result ≡ first_of dialogue_end dialogues.now }
+pub(crate) fn first_class3_end(class3_connections: &[Class3Connection]) -> u64
+    ensures { result ≡ first_of class3_end class3_connections.now }
 {
     let mut first = u64::MAX;
-    for dialogue in dialogues {
-        first = first.min(dialogue.deadline.0);
+    for class3 in class3_connections {
+        first = first.min(class3.deadline.0);
     }
     first
 }
@@ -131,11 +131,16 @@ pub(crate) fn is_late_request(waiting: &Waiting, clock: Ms) -> bool
     waiting.deadline.0 <= clock.0
 }
 
-fn has_last_on_time(dialogues: &[Dialogue], clock: Ms, id: ConnId, count: u16) -> bool
-    ensures { result ≡ list_any (is_last_message id count) (on_time clock dialogues.now) }
+fn has_last_on_time(
+    class3_connections: &[Class3Connection],
+    clock: Ms,
+    id: ConnId,
+    count: u16,
+) -> bool
+    ensures { result ≡ list_any (is_last_message id count) (on_time clock class3_connections.now) }
 {
-    for dialogue in dialogues {
-        if !is_late_dialogue(dialogue, clock) && dialogue.is_last_message(id, count) {
+    for class3 in class3_connections {
+        if !is_late_class3(class3, clock) && class3.is_last_message(id, count) {
             return true;
         }
     }
@@ -144,28 +149,37 @@ fn has_last_on_time(dialogues: &[Dialogue], clock: Ms, id: ConnId, count: u16) -
 
 /// The connection of an O->T id whose last message has this count, if its deadline has not come. Takes no memory.
 pub(crate) fn find_last_on_time(
-    dialogues: &[Dialogue],
+    class3_connections: &[Class3Connection],
     clock: Ms,
     id: ConnId,
     count: u16,
-) -> Option<&Dialogue>
+) -> Option<&Class3Connection>
     ensures { option_map (λ lent. lent.now) result
-        ≡ find (is_last_message id count) (on_time clock dialogues.now) }
+        ≡ find (is_last_message id count) (on_time clock class3_connections.now) }
 {
-    for dialogue in dialogues {
-        if !is_late_dialogue(dialogue, clock) && dialogue.is_last_message(id, count) {
-            return Some(dialogue);
+    for class3 in class3_connections {
+        if !is_late_class3(class3, clock) && class3.is_last_message(id, count) {
+            return Some(class3);
         }
     }
     None
 }
 
-fn can_be_answered_still(dialogues: &[Dialogue], clock: Ms, waiting: &Waiting) -> bool
-    ensures { result ≡ can_be_answered (on_time clock dialogues.now) waiting.now }
+fn can_be_answered_still(
+    class3_connections: &[Class3Connection],
+    clock: Ms,
+    waiting: &Waiting,
+) -> bool
+    ensures { result ≡ can_be_answered (on_time clock class3_connections.now) waiting.now }
 {
     match waiting.asker {
         Requester::Peer(_) | Requester::Stream { .. } => true,
-        Requester::Dialogue { id, count } => has_last_on_time(dialogues, clock, id, count),
+        Requester::Class3Connection { id, count } => has_last_on_time(
+            class3_connections,
+            clock,
+            id,
+            count,
+        ),
     }
 }
 
@@ -173,17 +187,20 @@ fn can_be_answered_still(dialogues: &[Dialogue], clock: Ms, waiting: &Waiting) -
 /// has come, too. `OutOfMemory` is the only error.
 pub(crate) fn late_requests(
     alloc: Global,
-    dialogues: &[Dialogue],
+    class3_connections: &[Class3Connection],
     waiting: &[Waiting],
     clock: Ms,
 ) -> Result<Vec<Waiting>, OutOfMemory>
     ensures { IfOk result
         (λ late. late.items
-        ≡ filter (is_late_request clock) (filter (can_be_answered (on_time clock dialogues.now)) waiting.now)) }
+        ≡ filter (is_late_request clock)
+        (filter (can_be_answered (on_time clock class3_connections.now)) waiting.now)) }
 {
     let mut late = Vec::new(alloc);
     for request in waiting {
-        if can_be_answered_still(dialogues, clock, request) && is_late_request(request, clock) {
+        if can_be_answered_still(class3_connections, clock, request)
+            && is_late_request(request, clock)
+        {
             late.push(*request)?;
         }
     }

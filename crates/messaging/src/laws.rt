@@ -4,10 +4,10 @@
 ghost use Rattle.std.specs.Prelude.{◌≡◌, ◌<◌, ℕ, List, Some, find, not, true};
 ghost use Rattle.cip_types.specs.declared.names.ConnId.{ConnId};
 ghost use Rattle.cip_types.specs.declared.names.Ms.{Ms};
-ghost use Rattle.messaging.specs.declared.dialogue.Dialogue.{Dialogue};
+ghost use Rattle.messaging.specs.declared.class3.Class3Connection.{Class3Connection};
 ghost use Rattle.messaging.specs.declared.table.Messaging.{Messaging};
 ghost use Rattle.messaging.specs.Changes.{answered, executed, has_request_number, repeated};
-ghost use Rattle.messaging.specs.Dialogues.{executed_dialogue, is_dialogue, repeated_dialogue};
+ghost use Rattle.messaging.specs.Class3Connections.{executed_class3, is_class3, repeated_class3};
 ghost use Rattle.messaging.specs.Lemmas.IdleLemmas.{IsCalm};
 ghost use Rattle.messaging.specs.Sound.{EachOf, IsSoundMessaging};
 ghost use Rattle.messaging.specs.Times.{first_moment, is_idle};
@@ -16,17 +16,19 @@ ghost use Rattle.messaging.specs.Times.{first_moment, is_idle};
 /// connection has the reply.
 pub fn executed_messages_are_last()
     ensures { (incarnation next_id : ℕ) (m : Messaging) (stream : ℕ) (id : ConnId) (count : ℕ) (reply : List ℕ)
-        (deadline : Ms) (d : Dialogue) → IsSoundMessaging incarnation next_id m
-        → find (is_dialogue stream id) m.dialogues ≡ Some d
-        → find (is_dialogue stream id) (executed m id count reply deadline).dialogues
-        ≡ Some (executed_dialogue count reply deadline d) }
+        (deadline : Ms) (d : Class3Connection) → IsSoundMessaging incarnation next_id m
+        → find (is_class3 stream id) m.class3_connections ≡ Some d
+        → find (is_class3 stream id) (executed m id count reply deadline).class3_connections
+        ≡ Some (executed_class3 count reply deadline d) }
 {}
 
 /// A message that is repeated changes nothing of its connection but the deadline.
 pub fn repetitions_move_deadlines()
-    ensures { (incarnation next_id : ℕ) (m : Messaging) (stream : ℕ) (id : ConnId) (deadline : Ms) (d : Dialogue)
-        → IsSoundMessaging incarnation next_id m → find (is_dialogue stream id) m.dialogues ≡ Some d
-        → find (is_dialogue stream id) (repeated m id deadline).dialogues ≡ Some (repeated_dialogue deadline d) }
+    ensures { (incarnation next_id : ℕ) (m : Messaging) (stream : ℕ) (id : ConnId) (deadline : Ms)
+        (d : Class3Connection)
+        → IsSoundMessaging incarnation next_id m → find (is_class3 stream id) m.class3_connections ≡ Some d
+        → find (is_class3 stream id) (repeated m id deadline).class3_connections
+        ≡ Some (repeated_class3 deadline d) }
 {}
 
 /// A request that was answered waits no more.

@@ -14,7 +14,7 @@ pub enum Requester {
     /// The class 3 connection of this O->T id, in its message of this sequence count.
     ///
     /// Volume 2, chapter 2, SendUnitData.
-    Dialogue { id: ConnId, count: u16 },
+    Class3Connection { id: ConnId, count: u16 },
 }
 
 /// A request to an object of the maker's own, which the application has to answer before the deadline.
@@ -22,6 +22,8 @@ pub enum Requester {
 pub struct Waiting {
     /// The number by which the application answers.
     pub number: u64,
+    /// The node that asked.
+    pub peer: Node,
     /// The route of the answer.
     pub asker: Requester,
     /// The service of the request.

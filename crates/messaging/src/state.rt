@@ -4,28 +4,33 @@
 ghost use Rattle.std.specs.Prelude.{◌≡◌, ◌≤◌, ◌^◌, false, find, map, IfOk, OnOk, OnErr};
 ghost use Rattle.std.specs.List.{list_any};
 ghost use Rattle.std.specs.Option.{option_map};
-ghost use Rattle.messaging.specs.Changes.{answered, referred, referred_over, executed, fresh_messaging, has_request_number, lacks_room, repeated, replied, stream_dialogues, waiting_for, with_dialogue, without_dialogue, without_stream};
-ghost use Rattle.messaging.specs.Dialogues.{dialogue_count, dialogue_triad, has_dialogue_triad, is_dialogue, is_last_message};
-ghost use Rattle.messaging.specs.Times.{aged, first_moment, is_idle, late_dialogues, late_replies, late_reply, late_waiting, without_late_dialogues, without_late_waiting};
+ghost use Rattle.messaging.specs.Changes.{answered, referred, referred_over, executed, fresh_messaging, has_request_number, lacks_room, lacks_share, repeated, replied, stream_class3_connections, waiting_for, with_class3, without_class3, without_stream};
+ghost use Rattle.messaging.specs.Class3Connections.{class3_count, class3_triad, has_class3_triad, is_class3, is_last_message};
+ghost use Rattle.messaging.specs.Times.{aged, first_moment, is_idle, late_class3_connections, late_replies, late_reply, late_waiting, without_late_class3_connections, without_late_waiting};
 
-use crate::dialogue::Dialogue;
-use crate::dialogues::{
-    copied, dialogue_count, execute, find_dialogue, find_last, find_triad, has_triad,
-    keep_off_stream, keep_other_triads, repeat, reply_to, stream_triads,
+use crate::class3::Class3Connection;
+use crate::class3_connections::{
+    class3_count, copied, execute, find_class3, find_last, find_triad, has_triad, keep_off_stream,
+    keep_other_triads, repeat, reply_to, stream_triads,
 };
 use crate::late::{
-    find_last_on_time, first_dialogue_end, first_request_end, has_late_dialogue, has_late_request,
+    find_last_on_time, first_class3_end, first_request_end, has_late_class3, has_late_request,
     keep_early, keep_on_time, late_requests, late_text, late_triads,
 };
 use crate::requests::{Requester, Waiting};
 use crate::table::Messaging;
-use crate::waiting::{find_waiting, keep_answerable, keep_elsewhere, keep_other_numbers};
+use crate::waiting::{
+    find_waiting, keep_answerable, keep_elsewhere, keep_other_numbers, request_count,
+};
 use cip_types::{ConnId, Items, Ms, Node, OutOfMemory, Triad};
 use std::alloc::Global;
 use std::marker::Model;
 
 /// The requests that wait for the application at one time.
 pub const MOST_WAITING: usize = 16;
+
+/// Those of one node, where they are shared by node.
+pub const MOST_OF_NODE: usize = 4;
 
 /// The milliseconds that the application has to answer a request.
 pub const ANSWER_TIME_MS: u64 = 10_000;
@@ -35,7 +40,7 @@ pub const ANSWER_TIME_MS: u64 = 10_000;
 /// What a call refuses for want of memory leaves all as it was.
 #[derive(Drop)]
 pub struct MessagingState {
-    dialogues: Vec<Dialogue>,
+    class3_connections: Vec<Class3Connection>,
     waiting: Vec<Waiting>,
     next_number: u64,
 }
@@ -46,7 +51,7 @@ impl Model for MessagingState {
     ghost Value = { Messaging };
 
     ghost view = { λ s. record {
-      dialogues = s.dialogues.items;
+      class3_connections = s.class3_connections.items;
       waiting = s.waiting.items;
       next_number = s.next_number;
     } };
@@ -58,7 +63,7 @@ impl MessagingState {
         ensures { result ≡ fresh_messaging }
     {
         MessagingState {
-            dialogues: Vec::new(alloc),
+            class3_connections: Vec::new(alloc),
             waiting: Vec::new(alloc),
             next_number: 1,
         }
@@ -68,10 +73,10 @@ impl MessagingState {
     pub fn holding(alloc: Global, table: &Messaging) -> Result<MessagingState, OutOfMemory>
         ensures { IfOk result (λ state. state ≡ table.now) }
     {
-        let dialogues = copied(alloc, table.dialogues.as_slice())?;
+        let class3_connections = copied(alloc, table.class3_connections.as_slice())?;
         let waiting = Vec::from_slice(alloc, table.waiting.as_slice())?;
         Ok(MessagingState {
-            dialogues,
+            class3_connections,
             waiting,
             next_number: table.next_number,
         })
@@ -81,10 +86,10 @@ impl MessagingState {
     pub fn copy(&self, alloc: Global) -> Result<Messaging, OutOfMemory>
         ensures { IfOk result (λ table. table ≡ self.now) }
     {
-        let dialogues = copied(alloc, &self.dialogues)?;
+        let class3_connections = copied(alloc, &self.class3_connections)?;
         let waiting = Vec::from_slice(alloc, &self.waiting)?;
         Ok(Messaging {
-            dialogues: Items::from_vec(dialogues),
+            class3_connections: Items::from_vec(class3_connections),
             waiting: Items::from_vec(waiting),
             next_number: self.next_number,
         })
@@ -93,20 +98,20 @@ impl MessagingState {
     fn again(&self, alloc: Global) -> Result<MessagingState, OutOfMemory>
         ensures { IfOk result (λ state. state ≡ self.now) }
     {
-        let dialogues = copied(alloc, &self.dialogues)?;
+        let class3_connections = copied(alloc, &self.class3_connections)?;
         let waiting = Vec::from_slice(alloc, &self.waiting)?;
         Ok(MessagingState {
-            dialogues,
+            class3_connections,
             waiting,
             next_number: self.next_number,
         })
     }
 
     /// The connections in the order of their openings. Takes no memory.
-    pub fn dialogues(&self) -> &[Dialogue]
-        ensures { result.now ≡ self.now.dialogues }
+    pub fn class3_connections(&self) -> &[Class3Connection]
+        ensures { result.now ≡ self.now.class3_connections }
     {
-        &self.dialogues
+        &self.class3_connections
     }
 
     /// The requests that wait for the application, in the order of their numbers. Takes no memory.
@@ -126,38 +131,39 @@ impl MessagingState {
     /// The connection of a message that came over a stream with this O->T id. Takes no memory.
     ///
     /// Volume 2, chapter 2, SendUnitData.
-    pub fn find_dialogue(&self, stream: u16, id: ConnId) -> Option<&Dialogue>
-        ensures { option_map (λ lent. lent.now) result ≡ find (is_dialogue stream id) self.now.dialogues }
+    pub fn find_class3(&self, stream: u16, id: ConnId) -> Option<&Class3Connection>
+        ensures { option_map (λ lent. lent.now) result ≡ find (is_class3 stream id) self.now.class3_connections }
     {
-        find_dialogue(&self.dialogues, stream, id)
+        find_class3(&self.class3_connections, stream, id)
     }
 
     /// The connection of an O->T id whose last message has this count. Takes no memory.
-    pub fn find_last(&self, id: ConnId, count: u16) -> Option<&Dialogue>
-        ensures { option_map (λ lent. lent.now) result ≡ find (is_last_message id count) self.now.dialogues }
+    pub fn find_last(&self, id: ConnId, count: u16) -> Option<&Class3Connection>
+        ensures { option_map (λ lent. lent.now) result
+            ≡ find (is_last_message id count) self.now.class3_connections }
     {
-        find_last(&self.dialogues, id, count)
+        find_last(&self.class3_connections, id, count)
     }
 
     /// The connection of a triad. Takes no memory.
-    pub fn find_triad(&self, triad: Triad) -> Option<&Dialogue>
-        ensures { option_map (λ lent. lent.now) result ≡ find (has_dialogue_triad triad) self.now.dialogues }
+    pub fn find_triad(&self, triad: Triad) -> Option<&Class3Connection>
+        ensures { option_map (λ lent. lent.now) result ≡ find (has_class3_triad triad) self.now.class3_connections }
     {
-        find_triad(&self.dialogues, triad)
+        find_triad(&self.class3_connections, triad)
     }
 
     /// Whether the triad is that of a connection. Takes no memory.
     pub fn has_triad(&self, triad: Triad) -> bool
-        ensures { result ≡ list_any (has_dialogue_triad triad) self.now.dialogues }
+        ensures { result ≡ list_any (has_class3_triad triad) self.now.class3_connections }
     {
-        has_triad(&self.dialogues, triad)
+        has_triad(&self.class3_connections, triad)
     }
 
     /// How many connections a node opened. Takes no memory.
-    pub fn dialogue_count(&self, node: Node) -> usize
-        ensures { result ≡ dialogue_count self.now.dialogues node }
+    pub fn class3_count(&self, node: Node) -> usize
+        ensures { result ≡ class3_count self.now.class3_connections node }
     {
-        dialogue_count(&self.dialogues, node)
+        class3_count(&self.class3_connections, node)
     }
 
     /// The request of a number that waits for the application. Takes no memory.
@@ -173,36 +179,45 @@ impl MessagingState {
     {
         self.waiting.len() >= MOST_WAITING || self.next_number == u64::MAX
     }
+
+    /// Whether no request of a node can wait: the application cannot be asked, or, where the requests are shared by
+    /// node, 4 of the node wait. Takes no memory.
+    pub fn lacks_share(&self, shared: bool, node: Node) -> bool
+        ensures { result ≡ lacks_share shared self.now node }
+    {
+        self.lacks_room() || (shared && request_count(&self.waiting, node) >= MOST_OF_NODE)
+    }
 }
 
 // CONNECTIONS AND STREAMS
 
 impl MessagingState {
     /// A connection is opened, the last one. `OutOfMemory` is the only error.
-    #[tactic(auto, unfolding(crate::specs::Changes::with_dialogue))]
-    pub fn open(&mut self, dialogue: Dialogue) -> Result<(), OutOfMemory>
-        ensures ok { OnOk result (self.new ≡ with_dialogue self.old dialogue) }
+    #[tactic(auto, unfolding(crate::specs::Changes::with_class3))]
+    pub fn open(&mut self, class3: Class3Connection) -> Result<(), OutOfMemory>
+        ensures ok { OnOk result (self.new ≡ with_class3 self.old class3) }
         ensures err { OnErr result (self.new ≡ self.old) }
     {
-        self.dialogues.push(dialogue)?;
+        self.class3_connections.push(class3)?;
         Ok(())
     }
 
     /// The connection of a triad is closed, and what it asked waits no more. Takes no memory.
-    #[tactic(auto, unfolding(crate::specs::Changes::without_dialogue))]
+    #[tactic(auto, unfolding(crate::specs::Changes::without_class3))]
     pub fn close(&mut self, triad: Triad)
-        ensures { self.new ≡ without_dialogue self.old triad }
+        ensures { self.new ≡ without_class3 self.old triad }
     {
-        keep_other_triads(&mut self.dialogues, triad);
-        keep_answerable(&self.dialogues, &mut self.waiting);
+        keep_other_triads(&mut self.class3_connections, triad);
+        keep_answerable(&self.class3_connections, &mut self.waiting);
     }
 
     /// The triads of the connections that live on a stream, in the order of their openings. `OutOfMemory` is the only
     /// error.
     pub fn stream_triads(&self, alloc: Global, stream: u16) -> Result<Vec<Triad>, OutOfMemory>
-        ensures { IfOk result (λ triads. triads.items ≡ map dialogue_triad (stream_dialogues self.now stream)) }
+        ensures { IfOk result (λ triads. triads.items
+            ≡ map class3_triad (stream_class3_connections self.now stream)) }
     {
-        stream_triads(alloc, &self.dialogues, stream)
+        stream_triads(alloc, &self.class3_connections, stream)
     }
 
     /// A stream ends, and its connections with it: no answer goes over it or them. Takes no memory.
@@ -211,8 +226,8 @@ impl MessagingState {
         ensures { self.new ≡ without_stream self.old stream }
     {
         keep_elsewhere(&mut self.waiting, stream);
-        keep_off_stream(&mut self.dialogues, stream);
-        keep_answerable(&self.dialogues, &mut self.waiting);
+        keep_off_stream(&mut self.class3_connections, stream);
+        keep_answerable(&self.class3_connections, &mut self.waiting);
     }
 }
 
@@ -226,8 +241,8 @@ impl MessagingState {
     pub fn execute(&mut self, id: ConnId, count: u16, reply: Items<u8>, deadline: Ms)
         ensures { self.new ≡ executed self.old id count reply deadline }
     {
-        execute(&mut self.dialogues, id, count, reply, deadline);
-        keep_answerable(&self.dialogues, &mut self.waiting);
+        execute(&mut self.class3_connections, id, count, reply, deadline);
+        keep_answerable(&self.class3_connections, &mut self.waiting);
     }
 
     /// The last message of the connection of an O->T id was repeated. Takes no memory.
@@ -237,44 +252,52 @@ impl MessagingState {
     pub fn repeat(&mut self, id: ConnId, deadline: Ms)
         ensures { self.new ≡ repeated self.old id deadline }
     {
-        repeat(&mut self.dialogues, id, deadline);
+        repeat(&mut self.class3_connections, id, deadline);
     }
 
     /// The next request to the application.
-    fn next_waiting(&self, asker: Requester, service: u8, clock: Ms) -> Waiting
+    fn next_waiting(&self, peer: Node, asker: Requester, service: u8, clock: Ms) -> Waiting
         requires { clock.0 ≤ 2 ^ 48 }
-        ensures { result ≡ waiting_for self.now.next_number asker service clock }
+        ensures { result ≡ waiting_for self.now.next_number peer asker service clock }
     {
         Waiting {
             number: self.next_number,
+            peer,
             asker,
             service,
             deadline: Ms(clock.0 + ANSWER_TIME_MS),
         }
     }
 
-    /// The application is asked. The request gets the next number. `OutOfMemory` is the only error.
+    /// A node asks the application. The request gets the next number. `OutOfMemory` is the only error.
     #[tactic(auto, unfolding(crate::specs::Changes::referred))]
-    pub fn ask(&mut self, asker: Requester, service: u8, clock: Ms) -> Result<(), OutOfMemory>
+    pub fn ask(
+        &mut self,
+        peer: Node,
+        asker: Requester,
+        service: u8,
+        clock: Ms,
+    ) -> Result<(), OutOfMemory>
         requires room { lacks_room self.old ≡ false }
         requires time { clock.0 ≤ 2 ^ 48 }
-        ensures ok { OnOk result (self.new ≡ referred self.old asker service clock) }
+        ensures ok { OnOk result (self.new ≡ referred self.old peer asker service clock) }
         ensures err { OnErr result (self.new ≡ self.old) }
     {
-        let waiting = self.next_waiting(asker, service, clock);
+        let waiting = self.next_waiting(peer, asker, service, clock);
         self.waiting.push(waiting)?;
         self.next_number += 1;
         Ok(())
     }
 
-    /// A message of a new count on the connection of an O->T id asks the application: it is executed, and has no reply
-    /// yet. The request gets the next number. `OutOfMemory` is the only error.
+    /// A message of a new count on the connection of an O->T id, which a node sent, asks the application: it is
+    /// executed, and has no reply yet. The request gets the next number. `OutOfMemory` is the only error.
     ///
     /// Volume 1, chapter 3, transport class 3.
     #[tactic(auto, unfolding(crate::specs::Changes::referred, crate::specs::Changes::executed, crate::specs::Changes::referred_over))]
     pub fn ask_over(
         &mut self,
         alloc: Global,
+        peer: Node,
         message: (ConnId, u16),
         service: u8,
         deadline: Ms,
@@ -282,14 +305,22 @@ impl MessagingState {
     ) -> Result<(), OutOfMemory>
         requires room { lacks_room self.old ≡ false }
         requires time { clock.0 ≤ 2 ^ 48 }
-        ensures ok { OnOk result (self.new ≡ referred_over self.old message.0 message.1 service deadline clock) }
+        ensures ok { OnOk result
+            (self.new ≡ referred_over self.old peer message.0 message.1 service deadline clock) }
         ensures err { OnErr result (self.new ≡ self.old) }
     {
         let (id, count) = message;
-        let waiting = self.next_waiting(Requester::Dialogue { id, count }, service, clock);
+        let asker = Requester::Class3Connection { id, count };
+        let waiting = self.next_waiting(peer, asker, service, clock);
         self.waiting.reserve(1)?;
-        execute(&mut self.dialogues, id, count, Items::new(alloc), deadline);
-        keep_answerable(&self.dialogues, &mut self.waiting);
+        execute(
+            &mut self.class3_connections,
+            id,
+            count,
+            Items::new(alloc),
+            deadline,
+        );
+        keep_answerable(&self.class3_connections, &mut self.waiting);
         self.waiting.push_reserved(waiting);
         self.next_number += 1;
         Ok(())
@@ -309,7 +340,7 @@ impl MessagingState {
     pub fn reply(&mut self, id: ConnId, count: u16, reply: Items<u8>)
         ensures { self.new ≡ replied self.old id count reply }
     {
-        reply_to(&mut self.dialogues, id, count, reply);
+        reply_to(&mut self.class3_connections, id, count, reply);
     }
 }
 
@@ -320,7 +351,8 @@ impl MessagingState {
     pub fn is_idle(&self, clock: Ms) -> bool
         ensures { result ≡ is_idle clock self.now }
     {
-        !(has_late_dialogue(&self.dialogues, clock) || has_late_request(&self.waiting, clock))
+        !(has_late_class3(&self.class3_connections, clock)
+            || has_late_request(&self.waiting, clock))
     }
 
     /// The first time at which a deadline of a connection or of a request comes; `u64::MAX` if there is none. Takes no
@@ -329,7 +361,7 @@ impl MessagingState {
     pub fn first_moment(&self) -> Ms
         ensures { result.0 ≡ first_moment self.now }
     {
-        Ms(first_dialogue_end(&self.dialogues).min(first_request_end(&self.waiting)))
+        Ms(first_class3_end(&self.class3_connections).min(first_request_end(&self.waiting)))
     }
 
     /// The triads of the connections whose deadline has come, by their deadlines and then in the order of their
@@ -337,36 +369,37 @@ impl MessagingState {
     ///
     /// Volume 1, chapter 3, inactivity watchdog.
     pub fn late_triads(&self, alloc: Global, clock: Ms) -> Result<Vec<Triad>, OutOfMemory>
-        ensures { IfOk result (λ triads. triads.items ≡ map dialogue_triad (late_dialogues clock self.now)) }
+        ensures { IfOk result (λ triads. triads.items ≡ map class3_triad (late_class3_connections clock self.now)) }
     {
-        late_triads(alloc, &self.dialogues, clock)
+        late_triads(alloc, &self.class3_connections, clock)
     }
 
     /// The requests that the device answers in place of the application once the late connections have ended, in the
     /// order of their numbers. `OutOfMemory` is the only error.
-    #[tactic(auto, unfolding(crate::specs::Times::without_late_dialogues))]
+    #[tactic(auto, unfolding(crate::specs::Times::without_late_class3_connections))]
     pub fn late_waiting(&self, alloc: Global, clock: Ms) -> Result<Vec<Waiting>, OutOfMemory>
-        ensures { IfOk result (λ late. late.items ≡ late_waiting clock (without_late_dialogues clock self.now)) }
+        ensures { IfOk result (λ late. late.items
+            ≡ late_waiting clock (without_late_class3_connections clock self.now)) }
     {
-        late_requests(alloc, &self.dialogues, &self.waiting, clock)
+        late_requests(alloc, &self.class3_connections, &self.waiting, clock)
     }
 
     /// The connection of an O->T id whose last message has this count, once the late connections have ended. Takes no
     /// memory.
-    #[tactic(auto, unfolding(crate::specs::Times::without_late_dialogues))]
-    pub fn find_last_on_time(&self, clock: Ms, id: ConnId, count: u16) -> Option<&Dialogue>
+    #[tactic(auto, unfolding(crate::specs::Times::without_late_class3_connections))]
+    pub fn find_last_on_time(&self, clock: Ms, id: ConnId, count: u16) -> Option<&Class3Connection>
         ensures { option_map (λ lent. lent.now) result
-            ≡ find (is_last_message id count) (without_late_dialogues clock self.now).dialogues }
+            ≡ find (is_last_message id count) (without_late_class3_connections clock self.now).class3_connections }
     {
-        find_last_on_time(&self.dialogues, clock, id, count)
+        find_last_on_time(&self.class3_connections, clock, id, count)
     }
 
-    #[tactic(auto, unfolding(crate::specs::Times::without_late_dialogues))]
-    fn end_late_dialogues(&mut self, clock: Ms)
-        ensures { self.new ≡ without_late_dialogues clock self.old }
+    #[tactic(auto, unfolding(crate::specs::Times::without_late_class3_connections))]
+    fn end_late_class3_connections(&mut self, clock: Ms)
+        ensures { self.new ≡ without_late_class3_connections clock self.old }
     {
-        keep_on_time(&mut self.dialogues, clock);
-        keep_answerable(&self.dialogues, &mut self.waiting);
+        keep_on_time(&mut self.class3_connections, clock);
+        keep_answerable(&self.class3_connections, &mut self.waiting);
     }
 
     fn reply_late(
@@ -379,7 +412,7 @@ impl MessagingState {
     {
         match asker {
             Requester::Peer(_) | Requester::Stream { .. } => Ok(()),
-            Requester::Dialogue { id, count } => {
+            Requester::Class3Connection { id, count } => {
                 self.reply(id, count, late_text(alloc, service)?);
                 Ok(())
             }
@@ -395,13 +428,13 @@ impl MessagingState {
         Ok(())
     }
 
-    #[tactic(auto, unfolding(crate::specs::Times::without_late_waiting, crate::specs::Times::without_late_dialogues, crate::specs::Times::aged))]
+    #[tactic(auto, unfolding(crate::specs::Times::without_late_waiting, crate::specs::Times::without_late_class3_connections, crate::specs::Times::aged))]
     fn aged(&self, alloc: Global, clock: Ms) -> Result<MessagingState, OutOfMemory>
         ensures { IfOk result (λ state. state ≡ aged clock self.now) }
     {
         let late = self.late_waiting(alloc, clock)?;
         let mut next = self.again(alloc)?;
-        next.end_late_dialogues(clock);
+        next.end_late_class3_connections(clock);
         keep_early(&mut next.waiting, clock);
         next.reply_each(alloc, &late)?;
         Ok(next)

@@ -1,6 +1,6 @@
 //! The class 3 connections of an adapter, and the requests that its application has to answer.
 
-use crate::dialogue::Dialogue;
+use crate::class3::Class3Connection;
 use crate::requests::Waiting;
 use cip_types::Items;
 
@@ -8,7 +8,7 @@ use cip_types::Items;
 /// order of their numbers, and the number of the next one.
 #[derive(PartialEq, Drop)]
 pub struct Messaging {
-    pub dialogues: Items<Dialogue>,
+    pub class3_connections: Items<Class3Connection>,
     pub waiting: Items<Waiting>,
     pub next_number: u64,
 }

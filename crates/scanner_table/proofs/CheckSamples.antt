@@ -1,8 +1,8 @@
 -- Profiles of scanners, and what is wrong with them first.
-use Rattle.std.proofs.Common.{◌≡◌, false, [], ◌∷◌, Option, Some, None, replicate, refl}
+use Rattle.std.proofs.Common.{◌≡◌, false, ℕ, [], ◌∷◌, Option, Some, None, replicate, refl}
 use Rattle.cip_netparams.specs.declared.Trigger.TheVariants.{ChangeOfState}
 use Rattle.cip_events.specs.declared.profile_fault.ProfileFault.{ProfileFault}
-use Rattle.cip_events.specs.declared.profile_fault.ProfileFault.TheVariants.{Incarnation, Points, SameInstance, Length, Timing}
+use Rattle.cip_events.specs.declared.profile_fault.ProfileFault.TheVariants.{Incarnation, Points, SameInstance, Length, Timing, Limits}
 use Rattle.cip_productions.specs.declared.kind.Kind.TheVariants.{ListenOnly}
 use Rattle.scanner_table.specs.declared.profile.SlotConfig.{SlotConfig}
 use Rattle.scanner_table.specs.Profiles.{profile_fault}
@@ -191,3 +191,31 @@ long_timeout = refl
 no_timeout : profile_fault (record (profile (owner ∷ [])) { open_timeout = 0 }) ≡ Some Timing
 unfolding profile_fault
 no_timeout = refl
+
+-- ---- a limit on how far ahead numbers can be
+
+-- with this limit, and this slot
+abbrev limited : ℕ → SlotConfig → Option ProfileFault
+limited within slot = profile_fault (record (profile (slot ∷ [])) { newer = Some within })
+
+limits_in_range : (limited 2 owner ≡ None) × (limited 0x80000000 owner ≡ None)
+unfolding profile_fault
+limits_in_range = (refl, refl)
+
+limits_out_of_range : (limited 1 owner ≡ Some Limits) × (limited 0x80000001 owner ≡ Some Limits)
+unfolding profile_fault
+limits_out_of_range = (refl, refl)
+
+-- changes of state that are never held back have no pace, which matters with a limit alone
+unpaced : (limited 8 (record owner { trigger = ChangeOfState; inhibit = 0 }) ≡ Some Limits) × (alone (record owner { trigger = ChangeOfState; inhibit = 0 }) ≡ None)
+unfolding profile_fault
+unpaced = (refl, refl)
+
+held_back : limited 8 (record owner { trigger = ChangeOfState; inhibit = 1 }) ≡ None
+unfolding profile_fault
+held_back = refl
+
+-- times are looked at first
+times_first : profile_fault (record (profile (owner ∷ [])) { retry = 0; newer = Some 1 }) ≡ Some Timing
+unfolding profile_fault
+times_first = refl

@@ -1,5 +1,5 @@
 -- Samples of the data of an open connection at a small scanner: what it sends and what it receives.
-use Rattle.std.proofs.Common.{◌≡◌, ℕ, true, false, List, [], ◌∷◌, ◌++◌, Err, refl}
+use Rattle.std.proofs.Common.{◌≡◌, ℕ, true, false, List, [], ◌∷◌, ◌++◌, Some, Err, refl}
 use Rattle.cip_events.specs.declared.event.Delivery.TheVariants.{Applied, Duplicate, Old, UnknownId, WrongSize, Malformed}
 use Rattle.cip_events.specs.declared.event.Event.TheVariants.{StreamCut, Frame, Datagram, Write, Read, Tick, Mode, Start, Stop}
 use Rattle.cip_events.specs.declared.event.StepFault.TheVariants as fault
@@ -72,6 +72,24 @@ short = 0x02 ∷ 0x00 ∷ 0x02 ∷ 0x80 ∷ 0x08 ∷ 0x00 ∷ 0x01 ∷ 0x00 ∷ 
 gathered : reported open_table (Datagram target (got_data 5 1 0xAA) ∷ Datagram target (got_data 5 2 0xBB) ∷ Datagram target (got_data 4 2 0xBB) ∷ Datagram other_target (got_data 6 2 0xBB) ∷ Datagram target short ∷ Datagram target (0 ∷ []) ∷ Read 0 ∷ Datagram target (got_data 6 1 0xBB) ∷ Read 0 ∷ Datagram target (got_data 6 2 0xBB) ∷ Datagram target (got_data 7 2 0xBB) ∷ Datagram target (got_data 8 3 0xBB) ∷ Read 0 ∷ []) ≡ delivered Applied ∷ delivered Old ∷ delivered Old ∷ delivered UnknownId ∷ delivered WrongSize ∷ delivered Malformed ∷ reads_bytes (four 0xAA) ∷ delivered Duplicate ∷ reads_bytes (four 0xAA) ∷ delivered Old ∷ delivered Applied ∷ delivered Applied ∷ reads_bytes (four 0xBB) ∷ []
 unfolding messages.message_reading packets.packet_reading packets.behind_socket packets.are_sockets replies.open_reply_reading replies.unread_reading opens.open_text closes.close_text datagrams.datagram_reading opened ready_opened target_opened open_answer answered target_lost stream_opened stream_cut frame received produced_table all_expired all_given_up explicit_timed_out explicit_lost tick write read mode start stop
 gathered = refl
+
+-- the same table, where accepted numbers are ahead of the newest by less than 8
+abbrev limited_table : ScannerTable
+limited_table = record open_table { profile = record open_table.profile { newer = Some 8 } }
+
+-- 13 is ahead of 5 by 8, and 12 by 7; the first number is always accepted
+limited_numbers : reported limited_table (Datagram target (got_data 5 1 0xAA) ∷ Datagram target (got_data 13 2 0xBB) ∷ Datagram target (got_data 12 2 0xBB) ∷ []) ≡ delivered Applied ∷ delivered Old ∷ delivered Applied ∷ []
+unfolding messages.message_reading packets.packet_reading packets.behind_socket packets.are_sockets replies.open_reply_reading replies.unread_reading opens.open_text closes.close_text datagrams.datagram_reading opened ready_opened target_opened open_answer answered target_lost stream_opened stream_cut frame received produced_table all_expired all_given_up explicit_timed_out explicit_lost tick write read mode start stop
+limited_numbers = refl
+
+-- one packet interval of 10 ms later they are ahead by less than 10, after 9 ms not yet
+grown_numbers : reported (after limited_table (Datagram target (got_data 5 1 0xAA) ∷ Tick 10 ∷ [])) (Datagram target (got_data 15 2 0xBB) ∷ Datagram target (got_data 14 2 0xBB) ∷ []) ≡ delivered Old ∷ delivered Applied ∷ []
+unfolding messages.message_reading packets.packet_reading packets.behind_socket packets.are_sockets replies.open_reply_reading replies.unread_reading opens.open_text closes.close_text datagrams.datagram_reading opened ready_opened target_opened open_answer answered target_lost stream_opened stream_cut frame received produced_table all_expired all_given_up explicit_timed_out explicit_lost tick write read mode start stop
+grown_numbers = refl
+
+early_numbers : reported (after limited_table (Datagram target (got_data 5 1 0xAA) ∷ Tick 9 ∷ [])) (Datagram target (got_data 13 2 0xBB) ∷ []) ≡ delivered Old ∷ []
+unfolding messages.message_reading packets.packet_reading packets.behind_socket packets.are_sockets replies.open_reply_reading replies.unread_reading opens.open_text closes.close_text datagrams.datagram_reading opened ready_opened target_opened open_answer answered target_lost stream_opened stream_cut frame received produced_table all_expired all_given_up explicit_timed_out explicit_lost tick write read mode start stop
+early_numbers = refl
 
 -- The first watchdog runs for 10 seconds, and each later one for 160 ms after the last accepted datagram. The image stays
 -- when the connection times out and while the slot opens it again; a new connection begins with an image of zeros.

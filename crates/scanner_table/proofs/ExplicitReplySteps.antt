@@ -17,7 +17,7 @@ use Rattle.cip_events.specs.declared.event.StepFault.{StepFault}
 use Rattle.cip_events.specs.declared.event.StepFault.TheVariants as fault
 use Rattle.cip_events.specs.declared.event.Unanswered.{Unanswered}
 use Rattle.cip_events.specs.Clock.{longest_tick, clock_end}
-use Rattle.cip_productions.specs.Acceptance.{accepts_sequence, is_duplicate}
+use Rattle.cip_productions.specs.Acceptance.{is_duplicate}
 use Rattle.cip_productions.specs.Kinds.{is_owner}
 use Rattle.cip_router.specs.RouterReplies.{RouterReplyFields}
 use Rattle.scanner_table.specs.declared.explicit.PendingExplicit.{PendingExplicit}
@@ -33,7 +33,7 @@ use Rattle.scanner_table.specs.Slots.{IndexedSlot, indexed_slots, slot_at}
 use Rattle.scanner_table.specs.Sessions.{is_stream, is_taken, session_with}
 use Rattle.scanner_table.specs.Effects.{Next, Effect, done}
 use Rattle.scanner_table.specs.Closing.{stopped_at}
-use Rattle.scanner_table.specs.Datagrams.{is_for, delivered, accepted_table, accepted, sized, connected, state_received, received_at, received_as, received}
+use Rattle.scanner_table.specs.Datagrams.{accepts_at, is_for, delivered, accepted_table, accepted, sized, connected, state_received, received_at, received_as, received}
 use Rattle.scanner_table.specs.Points.{output_written, write_length, write_at, write, read_at, read, mode, desired_slot, started, start_state, start_at, start, stop_of, stop}
 use Rattle.scanner_table.specs.Ticks.{clocked_table, moved_on, ticked, tick}
 use Rattle.scanner_table.specs.Explicit.{awaits, connects_to, has_explicit_length, is_barred, explicit_sent, explicit_within, explicit_sized, explicit_request, explicit_reply, explicit_answered}
@@ -64,7 +64,7 @@ cut_none t number = cut_of_none t (find (is_stream number) t.streams)
 connected_none : (t : ScannerTable) (indexed : IndexedSlot) (d : DatagramFields) (c : SlotConnection) → NoReply (connected t indexed d c)
 connected_none t indexed d c =
     either NoReply (length d.payload == indexed.config.in_len) (sized t indexed d c) (delivered WrongSize t)
-    (either NoReply (accepts_sequence c.last d.sequence) (accepted t indexed d c) (delivered Old t)
+    (either NoReply (accepts_at t indexed c d.sequence) (accepted t indexed d c) (delivered Old t)
     (either NoReply (is_duplicate c.last d.count) (delivered Duplicate (accepted_table t indexed d c indexed.slot.image)) (delivered Applied (accepted_table t indexed d c d.payload)) refl refl)
     refl)
     refl

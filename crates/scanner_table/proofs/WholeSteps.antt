@@ -26,7 +26,7 @@ use Rattle.cip_events.specs.declared.event.StepFault.TheVariants as fault
 use Rattle.cip_fwdopen.specs.declared.reply.Opened as made
 use Rattle.cip_fwdopen.specs.declared.reply.OpenAnswer.{OpenAnswer}
 use Rattle.cip_fwdopen.specs.declared.reply.OpenAnswer.TheVariants as answer
-use Rattle.cip_productions.specs.Acceptance.{accepts_sequence, is_duplicate}
+use Rattle.cip_productions.specs.Acceptance.{is_duplicate}
 use Rattle.conn_state.specs.Answers.{is_requested_id, answer_tests, has_intervals}
 use Rattle.scanner_table.specs.declared.profile.SlotConfig.{SlotConfig}
 use Rattle.cip_events.specs.declared.event.Unanswered.{Unanswered}
@@ -51,7 +51,7 @@ use Rattle.scanner_table.specs.Replies.{uses_id, open_answer, is_id_free, new_co
 use Rattle.scanner_table.specs.Closing.{idle_slot, given_up_state, given_up, target_lost, closing_slot, close_requested, slot_resigned, closed_within, stopped, stopped_at}
 use Rattle.scanner_table.specs.Explicit.{is_request, others, with_explicit, has_number, awaits, has_explicit_length, service_of, is_for_slots, is_barred, connects_to, explicit_sent, explicit_within, explicit_request, explicit_reply, explicit_answered, explicit_timed_out, explicit_lost}
 use Rattle.scanner_table.specs.Encapsulation.{registering_on, ignored, stream_opened, message_answer, cut_of, stream_cut, is_registered, session_begun, session_failed, registered, is_awaiting, replied, replied_to, reported, frame_answer, frame_of, frame}
-use Rattle.scanner_table.specs.Datagrams.{delivered, is_for, accepted_connection, accepted_table, accepted, sized, state_received, received_at, received_as, received}
+use Rattle.scanner_table.specs.Datagrams.{accepts_at, delivered, is_for, accepted_connection, accepted_table, accepted, sized, state_received, received_at, received_as, received}
 use Rattle.scanner_table.specs.Points.{stop_of, stop}
 use Rattle.scanner_table.specs.WellFormed.{RequestsDiffer, IdsDiffer, FitsState, FitsSlot, IsWellFormed, IsWatched}
 use Rattle.scanner_table.proofs.IdsLemmas.{Weaker, idle_weaker, opening_weaker, closing_weaker, linked_weaker, all_set, differ_weaker, differ_established}
@@ -510,7 +510,7 @@ sequence_step true t indexed d c at fits long now whole = accepted_step (is_dupl
 sequence_step false t indexed d c at fits long now whole = whole
 
 sized_step : (b : Bool) (t : ScannerTable) (indexed : IndexedSlot) (d : DatagramFields) (c : SlotConnection) → (length d.payload == indexed.config.in_len) ≡ b → IsAt t indexed → FitsState t.next_request t.clock.0 indexed.slot.desired_up (Established c) → IsSame t indexed (Established c) → IsWellFormed t → IsWellFormed (cond b (sized t indexed d c) (delivered WrongSize t)).1
-sized_step true t indexed d c is at fits now whole = sequence_step (accepts_sequence c.last d.sequence) t indexed d c at fits (eqb-true (length d.payload) indexed.config.in_len is) now whole
+sized_step true t indexed d c is at fits now whole = sequence_step (accepts_at t indexed c d.sequence) t indexed d c at fits (eqb-true (length d.payload) indexed.config.in_len is) now whole
 sized_step false t indexed d c is at fits now whole = whole
 
 state_received_whole : (t : ScannerTable) (indexed : IndexedSlot) (d : DatagramFields) (state : SlotState) → indexed.slot.state ≡ state → IsAt t indexed → slice_get t.slots indexed.number ≡ Some indexed.slot → IsWellFormed t → IsWellFormed (state_received t indexed d state).1

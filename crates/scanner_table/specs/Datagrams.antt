@@ -10,7 +10,8 @@ use Rattle.cip_events.specs.declared.event.Delivery.{Delivery}
 use Rattle.cip_events.specs.declared.event.Delivery.TheVariants.{Applied, Duplicate, Old, UnknownId, WrongSize, Malformed}
 use Rattle.cip_events.specs.declared.event.Verdict.TheVariants.{Delivered}
 use Rattle.cip_events.specs.Answers.{plain_answer}
-use Rattle.cip_productions.specs.Acceptance.{accepts_sequence, is_duplicate}
+use Rattle.cip_productions.specs.Acceptance.{is_duplicate}
+use Rattle.cip_productions.specs.Window.{pace_of, since_accepted, accepts_number}
 use Rattle.scanner_table.specs.declared.slot.SlotConnection.{SlotConnection}
 use Rattle.scanner_table.specs.declared.slot.SlotState.{SlotState}
 use Rattle.scanner_table.specs.declared.slot.SlotState.TheVariants.{Idle, Opening, Established, TimedOut, Closing}
@@ -45,8 +46,16 @@ accepted t indexed d c =
     if is_duplicate c.last d.count then delivered Duplicate (accepted_table t indexed d c indexed.slot.image)
     else delivered Applied (accepted_table t indexed d c d.payload)
 
+-- the least milliseconds between two datagrams of the slot's target
+abbrev pub slot_pace : IndexedSlot → SlotConnection → ℕ
+slot_pace indexed c = pace_of indexed.config.trigger c.t_o_api_ms indexed.config.inhibit
+
+-- at this time the slot's connection accepts the number: it is newer than the last accepted one, and near it
+abbrev pub accepts_at : ScannerTable → IndexedSlot → SlotConnection → ℕ → Bool
+accepts_at t indexed c number = accepts_number t.profile.newer (since_accepted t.clock c.watchdog c.deadline) (slot_pace indexed c) c.last number
+
 abbrev pub sized : ScannerTable → IndexedSlot → DatagramFields → SlotConnection → Next
-sized t indexed d c = if accepts_sequence c.last d.sequence then accepted t indexed d c else delivered Old t
+sized t indexed d c = if accepts_at t indexed c d.sequence then accepted t indexed d c else delivered Old t
 
 abbrev pub connected : ScannerTable → IndexedSlot → DatagramFields → SlotConnection → Next
 connected t indexed d c = if length d.payload == indexed.config.in_len then sized t indexed d c else delivered WrongSize t

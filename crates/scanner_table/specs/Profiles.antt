@@ -1,13 +1,14 @@
 -- The check of a scanner's profile: its tests, and the first fault (Volume 1, chapter 3, application connection types,
--- requested packet interval, connection timeout multiplier, production inhibit time).
-use Rattle.std.specs.Prelude.{ℕ, ◌%◌, ◌==◌, ◌&&◌, ◌||◌, not, nat_le, Bool, true, if◌then◌else◌, List, [], ◌∷◌, length, Option, Some, None}
+-- requested packet interval, connection timeout multiplier, production inhibit time; Volume 2, chapter 2, sequenced address
+-- item).
+use Rattle.std.specs.Prelude.{ℕ, ◌%◌, ◌^◌, ◌==◌, ◌&&◌, ◌||◌, not, nat_le, Bool, true, if◌then◌else◌, List, [], ◌∷◌, length, Option, Some, None}
 use Rattle.std.specs.List.{list_any, list_all}
 use Rattle.cip_types.specs.Cases.{Case, first_case}
 use Rattle.cip_netparams.specs.declared.Trigger.{Trigger}
 use Rattle.cip_netparams.specs.declared.Trigger.TheVariants.{Cyclic, ChangeOfState}
 use Rattle.cip_netparams.specs.Rate.{is_interval, interval_ms}
 use Rattle.cip_events.specs.declared.profile_fault.ProfileFault.{ProfileFault}
-use Rattle.cip_events.specs.declared.profile_fault.ProfileFault.TheVariants.{Incarnation, Points, SameInstance, Length, Timing}
+use Rattle.cip_events.specs.declared.profile_fault.ProfileFault.TheVariants.{Incarnation, Points, SameInstance, Length, Timing, Limits}
 use Rattle.cip_productions.specs.declared.kind.Kind.{Kind}
 use Rattle.cip_productions.specs.Kinds.{is_owner, is_listener}
 use Rattle.scanner_table.specs.declared.profile.SlotConfig.{SlotConfig}
@@ -72,6 +73,25 @@ is_wait ms = nat_le 1 ms && nat_le ms 60000
 abbrev pub keeps_time : ScannerProfile → Bool
 keeps_time profile = list_all has_times profile.slots && (is_wait profile.open_timeout && is_wait profile.retry)
 
+-- NUMBERS
+
+-- a target that also produces at changes of state is held back by an inhibit time, which says how fast its numbers rise
+abbrev pub is_paced : Trigger → ℕ → Bool
+is_paced Cyclic inhibit = true
+is_paced ChangeOfState inhibit = not (inhibit == 0)
+
+abbrev pub has_pace : SlotConfig → Bool
+has_pace slot = is_paced slot.trigger slot.inhibit
+
+-- 2 to 2^31
+abbrev pub is_window : ℕ → Bool
+is_window within = nat_le 2 within && nat_le within (2 ^ 31)
+
+-- a limit on how far ahead accepted numbers can be is within its range, and then each slot has a pace
+abbrev pub are_paced : Option ℕ → List SlotConfig → Bool
+are_paced None slots = true
+are_paced (Some within) slots = is_window within && list_all has_pace slots
+
 -- THE FIRST FAULT
 
 -- the tests of a profile in their order, each with its fault
@@ -82,6 +102,7 @@ profile_tests profile =
     ∷ (not (are_apart profile.slots), SameInstance)
     ∷ (not (list_all has_lengths profile.slots), Length)
     ∷ (not (keeps_time profile), Timing)
+    ∷ (not (are_paced profile.newer profile.slots), Limits)
     ∷ []
 
 -- the fault of the first test that fails

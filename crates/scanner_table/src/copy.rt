@@ -59,6 +59,7 @@ impl ScannerProfile {
             serial: self.serial,
             open_timeout: self.open_timeout,
             retry: self.retry,
+            newer: self.newer,
             slots,
         })
     }

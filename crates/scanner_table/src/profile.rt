@@ -42,9 +42,9 @@ pub struct SlotConfig {
     pub inhibit: u8,
 }
 
-/// A scanner: its identity, its times, and its slots.
+/// A scanner: its identity, its times, how far ahead accepted numbers can be, and its slots.
 ///
-/// Volume 1, chapter 3, Forward_Open service.
+/// Volume 1, chapter 3, Forward_Open service, and class 1 transport.
 #[derive(PartialEq, Drop)]
 pub struct ScannerProfile {
     /// The byte that begins each connection id that the scanner chooses; never 0.
@@ -59,6 +59,9 @@ pub struct ScannerProfile {
     pub open_timeout: u64,
     /// How long a slot waits after a failure before it opens again, in milliseconds.
     pub retry: u64,
+    /// A slot accepts sequence numbers that are ahead of its newest by less than this, and by two more for each interval
+    /// of its target since then: 2 to 2^31. An absent one limits nothing.
+    pub newer: Option<u32>,
     /// The connections; a slot's number is its index here.
     pub slots: Items<SlotConfig>,
 }

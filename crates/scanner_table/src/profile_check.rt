@@ -2,12 +2,12 @@
 
 ghost use Rattle.std.specs.Prelude.{◌≡◌, ◌↔◌, None, Some, IsOk, IfErr};
 ghost use Rattle.std.specs.List.{list_any, list_all};
-ghost use Rattle.scanner_table.specs.Profiles.{are_few, listens_to_group, are_served, shares_group, are_apart, is_point_len, is_out_len, is_config, has_lengths, is_inhibit, has_times, is_wait, keeps_time, profile_fault};
+ghost use Rattle.scanner_table.specs.Profiles.{are_few, listens_to_group, are_served, shares_group, are_apart, is_point_len, is_out_len, is_config, has_lengths, is_inhibit, has_times, is_wait, keeps_time, has_pace, is_window, are_paced, profile_fault};
 
 use crate::profile::{ScannerProfile, SlotConfig};
 use cip_events::ProfileFault;
 use cip_netparams::{Trigger, api_of};
-use cip_productions::Kind;
+use cip_productions::{FARTHEST_NUMBER, Kind};
 use cip_types::limits::{LONGEST_CONFIG, LONGEST_POINT, LONGEST_WAIT_MS, MOST_SLOTS};
 
 fn are_few(slots: &[SlotConfig]) -> bool
@@ -129,6 +129,36 @@ fn keeps_time(profile: &ScannerProfile) -> bool
     have_times(profile.slots.as_slice()) && is_wait(profile.open_timeout) && is_wait(profile.retry)
 }
 
+fn has_pace(slot: &SlotConfig) -> bool
+    ensures { result ≡ has_pace slot.now }
+{
+    match slot.trigger {
+        Trigger::Cyclic => true,
+        Trigger::ChangeOfState => slot.inhibit != 0,
+    }
+}
+
+fn have_paces(slots: &[SlotConfig]) -> bool
+    ensures { result ≡ list_all has_pace slots.now }
+{
+    slots.iter().all(|slot| has_pace(slot))
+}
+
+fn is_window(within: u32) -> bool
+    ensures { result ≡ is_window within }
+{
+    (2..=FARTHEST_NUMBER).contains(&within)
+}
+
+fn are_paced(profile: &ScannerProfile) -> bool
+    ensures { result ≡ are_paced profile.now.newer profile.now.slots }
+{
+    match profile.newer {
+        Some(within) => is_window(within) && have_paces(profile.slots.as_slice()),
+        None => true,
+    }
+}
+
 fn are_long_enough(slots: &[SlotConfig]) -> bool
     ensures { result ≡ list_all has_lengths slots.now }
 {
@@ -155,6 +185,9 @@ fn fault_of(profile: &ScannerProfile) -> Option<ProfileFault>
     if !keeps_time(profile) {
         return Some(ProfileFault::Timing);
     }
+    if !are_paced(profile) {
+        return Some(ProfileFault::Limits);
+    }
     None
 }
 
@@ -166,6 +199,7 @@ impl ScannerProfile {
     /// - `SameInstance`: two multicast slots name one produced point of one target.
     /// - `Length`: an input, an output or configuration data have a length that is not allowed.
     /// - `Timing`: a packet interval, a timeout multiplier, an inhibit time, `open_timeout` or `retry` is out of range.
+    /// - `Limits`: `newer` is below 2 or above 2^31, or is there while a change-of-state slot has an inhibit time of 0.
     pub fn check(&self) -> Result<(), ProfileFault>
         ensures ok { IsOk result ↔ (profile_fault self.now ≡ None) }
         ensures fault { IfErr result (λ f. profile_fault self.now ≡ Some f) }

@@ -4,7 +4,7 @@ use Rattle.std.specs.List.{list_any}
 use Rattle.std.specs.Result.{result_ok}
 use Rattle.std.proofs.lemmas.Bool.Decides.{nat_tests}
 use Rattle.std.proofs.lemmas.Bool.{or_parts}
-use Rattle.messaging.specs.Dialogues.{has_dialogue_triad}
+use Rattle.messaging.specs.Class3Connections.{has_class3_triad}
 use Rattle.base_lemmas.specs.Numbers.{same_if_not}
 use Rattle.cip_router.specs.declared.refusal.Refusal.{Refusal}
 use Rattle.cip_router.specs.declared.refusal.Refusal.TheVariants as refusal
@@ -120,7 +120,7 @@ HasSameApi api (Some member) = api ≡ member.t_o_api_ms
 -- what an opening relies on
 pub record IsAdmitted (t : AdapterTable) (request : OpenFields) (admitted : Admitted) : Type 0 where
   pub triad_is_free : list_any (holds_triad request.triad) t.rows ≡ false
-  pub triad_is_new : list_any (has_dialogue_triad request.triad) t.messaging.dialogues ≡ false
+  pub triad_is_new : list_any (has_class3_triad request.triad) t.messaging.class3_connections ≡ false
   pub is_served : is_unserved request ≡ false
   pub are_intervals : not (are_intervals request) ≡ false
   pub o_t_api_ms : admitted.o_t_api_ms ≡ interval_ms request.o_t_rpi
@@ -161,7 +161,7 @@ admitted_is t request admitted e =
     let named = are_named t request (result_ok (path_reading request.path)) j.points j.named in
     -- the answers of checks 2 to 9, of 10 to 13, and of 14 and 15
     let first = j.passed in
-    let second = first.1.1.1.1.1.1.1.1.1.1.1 in
+    let second = first.1.1.1.1.1.1.1.1.1.1.1.1 in
     let third = second.1.1.1.1.1.1.1 in
     let points = j.points in
     let free = or_parts (list_any (holds_triad request.triad) t.rows) _ (check_passes _ _ first.1.0) in

@@ -29,6 +29,7 @@ counter_effects n = record {
   unstreamed = λ t number le. le;
   registered = λ t number le. le;
   messaged = λ t next_id m goes le. omega (arith, goes.later, le);
+  counted = λ t openings le. le;
 }
 
 pub steps_count : (n : ℕ) → StepsKeep (λ t. n ≤ t.next_id)
@@ -50,6 +51,7 @@ profile_effects profile = record {
   unstreamed = λ t number same. same;
   registered = λ t number same. same;
   messaged = λ t next_id m goes same. same;
+  counted = λ t openings same. same;
 }
 
 pub profile_stays : (profile : Profile) → StepsKeep (λ t. t.profile ≡ profile)

@@ -69,6 +69,7 @@ requests_keep P keep = record {
   unstreamed = keep.unstreamed;
   registered = keep.registered;
   messaged = keep.messaged;
+  counted = λ t next openings kept holds. keep.counted next openings (kept holds);
 }
 
 keeps_judged : (P : AdapterTable → Type 0) (b : Bool) (t fed : AdapterTable) (delivery : Delivery) → P t → P fed → P (cond b (delivered delivery fed) (delivered delivery t)).1
@@ -78,7 +79,7 @@ keeps_judged P false t fed delivery holds fed_holds = holds
 keeps_found : (P : AdapterTable → Type 0) → EffectsKeep P → (t : AdapterTable) (peer : Node) (d : DatagramFields) (found : Option Row) → find (is_for peer d.connection) t.rows ≡ found → P t → P (found_datagram t peer d found).1
 keeps_found P keep t peer d None is holds = holds
 keeps_found P keep t peer d (Some row) is holds =
-    let delivery = row_delivery t.profile row d in
+    let delivery = row_delivery t.profile t.clock row d in
     keeps_judged P (is_accepted delivery) t (accepted_table t peer d row delivery) delivery holds (keep.fed t peer d row delivery refl is holds)
 
 keeps_datagram : (P : AdapterTable → Type 0) → EffectsKeep P → (t : AdapterTable) (peer : Node) (reading : Result DatagramFields DatagramFault) → P t → P (datagram_of t peer reading).1

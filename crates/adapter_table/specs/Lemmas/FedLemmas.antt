@@ -5,6 +5,7 @@ use Rattle.std.specs.Int.{w32, byte_len, from_le_bytes}
 use Rattle.std.proofs.lemmas.Bool.{eqb-true}
 use Rattle.std.proofs.lemmas.Bool.Decides.{nat_tests}
 use Rattle.std.proofs.lemmas.List.{length-drop}
+use Rattle.cip_types.specs.declared.names.Ms.{Ms}
 use Rattle.cip_datagram.specs.Datagram.{DatagramFields}
 use Rattle.cip_datagram.specs.Header.{is_run, header_at}
 use Rattle.cip_events.specs.declared.event.Delivery.{Delivery}
@@ -16,7 +17,7 @@ use Rattle.adapter_table.specs.declared.table.PointValue.{PointValue}
 use Rattle.adapter_table.specs.Profiles.{is_output_at}
 use Rattle.adapter_table.specs.Points.{bytes_at}
 use Rattle.cip_productions.specs.Kinds.{is_owner}
-use Rattle.adapter_table.specs.StatedLimits.{accepts_number}
+use Rattle.adapter_table.specs.StatedLimits.{accepts_at}
 use Rattle.adapter_table.specs.Datagrams.{output_len, expected_len, moded, row_delivery, run_data, accepted_values}
 use Rattle.cip_productions.specs.Acceptance.{is_duplicate}
 use Rattle.adapter_table.specs.Shapes.{IsShaped, len_of}
@@ -52,9 +53,9 @@ expected_is profile row owns = rw owns refl
 same_len : (a b c : ℕ) → a ≡ b + 4 → c + 4 ≡ a → c ≡ b
 same_len a b c p q = omega arith
 
-applied_len : (profile : Profile) (row : Row) (d : DatagramFields) → row_delivery profile row d ≡ Applied → length (run_data (header_at d.payload)) ≡ output_len (find (is_output_at row.consumed) profile.outputs)
-applied_len profile row d is =
-    let by = applied_by (length d.payload == expected_len profile row) (accepts_number profile.limits.newer row.last d.sequence) (is_owner row.kind) (is_duplicate row.last d.count) (header_at d.payload) is in
+applied_len : (profile : Profile) (clock : Ms) (row : Row) (d : DatagramFields) → row_delivery profile clock row d ≡ Applied → length (run_data (header_at d.payload)) ≡ output_len (find (is_output_at row.consumed) profile.outputs)
+applied_len profile clock row d is =
+    let by = applied_by (length d.payload == expected_len profile row) (accepts_at profile.limits.newer clock row d.sequence) (is_owner row.kind) (is_duplicate row.last d.count) (header_at d.payload) is in
     let len : length d.payload ≡ output_len (find (is_output_at row.consumed) profile.outputs) + 4 = eqb-true _ _ by.sized ∙ expected_is profile row by.owns in
     same_len (length d.payload) (output_len (find (is_output_at row.consumed) profile.outputs)) (length (run_data (header_at d.payload))) len (data_len d.payload (omega arith))
 
@@ -63,27 +64,27 @@ fits_found profile point len None is some long = absurd cc
 fits_found profile point len (Some output) is some long = output_fits profile point output len is long
 
 -- they fit the output of their connection
-pub applied_fits : (profile : Profile) (row : Row) (d : DatagramFields) → ConsumesOutput profile row → row_delivery profile row d ≡ Applied → len_of profile row.consumed ≡ Some (length (run_data (header_at d.payload)))
-applied_fits profile row d consumes is =
-    let by = applied_by (length d.payload == expected_len profile row) (accepts_number profile.limits.newer row.last d.sequence) (is_owner row.kind) (is_duplicate row.last d.count) (header_at d.payload) is in
-    fits_found profile row.consumed (length (run_data (header_at d.payload))) (find (is_output_at row.consumed) profile.outputs) refl (consumes by.owns) (applied_len profile row d is)
+pub applied_fits : (profile : Profile) (clock : Ms) (row : Row) (d : DatagramFields) → ConsumesOutput profile row → row_delivery profile clock row d ≡ Applied → len_of profile row.consumed ≡ Some (length (run_data (header_at d.payload)))
+applied_fits profile clock row d consumes is =
+    let by = applied_by (length d.payload == expected_len profile row) (accepts_at profile.limits.newer clock row d.sequence) (is_owner row.kind) (is_duplicate row.last d.count) (header_at d.payload) is in
+    fits_found profile row.consumed (length (run_data (header_at d.payload))) (find (is_output_at row.consumed) profile.outputs) refl (consumes by.owns) (applied_len profile clock row d is)
 
 -- there is such an output
-pub applied_output : (profile : Profile) (row : Row) (d : DatagramFields) → ConsumesOutput profile row → row_delivery profile row d ≡ Applied → is_some (find (is_output_at row.consumed) profile.outputs) ≡ true
-applied_output profile row d consumes is =
-    let by = applied_by (length d.payload == expected_len profile row) (accepts_number profile.limits.newer row.last d.sequence) (is_owner row.kind) (is_duplicate row.last d.count) (header_at d.payload) is in
+pub applied_output : (profile : Profile) (clock : Ms) (row : Row) (d : DatagramFields) → ConsumesOutput profile row → row_delivery profile clock row d ≡ Applied → is_some (find (is_output_at row.consumed) profile.outputs) ≡ true
+applied_output profile clock row d consumes is =
+    let by = applied_by (length d.payload == expected_len profile row) (accepts_at profile.limits.newer clock row d.sequence) (is_owner row.kind) (is_duplicate row.last d.count) (header_at d.payload) is in
     consumes by.owns
 
 -- what a datagram does keeps the lengths
-pub shaped_fed : (profile : Profile) (row : Row) (d : DatagramFields) (delivery : Delivery) (values : List PointValue) → row_delivery profile row d ≡ delivery → ConsumesOutput profile row → IsShaped profile values → IsShaped profile (accepted_values profile row.consumed d delivery values)
-shaped_fed profile row d Applied values is consumes shaped = shaped_put profile values row.consumed (run_data (header_at d.payload)) shaped (applied_fits profile row d consumes is)
-shaped_fed profile row d Idle values is consumes shaped = shaped_idle profile values row.consumed shaped
-shaped_fed profile row d Heartbeat values is consumes shaped = shaped
-shaped_fed profile row d Duplicate values is consumes shaped = shaped
-shaped_fed profile row d Old values is consumes shaped = shaped
-shaped_fed profile row d UnknownId values is consumes shaped = shaped
-shaped_fed profile row d WrongSize values is consumes shaped = shaped
-shaped_fed profile row d Malformed values is consumes shaped = shaped
+pub shaped_fed : (profile : Profile) (clock : Ms) (row : Row) (d : DatagramFields) (delivery : Delivery) (values : List PointValue) → row_delivery profile clock row d ≡ delivery → ConsumesOutput profile row → IsShaped profile values → IsShaped profile (accepted_values profile row.consumed d delivery values)
+shaped_fed profile clock row d Applied values is consumes shaped = shaped_put profile values row.consumed (run_data (header_at d.payload)) shaped (applied_fits profile clock row d consumes is)
+shaped_fed profile clock row d Idle values is consumes shaped = shaped_idle profile values row.consumed shaped
+shaped_fed profile clock row d Heartbeat values is consumes shaped = shaped
+shaped_fed profile clock row d Duplicate values is consumes shaped = shaped
+shaped_fed profile clock row d Old values is consumes shaped = shaped
+shaped_fed profile clock row d UnknownId values is consumes shaped = shaped
+shaped_fed profile clock row d WrongSize values is consumes shaped = shaped
+shaped_fed profile clock row d Malformed values is consumes shaped = shaped
 
 -- ---- what it leaves
 

@@ -8,7 +8,8 @@ use Rattle.adapter_table.specs.declared.maker_limits.MakerLimits.{MakerLimits}
 use Rattle.adapter_table.specs.Connections.{Row}
 use Rattle.adapter_table.specs.declared.table.AdapterTable.{AdapterTable}
 use Rattle.adapter_table.specs.Checks.{Admitted, admission}
-use Rattle.adapter_table.specs.StatedLimits.{exceeds, limited, limited_admission}
+use Rattle.adapter_table.specs.Rates.{has_opened_enough_at}
+use Rattle.adapter_table.specs.StatedLimits.{exceeds, limited, paced, limited_admission}
 
 pub record IsLimited (limits : MakerLimits) (rows : List Row) (peer : Node) (said : Result Admitted Refusal) (found : Admitted) : Type 0 where
   pub admitted : said ≡ Ok found
@@ -22,6 +23,20 @@ pub limited_parts : (limits : MakerLimits) (rows : List Row) (peer : Node) (said
 limited_parts limits rows peer (Err why) admitted is = absurd cc
 limited_parts limits rows peer (Ok found) admitted is = within_step (exceeds limits rows peer found.kind) limits rows peer found admitted refl is
 
+-- the node has not opened enough in its second
+pub record IsPaced (enough : Bool) (said : Result Admitted Refusal) (admitted : Admitted) : Type 0 where
+  pub limited : said ≡ Ok admitted
+  pub paced : enough ≡ false
+
+pub paced_parts : (enough : Bool) (said : Result Admitted Refusal) (admitted : Admitted) → paced enough said ≡ Ok admitted → IsPaced enough said admitted
+paced_parts enough (Err why) admitted is = absurd cc
+paced_parts true (Ok found) admitted is = absurd cc
+paced_parts false (Ok found) admitted is = record { limited = is; paced = refl }
+
 -- the same at a table
 pub limited_is : (t : AdapterTable) (peer : Node) (request : OpenFields) (admitted : Admitted) → limited_admission t peer request ≡ Ok admitted → IsLimited t.profile.limits t.rows peer (admission t request) admitted
-limited_is t peer request admitted is = limited_parts t.profile.limits t.rows peer (admission t request) admitted is
+limited_is t peer request admitted is =
+    limited_parts t.profile.limits t.rows peer (admission t request) admitted (paced_parts (has_opened_enough_at t peer) _ admitted is).limited
+
+pub paced_is : (t : AdapterTable) (peer : Node) (request : OpenFields) (admitted : Admitted) → limited_admission t peer request ≡ Ok admitted → has_opened_enough_at t peer ≡ false
+paced_is t peer request admitted is = (paced_parts (has_opened_enough_at t peer) _ admitted is).paced

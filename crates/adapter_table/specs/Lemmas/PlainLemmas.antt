@@ -35,8 +35,8 @@ cut_plain Q t refused holds (Some stream) = holds Done (ended_notices t stream.n
 found_plain : (P : Next → Type 0) (t : AdapterTable) → HoldsPlainly P → (peer : Node) (d : DatagramFields) (found : Option Row) → P (found_datagram t peer d found)
 found_plain P t holds peer d None = holds (Delivered UnknownId) [] t
 found_plain P t holds peer d (Some row) =
-    let delivery = row_delivery t.profile row d in
-    either P (is_accepted (row_delivery t.profile row d)) (delivered delivery (accepted_table t peer d row delivery)) (delivered delivery t)
+    let delivery = row_delivery t.profile t.clock row d in
+    either P (is_accepted (row_delivery t.profile t.clock row d)) (delivered delivery (accepted_table t peer d row delivery)) (delivered delivery t)
     (holds (Delivered delivery) [] (accepted_table t peer d row delivery)) (holds (Delivered delivery) [] t)
 
 datagram_plain : (P : Next → Type 0) (t : AdapterTable) → HoldsPlainly P → (peer : Node) (reading : Result DatagramFields DatagramFault) → P (datagram_of t peer reading)

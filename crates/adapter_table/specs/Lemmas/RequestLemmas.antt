@@ -2,7 +2,7 @@
 use Rattle.std.proofs.Common.{◌≡◌, ℕ, ◌+◌, ◌==◌, ◌&&◌, nat_lt, Bool, true, false, cond, not, List, [], length, find, Option, Some, None, Result, Ok, Err, refl, subst}
 use Rattle.std.specs.List.{list_any}
 use Rattle.std.specs.Str.{bytes_eq}
-use Rattle.std.proofs.lemmas.Bool.{and_parts}
+use Rattle.std.proofs.lemmas.Bool.{and_parts, or_parts}
 use Rattle.cip_types.specs.declared.names.Node.{Node}
 use Rattle.cip_types.specs.declared.names.Triad.{Triad}
 use Rattle.cip_fwdopen.specs.Open.{OpenFields}
@@ -23,29 +23,31 @@ use Rattle.cip_router.specs.declared.refusal.Status.TheVariants as status
 use Rattle.cip_router.specs.Refusals.{status_fault}
 use Rattle.cip_netparams.specs.Word.{is_message_trigger}
 use Rattle.cip_router.specs.Replies.{ReplyFields, own}
-use Rattle.messaging.specs.declared.dialogue.Dialogue as kept
+use Rattle.messaging.specs.declared.class3.Class3Connection as kept
 use Rattle.messaging.specs.declared.requests.Requester.TheVariants as asker
 use Rattle.messaging.specs.declared.requests.Waiting.{Waiting}
 use Rattle.messaging.specs.declared.table.Messaging.{Messaging}
-use Rattle.messaging.specs.Dialogues.{has_dialogue_triad, has_dialogue_id, is_dialogue, repeats_last}
+use Rattle.messaging.specs.Class3Connections.{has_class3_triad, has_class3_id, is_class3, repeats_last}
 use Rattle.messaging.specs.Changes.{longest_answer, has_request_number, lacks_room}
 use Rattle.adapter_table.specs.Connections.{Row}
+use Rattle.opening_rates.specs.declared.rates.NodeOpenings.{NodeOpenings}
 use Rattle.adapter_table.specs.declared.table.Stream.{Stream}
 use Rattle.adapter_table.specs.declared.table.AdapterTable.{AdapterTable}
+use Rattle.adapter_table.specs.Rates.{with_openings}
 use Rattle.adapter_table.specs.Rows.{has_triad}
 use Rattle.adapter_table.specs.Checks.{Check, Admitted, admission}
 use Rattle.adapter_table.specs.StatedLimits.{limited_admission, is_wrong_closer, is_wrong_ender}
 use Rattle.adapter_table.specs.Messages.{messages_table}
 use Rattle.adapter_table.specs.MessagesSound.{carries, IsCarried, MessagesGoOn}
-use Rattle.adapter_table.specs.Own.{OwnRequest, own_of, referred_verdict, referred_table}
-use Rattle.adapter_table.specs.DialogueOpening.{dialogue_view, dialogue_refusal, judged_dialogue, served_dialogue, stream_served}
+use Rattle.adapter_table.specs.Own.{OwnRequest, own_of, cannot_ask, referred_verdict, referred_table}
+use Rattle.adapter_table.specs.Class3Opening.{class3_view, class3_refusal, opened_class3, class3_table, judged_class3, served_class3, stream_served}
 use Rattle.adapter_table.specs.Connected.{service_in, fitted_text, connected_served, next_deadline, executed_table, asking_table}
 use Rattle.adapter_table.specs.Answering.{responded, respond_of, respond}
 use Rattle.adapter_table.specs.Opening.{opened_row, opened_table}
 use Rattle.adapter_table.specs.Closing.{closed_table}
 use Rattle.adapter_table.specs.Objects.{ObjectAnswer, said, denied, resetting, object_answer}
 use Rattle.cip_router.specs.Requests.{RouterRequestFields, nothing, refused, closing, object, opening, router_request_reading}
-use Rattle.adapter_table.specs.Requests.{Next, Served, open_service, served_open, judged_open, admitted_open, served_close, close_of, refused_close, known_close, known_dialogue_close, end_of, served_end, router_refusal, object_served, served_object, served, replied, answered, requested_by, requested}
+use Rattle.adapter_table.specs.Requests.{Next, Served, open_service, served_open, judged_open, admitted_open, served_close, close_of, refused_close, known_close, known_class3_close, end_of, served_end, router_refusal, object_served, served_object, served, replied, answered, requested_by, requested}
 use Rattle.cip_events.specs.Answers.{plain_answer}
 use Rattle.adapter_table.specs.Streams.{is_stream, is_taken, with_stream, without_stream, has_session, registered_table, stream_opened, cut_of, stream_cut}
 use Rattle.cip_router.specs.Commands.{command_of, is_silent}
@@ -64,6 +66,7 @@ pub record RequestsDo (R : AdapterTable → AdapterTable → Type 0) : Type 0 wh
   pub unstreamed : (t : AdapterTable) (number : ℕ) → R t (without_stream t number)
   pub registered : (t : AdapterTable) (number : ℕ) → R t (registered_table t number)
   pub messaged : (t : AdapterTable) (next_id : ℕ) (m : Messaging) → MessagesGoOn t next_id m → R t (messages_table t next_id m)
+  pub counted : (t next : AdapterTable) (openings : List NodeOpenings) → R t next → R t (with_openings next openings)
 
 -- the same, where each connection that is opened is within the limits that the maker states
 pub record LimitedDo (R : AdapterTable → AdapterTable → Type 0) : Type 0 where
@@ -73,6 +76,7 @@ pub record LimitedDo (R : AdapterTable → AdapterTable → Type 0) : Type 0 whe
   pub unstreamed : (t : AdapterTable) (number : ℕ) → R t (without_stream t number)
   pub registered : (t : AdapterTable) (number : ℕ) → R t (registered_table t number)
   pub messaged : (t : AdapterTable) (next_id : ℕ) (m : Messaging) → MessagesGoOn t next_id m → R t (messages_table t next_id m)
+  pub connected : (t : AdapterTable) (stream : Stream) (request : OpenFields) → class3_refusal (class3_view t stream.peer request.triad) request ≡ None → IsCarried t.streams stream.number → R t (class3_table t (opened_class3 t stream request))
 
 pub limited_do : (R : AdapterTable → AdapterTable → Type 0) → RequestsDo R → LimitedDo R
 limited_do R does = record {
@@ -82,6 +86,7 @@ limited_do R does = record {
   unstreamed = does.unstreamed;
   registered = does.registered;
   messaged = does.messaged;
+  connected = λ t stream request passes carried. does.counted t _ _ (does.messaged t (t.next_id + 1) _ (goes_opened t stream request passes carried));
 }
 
 pub next_is : (x y : Next) → ◌≡◌ {A = Result Next StepFault} (Ok x) (Ok y) → x ≡ y
@@ -104,11 +109,11 @@ does_close R does t peer request (Some row) is = does_found R does t peer reques
 
 -- a class 3 connection is closed
 
-does_ended : (R : AdapterTable → AdapterTable → Type 0) → LimitedDo R → (t : AdapterTable) (request : CloseFields) (d : kept.Dialogue) (b : Bool) → R t (cond b (refused_close t request (status_fault status.PrivilegeViolation)) (known_dialogue_close t d)).table
+does_ended : (R : AdapterTable → AdapterTable → Type 0) → LimitedDo R → (t : AdapterTable) (request : CloseFields) (d : kept.Class3Connection) (b : Bool) → R t (cond b (refused_close t request (status_fault status.PrivilegeViolation)) (known_class3_close t d)).table
 does_ended R does t request d true = does.stays t
 does_ended R does t request d false = does.messaged t t.next_id _ (goes_closed t d)
 
-does_end : (R : AdapterTable → AdapterTable → Type 0) → LimitedDo R → (t : AdapterTable) (peer : Node) (request : CloseFields) (found : Option kept.Dialogue) → R t (end_of t peer request found).table
+does_end : (R : AdapterTable → AdapterTable → Type 0) → LimitedDo R → (t : AdapterTable) (peer : Node) (request : CloseFields) (found : Option kept.Class3Connection) → R t (end_of t peer request found).table
 unfolding served_close
 does_end R does t peer request None = does_close R does t peer request (find (has_triad request.triad) t.rows) refl
 does_end R does t peer request (Some d) = does_ended R does t request d (is_wrong_ender t.profile.limits peer d)
@@ -127,7 +132,7 @@ served_does : (R : AdapterTable → AdapterTable → Type 0) → LimitedDo R →
 unfolding served_open served_end served_object
 served_does R does t peer nothing = does.stays t
 served_does R does t peer (refused service why) = does.stays t
-served_does R does t peer (closing request) = does_end R does t peer request (find (has_dialogue_triad request.triad) t.messaging.dialogues)
+served_does R does t peer (closing request) = does_end R does t peer request (find (has_class3_triad request.triad) t.messaging.class3_connections)
 served_does R does t peer (object service class instance attribute body) = does_object R does t service (object_answer t service class instance attribute body)
 served_does R does t peer (opening large request) = does_judged R does t peer large request (limited_admission t peer request) refl
 
@@ -138,13 +143,17 @@ answered_by P t peer (Some s) does = does
 pub answered_does : (R : AdapterTable → AdapterTable → Type 0) → LimitedDo R → (t : AdapterTable) (peer : Node) (router_request : RouterRequestFields) → R t (answered t peer (served t peer router_request)).1
 answered_does R does t peer router_request = answered_by (R t) t peer (served t peer router_request) (served_does R does t peer router_request)
 
-does_own : (R : AdapterTable → AdapterTable → Type 0) → LimitedDo R → (t : AdapterTable) (peer : Node) (asks : OwnRequest) (b : Bool) → lacks_room t.messaging ≡ b → R t (cond b (replied peer (router_refusal t asks.service status.ResourceUnavailable)) (plain_answer (referred_verdict t asks), referred_table t (asker.Peer peer) asks)).1
+-- where a request of a node can wait, the application can be asked
+pub leaves_room : (t : AdapterTable) (peer : Node) → cannot_ask t peer ≡ false → lacks_room t.messaging ≡ false
+leaves_room t peer is = (or_parts (lacks_room t.messaging) _ is).0
+
+does_own : (R : AdapterTable → AdapterTable → Type 0) → LimitedDo R → (t : AdapterTable) (peer : Node) (asks : OwnRequest) (b : Bool) → cannot_ask t peer ≡ b → R t (cond b (replied peer (router_refusal t asks.service status.ResourceUnavailable)) (plain_answer (referred_verdict t asks), referred_table t peer (asker.Peer peer) asks)).1
 does_own R does t peer asks true room = does.stays t
-does_own R does t peer asks false room = does.messaged t t.next_id _ (goes_referred t (asker.Peer peer) asks.service room refl tt)
+does_own R does t peer asks false room = does.messaged t t.next_id _ (goes_referred t peer (asker.Peer peer) asks.service (leaves_room t peer room) refl tt)
 
 requested_by_does : (R : AdapterTable → AdapterTable → Type 0) → LimitedDo R → (t : AdapterTable) (peer : Node) (router_request : RouterRequestFields) (asks : Option OwnRequest) → R t (requested_by t peer router_request asks).1
 requested_by_does R does t peer router_request None = answered_does R does t peer router_request
-requested_by_does R does t peer router_request (Some asks) = does_own R does t peer asks (lacks_room t.messaging) refl
+requested_by_does R does t peer router_request (Some asks) = does_own R does t peer asks (cannot_ask t peer) refl
 
 -- each request of a peer
 pub requested_does : (R : AdapterTable → AdapterTable → Type 0) → LimitedDo R → (t : AdapterTable) (peer : Node) (bytes : List ℕ) → R t (requested t peer bytes).1
@@ -177,26 +186,26 @@ within_session : (P : AdapterTable → Type 0) (stream : Stream) (session : ℕ)
 within_session P stream session true x y has first second = first (and_parts stream.registered _ has).0
 within_session P stream session false x y has first second = second
 
-does_dialogue : (R : AdapterTable → AdapterTable → Type 0) → LimitedDo R → (t : AdapterTable) (stream : Stream) (large : Bool) (request : OpenFields) (c : Check) → dialogue_refusal (dialogue_view t stream.peer request.triad) request ≡ c → IsCarried t.streams stream.number → R t (judged_dialogue t stream large request c).table
-does_dialogue R does t stream large request (Some why) is carried = does.stays t
-does_dialogue R does t stream large request None is carried = does.messaged t (t.next_id + 1) _ (goes_opened t stream request is carried)
+does_class3 : (R : AdapterTable → AdapterTable → Type 0) → LimitedDo R → (t : AdapterTable) (stream : Stream) (large : Bool) (request : OpenFields) (c : Check) → class3_refusal (class3_view t stream.peer request.triad) request ≡ c → IsCarried t.streams stream.number → R t (judged_class3 t stream large request c).table
+does_class3 R does t stream large request (Some why) is carried = does.stays t
+does_class3 R does t stream large request None is carried = does.connected t stream request is carried
 
-does_stream_open : (R : AdapterTable → AdapterTable → Type 0) → LimitedDo R → (t : AdapterTable) (stream : Stream) (large : Bool) (request : OpenFields) (b : Bool) → IsCarried t.streams stream.number → R t (served_table t (cond b (Some (served_dialogue t stream large request)) (served t stream.peer (opening large request))))
-unfolding served_dialogue
-does_stream_open R does t stream large request true carried = does_dialogue R does t stream large request (dialogue_refusal (dialogue_view t stream.peer request.triad) request) refl carried
+does_stream_open : (R : AdapterTable → AdapterTable → Type 0) → LimitedDo R → (t : AdapterTable) (stream : Stream) (large : Bool) (request : OpenFields) (b : Bool) → IsCarried t.streams stream.number → R t (served_table t (cond b (Some (served_class3 t stream large request)) (served t stream.peer (opening large request))))
+unfolding served_class3
+does_stream_open R does t stream large request true carried = does_class3 R does t stream large request (class3_refusal (class3_view t stream.peer request.triad) request) refl carried
 does_stream_open R does t stream large request false carried = served_does R does t stream.peer (opening large request)
 
 stream_served_does : (R : AdapterTable → AdapterTable → Type 0) → LimitedDo R → (t : AdapterTable) (stream : Stream) (router_request : RouterRequestFields) → IsCarried t.streams stream.number → R t (served_table t (stream_served t stream router_request))
 stream_served_does R does t stream (opening large request) carried = does_stream_open R does t stream large request (is_message_trigger request.trigger) carried
 stream_served_does R does t stream other carried = served_does R does t stream.peer other
 
-does_own_over : (R : AdapterTable → AdapterTable → Type 0) → LimitedDo R → (t : AdapterTable) (stream : Stream) (context : ℕ) (asks : OwnRequest) (b : Bool) → lacks_room t.messaging ≡ b → IsCarried t.streams stream.number → R t (cond b (request_replied t (Some (router_refusal t asks.service status.ResourceUnavailable))) (record { reply = None; verdict = referred_verdict t asks; notices = []; table = referred_table t (asker.Stream stream.number context) asks })).table
+does_own_over : (R : AdapterTable → AdapterTable → Type 0) → LimitedDo R → (t : AdapterTable) (stream : Stream) (context : ℕ) (asks : OwnRequest) (b : Bool) → cannot_ask t stream.peer ≡ b → IsCarried t.streams stream.number → R t (cond b (request_replied t (Some (router_refusal t asks.service status.ResourceUnavailable))) (record { reply = None; verdict = referred_verdict t asks; notices = []; table = referred_table t stream.peer (asker.Stream stream.number context) asks })).table
 does_own_over R does t stream context asks true room carried = does.stays t
-does_own_over R does t stream context asks false room carried = does.messaged t t.next_id _ (goes_referred t (asker.Stream stream.number context) asks.service room refl carried)
+does_own_over R does t stream context asks false room carried = does.messaged t t.next_id _ (goes_referred t stream.peer (asker.Stream stream.number context) asks.service (leaves_room t stream.peer room) refl carried)
 
 does_request : (R : AdapterTable → AdapterTable → Type 0) → LimitedDo R → (t : AdapterTable) (stream : Stream) (context : ℕ) (router_request : RouterRequestFields) (asks : Option OwnRequest) → IsCarried t.streams stream.number → R t (request_handled t stream context router_request asks).table
 does_request R does t stream context router_request None carried = replied_by (R t) t (stream_served t stream router_request) (stream_served_does R does t stream router_request carried)
-does_request R does t stream context router_request (Some asks) carried = does_own_over R does t stream context asks (lacks_room t.messaging) refl carried
+does_request R does t stream context router_request (Some asks) carried = does_own_over R does t stream context asks (cannot_ask t stream.peer) refl carried
 
 does_packet : (R : AdapterTable → AdapterTable → Type 0) → LimitedDo R → (t : AdapterTable) (stream : Stream) (context : ℕ) (reading : Result PacketFields ItemFault) → IsCarried t.streams stream.number → R t (packet_replied t stream context reading).table
 does_packet R does t stream context (Err fault) carried = does.stays t
@@ -204,15 +213,15 @@ does_packet R does t stream context (Ok packet) carried = does_request R does t 
 
 -- ---- connected messages
 
-executed_does : (R : AdapterTable → AdapterTable → Type 0) → LimitedDo R → (t : AdapterTable) (d : kept.Dialogue) (count service : ℕ) (reply : ReplyFields) → R t (executed_table t d count (fitted_text d service reply))
+executed_does : (R : AdapterTable → AdapterTable → Type 0) → LimitedDo R → (t : AdapterTable) (d : kept.Class3Connection) (count service : ℕ) (reply : ReplyFields) → R t (executed_table t d count (fitted_text d service reply))
 executed_does R does t d count service reply = does.messaged t t.next_id _ (goes_executed t d.o_t_id count (fitted_text d service reply) (next_deadline t d) (fitted_short d service reply))
 
-message_object : (R : AdapterTable → AdapterTable → Type 0) → LimitedDo R → (t : AdapterTable) (d : kept.Dialogue) (count first service : ℕ) (answer : ObjectAnswer) → R t (message_replied d count first (object_served t service answer)).table
+message_object : (R : AdapterTable → AdapterTable → Type 0) → LimitedDo R → (t : AdapterTable) (d : kept.Class3Connection) (count first service : ℕ) (answer : ObjectAnswer) → R t (message_replied d count first (object_served t service answer)).table
 message_object R does t d count first service (said by value) = executed_does R does t d count first (object_served t service (said by value)).reply
 message_object R does t d count first service (denied why) = executed_does R does t d count first (object_served t service (denied why)).reply
 message_object R does t d count first service (resetting kind) = executed_does R does t d count first (object_served t service (resetting kind)).reply
 
-message_served_does : (R : AdapterTable → AdapterTable → Type 0) → LimitedDo R → (t : AdapterTable) (d : kept.Dialogue) (count first : ℕ) (router_request : RouterRequestFields) → R t (message_served t d count first (connected_served t d.peer router_request)).table
+message_served_does : (R : AdapterTable → AdapterTable → Type 0) → LimitedDo R → (t : AdapterTable) (d : kept.Class3Connection) (count first : ℕ) (router_request : RouterRequestFields) → R t (message_served t d count first (connected_served t d.peer router_request)).table
 unfolding served_object
 message_served_does R does t d count first nothing = does.stays t
 message_served_does R does t d count first (refused service why) = executed_does R does t d count first (router_refusal t service why).reply
@@ -220,28 +229,28 @@ message_served_does R does t d count first (closing request) = executed_does R d
 message_served_does R does t d count first (object service class instance attribute body) = message_object R does t d count first service (object_answer t service class instance attribute body)
 message_served_does R does t d count first (opening large request) = executed_does R does t d count first (router_refusal t (open_service large) status.Service).reply
 
-does_own_message : (R : AdapterTable → AdapterTable → Type 0) → LimitedDo R → (t : AdapterTable) (d : kept.Dialogue) (count : ℕ) (asks : OwnRequest) (b : Bool) → lacks_room t.messaging ≡ b → list_any (has_dialogue_id d.o_t_id) t.messaging.dialogues ≡ true → R t (cond b (message_replied d count asks.service (router_refusal t asks.service status.ResourceUnavailable)) (record { reply = None; verdict = referred_verdict t asks; notices = []; table = asking_table t d count asks })).table
+does_own_message : (R : AdapterTable → AdapterTable → Type 0) → LimitedDo R → (t : AdapterTable) (d : kept.Class3Connection) (count : ℕ) (asks : OwnRequest) (b : Bool) → cannot_ask t d.peer ≡ b → list_any (has_class3_id d.o_t_id) t.messaging.class3_connections ≡ true → R t (cond b (message_replied d count asks.service (router_refusal t asks.service status.ResourceUnavailable)) (record { reply = None; verdict = referred_verdict t asks; notices = []; table = asking_table t d count asks })).table
 does_own_message R does t d count asks true room there = executed_does R does t d count asks.service (router_refusal t asks.service status.ResourceUnavailable).reply
-does_own_message R does t d count asks false room there = does.messaged t t.next_id _ (goes_referred_over t d.o_t_id count asks.service (next_deadline t d) there room)
+does_own_message R does t d count asks false room there = does.messaged t t.next_id _ (goes_referred_over t d.peer d.o_t_id count asks.service (next_deadline t d) there (leaves_room t d.peer room))
 
-message_executed_does : (R : AdapterTable → AdapterTable → Type 0) → LimitedDo R → (t : AdapterTable) (d : kept.Dialogue) (count first : ℕ) (router_request : RouterRequestFields) (asks : Option OwnRequest) → list_any (has_dialogue_id d.o_t_id) t.messaging.dialogues ≡ true → R t (message_executed t d count first router_request asks).table
+message_executed_does : (R : AdapterTable → AdapterTable → Type 0) → LimitedDo R → (t : AdapterTable) (d : kept.Class3Connection) (count first : ℕ) (router_request : RouterRequestFields) (asks : Option OwnRequest) → list_any (has_class3_id d.o_t_id) t.messaging.class3_connections ≡ true → R t (message_executed t d count first router_request asks).table
 message_executed_does R does t d count first router_request None there = message_served_does R does t d count first router_request
-message_executed_does R does t d count first router_request (Some asks) there = does_own_message R does t d count asks (lacks_room t.messaging) refl there
+message_executed_does R does t d count first router_request (Some asks) there = does_own_message R does t d count asks (cannot_ask t d.peer) refl there
 
-message_found_does : (R : AdapterTable → AdapterTable → Type 0) → LimitedDo R → (t : AdapterTable) (count : ℕ) (message : List ℕ) (p : kept.Dialogue → Bool) (found : Option kept.Dialogue) → find p t.messaging.dialogues ≡ found → R t (message_found t count message found).table
+message_found_does : (R : AdapterTable → AdapterTable → Type 0) → LimitedDo R → (t : AdapterTable) (count : ℕ) (message : List ℕ) (p : kept.Class3Connection → Bool) (found : Option kept.Class3Connection) → find p t.messaging.class3_connections ≡ found → R t (message_found t count message found).table
 message_found_does R does t count message p None is = does.stays t
 message_found_does R does t count message p (Some d) is =
     either_does (R t) (nat_lt d.o_t_size (2 + length message)) _ _ (does.stays t)
     (either_does (R t) (repeats_last d count) _ (message_executed t d count (service_in message) (router_request_reading message) (own_of t.profile.objects (router_request_reading message)))
     (does.messaged t t.next_id _ (goes_repeated t d.o_t_id (next_deadline t d)))
     (message_executed_does R does t d count (service_in message) (router_request_reading message) (own_of t.profile.objects (router_request_reading message))
-    (found_any p (has_dialogue_id d.o_t_id) t.messaging.dialogues d is (same_number d.o_t_id.0))))
+    (found_any p (has_class3_id d.o_t_id) t.messaging.class3_connections d is (same_number d.o_t_id.0))))
 
 does_unit : (R : AdapterTable → AdapterTable → Type 0) → LimitedDo R → (t : AdapterTable) (stream : Stream) (reading : Result ConnectedFields ItemFault) → R t (unit_replied t stream reading).table
 does_unit R does t stream (Err fault) = does.stays t
 does_unit R does t stream (Ok unit) =
-    message_found_does R does t unit.count unit.message (is_dialogue stream.number (record { 0 = unit.connection }))
-    (find (is_dialogue stream.number (record { 0 = unit.connection })) t.messaging.dialogues) refl
+    message_found_does R does t unit.count unit.message (is_class3 stream.number (record { 0 = unit.connection }))
+    (find (is_class3 stream.number (record { 0 = unit.connection })) t.messaging.class3_connections) refl
 
 -- ---- messages
 

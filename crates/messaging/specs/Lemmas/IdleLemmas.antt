@@ -5,11 +5,11 @@ use Rattle.std.proofs.lemmas.Bool.{or_parts}
 use Rattle.std.proofs.lemmas.Bool.Decides.{nat_tests}
 use Rattle.cip_types.specs.declared.names.Ms.{Ms}
 use Rattle.cip_types.specs.Order.{in_order}
-use Rattle.messaging.specs.declared.dialogue.Dialogue.{Dialogue}
+use Rattle.messaging.specs.declared.class3.Class3Connection.{Class3Connection}
 use Rattle.messaging.specs.declared.requests.Waiting.{Waiting}
 use Rattle.messaging.specs.declared.table.Messaging.{Messaging}
-use Rattle.messaging.specs.Changes.{can_be_answered, with_dialogues}
-use Rattle.messaging.specs.Times.{is_late_dialogue, is_late_request, by_dialogue_deadline, late_dialogues, without_late_dialogues, late_waiting, late_replies, without_late_waiting, aged, is_idle, dialogue_end, request_end, first_of, first_moment}
+use Rattle.messaging.specs.Changes.{can_be_answered, with_class3_connections}
+use Rattle.messaging.specs.Times.{is_late_class3, is_late_request, by_class3_deadline, late_class3_connections, without_late_class3_connections, late_waiting, late_replies, without_late_waiting, aged, is_idle, class3_end, request_end, first_of, first_moment}
 use Rattle.messaging.specs.Sound.{EachOf, CanBeAnswered}
 
 none_pass : {A : Type 0} (p : A → Bool) (xs : List A) → list_any p xs ≡ false → filter p xs ≡ []
@@ -35,16 +35,16 @@ not_either false false is = refl
 
 -- nothing ends
 pub record IsCalm (clock : Ms) (m : Messaging) : Type 0 where
-  pub dialogues : late_dialogues clock m ≡ []
-  pub left : without_late_dialogues clock m ≡ m
+  pub class3_connections : late_class3_connections clock m ≡ []
+  pub left : without_late_class3_connections clock m ≡ m
   pub waiting : late_waiting clock m ≡ []
   pub same : aged clock m ≡ m
 
-left_is : (clock : Ms) (m : Messaging) → EachOf (CanBeAnswered m.dialogues) m.waiting → list_any (is_late_dialogue clock) m.dialogues ≡ false → without_late_dialogues clock m ≡ m
-unfolding without_late_dialogues
+left_is : (clock : Ms) (m : Messaging) → EachOf (CanBeAnswered m.class3_connections) m.waiting → list_any (is_late_class3 clock) m.class3_connections ≡ false → without_late_class3_connections clock m ≡ m
+unfolding without_late_class3_connections
 left_is clock m answerable none =
-    ap (λ (l : List Dialogue). with_dialogues m l) (all_stay (is_late_dialogue clock) m.dialogues none)
-    ∙ ap (λ (l : List Waiting). record m { waiting = l }) (all_pass (can_be_answered m.dialogues) m.waiting answerable)
+    ap (λ (l : List Class3Connection). with_class3_connections m l) (all_stay (is_late_class3 clock) m.class3_connections none)
+    ∙ ap (λ (l : List Waiting). record m { waiting = l }) (all_pass (can_be_answered m.class3_connections) m.waiting answerable)
 
 early_is : (clock : Ms) (m : Messaging) → list_any (is_late_request clock) m.waiting ≡ false → without_late_waiting clock m ≡ m
 unfolding without_late_waiting
@@ -52,13 +52,13 @@ early_is clock m none =
     ap (λ (l : List Waiting). late_replies l (record m { waiting = filter (λ w. not (is_late_request clock w)) m.waiting })) (none_pass (is_late_request clock) m.waiting none)
     ∙ ap (λ (l : List Waiting). record m { waiting = l }) (all_stay (is_late_request clock) m.waiting none)
 
-pub idle_is_calm : (clock : Ms) (m : Messaging) → EachOf (CanBeAnswered m.dialogues) m.waiting → is_idle clock m ≡ true → IsCalm clock m
+pub idle_is_calm : (clock : Ms) (m : Messaging) → EachOf (CanBeAnswered m.class3_connections) m.waiting → is_idle clock m ≡ true → IsCalm clock m
 unfolding aged
 idle_is_calm clock m answerable idle =
-    let none = or_parts (list_any (is_late_dialogue clock) m.dialogues) (list_any (is_late_request clock) m.waiting) (not_either (list_any (is_late_dialogue clock) m.dialogues) (list_any (is_late_request clock) m.waiting) idle) in
+    let none = or_parts (list_any (is_late_class3 clock) m.class3_connections) (list_any (is_late_request clock) m.waiting) (not_either (list_any (is_late_class3 clock) m.class3_connections) (list_any (is_late_request clock) m.waiting) idle) in
     let left = left_is clock m answerable none.0 in
     record {
-      dialogues = ap (in_order by_dialogue_deadline) (none_pass (is_late_dialogue clock) m.dialogues none.0);
+      class3_connections = ap (in_order by_class3_deadline) (none_pass (is_late_class3 clock) m.class3_connections none.0);
       left = left;
       waiting = none_pass (is_late_request clock) m.waiting none.1;
       same = ap (without_late_waiting clock) left ∙ early_is clock m none.1;
@@ -76,4 +76,4 @@ none_late moment clock (x ∷ xs) early =
 pub early_is_idle : (clock : Ms) (m : Messaging) → clock.0 < first_moment m → is_idle clock m ≡ true
 unfolding first_moment
 early_is_idle clock m early =
-    rw (none_late dialogue_end clock.0 m.dialogues (omega (arith, early)), none_late request_end clock.0 m.waiting (omega (arith, early))) refl
+    rw (none_late class3_end clock.0 m.class3_connections (omega (arith, early)), none_late request_end clock.0 m.waiting (omega (arith, early))) refl

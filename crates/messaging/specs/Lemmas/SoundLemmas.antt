@@ -6,24 +6,25 @@ use Rattle.std.proofs.lemmas.Bool.{or_parts}
 use Rattle.std.proofs.lemmas.Bool.Decides.{nat_tests}
 use Rattle.cip_types.specs.declared.names.ConnId.{ConnId}
 use Rattle.cip_types.specs.declared.names.Ms.{Ms}
+use Rattle.cip_types.specs.declared.names.Node.{Node}
 use Rattle.cip_types.specs.declared.names.Triad.{Triad}
 use Rattle.cip_types.specs.Ids.{connection_id}
-use Rattle.messaging.specs.declared.dialogue.Dialogue as kept
+use Rattle.messaging.specs.declared.class3.Class3Connection as kept
 use Rattle.messaging.specs.declared.requests.Requester.{Requester}
-use Rattle.messaging.specs.declared.requests.Requester.TheVariants.{Peer, Stream, Dialogue}
+use Rattle.messaging.specs.declared.requests.Requester.TheVariants.{Peer, Stream, Class3Connection}
 use Rattle.messaging.specs.declared.requests.Waiting.{Waiting}
 use Rattle.messaging.specs.declared.table.Messaging.{Messaging}
 use Rattle.messaging.specs.Askers.{if_connected}
-use Rattle.messaging.specs.Dialogues.{most_dialogues, has_dialogue_triad, has_dialogue_id, is_dialogue, is_last_message, first_changed, executed_dialogue, repeated_dialogue, replied_dialogue}
-use Rattle.messaging.specs.Changes.{most_waiting, no_number, fresh_messaging, can_be_answered, with_dialogues, with_dialogue, without_dialogue, without_stream, referred_elsewhere, executed, repeated, lacks_room, waiting_for, referred, referred_over, answered, replied}
-use Rattle.messaging.specs.Times.{late_text, late_reply, late_replies, late_waiting, is_late_dialogue, is_late_request, without_late_dialogues, without_late_waiting, aged}
+use Rattle.messaging.specs.Class3Connections.{most_class3_connections, has_class3_triad, has_class3_id, is_class3, is_last_message, first_changed, executed_class3, repeated_class3, replied_class3}
+use Rattle.messaging.specs.Changes.{most_waiting, no_number, fresh_messaging, can_be_answered, with_class3_connections, with_class3, without_class3, without_stream, referred_elsewhere, executed, repeated, lacks_room, waiting_for, referred, referred_over, answered, replied}
+use Rattle.messaging.specs.Times.{late_text, late_reply, late_replies, late_waiting, is_late_class3, is_late_request, without_late_class3_connections, without_late_waiting, aged}
 use Rattle.messaging.specs.Sound.{EachOf, TriadsDiffer, IdsDiffer, IsDrawn, NumbersRise, IsNumberedBelow, CanBeAnswered, IsSoundMessaging}
 use Rattle.messaging.specs.Lemmas.EachOfLemmas.{each_left, each_more, each_weaker, each_passes, two_left, two_more, few_left}
 use Rattle.messaging.specs.Lemmas.ChangedLemmas.{changed_each, changed_two, changed_length, changed_any, changed_found}
 
 pub fresh_sound : (incarnation next_id : ℕ) → IsSoundMessaging incarnation next_id fresh_messaging
 fresh_sound incarnation next_id = record {
-  few_dialogues = omega arith;
+  few_class3_connections = omega arith;
   triads_differ = tt;
   ids_differ = tt;
   are_drawn = tt;
@@ -37,7 +38,7 @@ fresh_sound incarnation next_id = record {
 -- ids that were drawn for something else
 pub sound_later : (incarnation next_id later : ℕ) (m : Messaging) → next_id ≤ later → IsSoundMessaging incarnation next_id m → IsSoundMessaging incarnation later m
 sound_later incarnation next_id later m le sound = record {
-  few_dialogues = sound.few_dialogues;
+  few_class3_connections = sound.few_class3_connections;
   triads_differ = sound.triads_differ;
   ids_differ = sound.ids_differ;
   few_waiting = sound.few_waiting;
@@ -45,20 +46,20 @@ sound_later incarnation next_id later m le sound = record {
   numbered = sound.numbered;
   answerable = sound.answerable;
   numbers_left = sound.numbers_left;
-  are_drawn = each_weaker (IsDrawn incarnation next_id) (IsDrawn incarnation later) (λ d is. let below = is.below in record { id = is.id; below = omega arith }) m.dialogues sound.are_drawn;
+  are_drawn = each_weaker (IsDrawn incarnation next_id) (IsDrawn incarnation later) (λ d is. let below = is.below in record { id = is.id; below = omega arith }) m.class3_connections sound.are_drawn;
 }
 
 -- ---- those that are left
 
 -- connections that are left
-pub sound_left : (incarnation next_id : ℕ) (m : Messaging) (test : kept.Dialogue → Bool) → IsSoundMessaging incarnation next_id m → IsSoundMessaging incarnation next_id (with_dialogues m (filter test m.dialogues))
+pub sound_left : (incarnation next_id : ℕ) (m : Messaging) (test : kept.Class3Connection → Bool) → IsSoundMessaging incarnation next_id m → IsSoundMessaging incarnation next_id (with_class3_connections m (filter test m.class3_connections))
 sound_left incarnation next_id m test sound =
-    let can = can_be_answered (filter test m.dialogues) in
+    let can = can_be_answered (filter test m.class3_connections) in
     record {
-      few_dialogues = omega (arith, few_left test m.dialogues, sound.few_dialogues);
-      triads_differ = two_left TriadsDiffer test m.dialogues sound.triads_differ;
-      ids_differ = two_left IdsDiffer test m.dialogues sound.ids_differ;
-      are_drawn = each_left (IsDrawn incarnation next_id) test m.dialogues sound.are_drawn;
+      few_class3_connections = omega (arith, few_left test m.class3_connections, sound.few_class3_connections);
+      triads_differ = two_left TriadsDiffer test m.class3_connections sound.triads_differ;
+      ids_differ = two_left IdsDiffer test m.class3_connections sound.ids_differ;
+      are_drawn = each_left (IsDrawn incarnation next_id) test m.class3_connections sound.are_drawn;
       few_waiting = omega (arith, few_left can m.waiting, sound.few_waiting);
       numbers_rise = two_left NumbersRise can m.waiting sound.numbers_rise;
       numbered = each_left (IsNumberedBelow m.next_number) can m.waiting sound.numbered;
@@ -69,20 +70,20 @@ sound_left incarnation next_id m test sound =
 -- requests that are left
 pub sound_referred : (incarnation next_id : ℕ) (m : Messaging) (test : Waiting → Bool) → IsSoundMessaging incarnation next_id m → IsSoundMessaging incarnation next_id (record m { waiting = filter test m.waiting })
 sound_referred incarnation next_id m test sound = record {
-  few_dialogues = sound.few_dialogues;
+  few_class3_connections = sound.few_class3_connections;
   triads_differ = sound.triads_differ;
   ids_differ = sound.ids_differ;
   are_drawn = sound.are_drawn;
   few_waiting = omega (arith, few_left test m.waiting, sound.few_waiting);
   numbers_rise = two_left NumbersRise test m.waiting sound.numbers_rise;
   numbered = each_left (IsNumberedBelow m.next_number) test m.waiting sound.numbered;
-  answerable = each_left (CanBeAnswered m.dialogues) test m.waiting sound.answerable;
+  answerable = each_left (CanBeAnswered m.class3_connections) test m.waiting sound.answerable;
   numbers_left = sound.numbers_left;
 }
 
-pub without_dialogue_sound : (incarnation next_id : ℕ) (m : Messaging) (triad : Triad) → IsSoundMessaging incarnation next_id m → IsSoundMessaging incarnation next_id (without_dialogue m triad)
-unfolding without_dialogue
-without_dialogue_sound incarnation next_id m triad sound = sound_left incarnation next_id m _ sound
+pub without_class3_sound : (incarnation next_id : ℕ) (m : Messaging) (triad : Triad) → IsSoundMessaging incarnation next_id m → IsSoundMessaging incarnation next_id (without_class3 m triad)
+unfolding without_class3
+without_class3_sound incarnation next_id m triad sound = sound_left incarnation next_id m _ sound
 
 pub without_stream_sound : (incarnation next_id : ℕ) (m : Messaging) (stream : ℕ) → IsSoundMessaging incarnation next_id m → IsSoundMessaging incarnation next_id (without_stream m stream)
 unfolding without_stream
@@ -96,27 +97,27 @@ answered_sound incarnation next_id m number sound = sound_referred incarnation n
 -- ---- one connection is changed
 
 -- a change that keeps the triad, the O->T id and the opening
-pub record KeepsNames (f : kept.Dialogue → kept.Dialogue) : Type 0 where
-  pub triad : (d : kept.Dialogue) → (f d).triad ≡ d.triad
-  pub id : (d : kept.Dialogue) → (f d).o_t_id ≡ d.o_t_id
-  pub opening : (d : kept.Dialogue) → (f d).opening ≡ d.opening
+pub record KeepsNames (f : kept.Class3Connection → kept.Class3Connection) : Type 0 where
+  pub triad : (d : kept.Class3Connection) → (f d).triad ≡ d.triad
+  pub id : (d : kept.Class3Connection) → (f d).o_t_id ≡ d.o_t_id
+  pub opening : (d : kept.Class3Connection) → (f d).opening ≡ d.opening
 
-drawn_kept : (incarnation next_id : ℕ) (f : kept.Dialogue → kept.Dialogue) → KeepsNames f → (d : kept.Dialogue) → IsDrawn incarnation next_id d → IsDrawn incarnation next_id (f d)
+drawn_kept : (incarnation next_id : ℕ) (f : kept.Class3Connection → kept.Class3Connection) → KeepsNames f → (d : kept.Class3Connection) → IsDrawn incarnation next_id d → IsDrawn incarnation next_id (f d)
 drawn_kept incarnation next_id f names d is = record {
   id = names.id d ∙ is.id ∙ ap (connection_id incarnation) (sym (names.opening d));
   below = subst (λ n. n < next_id) (sym (names.opening d)) is.below;
 }
 
 -- the changed connection may have executed another message
-pub sound_changed : (incarnation next_id : ℕ) (m : Messaging) (test : kept.Dialogue → Bool) (f : kept.Dialogue → kept.Dialogue) → KeepsNames f → IsSoundMessaging incarnation next_id m → IsSoundMessaging incarnation next_id (with_dialogues m (first_changed test f m.dialogues))
+pub sound_changed : (incarnation next_id : ℕ) (m : Messaging) (test : kept.Class3Connection → Bool) (f : kept.Class3Connection → kept.Class3Connection) → KeepsNames f → IsSoundMessaging incarnation next_id m → IsSoundMessaging incarnation next_id (with_class3_connections m (first_changed test f m.class3_connections))
 sound_changed incarnation next_id m test f names sound =
-    let changed = first_changed test f m.dialogues in
+    let changed = first_changed test f m.class3_connections in
     let can = can_be_answered changed in
     record {
-      few_dialogues = omega (arith, changed_length test f m.dialogues, sound.few_dialogues);
-      triads_differ = changed_two TriadsDiffer test f (λ a b h. rw (names.triad a) h) (λ a b h. rw (names.triad b) h) m.dialogues sound.triads_differ;
-      ids_differ = changed_two IdsDiffer test f (λ a b h. rw (names.id a) h) (λ a b h. rw (names.id b) h) m.dialogues sound.ids_differ;
-      are_drawn = changed_each (IsDrawn incarnation next_id) test f (drawn_kept incarnation next_id f names) m.dialogues sound.are_drawn;
+      few_class3_connections = omega (arith, changed_length test f m.class3_connections, sound.few_class3_connections);
+      triads_differ = changed_two TriadsDiffer test f (λ a b h. rw (names.triad a) h) (λ a b h. rw (names.triad b) h) m.class3_connections sound.triads_differ;
+      ids_differ = changed_two IdsDiffer test f (λ a b h. rw (names.id a) h) (λ a b h. rw (names.id b) h) m.class3_connections sound.ids_differ;
+      are_drawn = changed_each (IsDrawn incarnation next_id) test f (drawn_kept incarnation next_id f names) m.class3_connections sound.are_drawn;
       few_waiting = omega (arith, few_left can m.waiting, sound.few_waiting);
       numbers_rise = two_left NumbersRise can m.waiting sound.numbers_rise;
       numbered = each_left (IsNumberedBelow m.next_number) can m.waiting sound.numbered;
@@ -125,78 +126,78 @@ sound_changed incarnation next_id m test f names sound =
     }
 
 -- A change that keeps the last message, too.
-pub record KeepsLast (f : kept.Dialogue → kept.Dialogue) : Type 0 where
+pub record KeepsLast (f : kept.Class3Connection → kept.Class3Connection) : Type 0 where
   pub names : KeepsNames f
-  pub last : (d : kept.Dialogue) → (f d).last ≡ d.last
+  pub last : (d : kept.Class3Connection) → (f d).last ≡ d.last
 
-last_kept : (f : kept.Dialogue → kept.Dialogue) → KeepsLast f → (id : ConnId) (count : ℕ) (d : kept.Dialogue) → is_last_message id count (f d) ≡ is_last_message id count d
+last_kept : (f : kept.Class3Connection → kept.Class3Connection) → KeepsLast f → (id : ConnId) (count : ℕ) (d : kept.Class3Connection) → is_last_message id count (f d) ≡ is_last_message id count d
 last_kept f keeps id count d = rw (keeps.names.id d, keeps.last d) refl
 
-can_kept : (test : kept.Dialogue → Bool) (f : kept.Dialogue → kept.Dialogue) → KeepsLast f → (dialogues : List kept.Dialogue) (from : Requester) → if_connected (λ id count. list_any (is_last_message id count) dialogues) from ≡ true → if_connected (λ id count. list_any (is_last_message id count) (first_changed test f dialogues)) from ≡ true
-can_kept test f keeps dialogues (Peer node) is = refl
-can_kept test f keeps dialogues (Stream number context) is = refl
-can_kept test f keeps dialogues (Dialogue id count) is = changed_any (is_last_message id count) test f (last_kept f keeps id count) dialogues ∙ is
+can_kept : (test : kept.Class3Connection → Bool) (f : kept.Class3Connection → kept.Class3Connection) → KeepsLast f → (class3_connections : List kept.Class3Connection) (from : Requester) → if_connected (λ id count. list_any (is_last_message id count) class3_connections) from ≡ true → if_connected (λ id count. list_any (is_last_message id count) (first_changed test f class3_connections)) from ≡ true
+can_kept test f keeps class3_connections (Peer node) is = refl
+can_kept test f keeps class3_connections (Stream number context) is = refl
+can_kept test f keeps class3_connections (Class3Connection id count) is = changed_any (is_last_message id count) test f (last_kept f keeps id count) class3_connections ∙ is
 
 -- the changed connection has executed no other message
-pub sound_kept : (incarnation next_id : ℕ) (m : Messaging) (test : kept.Dialogue → Bool) (f : kept.Dialogue → kept.Dialogue) → KeepsLast f → IsSoundMessaging incarnation next_id m → IsSoundMessaging incarnation next_id (record m { dialogues = first_changed test f m.dialogues })
+pub sound_kept : (incarnation next_id : ℕ) (m : Messaging) (test : kept.Class3Connection → Bool) (f : kept.Class3Connection → kept.Class3Connection) → KeepsLast f → IsSoundMessaging incarnation next_id m → IsSoundMessaging incarnation next_id (record m { class3_connections = first_changed test f m.class3_connections })
 sound_kept incarnation next_id m test f keeps sound =
-    let changed = first_changed test f m.dialogues in
+    let changed = first_changed test f m.class3_connections in
     let there = sound_changed incarnation next_id m test f keeps.names sound in
     record {
-      few_dialogues = there.few_dialogues;
+      few_class3_connections = there.few_class3_connections;
       triads_differ = there.triads_differ;
       ids_differ = there.ids_differ;
       are_drawn = there.are_drawn;
       few_waiting = sound.few_waiting;
       numbers_rise = sound.numbers_rise;
       numbered = sound.numbered;
-      answerable = each_weaker (CanBeAnswered m.dialogues) (CanBeAnswered changed) (λ w is. can_kept test f keeps m.dialogues w.asker is) m.waiting sound.answerable;
+      answerable = each_weaker (CanBeAnswered m.class3_connections) (CanBeAnswered changed) (λ w is. can_kept test f keeps m.class3_connections w.asker is) m.waiting sound.answerable;
       numbers_left = sound.numbers_left;
     }
 
-executed_names : (count : ℕ) (reply : List ℕ) (deadline : Ms) → KeepsNames (executed_dialogue count reply deadline)
+executed_names : (count : ℕ) (reply : List ℕ) (deadline : Ms) → KeepsNames (executed_class3 count reply deadline)
 executed_names count reply deadline = record { triad = λ d. refl; id = λ d. refl; opening = λ d. refl }
 
 pub executed_sound : (incarnation next_id : ℕ) (m : Messaging) (id : ConnId) (count : ℕ) (reply : List ℕ) (deadline : Ms) → IsSoundMessaging incarnation next_id m → IsSoundMessaging incarnation next_id (executed m id count reply deadline)
 unfolding executed
 executed_sound incarnation next_id m id count reply deadline sound =
-    sound_changed incarnation next_id m (has_dialogue_id id) (executed_dialogue count reply deadline) (executed_names count reply deadline) sound
+    sound_changed incarnation next_id m (has_class3_id id) (executed_class3 count reply deadline) (executed_names count reply deadline) sound
 
-repeated_keeps : (deadline : Ms) → KeepsLast (repeated_dialogue deadline)
+repeated_keeps : (deadline : Ms) → KeepsLast (repeated_class3 deadline)
 repeated_keeps deadline = record { names = record { triad = λ d. refl; id = λ d. refl; opening = λ d. refl }; last = λ d. refl }
 
 pub repeated_sound : (incarnation next_id : ℕ) (m : Messaging) (id : ConnId) (deadline : Ms) → IsSoundMessaging incarnation next_id m → IsSoundMessaging incarnation next_id (repeated m id deadline)
 unfolding repeated
 repeated_sound incarnation next_id m id deadline sound =
-    sound_kept incarnation next_id m (has_dialogue_id id) (repeated_dialogue deadline) (repeated_keeps deadline) sound
+    sound_kept incarnation next_id m (has_class3_id id) (repeated_class3 deadline) (repeated_keeps deadline) sound
 
-replied_keeps : (reply : List ℕ) → KeepsLast (replied_dialogue reply)
+replied_keeps : (reply : List ℕ) → KeepsLast (replied_class3 reply)
 replied_keeps reply = record { names = record { triad = λ d. refl; id = λ d. refl; opening = λ d. refl }; last = λ d. refl }
 
 pub replied_sound : (incarnation next_id : ℕ) (m : Messaging) (id : ConnId) (count : ℕ) (reply : List ℕ) → IsSoundMessaging incarnation next_id m → IsSoundMessaging incarnation next_id (replied m id count reply)
 unfolding replied
 replied_sound incarnation next_id m id count reply sound =
-    sound_kept incarnation next_id m (is_last_message id count) (replied_dialogue reply) (replied_keeps reply) sound
+    sound_kept incarnation next_id m (is_last_message id count) (replied_class3 reply) (replied_keeps reply) sound
 
 -- ---- a connection is opened
 
 -- a connection whose id is drawn now, of a triad that no other has
-pub record IsNewDialogue (incarnation next_id : ℕ) (m : Messaging) (d : kept.Dialogue) : Type 0 where
-  pub room : length m.dialogues < most_dialogues
-  pub triad : list_any (has_dialogue_triad d.triad) m.dialogues ≡ false
+pub record IsNewClass3 (incarnation next_id : ℕ) (m : Messaging) (d : kept.Class3Connection) : Type 0 where
+  pub room : length m.class3_connections < most_class3_connections
+  pub triad : list_any (has_class3_triad d.triad) m.class3_connections ≡ false
   pub id : d.o_t_id ≡ connection_id incarnation next_id
   pub opening : d.opening ≡ next_id
 
-each_other : (p : kept.Dialogue → Bool) (R : kept.Dialogue → Type 0) → ((d : kept.Dialogue) → p d ≡ false → R d) → (dialogues : List kept.Dialogue) → list_any p dialogues ≡ false → EachOf R dialogues
+each_other : (p : kept.Class3Connection → Bool) (R : kept.Class3Connection → Type 0) → ((d : kept.Class3Connection) → p d ≡ false → R d) → (class3_connections : List kept.Class3Connection) → list_any p class3_connections ≡ false → EachOf R class3_connections
 each_other p R other [] none = tt
-each_other p R other (d ∷ dialogues) none =
-    let parts = or_parts (p d) (list_any p dialogues) none in
-    (other d parts.0, each_other p R other dialogues parts.1)
+each_other p R other (d ∷ class3_connections) none =
+    let parts = or_parts (p d) (list_any p class3_connections) none in
+    (other d parts.0, each_other p R other class3_connections parts.1)
 
-other_triad : (a b : kept.Dialogue) → has_dialogue_triad b.triad a ≡ false → TriadsDiffer a b
+other_triad : (a b : kept.Class3Connection) → has_class3_triad b.triad a ≡ false → TriadsDiffer a b
 other_triad a b h = grind (arith, nat_tests)
 
-other_id : (incarnation next_id : ℕ) (a b : kept.Dialogue) → b.o_t_id ≡ connection_id incarnation next_id → IsDrawn incarnation next_id a → IdsDiffer a b
+other_id : (incarnation next_id : ℕ) (a b : kept.Class3Connection) → b.o_t_id ≡ connection_id incarnation next_id → IsDrawn incarnation next_id a → IdsDiffer a b
 other_id incarnation next_id a b is drawn =
     let own : a.o_t_id.0 ≡ incarnation * 2 ^ 24 + a.opening = ap (λ (id : ConnId). id.0) drawn.id in
     let new : b.o_t_id.0 ≡ incarnation * 2 ^ 24 + next_id = ap (λ (id : ConnId). id.0) is in
@@ -207,49 +208,49 @@ or_more : (a b : Bool) → a ≡ true → (a || b) ≡ true
 or_more true b is = refl
 or_more false b is = absurd cc
 
-can_more : (dialogues : List kept.Dialogue) (d : kept.Dialogue) (from : Requester) → if_connected (λ id count. list_any (is_last_message id count) dialogues) from ≡ true → if_connected (λ id count. list_any (is_last_message id count) (dialogues ++ d ∷ [])) from ≡ true
-can_more dialogues d (Peer node) is = refl
-can_more dialogues d (Stream number context) is = refl
-can_more dialogues d (Dialogue id count) is =
-    list_any-append (is_last_message id count) dialogues (d ∷ []) ∙ or_more (list_any (is_last_message id count) dialogues) _ is
+can_more : (class3_connections : List kept.Class3Connection) (d : kept.Class3Connection) (from : Requester) → if_connected (λ id count. list_any (is_last_message id count) class3_connections) from ≡ true → if_connected (λ id count. list_any (is_last_message id count) (class3_connections ++ d ∷ [])) from ≡ true
+can_more class3_connections d (Peer node) is = refl
+can_more class3_connections d (Stream number context) is = refl
+can_more class3_connections d (Class3Connection id count) is =
+    list_any-append (is_last_message id count) class3_connections (d ∷ []) ∙ or_more (list_any (is_last_message id count) class3_connections) _ is
 
-pub with_dialogue_sound : (incarnation next_id later : ℕ) (m : Messaging) (d : kept.Dialogue) → IsNewDialogue incarnation next_id m d → next_id < later → IsSoundMessaging incarnation next_id m → IsSoundMessaging incarnation later (with_dialogue m d)
-unfolding with_dialogue
-with_dialogue_sound incarnation next_id later m d new lt sound =
-    let grown = m.dialogues ++ d ∷ [] in
+pub with_class3_sound : (incarnation next_id later : ℕ) (m : Messaging) (d : kept.Class3Connection) → IsNewClass3 incarnation next_id m d → next_id < later → IsSoundMessaging incarnation next_id m → IsSoundMessaging incarnation later (with_class3 m d)
+unfolding with_class3
+with_class3_sound incarnation next_id later m d new lt sound =
+    let grown = m.class3_connections ++ d ∷ [] in
     let drawn = (sound_later incarnation next_id later m (omega arith) sound).are_drawn in
     let opening = new.opening in
     let room = new.room in
     record {
-      few_dialogues = simp length-append (omega arith);
-      triads_differ = two_more TriadsDiffer m.dialogues d sound.triads_differ (each_other (has_dialogue_triad d.triad) (λ a. TriadsDiffer a d) (λ a h. other_triad a d h) m.dialogues new.triad);
-      ids_differ = two_more IdsDiffer m.dialogues d sound.ids_differ (each_weaker (IsDrawn incarnation next_id) (λ a. IdsDiffer a d) (λ a is. other_id incarnation next_id a d new.id is) m.dialogues sound.are_drawn);
-      are_drawn = each_more (IsDrawn incarnation later) m.dialogues d drawn (record { id = new.id ∙ ap (connection_id incarnation) (sym new.opening); below = omega arith });
+      few_class3_connections = simp length-append (omega arith);
+      triads_differ = two_more TriadsDiffer m.class3_connections d sound.triads_differ (each_other (has_class3_triad d.triad) (λ a. TriadsDiffer a d) (λ a h. other_triad a d h) m.class3_connections new.triad);
+      ids_differ = two_more IdsDiffer m.class3_connections d sound.ids_differ (each_weaker (IsDrawn incarnation next_id) (λ a. IdsDiffer a d) (λ a is. other_id incarnation next_id a d new.id is) m.class3_connections sound.are_drawn);
+      are_drawn = each_more (IsDrawn incarnation later) m.class3_connections d drawn (record { id = new.id ∙ ap (connection_id incarnation) (sym new.opening); below = omega arith });
       few_waiting = sound.few_waiting;
       numbers_rise = sound.numbers_rise;
       numbered = sound.numbered;
-      answerable = each_weaker (CanBeAnswered m.dialogues) (CanBeAnswered grown) (λ w is. can_more m.dialogues d w.asker is) m.waiting sound.answerable;
+      answerable = each_weaker (CanBeAnswered m.class3_connections) (CanBeAnswered grown) (λ w is. can_more m.class3_connections d w.asker is) m.waiting sound.answerable;
       numbers_left = sound.numbers_left;
     }
 
 -- ---- the application is asked
 
-pub referred_sound : (incarnation next_id : ℕ) (m : Messaging) (from : Requester) (service : ℕ) (clock : Ms) → lacks_room m ≡ false → can_be_answered m.dialogues (waiting_for m.next_number from service clock) ≡ true → IsSoundMessaging incarnation next_id m → IsSoundMessaging incarnation next_id (referred m from service clock)
+pub referred_sound : (incarnation next_id : ℕ) (m : Messaging) (peer : Node) (from : Requester) (service : ℕ) (clock : Ms) → lacks_room m ≡ false → can_be_answered m.class3_connections (waiting_for m.next_number peer from service clock) ≡ true → IsSoundMessaging incarnation next_id m → IsSoundMessaging incarnation next_id (referred m peer from service clock)
 unfolding referred
-referred_sound incarnation next_id m from service clock room can sound =
-    let new = waiting_for m.next_number from service clock in
+referred_sound incarnation next_id m peer from service clock room can sound =
+    let new = waiting_for m.next_number peer from service clock in
     let parts = or_parts (nat_le most_waiting (length m.waiting)) (nat_le no_number m.next_number) room in
     let few : length m.waiting < 16 = grind (arith, nat_tests, parts.0) in
     let left : m.next_number < 2 ^ 64 - 1 = grind (arith, nat_tests, parts.1) in
     record {
-      few_dialogues = sound.few_dialogues;
+      few_class3_connections = sound.few_class3_connections;
       triads_differ = sound.triads_differ;
       ids_differ = sound.ids_differ;
       are_drawn = sound.are_drawn;
       few_waiting = simp length-append (omega arith);
       numbers_rise = two_more NumbersRise m.waiting new sound.numbers_rise sound.numbered;
       numbered = each_more (IsNumberedBelow (m.next_number + 1)) m.waiting new (each_weaker (IsNumberedBelow m.next_number) (IsNumberedBelow (m.next_number + 1)) (λ w lt. omega (arith, lt)) m.waiting sound.numbered) (omega arith);
-      answerable = each_more (CanBeAnswered m.dialogues) m.waiting new sound.answerable can;
+      answerable = each_more (CanBeAnswered m.class3_connections) m.waiting new sound.answerable can;
       numbers_left = omega (arith, left);
     }
 
@@ -260,25 +261,25 @@ room_left n k next le room =
     let few : nat_le most_waiting k ≡ false = grind (arith, nat_tests, parts.0) in
     rw (few, parts.1) refl
 
-is_executed : (id : ConnId) (count : ℕ) (reply : List ℕ) (deadline : Ms) (d : kept.Dialogue) → has_dialogue_id id d ≡ true → is_last_message id count (executed_dialogue count reply deadline d) ≡ true
+is_executed : (id : ConnId) (count : ℕ) (reply : List ℕ) (deadline : Ms) (d : kept.Class3Connection) → has_class3_id id d ≡ true → is_last_message id count (executed_class3 count reply deadline d) ≡ true
 is_executed id count reply deadline d is = rw is (grind (arith, nat_tests))
 
 -- the connection of the message is open, and the application can be asked
-pub referred_over_sound : (incarnation next_id : ℕ) (m : Messaging) (id : ConnId) (count service : ℕ) (deadline clock : Ms) → list_any (has_dialogue_id id) m.dialogues ≡ true → lacks_room m ≡ false → IsSoundMessaging incarnation next_id m → IsSoundMessaging incarnation next_id (referred_over m id count service deadline clock)
+pub referred_over_sound : (incarnation next_id : ℕ) (m : Messaging) (peer : Node) (id : ConnId) (count service : ℕ) (deadline clock : Ms) → list_any (has_class3_id id) m.class3_connections ≡ true → lacks_room m ≡ false → IsSoundMessaging incarnation next_id m → IsSoundMessaging incarnation next_id (referred_over m peer id count service deadline clock)
 unfolding referred_over executed
-referred_over_sound incarnation next_id m id count service deadline clock found room sound =
-    let change = executed_dialogue count [] deadline in
-    let next = with_dialogues m (first_changed (has_dialogue_id id) change m.dialogues) in
-    referred_sound incarnation next_id next (Dialogue id count) service clock
-    (room_left (length m.waiting) (length next.waiting) m.next_number (few_left (can_be_answered next.dialogues) m.waiting) room)
-    (changed_found (is_last_message id count) (has_dialogue_id id) change (is_executed id count [] deadline) m.dialogues found)
-    (sound_changed incarnation next_id m (has_dialogue_id id) change (executed_names count [] deadline) sound)
+referred_over_sound incarnation next_id m peer id count service deadline clock found room sound =
+    let change = executed_class3 count [] deadline in
+    let next = with_class3_connections m (first_changed (has_class3_id id) change m.class3_connections) in
+    referred_sound incarnation next_id next peer (Class3Connection id count) service clock
+    (room_left (length m.waiting) (length next.waiting) m.next_number (few_left (can_be_answered next.class3_connections) m.waiting) room)
+    (changed_found (is_last_message id count) (has_class3_id id) change (is_executed id count [] deadline) m.class3_connections found)
+    (sound_changed incarnation next_id m (has_class3_id id) change (executed_names count [] deadline) sound)
 
 and_second : (a b : Bool) → (a && b) ≡ true → b ≡ true
 and_second true b is = is
 and_second false b is = absurd cc
 
-found_step : (b c : Bool) (p : kept.Dialogue → Bool) (first d : kept.Dialogue) (rest : Option kept.Dialogue) → (b ≡ true → p first ≡ true) → cond b (Some first) rest ≡ Some d → (rest ≡ Some d → c ≡ true) → (p first || c) ≡ true
+found_step : (b c : Bool) (p : kept.Class3Connection → Bool) (first d : kept.Class3Connection) (rest : Option kept.Class3Connection) → (b ≡ true → p first ≡ true) → cond b (Some first) rest ≡ Some d → (rest ≡ Some d → c ≡ true) → (p first || c) ≡ true
 found_step true c p first d rest here is later = rw (here refl) refl
 found_step false c p first d rest here is later = right (p first) c (later is) where
   right : (a b : Bool) → b ≡ true → (a || b) ≡ true
@@ -286,26 +287,26 @@ found_step false c p first d rest here is later = right (p first) c (later is) w
   right false b is = is
 
 -- the connection of a message has its O->T id
-pub dialogue_is_open : (stream : ℕ) (id : ConnId) (dialogues : List kept.Dialogue) (d : kept.Dialogue) → find (is_dialogue stream id) dialogues ≡ Some d → list_any (has_dialogue_id id) dialogues ≡ true
-dialogue_is_open stream id [] d is = absurd cc
-dialogue_is_open stream id (first ∷ dialogues) d is =
-    found_step (is_dialogue stream id first) (list_any (has_dialogue_id id) dialogues) (has_dialogue_id id) first d (find (is_dialogue stream id) dialogues) (and_second _ (has_dialogue_id id first)) is (dialogue_is_open stream id dialogues d)
+pub class3_is_open : (stream : ℕ) (id : ConnId) (class3_connections : List kept.Class3Connection) (d : kept.Class3Connection) → find (is_class3 stream id) class3_connections ≡ Some d → list_any (has_class3_id id) class3_connections ≡ true
+class3_is_open stream id [] d is = absurd cc
+class3_is_open stream id (first ∷ class3_connections) d is =
+    found_step (is_class3 stream id first) (list_any (has_class3_id id) class3_connections) (has_class3_id id) first d (find (is_class3 stream id) class3_connections) (and_second _ (has_class3_id id first)) is (class3_is_open stream id class3_connections d)
 
 -- ---- time
 
 late_reply_sound : (incarnation next_id : ℕ) (from : Requester) (service : ℕ) (m : Messaging) → IsSoundMessaging incarnation next_id m → IsSoundMessaging incarnation next_id (late_reply from service m)
 late_reply_sound incarnation next_id (Peer node) service m sound = sound
 late_reply_sound incarnation next_id (Stream number context) service m sound = sound
-late_reply_sound incarnation next_id (Dialogue id count) service m sound = replied_sound incarnation next_id m id count (late_text service) sound
+late_reply_sound incarnation next_id (Class3Connection id count) service m sound = replied_sound incarnation next_id m id count (late_text service) sound
 
 late_replies_sound : (incarnation next_id : ℕ) (waiting : List Waiting) (m : Messaging) → IsSoundMessaging incarnation next_id m → IsSoundMessaging incarnation next_id (late_replies waiting m)
 late_replies_sound incarnation next_id [] m sound = sound
 late_replies_sound incarnation next_id (w ∷ waiting) m sound =
     late_replies_sound incarnation next_id waiting (late_reply w.asker w.service m) (late_reply_sound incarnation next_id w.asker w.service m sound)
 
-pub without_late_dialogues_sound : (incarnation next_id : ℕ) (clock : Ms) (m : Messaging) → IsSoundMessaging incarnation next_id m → IsSoundMessaging incarnation next_id (without_late_dialogues clock m)
-unfolding without_late_dialogues
-without_late_dialogues_sound incarnation next_id clock m sound = sound_left incarnation next_id m (λ d. not (is_late_dialogue clock d)) sound
+pub without_late_class3_connections_sound : (incarnation next_id : ℕ) (clock : Ms) (m : Messaging) → IsSoundMessaging incarnation next_id m → IsSoundMessaging incarnation next_id (without_late_class3_connections clock m)
+unfolding without_late_class3_connections
+without_late_class3_connections_sound incarnation next_id clock m sound = sound_left incarnation next_id m (λ d. not (is_late_class3 clock d)) sound
 
 pub without_late_waiting_sound : (incarnation next_id : ℕ) (clock : Ms) (m : Messaging) → IsSoundMessaging incarnation next_id m → IsSoundMessaging incarnation next_id (without_late_waiting clock m)
 unfolding without_late_waiting
@@ -316,4 +317,4 @@ without_late_waiting_sound incarnation next_id clock m sound =
 pub aged_sound : (incarnation next_id : ℕ) (clock : Ms) (m : Messaging) → IsSoundMessaging incarnation next_id m → IsSoundMessaging incarnation next_id (aged clock m)
 unfolding aged
 aged_sound incarnation next_id clock m sound =
-    without_late_waiting_sound incarnation next_id clock (without_late_dialogues clock m) (without_late_dialogues_sound incarnation next_id clock m sound)
+    without_late_waiting_sound incarnation next_id clock (without_late_class3_connections clock m) (without_late_class3_connections_sound incarnation next_id clock m sound)

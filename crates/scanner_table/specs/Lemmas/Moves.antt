@@ -52,7 +52,8 @@ use Rattle.scanner_table.specs.Replies.{open_answer, is_id_free, new_connection,
 use Rattle.scanner_table.specs.Closing.{idle_slot, given_up_state, given_up, target_lost, closing_slot, close_requested, slot_resigned, closed_within, stopped, stopped_at}
 use Rattle.scanner_table.specs.Explicit.{is_request, is_over, is_late, others, awaits, has_explicit_length, is_barred, connects_to, explicit_sent, explicit_within, explicit_request, explicit_reply, explicit_ended, explicit_answered, without_explicit, explicit_timed_out, explicit_lost}
 use Rattle.scanner_table.specs.Encapsulation.{registering_on, ignored, stream_opened, message_answer, cut_of, stream_cut, is_registered, session_begun, session_failed, registered, is_awaiting, replied, replied_to, reported, frame_answer, frame_of, frame}
-use Rattle.scanner_table.specs.Datagrams.{is_for, accepted_table, accepted, sized, delivered, state_received, received_at, received_as, received}
+use Rattle.cip_productions.specs.Window.{since_accepted, is_within}
+use Rattle.scanner_table.specs.Datagrams.{is_for, slot_pace, accepts_at, accepted_table, accepted, sized, delivered, state_received, received_at, received_as, received}
 use Rattle.scanner_table.specs.Points.{output_slot, output_written, write_at, write, same_mode, moded_table, mode, desired_slot, started, start_state, start_at, start, stop_of, stop}
 use Rattle.scanner_table.specs.Productions.{produced_table}
 use Rattle.scanner_table.specs.Ticks.{by_deadline, has_expired, expired_slots, expired_state, expired, all_expired, is_overdue, all_given_up, clocked_table, advanced, moved_on, ticked, tick}
@@ -496,12 +497,12 @@ accepted_step : (b : Bool) (C : ScannerTable → ScannerTable → Type 0) (t : S
 accepted_step true C t accepting indexed d c is stands opens newer = accepting indexed d c indexed.slot.image stands (record { established = opens; newer = newer; image = rw is refl })
 accepted_step false C t accepting indexed d c is stands opens newer = accepting indexed d c d.payload stands (record { established = opens; newer = newer; image = rw is refl })
 
-sequence_step : (b : Bool) (C : ScannerTable → ScannerTable → Type 0) (t : ScannerTable) → C t t → Accepts C t → (indexed : IndexedSlot) (d : DatagramFields) (c : SlotConnection) → accepts_sequence c.last d.sequence ≡ b → Stands t indexed → indexed.slot.state ≡ Established c → C t (cond b (accepted t indexed d c) (delivered Old t)).1
-sequence_step true C t same accepting indexed d c is stands opens = accepted_step (is_duplicate c.last d.count) C t accepting indexed d c refl stands opens is
+sequence_step : (b : Bool) (C : ScannerTable → ScannerTable → Type 0) (t : ScannerTable) → C t t → Accepts C t → (indexed : IndexedSlot) (d : DatagramFields) (c : SlotConnection) → accepts_at t indexed c d.sequence ≡ b → Stands t indexed → indexed.slot.state ≡ Established c → C t (cond b (accepted t indexed d c) (delivered Old t)).1
+sequence_step true C t same accepting indexed d c is stands opens = accepted_step (is_duplicate c.last d.count) C t accepting indexed d c refl stands opens (and_parts (accepts_sequence c.last d.sequence) (is_within t.profile.newer (since_accepted t.clock c.watchdog c.deadline) (slot_pace indexed c) c.last d.sequence) is).0
 sequence_step false C t same accepting indexed d c is stands opens = same
 
 sized_step : (b : Bool) (C : ScannerTable → ScannerTable → Type 0) (t : ScannerTable) → C t t → Accepts C t → (indexed : IndexedSlot) (d : DatagramFields) (c : SlotConnection) → Stands t indexed → indexed.slot.state ≡ Established c → C t (cond b (sized t indexed d c) (delivered WrongSize t)).1
-sized_step true C t same accepting indexed d c stands opens = sequence_step (accepts_sequence c.last d.sequence) C t same accepting indexed d c refl stands opens
+sized_step true C t same accepting indexed d c stands opens = sequence_step (accepts_at t indexed c d.sequence) C t same accepting indexed d c refl stands opens
 sized_step false C t same accepting indexed d c stands opens = same
 
 state_received_leads : (C : ScannerTable → ScannerTable → Type 0) (t : ScannerTable) → C t t → Accepts C t → (indexed : IndexedSlot) (d : DatagramFields) (state : SlotState) → indexed.slot.state ≡ state → Stands t indexed → C t (state_received t indexed d state).1

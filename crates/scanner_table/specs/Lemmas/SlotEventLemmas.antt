@@ -14,7 +14,7 @@ use Rattle.cip_events.specs.declared.event.StepFault.TheVariants.{NoSuchSlot, No
 use Rattle.cip_events.specs.declared.event.Verdict.{Verdict}
 use Rattle.cip_events.specs.declared.event.Verdict.TheVariants.{Delivered, Done}
 use Rattle.cip_events.specs.Answers.{plain_answer}
-use Rattle.cip_productions.specs.Acceptance.{accepts_sequence, is_duplicate}
+use Rattle.cip_productions.specs.Acceptance.{is_duplicate}
 use Rattle.cip_productions.specs.Kinds.{is_owner}
 use Rattle.scanner_table.specs.declared.slot.Slot.{Slot}
 use Rattle.scanner_table.specs.declared.slot.SlotConnection.{SlotConnection}
@@ -23,7 +23,7 @@ use Rattle.scanner_table.specs.declared.slot.SlotState.TheVariants.{Established}
 use Rattle.scanner_table.specs.declared.table.ScannerTable.{ScannerTable}
 use Rattle.scanner_table.specs.Effects.{Next}
 use Rattle.scanner_table.specs.Slots.{IndexedSlot, indexed_slots, slot_at, with_slot}
-use Rattle.scanner_table.specs.Datagrams.{is_for, accepted_table, delivered, accepted, sized, connected, state_received, received_at, received_as, received}
+use Rattle.scanner_table.specs.Datagrams.{accepts_at, is_for, accepted_table, delivered, accepted, sized, connected, state_received, received_at, received_as, received}
 use Rattle.scanner_table.specs.Points.{output_slot, output_written, write_length, write_at, write, same_mode, moded_table, mode}
 use Rattle.scanner_table.specs.Step.{scanner_step}
 use Rattle.scanner_table.specs.Lemmas.PassiveLemmas.{passive_holds}
@@ -63,7 +63,7 @@ fed P t holds indexed d c bytes delivery = holds (Delivered delivery) (accepted_
 connected_holds : (P : Next → Type 0) (t : ScannerTable) → HoldsForSlots P t → (indexed : IndexedSlot) (d : DatagramFields) (c : SlotConnection) → P (connected t indexed d c)
 connected_holds P t holds indexed d c =
     either P (length d.payload == indexed.config.in_len) (sized t indexed d c) (delivered WrongSize t)
-    (either P (accepts_sequence c.last d.sequence) (accepted t indexed d c) (delivered Old t)
+    (either P (accepts_at t indexed c d.sequence) (accepted t indexed d c) (delivered Old t)
     (either P (is_duplicate c.last d.count) (delivered Duplicate (accepted_table t indexed d c indexed.slot.image)) (delivered Applied (accepted_table t indexed d c d.payload))
     (fed P t holds indexed d c indexed.slot.image Duplicate) (fed P t holds indexed d c d.payload Applied))
     (unfed P t holds Old))

@@ -1,9 +1,9 @@
 use Rattle.std.proofs.Common.{◌≡◌, drop, find}
-use Rattle.messaging.specs.Dialogues.{is_last_message}
+use Rattle.messaging.specs.Class3Connections.{is_last_message}
 use Rattle.messaging.specs.Times.{on_time}
 use Rattle.messaging.proofs.late.find_last_on_time.Given as goal
 
-abbrev pub invariant-loop-dialogue : goal.invariant-loop-dialogue
-invariant-loop-dialogue l =
-    find (is_last_message l.id l.count) (on_time l.clock (drop l.dialogue-index l.dialogues))
-    ≡ find (is_last_message l.id l.count) (on_time l.clock l.dialogues)
+abbrev pub invariant-loop-class3 : goal.invariant-loop-class3
+invariant-loop-class3 l =
+    find (is_last_message l.id l.count) (on_time l.clock (drop l.class3-index l.class3_connections))
+    ≡ find (is_last_message l.id l.count) (on_time l.clock l.class3_connections)

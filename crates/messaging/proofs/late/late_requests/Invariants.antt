@@ -5,5 +5,5 @@ use Rattle.messaging.proofs.late.late_requests.Given as goal
 
 abbrev pub invariant-loop-request : goal.invariant-loop-request
 invariant-loop-request l =
-    l.late.items ++ filter (is_late_request l.clock) (filter (can_be_answered (on_time l.clock l.dialogues)) (drop l.request-index l.waiting))
-    ≡ filter (is_late_request l.clock) (filter (can_be_answered (on_time l.clock l.dialogues)) l.waiting)
+    l.late.items ++ filter (is_late_request l.clock) (filter (can_be_answered (on_time l.clock l.class3_connections)) (drop l.request-index l.waiting))
+    ≡ filter (is_late_request l.clock) (filter (can_be_answered (on_time l.clock l.class3_connections)) l.waiting)

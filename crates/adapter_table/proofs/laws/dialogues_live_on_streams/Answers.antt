@@ -1,5 +1,0 @@
-use Rattle.adapter_table.proofs.OnceLemmas.{streams_carry, names_differ}
-use Rattle.adapter_table.proofs.laws.dialogues_live_on_streams.Goals as goal
-
-pub returns : goal.returns
-returns c = record { streams = streams_carry; names = names_differ }
