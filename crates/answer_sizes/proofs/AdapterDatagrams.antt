@@ -16,7 +16,7 @@ use Rattle.cip_router.specs.Replies.{own}
 use Rattle.messaging.specs.declared.table.Messaging.{Messaging}
 use Rattle.messaging.specs.Changes.{most_waiting, can_be_answered}
 use Rattle.messaging.specs.Lemmas.EachOfLemmas.{few_left as few_left_of}
-use Rattle.messaging.specs.Times.{on_time, without_late_dialogues, is_late_request, late_waiting}
+use Rattle.messaging.specs.Times.{on_time, without_late_class3_connections, is_late_request, late_waiting}
 use Rattle.adapter_table.specs.declared.profile.InputPoint.{InputPoint}
 use Rattle.adapter_table.specs.declared.profile.Profile.{Profile}
 use Rattle.adapter_table.specs.Connections.{Row}
@@ -85,15 +85,15 @@ advanced_small t ms shaped few =
     (sent_few rows (input_of clocked.values) (inputs_short t.profile t.values shaped) (due_producers clocked.clock rows) (passing_producers (is_due clocked.clock) by_due rows (few_left clocked.clock t.rows few)))
 
 -- no more requests wait than before
-few_waiting : (clock : Ms) (m : Messaging) → length m.waiting ≤ most_waiting → length (late_waiting clock (without_late_dialogues clock m)) ≤ 64
-unfolding without_late_dialogues
+few_waiting : (clock : Ms) (m : Messaging) → length m.waiting ≤ most_waiting → length (late_waiting clock (without_late_class3_connections clock m)) ≤ 64
+unfolding without_late_class3_connections
 few_waiting clock m few =
-    let left = filter (can_be_answered (on_time clock m.dialogues)) m.waiting in
-    omega (arith, few_left_of (is_late_request clock) left, few_left_of (can_be_answered (on_time clock m.dialogues)) m.waiting, few)
+    let left = filter (can_be_answered (on_time clock m.class3_connections)) m.waiting in
+    omega (arith, few_left_of (is_late_request clock) left, few_left_of (can_be_answered (on_time clock m.class3_connections)) m.waiting, few)
 
-late_small : (clock : Ms) (m : Messaging) → length m.waiting ≤ most_waiting → Few 64 IsShortFrame (flat_map (late_frames (without_late_dialogues clock m)) (late_waiting clock (without_late_dialogues clock m)))
+late_small : (clock : Ms) (m : Messaging) → length m.waiting ≤ most_waiting → Few 64 IsShortFrame (flat_map (late_frames (without_late_class3_connections clock m)) (late_waiting clock (without_late_class3_connections clock m)))
 late_small clock m few =
-    let left = without_late_dialogues clock m in
+    let left = without_late_class3_connections clock m in
     few_most 64 (length (late_waiting clock left)) IsShortFrame (flat_map (late_frames left) (late_waiting clock left)) (few_waiting clock m few)
     (few_flat IsShortFrame (late_frames left) (λ w. route_small left w.asker w.service (own w.service 0x1F []) (omega arith)) (late_waiting clock left))
 

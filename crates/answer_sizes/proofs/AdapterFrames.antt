@@ -25,27 +25,26 @@ use Rattle.cip_router.specs.Commands.{command_of, is_silent}
 use Rattle.cip_router.specs.Frames.{RequestHeader, FrameFields, without_header, wrong_length, whole, FrameReply, router_reply, connected, socket_of, protocol_text, reply_message, frame_reading}
 use Rattle.cip_router.specs.Replies.{ReplyFields, reply_text, GetsFew}
 use Rattle.cip_router.specs.ReplyLaws.{items_length, reply_is_short, connected_length}
-use Rattle.messaging.specs.declared.dialogue.Dialogue as kept
+use Rattle.messaging.specs.declared.class3.Class3Connection as kept
 use Rattle.messaging.specs.declared.requests.Requester.{Requester}
 use Rattle.messaging.specs.declared.requests.Requester.TheVariants as asker
 use Rattle.messaging.specs.declared.table.Messaging.{Messaging}
-use Rattle.messaging.specs.Changes.{lacks_room}
-use Rattle.messaging.specs.Dialogues.{has_dialogue_triad, is_dialogue, is_last_message, repeats_last}
+use Rattle.messaging.specs.Class3Connections.{has_class3_triad, is_class3, is_last_message, repeats_last}
 use Rattle.messaging.specs.Sound.{EachOf}
 use Rattle.adapter_table.specs.Connections.{Row}
 use Rattle.adapter_table.specs.declared.table.Stream.{Stream}
 use Rattle.adapter_table.specs.declared.table.AdapterTable.{AdapterTable}
-use Rattle.adapter_table.specs.Answering.{dialogue_frames, route_frames, rr_header, unit_header}
+use Rattle.adapter_table.specs.Answering.{class3_frames, route_frames, rr_header, unit_header}
 use Rattle.adapter_table.specs.Checks.{Check, Admitted}
 use Rattle.adapter_table.specs.Connected.{service_in, fitted_text, connected_served}
-use Rattle.adapter_table.specs.DialogueOpening.{dialogue_view, dialogue_refusal, judged_dialogue, served_dialogue, stream_served}
+use Rattle.adapter_table.specs.Class3Opening.{class3_view, class3_refusal, judged_class3, served_class3, stream_served}
 use Rattle.adapter_table.specs.StatedLimits.{limited_admission, is_wrong_closer, is_wrong_ender}
 use Rattle.adapter_table.specs.Encapsulation.{Handled, refusal, session_begun, register_session, request_replied, request_handled, packet_replied, kept_reply, message_replied, message_served, message_executed, message_found, unit_replied, handled, framed, frame_answer, stream_answer, frame_of, frame}
 use Rattle.adapter_table.specs.Inquiries.{inquiry_reply, inquired_by, inquired}
 use Rattle.adapter_table.specs.Objects.{ObjectAnswer, said, denied, resetting, object_answer}
 use Rattle.adapter_table.specs.Lemmas.MessageLemmas.{fitted_short}
 use Rattle.adapter_table.specs.MessagesSound.{IsInPlace}
-use Rattle.adapter_table.specs.Own.{OwnRequest, own_of, referred_verdict}
+use Rattle.adapter_table.specs.Own.{OwnRequest, own_of, cannot_ask, referred_verdict}
 use Rattle.adapter_table.specs.Requests.{Next, Served, judged_open, admitted_open, served_open, close_of, served_close, end_of, served_end, router_refusal, object_served, served_object, served, replied, answered, requested_by, requested}
 use Rattle.adapter_table.specs.Rows.{has_triad}
 use Rattle.adapter_table.specs.Shapes.{IsShaped}
@@ -73,7 +72,7 @@ closed_few : (t : AdapterTable) (peer : Node) (request : CloseFields) (found : O
 closed_few t peer request None = tt
 closed_few t peer request (Some row) = either (λ (s : Served). GetsFew s.reply) (is_wrong_closer t.profile.limits peer row) _ _ tt tt
 
-ended_few : (t : AdapterTable) (peer : Node) (request : CloseFields) (found : Option kept.Dialogue) → GetsFew (end_of t peer request found).reply
+ended_few : (t : AdapterTable) (peer : Node) (request : CloseFields) (found : Option kept.Class3Connection) → GetsFew (end_of t peer request found).reply
 unfolding served_close
 ended_few t peer request None = closed_few t peer request (find (has_triad request.triad) t.rows)
 ended_few t peer request (Some d) = either (λ (s : Served). GetsFew s.reply) (is_wrong_ender t.profile.limits peer d) _ _ tt tt
@@ -92,21 +91,21 @@ serves_few : (t : AdapterTable) (peer : Node) (request : RouterRequestFields) �
 unfolding served_open served_end served_object
 serves_few t peer nothing shaped = tt
 serves_few t peer (refused service why) shaped = tt
-serves_few t peer (closing request) shaped = ended_few t peer request (find (has_dialogue_triad request.triad) t.messaging.dialogues)
+serves_few t peer (closing request) shaped = ended_few t peer request (find (has_class3_triad request.triad) t.messaging.class3_connections)
 serves_few t peer (object service class instance attribute body) shaped = object_few t service (object_answer t service class instance attribute body) (object_short t service class instance attribute body shaped)
 serves_few t peer (opening large request) shaped = opened_few t peer large request (limited_admission t peer request)
 
 -- ---- what is served over a stream
 
-dialogue_few : (t : AdapterTable) (stream : Stream) (large : Bool) (request : OpenFields) (c : Check) → GetsFew (judged_dialogue t stream large request c).reply
-dialogue_few t stream large request (Some why) = tt
-dialogue_few t stream large request None = tt
+class3_few : (t : AdapterTable) (stream : Stream) (large : Bool) (request : OpenFields) (c : Check) → GetsFew (judged_class3 t stream large request c).reply
+class3_few t stream large request (Some why) = tt
+class3_few t stream large request None = tt
 
 over_stream_few : (t : AdapterTable) (stream : Stream) (request : RouterRequestFields) → IsShaped t.profile t.values → ServesFew (stream_served t stream request)
-unfolding served_dialogue
+unfolding served_class3
 over_stream_few t stream (opening large request) shaped =
-    either ServesFew (is_message_trigger request.trigger) (Some (served_dialogue t stream large request)) (served t stream.peer (opening large request))
-    (dialogue_few t stream large request (dialogue_refusal (dialogue_view t stream.peer request.triad) request)) (serves_few t stream.peer (opening large request) shaped)
+    either ServesFew (is_message_trigger request.trigger) (Some (served_class3 t stream large request)) (served t stream.peer (opening large request))
+    (class3_few t stream large request (class3_refusal (class3_view t stream.peer request.triad) request)) (serves_few t stream.peer (opening large request) shaped)
 over_stream_few t stream other shaped = serves_few t stream.peer other shaped
 
 -- ---- requests
@@ -118,7 +117,7 @@ answered_small t peer (Some s) few = one_small _ Done s.notices (omega (arith, (
 by_small : (t : AdapterTable) (peer : Node) (request : RouterRequestFields) (asks : Option OwnRequest) → IsShaped t.profile t.values → IsSmall (requested_by t peer request asks).0
 by_small t peer request None shaped = answered_small t peer (served t peer request) (serves_few t peer request shaped)
 by_small t peer request (Some own) shaped =
-    either (λ (next : Next). IsSmall next.0) (lacks_room t.messaging) (replied peer (router_refusal t own.service status.ResourceUnavailable)) _
+    either (λ (next : Next). IsSmall next.0) (cannot_ask t peer) (replied peer (router_refusal t own.service status.ResourceUnavailable)) _
     (answered_small t peer (Some (router_refusal t own.service status.ResourceUnavailable)) tt) (plain_small (referred_verdict t own))
 
 -- the answer to a request
@@ -159,7 +158,7 @@ passes_few t (Some s) few = few
 
 request_few : (t : AdapterTable) (stream : Stream) (context : ℕ) (request : RouterRequestFields) (asks : Option OwnRequest) → IsShaped t.profile t.values → HandlesFew (request_handled t stream context request asks)
 request_few t stream context request None shaped = passes_few t (stream_served t stream request) (over_stream_few t stream request shaped)
-request_few t stream context request (Some own) shaped = either HandlesFew (lacks_room t.messaging) (request_replied t (Some (router_refusal t own.service status.ResourceUnavailable))) _ tt tt
+request_few t stream context request (Some own) shaped = either HandlesFew (cannot_ask t stream.peer) (request_replied t (Some (router_refusal t own.service status.ResourceUnavailable))) _ tt tt
 
 items_few : (t : AdapterTable) (stream : Stream) (context : ℕ) (reading : Result PacketFields ItemFault) → IsShaped t.profile t.values → HandlesFew (packet_replied t stream context reading)
 items_few t stream context (Err fault) shaped = tt
@@ -168,24 +167,24 @@ items_few t stream context (Ok packet) shaped = request_few t stream context (ro
 -- ---- connected messages
 
 -- each class 3 connection keeps a short reply
-abbrev KeepsShort : kept.Dialogue → Type 0
+abbrev KeepsShort : kept.Class3Connection → Type 0
 KeepsShort d = length d.reply ≤ 1404
 
-kept_few : (d : kept.Dialogue) (count : ℕ) (text : List ℕ) → length text ≤ 1404 → RepliesFew (kept_reply d count text)
+kept_few : (d : kept.Class3Connection) (count : ℕ) (text : List ℕ) → length text ≤ 1404 → RepliesFew (kept_reply d count text)
 kept_few d count [] few = tt
 kept_few d count (first ∷ rest) few = few
 
-served_few : (t : AdapterTable) (d : kept.Dialogue) (count service : ℕ) (s : Option Served) → HandlesFew (message_served t d count service s)
+served_few : (t : AdapterTable) (d : kept.Class3Connection) (count service : ℕ) (s : Option Served) → HandlesFew (message_served t d count service s)
 served_few t d count service None = tt
 served_few t d count service (Some s) = fitted_short d service s.reply
 
-executed_few : (t : AdapterTable) (d : kept.Dialogue) (count service : ℕ) (request : RouterRequestFields) (asks : Option OwnRequest) → HandlesFew (message_executed t d count service request asks)
+executed_few : (t : AdapterTable) (d : kept.Class3Connection) (count service : ℕ) (request : RouterRequestFields) (asks : Option OwnRequest) → HandlesFew (message_executed t d count service request asks)
 executed_few t d count service request None = served_few t d count service (connected_served t d.peer request)
 executed_few t d count service request (Some own) =
-    either HandlesFew (lacks_room t.messaging) (message_replied d count own.service (router_refusal t own.service status.ResourceUnavailable)) _
+    either HandlesFew (cannot_ask t d.peer) (message_replied d count own.service (router_refusal t own.service status.ResourceUnavailable)) _
     (fitted_short d own.service (router_refusal t own.service status.ResourceUnavailable).reply) tt
 
-message_few : (t : AdapterTable) (count : ℕ) (message : List ℕ) (found : Option kept.Dialogue) → IfSome found KeepsShort → HandlesFew (message_found t count message found)
+message_few : (t : AdapterTable) (count : ℕ) (message : List ℕ) (found : Option kept.Class3Connection) → IfSome found KeepsShort → HandlesFew (message_found t count message found)
 message_few t count message None keeps = tt
 message_few t count message (Some d) keeps =
     either HandlesFew (nat_lt d.o_t_size (2 + length message)) _ _ tt
@@ -193,15 +192,15 @@ message_few t count message (Some d) keeps =
     (kept_few d count d.reply keeps)
     (executed_few t d count (service_in message) (router_request_reading message) (own_of t.profile.objects (router_request_reading message))))
 
-kept_found : (t : AdapterTable) (p : kept.Dialogue → Bool) (dialogues : List kept.Dialogue) → EachOf (IsInPlace t.rows t.streams) dialogues → IfSome (find p dialogues) KeepsShort
+kept_found : (t : AdapterTable) (p : kept.Class3Connection → Bool) (class3_connections : List kept.Class3Connection) → EachOf (IsInPlace t.rows t.streams) class3_connections → IfSome (find p class3_connections) KeepsShort
 kept_found t p [] all = tt
-kept_found t p (d ∷ dialogues) all = either (λ found. IfSome found KeepsShort) (p d) (Some d) (find p dialogues) all.0.reply (kept_found t p dialogues all.1)
+kept_found t p (d ∷ class3_connections) all = either (λ found. IfSome found KeepsShort) (p d) (Some d) (find p class3_connections) all.0.reply (kept_found t p class3_connections all.1)
 
 unit_few : (t : AdapterTable) (stream : Stream) (reading : Result ConnectedFields ItemFault) → IsWhole t → HandlesFew (unit_replied t stream reading)
 unit_few t stream (Err fault) table = tt
 unit_few t stream (Ok unit) table =
-    message_few t unit.count unit.message (find (is_dialogue stream.number (record { 0 = unit.connection })) t.messaging.dialogues)
-    (kept_found t (is_dialogue stream.number (record { 0 = unit.connection })) t.messaging.dialogues table.messages.dialogues)
+    message_few t unit.count unit.message (find (is_class3 stream.number (record { 0 = unit.connection })) t.messaging.class3_connections)
+    (kept_found t (is_class3 stream.number (record { 0 = unit.connection })) t.messaging.class3_connections table.messages.class3_connections)
 
 -- ---- all messages
 
@@ -250,10 +249,10 @@ pub route_small : (m : Messaging) (from : Requester) (service : ℕ) (reply : Re
 route_small m (asker.Peer node) service reply few = few_one 1 IsShortFrame _ (omega arith) (omega (arith, (reply_is_short reply few).few))
 route_small m (asker.Stream number context) service reply few =
     few_one 1 IsShortFrame _ (omega arith) (message_short (reply_message (rr_header number context) (router_reply reply None)) (data_short (rr_header number context) (router_reply reply None) few))
-route_small m (asker.Dialogue id count) service reply few = dialogue_small count service reply (find (is_last_message id count) m.dialogues) where
-  dialogue_small : (count service : ℕ) (reply : ReplyFields) (found : Option kept.Dialogue) → Few 1 IsShortFrame (dialogue_frames count service reply found)
-  dialogue_small count service reply None = few_none 1 IsShortFrame
-  dialogue_small count service reply (Some d) =
+route_small m (asker.Class3Connection id count) service reply few = class3_small count service reply (find (is_last_message id count) m.class3_connections) where
+  class3_small : (count service : ℕ) (reply : ReplyFields) (found : Option kept.Class3Connection) → Few 1 IsShortFrame (class3_frames count service reply found)
+  class3_small count service reply None = few_none 1 IsShortFrame
+  class3_small count service reply (Some d) =
       let text : FrameReply = connected d.t_o_id.0 count (fitted_text d service reply) in
       few_one 1 IsShortFrame _ (omega arith) (message_short (reply_message (unit_header d.stream) text) (data_short (unit_header d.stream) text (fitted_short d service reply)))
 

@@ -14,7 +14,7 @@ use Rattle.cip_events.specs.declared.event.Verdict.TheVariants.{Done}
 use Rattle.cip_events.specs.Answers.{plain_answer}
 use Rattle.cip_events.specs.Clock.{longest_tick, clock_end}
 use Rattle.cip_productions.specs.Productions.{sent, same_producer, by_due}
-use Rattle.messaging.specs.declared.dialogue.Dialogue.{Dialogue}
+use Rattle.messaging.specs.declared.class3.Class3Connection.{Class3Connection}
 use Rattle.messaging.specs.declared.requests.Requester.{Requester}
 use Rattle.messaging.specs.declared.requests.Requester.TheVariants as asker
 use Rattle.messaging.specs.declared.requests.Waiting.{Waiting}
@@ -22,7 +22,7 @@ use Rattle.messaging.specs.declared.table.Messaging.{Messaging}
 use Rattle.messaging.specs.Changes.{can_be_answered, replied}
 use Rattle.messaging.specs.Lemmas.EachOfLemmas.{few_left}
 use Rattle.messaging.specs.Sound.{EachOf}
-use Rattle.messaging.specs.Times.{is_late_dialogue, by_dialogue_deadline, late_dialogues, on_time, without_late_dialogues, is_late_request, late_waiting, late_text, late_reply, late_replies, without_late_waiting, aged, first_of, dialogue_end, request_end, first_moment}
+use Rattle.messaging.specs.Times.{is_late_class3, by_class3_deadline, late_class3_connections, on_time, without_late_class3_connections, is_late_request, late_waiting, late_text, late_reply, late_replies, without_late_waiting, aged, first_of, class3_end, request_end, first_moment}
 use Rattle.adapter_table.specs.Messages.{messages_table}
 use Rattle.adapter_table.specs.Connections.{Row}
 use Rattle.adapter_table.specs.declared.row.State.{State}
@@ -116,12 +116,12 @@ adapter_same t u is = cc
 
 -- ---- class 3 connections and requests that wait
 
-dialogues_wait : (clock : Ms) (dialogues : List Dialogue) → clock.0 < never → filter (is_late_dialogue clock) dialogues ≡ [] → clock.0 < first_of dialogue_end dialogues
-dialogues_wait clock [] below none = below
-dialogues_wait clock (d ∷ dialogues) below none =
-    let parts = none_kept (is_late_dialogue clock) d dialogues none in
+class3_connections_wait : (clock : Ms) (class3_connections : List Class3Connection) → clock.0 < never → filter (is_late_class3 clock) class3_connections ≡ [] → clock.0 < first_of class3_end class3_connections
+class3_connections_wait clock [] below none = below
+class3_connections_wait clock (d ∷ class3_connections) below none =
+    let parts = none_kept (is_late_class3 clock) d class3_connections none in
     let here = later clock.0 d.deadline.0 parts.0 in
-    let rest = dialogues_wait clock dialogues below parts.1 in
+    let rest = class3_connections_wait clock class3_connections below parts.1 in
     omega (arith, here, rest)
 
 -- no more are left than there were, so where as many are left each passes both tests
@@ -158,23 +158,23 @@ replied_waiting m id count reply = refl
 late_reply_waiting : (from : Requester) (service : ℕ) (m : Messaging) → (late_reply from service m).waiting ≡ m.waiting
 late_reply_waiting (asker.Peer node) service m = refl
 late_reply_waiting (asker.Stream number context) service m = refl
-late_reply_waiting (asker.Dialogue id count) service m = replied_waiting m id count (late_text service)
+late_reply_waiting (asker.Class3Connection id count) service m = replied_waiting m id count (late_text service)
 
 late_replies_waiting : (waiting : List Waiting) (m : Messaging) → (late_replies waiting m).waiting ≡ m.waiting
 late_replies_waiting [] m = refl
 late_replies_waiting (w ∷ waiting) m = late_replies_waiting waiting (late_reply w.asker w.service m) ∙ late_reply_waiting w.asker w.service m
 
-aged_waiting : (clock : Ms) (m : Messaging) → (aged clock m).waiting ≡ filter (λ w. not (is_late_request clock w)) (filter (can_be_answered (on_time clock m.dialogues)) m.waiting)
-unfolding aged without_late_waiting without_late_dialogues
+aged_waiting : (clock : Ms) (m : Messaging) → (aged clock m).waiting ≡ filter (λ w. not (is_late_request clock w)) (filter (can_be_answered (on_time clock m.class3_connections)) m.waiting)
+unfolding aged without_late_waiting without_late_class3_connections
 aged_waiting clock m =
-    late_replies_waiting (late_waiting clock (without_late_dialogues clock m)) (record (without_late_dialogues clock m) { waiting = filter (λ w. not (is_late_request clock w)) (without_late_dialogues clock m).waiting })
+    late_replies_waiting (late_waiting clock (without_late_class3_connections clock m)) (record (without_late_class3_connections clock m) { waiting = filter (λ w. not (is_late_request clock w)) (without_late_class3_connections clock m).waiting })
 
-messages_wait : (clock : Ms) (m : Messaging) → clock.0 < never → late_dialogues clock m ≡ [] → length (aged clock m).waiting ≡ length m.waiting → clock.0 < first_moment m
+messages_wait : (clock : Ms) (m : Messaging) → clock.0 < never → late_class3_connections clock m ≡ [] → length (aged clock m).waiting ≡ length m.waiting → clock.0 < first_moment m
 unfolding first_moment
 messages_wait clock m below none same =
-    let first = dialogues_wait clock m.dialogues below (none_ordered by_dialogue_deadline (filter (is_late_dialogue clock) m.dialogues) none) in
+    let first = class3_connections_wait clock m.class3_connections below (none_ordered by_class3_deadline (filter (is_late_class3 clock) m.class3_connections) none) in
     let left = ap (length {A = Waiting}) (aged_waiting clock m) in
-    let all = all_pass_both (λ w. not (is_late_request clock w)) (can_be_answered (on_time clock m.dialogues)) m.waiting (omega (arith, left, same)) in
+    let all = all_pass_both (λ w. not (is_late_request clock w)) (can_be_answered (on_time clock m.class3_connections)) m.waiting (omega (arith, left, same)) in
     let second = requests_wait clock m.waiting below all in
     omega (arith, first, second)
 
@@ -182,9 +182,9 @@ quiet_answer : (t : AdapterTable) (ms : ℕ) → t.clock.0 + ms < never → (age
 unfolding clocked_table expired_table produced_table messages_table
 quiet_answer t ms below is same =
     let clock : Ms = record { 0 = t.clock.0 + ms } in
-    let parts = none_joined (expiry_notices (record { 0 = t.clock.0 + ms }) t.rows) (map late_notice (late_dialogues (record { 0 = t.clock.0 + ms }) t.messaging)) (ap (λ (a : Answer). a.notices) is) in
+    let parts = none_joined (expiry_notices (record { 0 = t.clock.0 + ms }) t.rows) (map late_notice (late_class3_connections (record { 0 = t.clock.0 + ms }) t.messaging)) (ap (λ (a : Answer). a.notices) is) in
     let rows = quiet_rows (record { 0 = t.clock.0 + ms }) t.rows t.values below parts.0 (ap (λ (a : Answer). a.datagrams) is) in
-    let messages = messages_wait (record { 0 = t.clock.0 + ms }) t.messaging below (none_mapped late_notice (late_dialogues (record { 0 = t.clock.0 + ms }) t.messaging) parts.1) (ap (λ (u : AdapterTable). length u.messaging.waiting) same) in
+    let messages = messages_wait (record { 0 = t.clock.0 + ms }) t.messaging below (none_mapped late_notice (late_class3_connections (record { 0 = t.clock.0 + ms }) t.messaging) parts.1) (ap (λ (u : AdapterTable). length u.messaging.waiting) same) in
     omega (arith, rows, messages)
 
 pub adapter_waits : (t : AdapterTable) (ms : ℕ) → ms ≤ longest_tick → t.clock.0 + ms ≤ clock_end → step (Adapter t) (Tick ms) ≡ Ok (plain_answer Done, clocked (Adapter t) ms) → t.clock.0 + ms < min (connections_due t.rows) (first_moment t.messaging)

@@ -19,20 +19,20 @@ use Rattle.cip_fwdopen.specs.Reply.{reply_service}
 use Rattle.cip_router.specs.declared.refusal.Status.TheVariants as status
 use Rattle.cip_router.specs.Replies.{ReplyFields, own, own_reply_text}
 use Rattle.cip_types.specs.declared.names.Ms.{Ms}
-use Rattle.messaging.specs.declared.dialogue.Dialogue.{Dialogue}
+use Rattle.messaging.specs.declared.class3.Class3Connection.{Class3Connection}
 use Rattle.messaging.specs.declared.requests.Requester.{Requester}
 use Rattle.messaging.specs.declared.requests.Requester.TheVariants as asker
 use Rattle.messaging.specs.declared.requests.Waiting.{Waiting}
 use Rattle.messaging.specs.declared.table.Messaging.{Messaging}
-use Rattle.messaging.specs.Changes.{can_be_answered, has_request_number, lacks_room}
-use Rattle.messaging.specs.Dialogues.{is_last_message}
+use Rattle.messaging.specs.Changes.{can_be_answered, has_request_number}
+use Rattle.messaging.specs.Class3Connections.{is_last_message}
 use Rattle.messaging.specs.Lemmas.EachOfLemmas.{each_left, each_weaker}
 use Rattle.messaging.specs.Sound.{EachOf}
-use Rattle.messaging.specs.Times.{is_late_dialogue, on_time, without_late_dialogues, is_late_request, late_waiting}
-use Rattle.adapter_table.specs.Answering.{dialogue_frames, route_frames, rr_header, unit_header, respond}
+use Rattle.messaging.specs.Times.{is_late_class3, on_time, without_late_class3_connections, is_late_request, late_waiting}
+use Rattle.adapter_table.specs.Answering.{class3_frames, route_frames, rr_header, unit_header, respond}
 use Rattle.adapter_table.specs.Connected.{fitted_text}
 use Rattle.adapter_table.specs.MessagesSound.{carries, IsCarried, IsInPlace, RouteIsOpen, CanGoBack}
-use Rattle.adapter_table.specs.Own.{OwnRequest, own_of}
+use Rattle.adapter_table.specs.Own.{OwnRequest, own_of, cannot_ask}
 use Rattle.adapter_table.specs.Whole.{IsWhole}
 use Rattle.cip_router.specs.Commands.{command_of, is_silent}
 use Rattle.cip_router.specs.declared.command.EncapStatus.{EncapStatus}
@@ -138,7 +138,7 @@ answered_peer t peer bytes (Some s) = λ small. (refl, tt)
 requested_answers : (t : AdapterTable) (peer : Node) (bytes : List ℕ) (request : RouterRequestFields) (asks : Option OwnRequest) → OkAnswers t (event.Request peer bytes) (Ok (requested_by t peer request asks))
 requested_answers t peer bytes request None = answered_peer t peer bytes (served t peer request)
 requested_answers t peer bytes request (Some asks) =
-    either (λ (next : Next). OkAnswers t (event.Request peer bytes) (Ok next)) (lacks_room t.messaging) (replied peer (router_refusal t asks.service status.ResourceUnavailable)) _ (λ small. (refl, tt)) (λ small. tt)
+    either (λ (next : Next). OkAnswers t (event.Request peer bytes) (Ok next)) (cannot_ask t peer) (replied peer (router_refusal t asks.service status.ResourceUnavailable)) _ (λ small. (refl, tt)) (λ small. tt)
 
 inquired_answers : (t : AdapterTable) (peer : Node) (bytes : List ℕ) (reply : Option (List ℕ)) → IfSome reply IsPlainText → OkAnswers t (event.Inquiry peer bytes) (Ok (inquired_by t peer reply))
 inquired_answers t peer bytes None plain = λ small. tt
@@ -166,7 +166,7 @@ each_found P p [] all = tt
 each_found P p (x ∷ xs) all = either (λ found. IfSome found P) (p x) (Some x) (find p xs) all.0 (each_found P p xs all.1)
 
 -- a frame over an open stream that can be read as nothing
-unit_replies : (t : AdapterTable) (d : Dialogue) (count service : ℕ) (reply : ReplyFields) → IsCarried t.streams d.stream → IsReplyOverStream t (record { to = recipient.Stream d.stream; bytes = message_text (reply_message (unit_header d.stream) (connected d.t_o_id.0 count (fitted_text d service reply))) })
+unit_replies : (t : AdapterTable) (d : Class3Connection) (count service : ℕ) (reply : ReplyFields) → IsCarried t.streams d.stream → IsReplyOverStream t (record { to = recipient.Stream d.stream; bytes = message_text (reply_message (unit_header d.stream) (connected d.t_o_id.0 count (fitted_text d service reply))) })
 unit_replies t d count service reply carried =
     let m0 = reply_message (unit_header d.stream) (connected d.t_o_id.0 count (fitted_text d service reply)) in
     let bad = connected_bad d.t_o_id.0 count (fitted_text d service reply) in
@@ -175,9 +175,9 @@ unit_replies t d count service reply carried =
     subst (λ (payload : List ℕ). PacketSays (λ opened. ⊥) (packet_reading payload)) (sym same.payload) (none_packet (λ opened. ⊥) m0.payload bad)) in
     record { number = d.stream; to = refl; over = carried_open d.stream t.streams carried; successes = λ plain. says.0; opens_nothing = says.1; context = context_fits m0 }
 
-dialogue_replies : (t : AdapterTable) (count service : ℕ) (reply : ReplyFields) (found : Option Dialogue) → IfSome found (λ d. IsCarried t.streams d.stream) → AllByRecursion (IsLateReply t) (dialogue_frames count service reply found)
-dialogue_replies t count service reply None carried = tt
-dialogue_replies t count service reply (Some d) carried = (inr (unit_replies t d count service reply carried), tt)
+class3_replies : (t : AdapterTable) (count service : ℕ) (reply : ReplyFields) (found : Option Class3Connection) → IfSome found (λ d. IsCarried t.streams d.stream) → AllByRecursion (IsLateReply t) (class3_frames count service reply found)
+class3_replies t count service reply None carried = tt
+class3_replies t count service reply (Some d) carried = (inr (unit_replies t d count service reply carried), tt)
 
 -- what the frame of a reply over a stream can be read as
 own_frame_says : ItemsReadBack → (Q : Opened → Type 0) (number context service general : ℕ) (content : List ℕ) → PayloadSays Q (own_reply_text service general content) → length (message_text (reply_message (rr_header number context) (router_reply (own service general content) None))) ≤ 2048 → SuccessesAre (λ c opened. Q opened) (message_text (reply_message (rr_header number context) (router_reply (own service general content) None))) × IsNoOpening (message_text (reply_message (rr_header number context) (router_reply (own service general content) None)))
@@ -206,15 +206,15 @@ stream_replies_own back t number context service general content carried plain s
       context = context_fits m0;
     }
 
--- the dialogues of the messages live on streams of the table
-abbrev DialoguesCarried : AdapterTable → Messaging → Type 0
-DialoguesCarried t m = EachOf (λ (d : Dialogue). IsCarried t.streams d.stream) m.dialogues
+-- the class3_connections of the messages live on streams of the table
+abbrev Class3ConnectionsCarried : AdapterTable → Messaging → Type 0
+Class3ConnectionsCarried t m = EachOf (λ (d : Class3Connection). IsCarried t.streams d.stream) m.class3_connections
 
-route_replies : ItemsReadBack → (t : AdapterTable) (m : Messaging) (from : Requester) (service general : ℕ) (content : List ℕ) → RouteIsOpen t.streams from → DialoguesCarried t m → (AsksPlainly t.messaging → NoSuccess service general) → (AsksOverStreams t.messaging → IsOfStream from) → AllByRecursion IsShortFrame (route_frames m from service (own service general content)) → AllByRecursion (IsLateReply t) (route_frames m from service (own service general content))
+route_replies : ItemsReadBack → (t : AdapterTable) (m : Messaging) (from : Requester) (service general : ℕ) (content : List ℕ) → RouteIsOpen t.streams from → Class3ConnectionsCarried t m → (AsksPlainly t.messaging → NoSuccess service general) → (AsksOverStreams t.messaging → IsOfStream from) → AllByRecursion IsShortFrame (route_frames m from service (own service general content)) → AllByRecursion (IsLateReply t) (route_frames m from service (own service general content))
 route_replies back t m (asker.Peer node) service general content opens carried plain over short = (inl (record { peer = node; to = refl; over_none = over }), tt)
 route_replies back t m (asker.Stream number context) service general content opens carried plain over short = (inr (stream_replies_own back t number context service general content opens plain short.0), tt)
-route_replies back t m (asker.Dialogue id count) service general content opens carried plain over short =
-    dialogue_replies t count service (own service general content) (find (is_last_message id count) m.dialogues) (each_found (λ (d : Dialogue). IsCarried t.streams d.stream) (is_last_message id count) m.dialogues carried)
+route_replies back t m (asker.Class3Connection id count) service general content opens carried plain over short =
+    class3_replies t count service (own service general content) (find (is_last_message id count) m.class3_connections) (each_found (λ (d : Class3Connection). IsCarried t.streams d.stream) (is_last_message id count) m.class3_connections carried)
 
 all_parts : (P : Frame → Type 0) (xs ys : List Frame) → AllByRecursion P (xs ++ ys) → AllByRecursion P xs × AllByRecursion P ys
 all_parts P [] ys all = (tt, all)
@@ -224,7 +224,7 @@ all_parts P (x ∷ xs) ys all = let more = all_parts P xs ys all.1 in ((all.0, m
 abbrev AreOf : AdapterTable → List Waiting → Type 0
 AreOf t waiting = (AsksOverStreams t.messaging → EachOf (λ (w : Waiting). IsOfStream w.asker) waiting)
 
-late_replies : ItemsReadBack → (t : AdapterTable) (m : Messaging) (waiting : List Waiting) → AreOf t waiting → EachOf (CanGoBack t.streams) waiting → DialoguesCarried t m → AllByRecursion IsShortFrame (flat_map (late_frames m) waiting) → AllByRecursion (IsLateReply t) (flat_map (late_frames m) waiting)
+late_replies : ItemsReadBack → (t : AdapterTable) (m : Messaging) (waiting : List Waiting) → AreOf t waiting → EachOf (CanGoBack t.streams) waiting → Class3ConnectionsCarried t m → AllByRecursion IsShortFrame (flat_map (late_frames m) waiting) → AllByRecursion (IsLateReply t) (flat_map (late_frames m) waiting)
 late_replies back t m [] are back_open carried short = tt
 late_replies back t m (w ∷ waiting) are back_open carried short =
     let parts = all_parts IsShortFrame (late_frames m w) (flat_map (late_frames m) waiting) short in
@@ -232,28 +232,28 @@ late_replies back t m (w ∷ waiting) are back_open carried short =
     (late_replies back t m waiting (λ over. (are over).1) back_open.1 carried parts.1)
 
 -- what is left of the messages when late connections have ended
-left_carried : (t : AdapterTable) (clock : Ms) (m : Messaging) → DialoguesCarried t m → DialoguesCarried t (without_late_dialogues clock m)
-unfolding without_late_dialogues
-left_carried t clock m carried = each_left (λ (d : Dialogue). IsCarried t.streams d.stream) (λ d. not (is_late_dialogue clock d)) m.dialogues carried
+left_carried : (t : AdapterTable) (clock : Ms) (m : Messaging) → Class3ConnectionsCarried t m → Class3ConnectionsCarried t (without_late_class3_connections clock m)
+unfolding without_late_class3_connections
+left_carried t clock m carried = each_left (λ (d : Class3Connection). IsCarried t.streams d.stream) (λ d. not (is_late_class3 clock d)) m.class3_connections carried
 
-left_each : (P : Waiting → Type 0) (clock : Ms) (m : Messaging) → EachOf P m.waiting → EachOf P (late_waiting clock (without_late_dialogues clock m))
-unfolding without_late_dialogues
+left_each : (P : Waiting → Type 0) (clock : Ms) (m : Messaging) → EachOf P m.waiting → EachOf P (late_waiting clock (without_late_class3_connections clock m))
+unfolding without_late_class3_connections
 left_each P clock m all =
-    each_left P (is_late_request clock) (filter (can_be_answered (on_time clock m.dialogues)) m.waiting) (each_left P (can_be_answered (on_time clock m.dialogues)) m.waiting all)
+    each_left P (is_late_request clock) (filter (can_be_answered (on_time clock m.class3_connections)) m.waiting) (each_left P (can_be_answered (on_time clock m.class3_connections)) m.waiting all)
 
-carried_of : (t : AdapterTable) → IsWhole t → DialoguesCarried t t.messaging
-carried_of t whole = each_weaker (IsInPlace t.rows t.streams) (λ (d : Dialogue). IsCarried t.streams d.stream) (λ d is. is.stream) t.messaging.dialogues whole.messages.dialogues
+carried_of : (t : AdapterTable) → IsWhole t → Class3ConnectionsCarried t t.messaging
+carried_of t whole = each_weaker (IsInPlace t.rows t.streams) (λ (d : Class3Connection). IsCarried t.streams d.stream) (λ d is. is.stream) t.messaging.class3_connections whole.messages.class3_connections
 
 same_messaging : (t : AdapterTable) (ms : ℕ) → (advanced (clocked_table t ms)).1.messaging ≡ t.messaging
 unfolding clocked_table expired_table produced_table
 same_messaging t ms = refl
 
-aged_answers : ItemsReadBack → (t : AdapterTable) (clock : Ms) (m : Messaging) → m ≡ t.messaging → IsWhole t → AllByRecursion IsShortFrame (flat_map (late_frames (without_late_dialogues clock m)) (late_waiting clock (without_late_dialogues clock m))) → AllByRecursion (IsLateReply t) (flat_map (late_frames (without_late_dialogues clock m)) (late_waiting clock (without_late_dialogues clock m)))
+aged_answers : ItemsReadBack → (t : AdapterTable) (clock : Ms) (m : Messaging) → m ≡ t.messaging → IsWhole t → AllByRecursion IsShortFrame (flat_map (late_frames (without_late_class3_connections clock m)) (late_waiting clock (without_late_class3_connections clock m))) → AllByRecursion (IsLateReply t) (flat_map (late_frames (without_late_class3_connections clock m)) (late_waiting clock (without_late_class3_connections clock m)))
 aged_answers back t clock m same whole short =
-    late_replies back t (without_late_dialogues clock m) (late_waiting clock (without_late_dialogues clock m))
+    late_replies back t (without_late_class3_connections clock m) (late_waiting clock (without_late_class3_connections clock m))
     (λ over. left_each (λ w. IsOfStream w.asker) clock m (subst AsksOverStreams (sym same) over))
     (left_each (CanGoBack t.streams) clock m (subst (λ (n : Messaging). EachOf (CanGoBack t.streams) n.waiting) (sym same) whole.messages.waiting))
-    (left_carried t clock m (subst (DialoguesCarried t) (sym same) (carried_of t whole))) short
+    (left_carried t clock m (subst (Class3ConnectionsCarried t) (sym same) (carried_of t whole))) short
 
 tick_answers : ItemsReadBack → (t : AdapterTable) (ms : ℕ) → IsWhole t → OkAnswers t (event.Tick ms) (tick t ms)
 unfolding tick

@@ -339,18 +339,18 @@ tick_step false false t ms next wait is =
 
 -- ---- the time that a target has, in a profile without fault
 
-is_timed : (a b c d e : Bool) → cond a (Some wrong.Incarnation) (cond b (Some wrong.Points) (cond c (Some wrong.SameInstance) (cond d (Some wrong.Length) (cond (not e) (Some wrong.Timing) None)))) ≡ None → e ≡ true
-is_timed true b c d e is = absurd cc
-is_timed false true c d e is = absurd cc
-is_timed false false true d e is = absurd cc
-is_timed false false false true e is = absurd cc
-is_timed false false false false true is = refl
-is_timed false false false false false is = absurd cc
+is_timed : (a b c d e f : Bool) → cond a (Some wrong.Incarnation) (cond b (Some wrong.Points) (cond c (Some wrong.SameInstance) (cond d (Some wrong.Length) (cond (not e) (Some wrong.Timing) (cond f (Some wrong.Limits) None))))) ≡ None → e ≡ true
+is_timed true b c d e f is = absurd cc
+is_timed false true c d e f is = absurd cc
+is_timed false false true d e f is = absurd cc
+is_timed false false false true e f is = absurd cc
+is_timed false false false false true f is = refl
+is_timed false false false false false f is = absurd cc
 
 has_wait : (profile : ScannerProfile) → profile_fault profile ≡ None → 1 ≤ profile.open_timeout
 unfolding profile_fault
 has_wait profile is =
-    let times = is_timed _ _ _ _ (keeps_time profile) is in
+    let times = is_timed _ _ _ _ (keeps_time profile) _ is in
     let waits = and_parts (list_all has_times profile.slots) (is_wait profile.open_timeout && is_wait profile.retry) times in
     let wait = and_parts (is_wait profile.open_timeout) (is_wait profile.retry) waits.1 in
     at_least profile.open_timeout (and_parts (nat_le 1 profile.open_timeout) (nat_le profile.open_timeout 60000) wait.0).0 where

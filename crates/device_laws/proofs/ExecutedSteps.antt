@@ -39,34 +39,34 @@ use Rattle.cip_router.specs.Commands.{command_of, is_silent}
 use Rattle.cip_router.specs.Frames.{RequestHeader, FrameFields, without_header, wrong_length, whole, protocol_text, frame_reading}
 use Rattle.cip_router.specs.Replies.{ReplyFields, own}
 use Rattle.cip_router.specs.Requests.{RouterRequestFields, nothing, refused, closing, object, opening, router_request_reading}
-use Rattle.messaging.specs.declared.dialogue.Dialogue.{Dialogue}
+use Rattle.messaging.specs.declared.class3.Class3Connection.{Class3Connection}
 use Rattle.messaging.specs.declared.requests.Requester.{Requester}
 use Rattle.messaging.specs.declared.requests.Requester.TheVariants as asker
 use Rattle.messaging.specs.declared.requests.Waiting.{Waiting}
 use Rattle.messaging.specs.declared.table.Messaging.{Messaging}
 use Rattle.messaging.specs.Changes as changes
-use Rattle.messaging.specs.Changes.{lacks_room, with_dialogue, without_dialogue, executed, repeated, referred, referred_over, answered, replied}
-use Rattle.messaging.specs.Dialogues.{has_dialogue_triad, has_dialogue_id, is_on_stream, is_dialogue, repeats_last, is_count, is_last_message, first_changed, executed_dialogue, repeated_dialogue, replied_dialogue}
+use Rattle.messaging.specs.Changes.{with_class3, without_class3, executed, repeated, referred, referred_over, answered, replied}
+use Rattle.messaging.specs.Class3Connections.{has_class3_triad, has_class3_id, is_on_stream, is_class3, repeats_last, is_count, is_last_message, first_changed, executed_class3, repeated_class3, replied_class3}
 use Rattle.messaging.specs.Lemmas.EachOfLemmas.{each_left}
 use Rattle.messaging.specs.Sound.{EachOf, EachTwoOf, IdsDiffer, IsDrawn}
-use Rattle.messaging.specs.Times.{is_late_dialogue, without_late_dialogues, is_late_request, late_waiting, late_text, late_reply, late_replies, without_late_waiting, aged}
+use Rattle.messaging.specs.Times.{is_late_class3, without_late_class3_connections, is_late_request, late_waiting, late_text, late_reply, late_replies, without_late_waiting, aged}
 use Rattle.adapter_table.specs.declared.profile.InputPoint.{InputPoint}
 use Rattle.adapter_table.specs.declared.profile.Profile.{Profile}
 use Rattle.adapter_table.specs.declared.table.AdapterTable.{AdapterTable}
 use Rattle.adapter_table.specs.declared.table.Stream.{Stream}
 use Rattle.adapter_table.specs.Connections.{Row}
-use Rattle.adapter_table.specs.Answering.{dialogue_keeps, with_reply, respond}
+use Rattle.adapter_table.specs.Answering.{class3_keeps, with_reply, respond}
 use Rattle.adapter_table.specs.Checks.{Check, Admitted}
 use Rattle.adapter_table.specs.Closing.{closed_table}
 use Rattle.adapter_table.specs.Connected.{service_in, fitted_text, connected_served, next_deadline, executed_table}
 use Rattle.adapter_table.specs.Datagrams.{is_for, row_delivery, accepted_table, delivered, found_datagram, datagram_of, received}
-use Rattle.adapter_table.specs.DialogueOpening.{dialogue_view, dialogue_refusal, opened_dialogue, dialogue_table, judged_dialogue, served_dialogue, stream_served}
+use Rattle.adapter_table.specs.Class3Opening.{class3_view, class3_refusal, opened_class3, class3_table, judged_class3, served_class3, stream_served}
 use Rattle.adapter_table.specs.Encapsulation.{Handled, refusal, unanswered, undelivered, session_begun, session_ended, register_session, request_replied, request_handled, packet_replied, message_repeated, message_replied, message_served, message_executed, message_found, unit_replied, handled, frame_answer, stream_answer, frame_of, frame}
 use Rattle.adapter_table.specs.Inquiries.{inquiry_reply, inquired_by, inquired}
 use Rattle.adapter_table.specs.Messages.{messages_table}
 use Rattle.adapter_table.specs.Objects.{ObjectAnswer, said, denied, resetting, object_answer}
 use Rattle.adapter_table.specs.Opening.{opened_table}
-use Rattle.adapter_table.specs.Own.{OwnRequest, own_of}
+use Rattle.adapter_table.specs.Own.{OwnRequest, own_of, cannot_ask}
 use Rattle.adapter_table.specs.Profiles.{is_at}
 use Rattle.adapter_table.specs.Requests.{Next, Served, open_service, judged_open, admitted_open, served_open, close_of, served_close, end_of, served_end, router_refusal, object_served, served_object, served, requested_by, requested}
 use Rattle.adapter_table.specs.Requests as router
@@ -91,175 +91,175 @@ use Rattle.device_laws.specs.Lemmas.Texts.{either}
 
 -- ---- a connection is found as it was
 
-abbrev Found : ConnId → List Dialogue → Dialogue → Type 0
-Found id ds d = find (has_dialogue_id id) ds ≡ Some d
+abbrev Found : ConnId → List Class3Connection → Class3Connection → Type 0
+Found id ds d = find (has_class3_id id) ds ≡ Some d
 
 -- the one that is found was found before, and has the count that it had
-record Was (id : ConnId) (ds : List Dialogue) (last : Dialogue → Option ℕ) (e : Dialogue) : Type 0 where
-  old : Dialogue
+record Was (id : ConnId) (ds : List Class3Connection) (last : Class3Connection → Option ℕ) (e : Class3Connection) : Type 0 where
+  old : Class3Connection
   found : Found id ds old
   same : e.last ≡ last old
 
-abbrev own_last : Dialogue → Option ℕ
+abbrev own_last : Class3Connection → Option ℕ
 own_last d = d.last
 
 -- each that is found after a change
-abbrev Leaves : ConnId → (Dialogue → Option ℕ) → List Dialogue → List Dialogue → Type 0
-Leaves id last ds es = (e : Dialogue) → Found id es e → Was id ds last e
+abbrev Leaves : ConnId → (Class3Connection → Option ℕ) → List Class3Connection → List Class3Connection → Type 0
+Leaves id last ds es = (e : Class3Connection) → Found id es e → Was id ds last e
 
-leaves_same : (id : ConnId) (ds : List Dialogue) → Leaves id own_last ds ds
+leaves_same : (id : ConnId) (ds : List Class3Connection) → Leaves id own_last ds ds
 leaves_same id ds e found = record { old = e; found = found; same = refl }
 
-leaves_then : (id : ConnId) (last : Dialogue → Option ℕ) (ds es fs : List Dialogue) → Leaves id last ds es → Leaves id own_last es fs → Leaves id last ds fs
+leaves_then : (id : ConnId) (last : Class3Connection → Option ℕ) (ds es fs : List Class3Connection) → Leaves id last ds es → Leaves id own_last es fs → Leaves id last ds fs
 leaves_then id last ds es fs first next f found =
     let mid = next f found in
     let was = first mid.old mid.found in
     record { old = was.old; found = was.found; same = mid.same ∙ was.same }
 
 -- behind one that another id has
-behind : (id : ConnId) (last : Dialogue → Option ℕ) (x : Dialogue) (ds : List Dialogue) (e : Dialogue) → has_dialogue_id id x ≡ false → Was id ds last e → Was id (x ∷ ds) last e
+behind : (id : ConnId) (last : Class3Connection → Option ℕ) (x : Class3Connection) (ds : List Class3Connection) (e : Class3Connection) → has_class3_id id x ≡ false → Was id ds last e → Was id (x ∷ ds) last e
 behind id last x ds e other was = record { old = was.old; found = rw other was.found; same = was.same }
 
 -- ids that differ
-apart_step : (id : ConnId) (x e : Dialogue) → has_dialogue_id id x ≡ true → has_dialogue_id id e ≡ true → IdsDiffer x e → true ≡ false
+apart_step : (id : ConnId) (x e : Class3Connection) → has_class3_id id x ≡ true → has_class3_id id e ≡ true → IdsDiffer x e → true ≡ false
 apart_step id x e first second apart = absurd (grind (arith, nat_tests))
 
-each_found : (P : Dialogue → Type 0) (p : Dialogue → Bool) (xs : List Dialogue) (e : Dialogue) → find p xs ≡ Some e → EachOf P xs → P e
+each_found : (P : Class3Connection → Type 0) (p : Class3Connection → Bool) (xs : List Class3Connection) (e : Class3Connection) → find p xs ≡ Some e → EachOf P xs → P e
 each_found P p [] e is all = absurd (let x = is in cc)
 each_found P p (x ∷ xs) e is all = found_step (p x) x (find p xs) is all.0 (λ later. each_found P p xs e later all.1) where
-  found_step : (b : Bool) (y : Dialogue) (rest : Option Dialogue) → cond b (Some y) rest ≡ Some e → P y → (rest ≡ Some e → P e) → P e
+  found_step : (b : Bool) (y : Class3Connection) (rest : Option Class3Connection) → cond b (Some y) rest ≡ Some e → P y → (rest ≡ Some e → P e) → P e
   found_step true y rest found here more = subst P (same_Some y e found) here
   found_step false y rest found here more = more found
 
-filter_step : (a b : Bool) (id : ConnId) (p : Dialogue → Bool) (x : Dialogue) (xs : List Dialogue) (e : Dialogue) → has_dialogue_id id x ≡ a → p x ≡ b → EachOf (IdsDiffer x) xs → Found id (cond b (x ∷ filter p xs) (filter p xs)) e → (Found id (filter p xs) e → Was id xs own_last e) → Was id (x ∷ xs) own_last e
+filter_step : (a b : Bool) (id : ConnId) (p : Class3Connection → Bool) (x : Class3Connection) (xs : List Class3Connection) (e : Class3Connection) → has_class3_id id x ≡ a → p x ≡ b → EachOf (IdsDiffer x) xs → Found id (cond b (x ∷ filter p xs) (filter p xs)) e → (Found id (filter p xs) e → Was id xs own_last e) → Was id (x ∷ xs) own_last e
 filter_step true true id p x xs e has passes differ found rest =
     let same : x ≡ e = same_Some x e (sym (hit has) ∙ found) in
     record { old = x; found = rw has refl; same = ap own_last (sym same) }
   where
-    hit : has_dialogue_id id x ≡ true → find (has_dialogue_id id) (x ∷ filter p xs) ≡ Some x
+    hit : has_class3_id id x ≡ true → find (has_class3_id id) (x ∷ filter p xs) ≡ Some x
     hit is = rw is refl
 filter_step false true id p x xs e has passes differ found rest =
     behind id own_last x xs e has (rest (sym (miss has) ∙ found))
   where
-    miss : has_dialogue_id id x ≡ false → find (has_dialogue_id id) (x ∷ filter p xs) ≡ find (has_dialogue_id id) (filter p xs)
+    miss : has_class3_id id x ≡ false → find (has_class3_id id) (x ∷ filter p xs) ≡ find (has_class3_id id) (filter p xs)
     miss is = rw is refl
 filter_step true false id p x xs e has passes differ found rest =
-    let apart = each_found (IdsDiffer x) (has_dialogue_id id) (filter p xs) e found (each_left (IdsDiffer x) p xs differ) in
-    absurd (let never = apart_step id x e has (found_passes (has_dialogue_id id) (filter p xs) e found) apart in cc)
+    let apart = each_found (IdsDiffer x) (has_class3_id id) (filter p xs) e found (each_left (IdsDiffer x) p xs differ) in
+    absurd (let never = apart_step id x e has (found_passes (has_class3_id id) (filter p xs) e found) apart in cc)
 filter_step false false id p x xs e has passes differ found rest = behind id own_last x xs e has (rest found)
 
-filter_leaves : (id : ConnId) (p : Dialogue → Bool) (ds : List Dialogue) → EachTwoOf IdsDiffer ds → Leaves id own_last ds (filter p ds)
+filter_leaves : (id : ConnId) (p : Class3Connection → Bool) (ds : List Class3Connection) → EachTwoOf IdsDiffer ds → Leaves id own_last ds (filter p ds)
 filter_leaves id p [] differ e found = absurd (let x = found in cc)
 filter_leaves id p (x ∷ xs) differ e found =
-    filter_step (has_dialogue_id id x) (p x) id p x xs e refl refl differ.0 found (λ later. filter_leaves id p xs differ.1 e later)
+    filter_step (has_class3_id id x) (p x) id p x xs e refl refl differ.0 found (λ later. filter_leaves id p xs differ.1 e later)
 
 -- ---- one connection is changed
 
 -- the change leaves ids, and counts where it is made
-record KeepsIds (f : Dialogue → Dialogue) : Type 0 where
-  id : (d : Dialogue) → (f d).o_t_id ≡ d.o_t_id
+record KeepsIds (f : Class3Connection → Class3Connection) : Type 0 where
+  id : (d : Class3Connection) → (f d).o_t_id ≡ d.o_t_id
 
-change_step : (a b : Bool) (id : ConnId) (test : Dialogue → Bool) (f : Dialogue → Dialogue) (last : Dialogue → Option ℕ) (x : Dialogue) (xs : List Dialogue) (e : Dialogue) → KeepsIds f → ((d : Dialogue) → has_dialogue_id id d ≡ true → test d ≡ true → (f d).last ≡ last d) → ((d : Dialogue) → has_dialogue_id id d ≡ true → test d ≡ false → d.last ≡ last d) → ((d : Dialogue) → has_dialogue_id id d ≡ false → test d ≡ true → (other : Dialogue) → Found id xs other → other.last ≡ last other) → has_dialogue_id id x ≡ a → test x ≡ b → Found id (cond b (f x ∷ xs) (x ∷ first_changed test f xs)) e → (Found id (first_changed test f xs) e → Was id xs last e) → Was id (x ∷ xs) last e
+change_step : (a b : Bool) (id : ConnId) (test : Class3Connection → Bool) (f : Class3Connection → Class3Connection) (last : Class3Connection → Option ℕ) (x : Class3Connection) (xs : List Class3Connection) (e : Class3Connection) → KeepsIds f → ((d : Class3Connection) → has_class3_id id d ≡ true → test d ≡ true → (f d).last ≡ last d) → ((d : Class3Connection) → has_class3_id id d ≡ true → test d ≡ false → d.last ≡ last d) → ((d : Class3Connection) → has_class3_id id d ≡ false → test d ≡ true → (other : Class3Connection) → Found id xs other → other.last ≡ last other) → has_class3_id id x ≡ a → test x ≡ b → Found id (cond b (f x ∷ xs) (x ∷ first_changed test f xs)) e → (Found id (first_changed test f xs) e → Was id xs last e) → Was id (x ∷ xs) last e
 change_step true true id test f last x xs e keeps made left beyond has tests found rest =
     let same : f x ≡ e = same_Some (f x) e (sym (hit (ap (λ (i : ConnId). i.0 == id.0) (keeps.id x) ∙ has)) ∙ found) in
     record { old = x; found = rw has refl; same = ap own_last (sym same) ∙ made x has tests }
   where
-    hit : has_dialogue_id id (f x) ≡ true → find (has_dialogue_id id) (f x ∷ xs) ≡ Some (f x)
+    hit : has_class3_id id (f x) ≡ true → find (has_class3_id id) (f x ∷ xs) ≡ Some (f x)
     hit is = rw is refl
 change_step false true id test f last x xs e keeps made left beyond has tests found rest =
     let later : Found id xs e = sym (miss (ap (λ (i : ConnId). i.0 == id.0) (keeps.id x) ∙ has)) ∙ found in
     record { old = e; found = rw has later; same = beyond x has tests e later }
   where
-    miss : has_dialogue_id id (f x) ≡ false → find (has_dialogue_id id) (f x ∷ xs) ≡ find (has_dialogue_id id) xs
+    miss : has_class3_id id (f x) ≡ false → find (has_class3_id id) (f x ∷ xs) ≡ find (has_class3_id id) xs
     miss is = rw is refl
 change_step true false id test f last x xs e keeps made left beyond has tests found rest =
     let same : x ≡ e = same_Some x e (sym (hit has) ∙ found) in
     record { old = x; found = rw has refl; same = ap own_last (sym same) ∙ left x has tests }
   where
-    hit : has_dialogue_id id x ≡ true → find (has_dialogue_id id) (x ∷ first_changed test f xs) ≡ Some x
+    hit : has_class3_id id x ≡ true → find (has_class3_id id) (x ∷ first_changed test f xs) ≡ Some x
     hit is = rw is refl
 change_step false false id test f last x xs e keeps made left beyond has tests found rest =
     behind id last x xs e has (rest (sym (miss has) ∙ found))
   where
-    miss : has_dialogue_id id x ≡ false → find (has_dialogue_id id) (x ∷ first_changed test f xs) ≡ find (has_dialogue_id id) (first_changed test f xs)
+    miss : has_class3_id id x ≡ false → find (has_class3_id id) (x ∷ first_changed test f xs) ≡ find (has_class3_id id) (first_changed test f xs)
     miss is = rw is refl
 
 -- a change that leaves the count
-change_leaves : (id : ConnId) (test : Dialogue → Bool) (f : Dialogue → Dialogue) → KeepsIds f → ((d : Dialogue) → (f d).last ≡ d.last) → (ds : List Dialogue) → Leaves id own_last ds (first_changed test f ds)
+change_leaves : (id : ConnId) (test : Class3Connection → Bool) (f : Class3Connection → Class3Connection) → KeepsIds f → ((d : Class3Connection) → (f d).last ≡ d.last) → (ds : List Class3Connection) → Leaves id own_last ds (first_changed test f ds)
 change_leaves id test f keeps counts [] e found = absurd (let x = found in cc)
 change_leaves id test f keeps counts (x ∷ xs) e found =
-    change_step (has_dialogue_id id x) (test x) id test f own_last x xs e keeps (λ d has tests. counts d) (λ d has tests. refl) (λ d has tests other later. refl) refl refl found
+    change_step (has_class3_id id x) (test x) id test f own_last x xs e keeps (λ d has tests. counts d) (λ d has tests. refl) (λ d has tests other later. refl) refl refl found
     (λ later. change_leaves id test f keeps counts xs e later)
 
 -- an execution on a connection of this id
-own_test : (id other : ConnId) (d : Dialogue) → other.0 ≡ id.0 → has_dialogue_id other d ≡ has_dialogue_id id d
+own_test : (id other : ConnId) (d : Class3Connection) → other.0 ≡ id.0 → has_class3_id other d ≡ has_class3_id id d
 own_test id other d same = ap (λ (n : ℕ). d.o_t_id.0 == n) same
 
-executes_own : (id other : ConnId) (count : ℕ) (reply : List ℕ) (deadline : Ms) → other.0 ≡ id.0 → (ds : List Dialogue) → Leaves id (λ d. Some count) ds (first_changed (has_dialogue_id other) (executed_dialogue count reply deadline) ds)
+executes_own : (id other : ConnId) (count : ℕ) (reply : List ℕ) (deadline : Ms) → other.0 ≡ id.0 → (ds : List Class3Connection) → Leaves id (λ d. Some count) ds (first_changed (has_class3_id other) (executed_class3 count reply deadline) ds)
 executes_own id other count reply deadline same [] e found = absurd (let x = found in cc)
 executes_own id other count reply deadline same (x ∷ xs) e found =
-    change_step (has_dialogue_id id x) (has_dialogue_id other x) id (has_dialogue_id other) (executed_dialogue count reply deadline) (λ d. Some count) x xs e (record { id = λ d. refl }) (λ d has tests. refl)
+    change_step (has_class3_id id x) (has_class3_id other x) id (has_class3_id other) (executed_class3 count reply deadline) (λ d. Some count) x xs e (record { id = λ d. refl }) (λ d has tests. refl)
     (λ d has tests. absurd (let never : true ≡ false = sym has ∙ sym (own_test id other d same) ∙ tests in cc))
     (λ d has tests. absurd (let never : true ≡ false = sym tests ∙ own_test id other d same ∙ has in cc)) refl refl found
     (λ later. executes_own id other count reply deadline same xs e later)
 
-other_test : (id other : ConnId) (d : Dialogue) → (other.0 == id.0) ≡ false → has_dialogue_id id d ≡ true → has_dialogue_id other d ≡ true → true ≡ false
+other_test : (id other : ConnId) (d : Class3Connection) → (other.0 == id.0) ≡ false → has_class3_id id d ≡ true → has_class3_id other d ≡ true → true ≡ false
 other_test id other d apart has tests = absurd (grind (arith, nat_tests))
 
-executes_other : (id other : ConnId) (count : ℕ) (reply : List ℕ) (deadline : Ms) → (other.0 == id.0) ≡ false → (ds : List Dialogue) → Leaves id own_last ds (first_changed (has_dialogue_id other) (executed_dialogue count reply deadline) ds)
+executes_other : (id other : ConnId) (count : ℕ) (reply : List ℕ) (deadline : Ms) → (other.0 == id.0) ≡ false → (ds : List Class3Connection) → Leaves id own_last ds (first_changed (has_class3_id other) (executed_class3 count reply deadline) ds)
 executes_other id other count reply deadline apart [] e found = absurd (let x = found in cc)
 executes_other id other count reply deadline apart (x ∷ xs) e found =
-    change_step (has_dialogue_id id x) (has_dialogue_id other x) id (has_dialogue_id other) (executed_dialogue count reply deadline) own_last x xs e (record { id = λ d. refl })
+    change_step (has_class3_id id x) (has_class3_id other x) id (has_class3_id other) (executed_class3 count reply deadline) own_last x xs e (record { id = λ d. refl })
     (λ d has tests. absurd (let never = other_test id other d apart has tests in cc)) (λ d has tests. refl) (λ d has tests after later. refl) refl refl found
     (λ later. executes_other id other count reply deadline apart xs e later)
 
 -- ---- changes of messages
 
 abbrev Stays : ConnId → Messaging → Messaging → Type 0
-Stays id m n = Leaves id own_last m.dialogues n.dialogues
+Stays id m n = Leaves id own_last m.class3_connections n.class3_connections
 
 -- no two connections have one id
 abbrev Differ : Messaging → Type 0
-Differ m = EachTwoOf IdsDiffer m.dialogues
+Differ m = EachTwoOf IdsDiffer m.class3_connections
 
-without_dialogue_stays : (id : ConnId) (m : Messaging) (triad : Triad) → Differ m → Stays id m (without_dialogue m triad)
-unfolding without_dialogue
-without_dialogue_stays id m triad differ = filter_leaves id (λ d. not (has_dialogue_triad triad d)) m.dialogues differ
+without_class3_stays : (id : ConnId) (m : Messaging) (triad : Triad) → Differ m → Stays id m (without_class3 m triad)
+unfolding without_class3
+without_class3_stays id m triad differ = filter_leaves id (λ d. not (has_class3_triad triad d)) m.class3_connections differ
 
 without_stream_stays : (id : ConnId) (m : Messaging) (stream : ℕ) → Differ m → Stays id m (changes.without_stream m stream)
 unfolding changes.without_stream
-without_stream_stays id m stream differ = filter_leaves id (λ d. not (is_on_stream stream d)) m.dialogues differ
+without_stream_stays id m stream differ = filter_leaves id (λ d. not (is_on_stream stream d)) m.class3_connections differ
 
 answered_stays : (id : ConnId) (m : Messaging) (number : ℕ) → Stays id m (answered m number)
 unfolding answered
-answered_stays id m number = leaves_same id m.dialogues
+answered_stays id m number = leaves_same id m.class3_connections
 
-referred_stays : (id : ConnId) (m : Messaging) (from : Requester) (service : ℕ) (clock : Ms) → Stays id m (referred m from service clock)
+referred_stays : (id : ConnId) (m : Messaging) (peer : Node) (from : Requester) (service : ℕ) (clock : Ms) → Stays id m (referred m peer from service clock)
 unfolding referred
-referred_stays id m from service clock = leaves_same id m.dialogues
+referred_stays id m peer from service clock = leaves_same id m.class3_connections
 
 replied_stays : (id other : ConnId) (m : Messaging) (count : ℕ) (reply : List ℕ) → Stays id m (replied m other count reply)
 unfolding replied
-replied_stays id other m count reply = change_leaves id (is_last_message other count) (replied_dialogue reply) (record { id = λ d. refl }) (λ d. refl) m.dialogues
+replied_stays id other m count reply = change_leaves id (is_last_message other count) (replied_class3 reply) (record { id = λ d. refl }) (λ d. refl) m.class3_connections
 
 repeated_stays : (id other : ConnId) (m : Messaging) (deadline : Ms) → Stays id m (repeated m other deadline)
 unfolding repeated
-repeated_stays id other m deadline = change_leaves id (has_dialogue_id other) (repeated_dialogue deadline) (record { id = λ d. refl }) (λ d. refl) m.dialogues
+repeated_stays id other m deadline = change_leaves id (has_class3_id other) (repeated_class3 deadline) (record { id = λ d. refl }) (λ d. refl) m.class3_connections
 
 late_reply_stays : (id : ConnId) (from : Requester) (service : ℕ) (m : Messaging) → Stays id m (late_reply from service m)
-late_reply_stays id (asker.Peer node) service m = leaves_same id m.dialogues
-late_reply_stays id (asker.Stream number context) service m = leaves_same id m.dialogues
-late_reply_stays id (asker.Dialogue other count) service m = replied_stays id other m count (late_text service)
+late_reply_stays id (asker.Peer node) service m = leaves_same id m.class3_connections
+late_reply_stays id (asker.Stream number context) service m = leaves_same id m.class3_connections
+late_reply_stays id (asker.Class3Connection other count) service m = replied_stays id other m count (late_text service)
 
 late_replies_stay : (id : ConnId) (waiting : List Waiting) (m : Messaging) → Stays id m (late_replies waiting m)
-late_replies_stay id [] m = leaves_same id m.dialogues
+late_replies_stay id [] m = leaves_same id m.class3_connections
 late_replies_stay id (w ∷ waiting) m =
     let next = late_reply w.asker w.service m in
-    leaves_then id own_last m.dialogues next.dialogues (late_replies waiting next).dialogues (late_reply_stays id w.asker w.service m) (late_replies_stay id waiting (late_reply w.asker w.service m))
+    leaves_then id own_last m.class3_connections next.class3_connections (late_replies waiting next).class3_connections (late_reply_stays id w.asker w.service m) (late_replies_stay id waiting (late_reply w.asker w.service m))
 
-left_stays : (id : ConnId) (clock : Ms) (m : Messaging) → Differ m → Stays id m (without_late_dialogues clock m)
-unfolding without_late_dialogues
-left_stays id clock m differ = filter_leaves id (λ d. not (is_late_dialogue clock d)) m.dialogues differ
+left_stays : (id : ConnId) (clock : Ms) (m : Messaging) → Differ m → Stays id m (without_late_class3_connections clock m)
+unfolding without_late_class3_connections
+left_stays id clock m differ = filter_leaves id (λ d. not (is_late_class3 clock d)) m.class3_connections differ
 
 early_stays : (id : ConnId) (clock : Ms) (m : Messaging) → Stays id m (without_late_waiting clock m)
 unfolding without_late_waiting
@@ -268,30 +268,30 @@ early_stays id clock m = late_replies_stay id (late_waiting clock m) (record m {
 aged_stays : (id : ConnId) (clock : Ms) (m : Messaging) → Differ m → Stays id m (aged clock m)
 unfolding aged
 aged_stays id clock m differ =
-    let left = without_late_dialogues clock m in
-    leaves_then id own_last m.dialogues left.dialogues (without_late_waiting clock left).dialogues (left_stays id clock m differ) (early_stays id clock (without_late_dialogues clock m))
+    let left = without_late_class3_connections clock m in
+    leaves_then id own_last m.class3_connections left.class3_connections (without_late_waiting clock left).class3_connections (left_stays id clock m differ) (early_stays id clock (without_late_class3_connections clock m))
 
-keeps_stays : (id other : ConnId) (m : Messaging) (count service : ℕ) (reply : ReplyFields) (found : Option Dialogue) → Stays id m (dialogue_keeps m other count service reply found)
-keeps_stays id other m count service reply None = leaves_same id m.dialogues
+keeps_stays : (id other : ConnId) (m : Messaging) (count service : ℕ) (reply : ReplyFields) (found : Option Class3Connection) → Stays id m (class3_keeps m other count service reply found)
+keeps_stays id other m count service reply None = leaves_same id m.class3_connections
 keeps_stays id other m count service reply (Some d) = replied_stays id other m count (fitted_text d service reply)
 
 reply_stays : (id : ConnId) (m : Messaging) (from : Requester) (service : ℕ) (reply : ReplyFields) → Stays id m (with_reply m from service reply)
-reply_stays id m (asker.Peer node) service reply = leaves_same id m.dialogues
-reply_stays id m (asker.Stream number context) service reply = leaves_same id m.dialogues
-reply_stays id m (asker.Dialogue other count) service reply = keeps_stays id other m count service reply (find (is_last_message other count) m.dialogues)
+reply_stays id m (asker.Peer node) service reply = leaves_same id m.class3_connections
+reply_stays id m (asker.Stream number context) service reply = leaves_same id m.class3_connections
+reply_stays id m (asker.Class3Connection other count) service reply = keeps_stays id other m count service reply (find (is_last_message other count) m.class3_connections)
 
 -- an execution
-executed_own : (id other : ConnId) (m : Messaging) (count : ℕ) (reply : List ℕ) (deadline : Ms) → other.0 ≡ id.0 → Leaves id (λ d. Some count) m.dialogues (executed m other count reply deadline).dialogues
+executed_own : (id other : ConnId) (m : Messaging) (count : ℕ) (reply : List ℕ) (deadline : Ms) → other.0 ≡ id.0 → Leaves id (λ d. Some count) m.class3_connections (executed m other count reply deadline).class3_connections
 unfolding executed
-executed_own id other m count reply deadline same = executes_own id other count reply deadline same m.dialogues
+executed_own id other m count reply deadline same = executes_own id other count reply deadline same m.class3_connections
 
 executed_other : (id other : ConnId) (m : Messaging) (count : ℕ) (reply : List ℕ) (deadline : Ms) → (other.0 == id.0) ≡ false → Stays id m (executed m other count reply deadline)
 unfolding executed
-executed_other id other m count reply deadline apart = executes_other id other count reply deadline apart m.dialogues
+executed_other id other m count reply deadline apart = executes_other id other count reply deadline apart m.class3_connections
 
-referred_dialogues : (m : Messaging) (other : ConnId) (count service : ℕ) (deadline clock : Ms) → (referred_over m other count service deadline clock).dialogues ≡ (executed m other count [] deadline).dialogues
+referred_class3_connections : (m : Messaging) (peer : Node) (other : ConnId) (count service : ℕ) (deadline clock : Ms) → (referred_over m peer other count service deadline clock).class3_connections ≡ (executed m other count [] deadline).class3_connections
 unfolding referred_over referred
-referred_dialogues m other count service deadline clock = refl
+referred_class3_connections m peer other count service deadline clock = refl
 
 -- ---- what a step does
 
@@ -301,7 +301,7 @@ after [] last = last
 after (count ∷ counts) last = after counts (Some count)
 
 -- the connection was opened by the step
-record IsNew (id : ConnId) (t u : AdapterTable) (counts : List ℕ) (e : Dialogue) : Type 0 where
+record IsNew (id : ConnId) (t u : AdapterTable) (counts : List ℕ) (e : Class3Connection) : Type 0 where
   none : counts ≡ []
   last : e.last ≡ None
   fresh : id.0 ≡ (connection_id t.profile.incarnation t.next_id).0
@@ -310,60 +310,60 @@ record IsNew (id : ConnId) (t u : AdapterTable) (counts : List ℕ) (e : Dialogu
 -- it executes one message at most, whose count is not that of the last one
 abbrev Follows : ConnId → AdapterTable → List ℕ → Type 0
 Follows id t [] = Unit {0}
-Follows id t (count ∷ []) = (d : Dialogue) × Found id t.messaging.dialogues d × (d.last ≢ Some count)
+Follows id t (count ∷ []) = (d : Class3Connection) × Found id t.messaging.class3_connections d × (d.last ≢ Some count)
 Follows id t (count ∷ other ∷ counts) = ⊥
 
 record Goes (id : ConnId) (t : AdapterTable) (counts : List ℕ) (u : AdapterTable) : Type 0 where
   later : t.next_id ≤ u.next_id
   profile : u.profile ≡ t.profile
-  stands : (e : Dialogue) → Found id u.messaging.dialogues e → Was id t.messaging.dialogues (λ d. after counts d.last) e ⊎ IsNew id t u counts e
+  stands : (e : Class3Connection) → Found id u.messaging.class3_connections e → Was id t.messaging.class3_connections (λ d. after counts d.last) e ⊎ IsNew id t u counts e
   follows : Follows id t counts
 
 quiet : (id : ConnId) (t u : AdapterTable) → t.next_id ≤ u.next_id → u.profile ≡ t.profile → Stays id t.messaging u.messaging → Goes id t [] u
 quiet id t u later profile stays = record { later = later; profile = profile; stands = λ e found. inl (stays e found); follows = tt }
 
 unchanged : (id : ConnId) (t : AdapterTable) → Goes id t [] t
-unchanged id t = quiet id t t (omega arith) refl (leaves_same id t.messaging.dialogues)
+unchanged id t = quiet id t t (omega arith) refl (leaves_same id t.messaging.class3_connections)
 
 messages_go : (id : ConnId) (t : AdapterTable) (m : Messaging) → Stays id t.messaging m → Goes id t [] (messages_table t t.next_id m)
 unfolding messages_table
 messages_go id t m stays = quiet id t (messages_table t t.next_id m) (omega arith) refl stays
 
 -- a connection is opened
-append_step : (b : Bool) (id : ConnId) (x : Dialogue) (rest : Option Dialogue) (e : Dialogue) → cond b (Some x) rest ≡ Some e → ((b ≡ true) × (x ≡ e)) ⊎ ((b ≡ false) × (rest ≡ Some e))
+append_step : (b : Bool) (id : ConnId) (x : Class3Connection) (rest : Option Class3Connection) (e : Class3Connection) → cond b (Some x) rest ≡ Some e → ((b ≡ true) × (x ≡ e)) ⊎ ((b ≡ false) × (rest ≡ Some e))
 append_step true id x rest e is = inl (refl, same_Some x e is)
 append_step false id x rest e is = inr (refl, is)
 
-appended : (id : ConnId) (ds : List Dialogue) (new e : Dialogue) → Found id (ds ++ new ∷ []) e → Found id ds e ⊎ ((e ≡ new) × (has_dialogue_id id new ≡ true))
-appended id [] new e found = elim (append_step (has_dialogue_id id new) id new None e found) [
+appended : (id : ConnId) (ds : List Class3Connection) (new e : Class3Connection) → Found id (ds ++ new ∷ []) e → Found id ds e ⊎ ((e ≡ new) × (has_class3_id id new ≡ true))
+appended id [] new e found = elim (append_step (has_class3_id id new) id new None e found) [
   | inl mine ↦ inr (sym mine.1, mine.0)
   | inr other ↦ absurd (let x = other.1 in cc)
 ]
-appended id (x ∷ ds) new e found = elim (append_step (has_dialogue_id id x) id x (find (has_dialogue_id id) (ds ++ new ∷ [])) e found) [
-  | inl mine ↦ inl (first_is (has_dialogue_id id x) mine.0 mine.1)
+appended id (x ∷ ds) new e found = elim (append_step (has_class3_id id x) id x (find (has_class3_id id) (ds ++ new ∷ [])) e found) [
+  | inl mine ↦ inl (first_is (has_class3_id id x) mine.0 mine.1)
   | inr other ↦ elim (appended id ds new e other.1) [
-    | inl later ↦ inl (later_is (has_dialogue_id id x) other.0 later)
+    | inl later ↦ inl (later_is (has_class3_id id x) other.0 later)
     | inr here ↦ inr here
   ]
 ]
   where
-    first_is : (b : Bool) → b ≡ true → x ≡ e → cond b (Some x) (find (has_dialogue_id id) ds) ≡ Some e
-    first_is true is same = ap (λ (d : Dialogue). Some d) same
+    first_is : (b : Bool) → b ≡ true → x ≡ e → cond b (Some x) (find (has_class3_id id) ds) ≡ Some e
+    first_is true is same = ap (λ (d : Class3Connection). Some d) same
     first_is false is same = absurd (let n : false ≡ true = is in cc)
 
-    later_is : (b : Bool) → b ≡ false → find (has_dialogue_id id) ds ≡ Some e → cond b (Some x) (find (has_dialogue_id id) ds) ≡ Some e
+    later_is : (b : Bool) → b ≡ false → find (has_class3_id id) ds ≡ Some e → cond b (Some x) (find (has_class3_id id) ds) ≡ Some e
     later_is true is later = absurd (let n : true ≡ false = is in cc)
     later_is false is later = later
 
 same_id : (a b : ℕ) → (a == b) ≡ true → b ≡ a
 same_id a b is = sym (eqb-true a b is)
 
-opened_goes : (id : ConnId) (t : AdapterTable) (stream : Stream) (request : OpenFields) → Goes id t [] (dialogue_table t (opened_dialogue t stream request))
-unfolding messages_table with_dialogue opened_dialogue
+opened_goes : (id : ConnId) (t : AdapterTable) (stream : Stream) (request : OpenFields) → Goes id t [] (class3_table t (opened_class3 t stream request))
+unfolding messages_table with_class3 opened_class3
 opened_goes id t stream request = record {
   later = omega arith;
   profile = refl;
-  stands = λ e found. elim (appended id t.messaging.dialogues (opened_dialogue t stream request) e found) [
+  stands = λ e found. elim (appended id t.messaging.class3_connections (opened_class3 t stream request) e found) [
     | inl old ↦ inl (record { old = e; found = old; same = refl })
     | inr new ↦ inr (record { none = refl; last = ap own_last new.0; fresh = same_id _ id.0 new.1; drawn = omega arith })
   ];
@@ -378,19 +378,19 @@ ServedGoes id t s = Goes id t [] s.table
 judged_goes : (id : ConnId) (t : AdapterTable) (peer : Node) (large : Bool) (request : OpenFields) (judged : Result Admitted Refusal) → ServedGoes id t (judged_open t peer large request judged)
 unfolding admitted_open opened_table
 judged_goes id t peer large request (Err why) = unchanged id t
-judged_goes id t peer large request (Ok admitted) = quiet id t _ (omega arith) refl (leaves_same id t.messaging.dialogues)
+judged_goes id t peer large request (Ok admitted) = quiet id t _ (omega arith) refl (leaves_same id t.messaging.class3_connections)
 
 closed_goes : (id : ConnId) (t : AdapterTable) (peer : Node) (request : CloseFields) (found : Option Row) → ServedGoes id t (close_of t peer request found)
 unfolding closed_table
 closed_goes id t peer request None = unchanged id t
 closed_goes id t peer request (Some row) =
-    either (ServedGoes id t) (is_wrong_closer t.profile.limits peer row) _ _ (unchanged id t) (quiet id t (closed_table t row) (omega arith) refl (leaves_same id t.messaging.dialogues))
+    either (ServedGoes id t) (is_wrong_closer t.profile.limits peer row) _ _ (unchanged id t) (quiet id t (closed_table t row) (omega arith) refl (leaves_same id t.messaging.class3_connections))
 
-ended_goes : (id : ConnId) (t : AdapterTable) (peer : Node) (request : CloseFields) (found : Option Dialogue) → Differ t.messaging → ServedGoes id t (end_of t peer request found)
+ended_goes : (id : ConnId) (t : AdapterTable) (peer : Node) (request : CloseFields) (found : Option Class3Connection) → Differ t.messaging → ServedGoes id t (end_of t peer request found)
 unfolding served_close
 ended_goes id t peer request None differ = closed_goes id t peer request (find (has_triad request.triad) t.rows)
 ended_goes id t peer request (Some d) differ =
-    either (ServedGoes id t) (is_wrong_ender t.profile.limits peer d) _ _ (unchanged id t) (messages_go id t _ (without_dialogue_stays id t.messaging d.triad differ))
+    either (ServedGoes id t) (is_wrong_ender t.profile.limits peer d) _ _ (unchanged id t) (messages_go id t _ (without_class3_stays id t.messaging d.triad differ))
 
 object_goes : (id : ConnId) (t : AdapterTable) (service : ℕ) (answer : ObjectAnswer) → ServedGoes id t (object_served t service answer)
 object_goes id t service (said by value) = unchanged id t
@@ -401,19 +401,19 @@ served_goes : (id : ConnId) (t : AdapterTable) (peer : Node) (request : RouterRe
 unfolding served_open served_end served_object
 served_goes id t peer nothing differ = tt
 served_goes id t peer (refused service why) differ = unchanged id t
-served_goes id t peer (closing request) differ = ended_goes id t peer request (find (has_dialogue_triad request.triad) t.messaging.dialogues) differ
+served_goes id t peer (closing request) differ = ended_goes id t peer request (find (has_class3_triad request.triad) t.messaging.class3_connections) differ
 served_goes id t peer (object service class instance attribute body) differ = object_goes id t service (object_answer t service class instance attribute body)
 served_goes id t peer (opening large request) differ = judged_goes id t peer large request (limited_admission t peer request)
 
-dialogue_goes : (id : ConnId) (t : AdapterTable) (stream : Stream) (large : Bool) (request : OpenFields) (c : Check) → ServedGoes id t (judged_dialogue t stream large request c)
-dialogue_goes id t stream large request (Some why) = unchanged id t
-dialogue_goes id t stream large request None = opened_goes id t stream request
+class3_goes : (id : ConnId) (t : AdapterTable) (stream : Stream) (large : Bool) (request : OpenFields) (c : Check) → ServedGoes id t (judged_class3 t stream large request c)
+class3_goes id t stream large request (Some why) = unchanged id t
+class3_goes id t stream large request None = opened_goes id t stream request
 
 over_goes : (id : ConnId) (t : AdapterTable) (stream : Stream) (request : RouterRequestFields) → Differ t.messaging → IfSome (stream_served t stream request) (ServedGoes id t)
-unfolding served_dialogue
+unfolding served_class3
 over_goes id t stream (opening large request) differ =
-    either (λ (s : Option Served). IfSome s (ServedGoes id t)) (is_message_trigger request.trigger) (Some (served_dialogue t stream large request)) (served t stream.peer (opening large request))
-    (dialogue_goes id t stream large request (dialogue_refusal (dialogue_view t stream.peer request.triad) request)) (served_goes id t stream.peer (opening large request) differ)
+    either (λ (s : Option Served). IfSome s (ServedGoes id t)) (is_message_trigger request.trigger) (Some (served_class3 t stream large request)) (served t stream.peer (opening large request))
+    (class3_goes id t stream large request (class3_refusal (class3_view t stream.peer request.triad) request)) (served_goes id t stream.peer (opening large request) differ)
 over_goes id t stream nothing differ = served_goes id t stream.peer nothing differ
 over_goes id t stream (refused service why) differ = served_goes id t stream.peer (refused service why) differ
 over_goes id t stream (closing request) differ = served_goes id t stream.peer (closing request) differ
@@ -429,8 +429,8 @@ replied_goes id t (Some s) goes = goes
 request_goes : (id : ConnId) (t : AdapterTable) (stream : Stream) (context : ℕ) (request : RouterRequestFields) (asks : Option OwnRequest) → Differ t.messaging → HandledGoes id t [] (request_handled t stream context request asks)
 request_goes id t stream context request None differ = replied_goes id t (stream_served t stream request) (over_goes id t stream request differ)
 request_goes id t stream context request (Some asks) differ =
-    either (HandledGoes id t []) (lacks_room t.messaging) (request_replied t (Some (router_refusal t asks.service status.ResourceUnavailable))) _ (unchanged id t)
-    (messages_go id t _ (referred_stays id t.messaging (asker.Stream stream.number context) asks.service t.clock))
+    either (HandledGoes id t []) (cannot_ask t stream.peer) (request_replied t (Some (router_refusal t asks.service status.ResourceUnavailable))) _ (unchanged id t)
+    (messages_go id t _ (referred_stays id t.messaging stream.peer (asker.Stream stream.number context) asks.service t.clock))
 
 packet_goes : (id : ConnId) (t : AdapterTable) (stream : Stream) (context : ℕ) (reading : Result PacketFields ItemFault) → Differ t.messaging → HandledGoes id t [] (packet_replied t stream context reading)
 packet_goes id t stream context (Err fault) differ = unchanged id t
@@ -442,36 +442,36 @@ packet_goes id t stream context (Ok packet) differ = request_goes id t stream co
 abbrev counts_of : Bool → ℕ → List ℕ
 counts_of mine count = cond mine (count ∷ []) []
 
-executed_goes : (b : Bool) (id : ConnId) (t : AdapterTable) (d : Dialogue) (count : ℕ) (m : Messaging) (reply : List ℕ) (deadline : Ms) → m.dialogues ≡ (executed t.messaging d.o_t_id count reply deadline).dialogues → (d.o_t_id.0 == id.0) ≡ b → Found id t.messaging.dialogues d ⊎ ((d.o_t_id.0 == id.0) ≡ false) → d.last ≢ Some count → Goes id t (counts_of b count) (messages_table t t.next_id m)
+executed_goes : (b : Bool) (id : ConnId) (t : AdapterTable) (d : Class3Connection) (count : ℕ) (m : Messaging) (reply : List ℕ) (deadline : Ms) → m.class3_connections ≡ (executed t.messaging d.o_t_id count reply deadline).class3_connections → (d.o_t_id.0 == id.0) ≡ b → Found id t.messaging.class3_connections d ⊎ ((d.o_t_id.0 == id.0) ≡ false) → d.last ≢ Some count → Goes id t (counts_of b count) (messages_table t t.next_id m)
 unfolding messages_table
 executed_goes true id t d count m reply deadline same mine there other = record {
   later = omega arith;
   profile = refl;
-  stands = λ e found. inl (executed_own id d.o_t_id t.messaging count reply deadline (eqb-true _ _ mine) e (subst (λ (ds : List Dialogue). Found id ds e) same found));
+  stands = λ e found. inl (executed_own id d.o_t_id t.messaging count reply deadline (eqb-true _ _ mine) e (subst (λ (ds : List Class3Connection). Found id ds e) same found));
   follows = elim there [
     | inl is ↦ (d, is, other)
     | inr apart ↦ absurd (let n : true ≡ false = sym mine ∙ apart in cc)
   ];
 }
 executed_goes false id t d count m reply deadline same mine there other =
-    quiet id t (messages_table t t.next_id m) (omega arith) refl (λ e found. executed_other id d.o_t_id t.messaging count reply deadline mine e (subst (λ (ds : List Dialogue). Found id ds e) same found))
+    quiet id t (messages_table t t.next_id m) (omega arith) refl (λ e found. executed_other id d.o_t_id t.messaging count reply deadline mine e (subst (λ (ds : List Class3Connection). Found id ds e) same found))
 
 -- what a new message needs: its connection is the one of its id, and it is not the last one
-record IsNewMessage (id : ConnId) (t : AdapterTable) (d : Dialogue) (count : ℕ) : Type 0 where
-  there : Found id t.messaging.dialogues d ⊎ ((d.o_t_id.0 == id.0) ≡ false)
+record IsNewMessage (id : ConnId) (t : AdapterTable) (d : Class3Connection) (count : ℕ) : Type 0 where
+  there : Found id t.messaging.class3_connections d ⊎ ((d.o_t_id.0 == id.0) ≡ false)
   other : d.last ≢ Some count
 
-replied_message : (id : ConnId) (t : AdapterTable) (d : Dialogue) (count service : ℕ) (s : Served) → s.table ≡ t → IsNewMessage id t d count → HandledGoes id t (counts_of (has_dialogue_id id d) count) (message_replied d count service s)
+replied_message : (id : ConnId) (t : AdapterTable) (d : Class3Connection) (count service : ℕ) (s : Served) → s.table ≡ t → IsNewMessage id t d count → HandledGoes id t (counts_of (has_class3_id id d) count) (message_replied d count service s)
 replied_message id t d count service s same new =
-    subst (λ (u : AdapterTable). Goes id t (counts_of (has_dialogue_id id d) count) (executed_table u d count (fitted_text d service s.reply))) (sym same)
-    (executed_goes (has_dialogue_id id d) id t d count _ (fitted_text d service s.reply) (next_deadline t d) refl refl new.there new.other)
+    subst (λ (u : AdapterTable). Goes id t (counts_of (has_class3_id id d) count) (executed_table u d count (fitted_text d service s.reply))) (sym same)
+    (executed_goes (has_class3_id id d) id t d count _ (fitted_text d service s.reply) (next_deadline t d) refl refl new.there new.other)
 
 object_table : (t : AdapterTable) (service : ℕ) (answer : ObjectAnswer) → (object_served t service answer).table ≡ t
 object_table t service (said by value) = refl
 object_table t service (denied why) = refl
 object_table t service (resetting kind) = refl
 
-served_message : (id : ConnId) (t : AdapterTable) (d : Dialogue) (count first : ℕ) (request : RouterRequestFields) → IsNewMessage id t d count → HandledGoes id t (counts_of (is_request request && has_dialogue_id id d) count) (message_served t d count first (connected_served t d.peer request))
+served_message : (id : ConnId) (t : AdapterTable) (d : Class3Connection) (count first : ℕ) (request : RouterRequestFields) → IsNewMessage id t d count → HandledGoes id t (counts_of (is_request request && has_class3_id id d) count) (message_served t d count first (connected_served t d.peer request))
 unfolding served_object
 served_message id t d count first nothing new = unchanged id t
 served_message id t d count first (refused service why) new = replied_message id t d count first (router_refusal t service why) refl new
@@ -487,13 +487,13 @@ own_request objects (closing request) asks is = refl
 own_request objects (object service class instance attribute body) asks is = refl
 own_request objects (opening large request) asks is = refl
 
-new_message : (id : ConnId) (t : AdapterTable) (d : Dialogue) (count first : ℕ) (request : RouterRequestFields) (asks : Option OwnRequest) → own_of t.profile.objects request ≡ asks → IsNewMessage id t d count → HandledGoes id t (counts_of (is_request request && has_dialogue_id id d) count) (message_executed t d count first request asks)
+new_message : (id : ConnId) (t : AdapterTable) (d : Class3Connection) (count first : ℕ) (request : RouterRequestFields) (asks : Option OwnRequest) → own_of t.profile.objects request ≡ asks → IsNewMessage id t d count → HandledGoes id t (counts_of (is_request request && has_class3_id id d) count) (message_executed t d count first request asks)
 new_message id t d count first request None is new = served_message id t d count first request new
 new_message id t d count first request (Some asks) is new =
-    subst (λ (b : Bool). HandledGoes id t (counts_of (b && has_dialogue_id id d) count) (message_executed t d count first request (Some asks))) (sym (own_request t.profile.objects request asks is))
-    (either (HandledGoes id t (counts_of (has_dialogue_id id d) count)) (lacks_room t.messaging) (message_replied d count asks.service (router_refusal t asks.service status.ResourceUnavailable)) _
+    subst (λ (b : Bool). HandledGoes id t (counts_of (b && has_class3_id id d) count) (message_executed t d count first request (Some asks))) (sym (own_request t.profile.objects request asks is))
+    (either (HandledGoes id t (counts_of (has_class3_id id d) count)) (cannot_ask t d.peer) (message_replied d count asks.service (router_refusal t asks.service status.ResourceUnavailable)) _
     (replied_message id t d count asks.service (router_refusal t asks.service status.ResourceUnavailable) refl new)
-    (executed_goes (has_dialogue_id id d) id t d count _ [] (next_deadline t d) (referred_dialogues t.messaging d.o_t_id count asks.service (next_deadline t d) t.clock) refl new.there new.other))
+    (executed_goes (has_class3_id id d) id t d count _ [] (next_deadline t d) (referred_class3_connections t.messaging d.peer d.o_t_id count asks.service (next_deadline t d) t.clock) refl new.there new.other))
 
 -- a count that is not the last one
 not_last : (last : Option ℕ) (count : ℕ) → is_count count last ≡ false → last ≢ Some count
@@ -502,39 +502,39 @@ not_last (Some n) count is = λ same. let e : n ≡ count = some_number n count 
   some_number : (a b : ℕ) → ◌≡◌ {A = Option ℕ} (Some a) (Some b) → a ≡ b
   some_number a b is = cc
 
-handled_step : (long again : Bool) (id : ConnId) (t : AdapterTable) (d : Dialogue) (count first : ℕ) (request : RouterRequestFields) → repeats_last d count ≡ again → (Found id t.messaging.dialogues d ⊎ ((d.o_t_id.0 == id.0) ≡ false)) → HandledGoes id t (cond (not long && (not again && (is_request request && has_dialogue_id id d))) (count ∷ []) []) (cond long (undelivered t WrongSize) (cond again (message_repeated t d count) (message_executed t d count first request (own_of t.profile.objects request))))
+handled_step : (long again : Bool) (id : ConnId) (t : AdapterTable) (d : Class3Connection) (count first : ℕ) (request : RouterRequestFields) → repeats_last d count ≡ again → (Found id t.messaging.class3_connections d ⊎ ((d.o_t_id.0 == id.0) ≡ false)) → HandledGoes id t (cond (not long && (not again && (is_request request && has_class3_id id d))) (count ∷ []) []) (cond long (undelivered t WrongSize) (cond again (message_repeated t d count) (message_executed t d count first request (own_of t.profile.objects request))))
 handled_step true again id t d count first request is there = unchanged id t
 handled_step false true id t d count first request is there = messages_go id t _ (repeated_stays id d.o_t_id t.messaging (next_deadline t d))
 handled_step false false id t d count first request is there =
     new_message id t d count first request (own_of t.profile.objects request) refl (record { there = there; other = not_last d.last count is })
 
 -- the connection that is found by its stream and its id is the one of its id
-own_step : (a b : Bool) (id : ConnId) (p : Dialogue → Bool) (x d : Dialogue) (xs : List Dialogue) → p x ≡ a → has_dialogue_id id x ≡ b → EachOf (IdsDiffer x) xs → has_dialogue_id id d ≡ true → cond a (Some x) (find p xs) ≡ Some d → (find p xs ≡ Some d → Found id xs d) → cond b (Some x) (find (has_dialogue_id id) xs) ≡ Some d
+own_step : (a b : Bool) (id : ConnId) (p : Class3Connection → Bool) (x d : Class3Connection) (xs : List Class3Connection) → p x ≡ a → has_class3_id id x ≡ b → EachOf (IdsDiffer x) xs → has_class3_id id d ≡ true → cond a (Some x) (find p xs) ≡ Some d → (find p xs ≡ Some d → Found id xs d) → cond b (Some x) (find (has_class3_id id) xs) ≡ Some d
 own_step true true id p x d xs passes has differ mine is rest = is
-own_step true false id p x d xs passes has differ mine is rest = absurd (let n : true ≡ false = sym mine ∙ ap (has_dialogue_id id) (sym (same_Some x d is)) ∙ has in cc)
+own_step true false id p x d xs passes has differ mine is rest = absurd (let n : true ≡ false = sym mine ∙ ap (has_class3_id id) (sym (same_Some x d is)) ∙ has in cc)
 own_step false true id p x d xs passes has differ mine is rest =
     let apart = each_found (IdsDiffer x) p xs d is differ in
     absurd (let never = apart_step id x d has mine apart in cc)
 own_step false false id p x d xs passes has differ mine is rest = rest is
 
-found_own : (id : ConnId) (p : Dialogue → Bool) (ds : List Dialogue) (d : Dialogue) → EachTwoOf IdsDiffer ds → has_dialogue_id id d ≡ true → find p ds ≡ Some d → Found id ds d
+found_own : (id : ConnId) (p : Class3Connection → Bool) (ds : List Class3Connection) (d : Class3Connection) → EachTwoOf IdsDiffer ds → has_class3_id id d ≡ true → find p ds ≡ Some d → Found id ds d
 found_own id p [] d differ mine is = absurd (let x = is in cc)
-found_own id p (x ∷ xs) d differ mine is = own_step (p x) (has_dialogue_id id x) id p x d xs refl refl differ.0 mine is (λ later. found_own id p xs d differ.1 mine later)
+found_own id p (x ∷ xs) d differ mine is = own_step (p x) (has_class3_id id x) id p x d xs refl refl differ.0 mine is (λ later. found_own id p xs d differ.1 mine later)
 
-own_or_other : (b : Bool) (id : ConnId) (p : Dialogue → Bool) (ds : List Dialogue) (d : Dialogue) → (d.o_t_id.0 == id.0) ≡ b → EachTwoOf IdsDiffer ds → find p ds ≡ Some d → Found id ds d ⊎ ((d.o_t_id.0 == id.0) ≡ false)
+own_or_other : (b : Bool) (id : ConnId) (p : Class3Connection → Bool) (ds : List Class3Connection) (d : Class3Connection) → (d.o_t_id.0 == id.0) ≡ b → EachTwoOf IdsDiffer ds → find p ds ≡ Some d → Found id ds d ⊎ ((d.o_t_id.0 == id.0) ≡ false)
 own_or_other true id p ds d mine differ is = inl (found_own id p ds d differ mine is)
 own_or_other false id p ds d mine differ is = inr mine
 
-unit_found : (id : ConnId) (t : AdapterTable) (unit : ConnectedFields) (p : Dialogue → Bool) (found : Option Dialogue) → find p t.messaging.dialogues ≡ found → Differ t.messaging → HandledGoes id t (executed_found id unit found) (message_found t unit.count unit.message found)
+unit_found : (id : ConnId) (t : AdapterTable) (unit : ConnectedFields) (p : Class3Connection → Bool) (found : Option Class3Connection) → find p t.messaging.class3_connections ≡ found → Differ t.messaging → HandledGoes id t (executed_found id unit found) (message_found t unit.count unit.message found)
 unit_found id t unit p None is differ = unchanged id t
 unit_found id t unit p (Some d) is differ =
     handled_step (nat_lt d.o_t_size (2 + length unit.message)) (repeats_last d unit.count) id t d unit.count (service_in unit.message) (router_request_reading unit.message) refl
-    (own_or_other (d.o_t_id.0 == id.0) id p t.messaging.dialogues d refl differ is)
+    (own_or_other (d.o_t_id.0 == id.0) id p t.messaging.class3_connections d refl differ is)
 
 unit_goes : (id : ConnId) (t : AdapterTable) (stream : Stream) (reading : Result ConnectedFields ItemFault) → Differ t.messaging → HandledGoes id t (executed_unit id t stream reading) (unit_replied t stream reading)
 unit_goes id t stream (Err fault) differ = unchanged id t
 unit_goes id t stream (Ok unit) differ =
-    unit_found id t unit (is_dialogue stream.number (record { 0 = unit.connection })) (find (is_dialogue stream.number (record { 0 = unit.connection })) t.messaging.dialogues) refl differ
+    unit_found id t unit (is_class3 stream.number (record { 0 = unit.connection })) (find (is_class3 stream.number (record { 0 = unit.connection })) t.messaging.class3_connections) refl differ
 
 session_step : (b : Bool) (id : ConnId) (t : AdapterTable) (stream : Stream) (reading : Result ConnectedFields ItemFault) → Differ t.messaging → HandledGoes id t (cond b (executed_unit id t stream reading) []) (cond b (unit_replied t stream reading) (refusal t encap.InvalidCommand))
 session_step true id t stream reading differ = unit_goes id t stream reading differ
@@ -544,7 +544,7 @@ session_step false id t stream reading differ = unchanged id t
 
 registered_goes : (id : ConnId) (t : AdapterTable) (number : ℕ) → Goes id t [] (registered_table t number)
 unfolding registered_table
-registered_goes id t number = quiet id t (registered_table t number) (omega arith) refl (leaves_same id t.messaging.dialogues)
+registered_goes id t number = quiet id t (registered_table t number) (omega arith) refl (leaves_same id t.messaging.class3_connections)
 
 stream_goes : (id : ConnId) (t : AdapterTable) (number : ℕ) → Differ t.messaging → Goes id t [] (without_stream t number)
 unfolding without_stream
@@ -593,8 +593,8 @@ requested_goes id t peer request None differ = answered_goes (served t peer requ
   answered_goes None goes = unchanged id t
   answered_goes (Some s) goes = goes
 requested_goes id t peer request (Some asks) differ =
-    either (NextGoes id t []) (lacks_room t.messaging) (router.replied peer (router_refusal t asks.service status.ResourceUnavailable)) _ (unchanged id t)
-    (messages_go id t _ (referred_stays id t.messaging (asker.Peer peer) asks.service t.clock))
+    either (NextGoes id t []) (cannot_ask t peer) (router.replied peer (router_refusal t asks.service status.ResourceUnavailable)) _ (unchanged id t)
+    (messages_go id t _ (referred_stays id t.messaging peer (asker.Peer peer) asks.service t.clock))
 
 inquired_goes : (id : ConnId) (t : AdapterTable) (peer : Node) (reply : Option (List ℕ)) → NextGoes id t [] (inquired_by t peer reply)
 inquired_goes id t peer None = unchanged id t
@@ -608,9 +608,9 @@ found_goes : (id : ConnId) (t : AdapterTable) (peer : Node) (d : DatagramFields)
 unfolding accepted_table
 found_goes id t peer d None = unchanged id t
 found_goes id t peer d (Some row) =
-    let delivery = row_delivery t.profile row d in
-    either (NextGoes id t []) (is_accepted (row_delivery t.profile row d)) (delivered delivery (accepted_table t peer d row delivery)) (delivered delivery t)
-    (quiet id t (accepted_table t peer d row delivery) (omega arith) refl (leaves_same id t.messaging.dialogues)) (unchanged id t)
+    let delivery = row_delivery t.profile t.clock row d in
+    either (NextGoes id t []) (is_accepted (row_delivery t.profile t.clock row d)) (delivered delivery (accepted_table t peer d row delivery)) (delivered delivery t)
+    (quiet id t (accepted_table t peer d row delivery) (omega arith) refl (leaves_same id t.messaging.class3_connections)) (unchanged id t)
 
 datagram_goes : (id : ConnId) (t : AdapterTable) (peer : Node) (reading : Result DatagramFields DatagramFault) → NextGoes id t [] (datagram_of t peer reading)
 datagram_goes id t peer (Err fault) = unchanged id t
@@ -621,7 +621,7 @@ unfolding written_table changed_table
 write_goes id t point bytes None = tt
 write_goes id t point bytes (Some input) =
     either (OkGoes id t []) (length bytes == input.len) (Ok (written (written_table t point bytes) point bytes)) (Err WrongLength)
-    (quiet id t (changed_table (written_table t point bytes) point) (omega arith) refl (leaves_same id t.messaging.dialogues)) tt
+    (quiet id t (changed_table (written_table t point bytes) point) (omega arith) refl (leaves_same id t.messaging.class3_connections)) tt
 
 advanced_goes : (id : ConnId) (t : AdapterTable) (ms : ℕ) → Differ t.messaging → NextGoes id t [] (aged_next (advanced (clocked_table t ms)))
 unfolding clocked_table expired_table produced_table messages_table
@@ -638,11 +638,11 @@ respond_goes id t number general bytes = respond_holds (OkGoes id t []) t number
     let reply : ReplyFields = own w.service general bytes in
     let left = with_reply t.messaging w.asker w.service reply in
     messages_go id t (answered left w.number)
-    (leaves_then id own_last t.messaging.dialogues left.dialogues (answered left w.number).dialogues (reply_stays id t.messaging w.asker w.service (own w.service general bytes)) (answered_stays id left w.number)))
+    (leaves_then id own_last t.messaging.class3_connections left.class3_connections (answered left w.number).class3_connections (reply_stays id t.messaging w.asker w.service (own w.service general bytes)) (answered_stays id left w.number)))
 
 with_goes : (id : ConnId) (t : AdapterTable) (number : ℕ) (peer : Node) → Goes id t [] (with_stream t number peer)
 unfolding with_stream
-with_goes id t number peer = quiet id t (with_stream t number peer) (omega arith) refl (leaves_same id t.messaging.dialogues)
+with_goes id t number peer = quiet id t (with_stream t number peer) (omega arith) refl (leaves_same id t.messaging.class3_connections)
 
 event_goes : (id : ConnId) (t : AdapterTable) (happens : Event) → Differ t.messaging → OkGoes id t (executed_at id t happens) (adapter_step t happens)
 unfolding requested received inquired write frame stream_cut stream_opened
@@ -668,25 +668,25 @@ record IsUsed (id : ConnId) (t : AdapterTable) : Type 0 where
 
 -- this is the last count of the connection, if it is open; one that has executed a message has an id that was drawn
 record Lasts (id : ConnId) (last : Option ℕ) (t : AdapterTable) : Type 0 where
-  stands : (e : Dialogue) → Found id t.messaging.dialogues e → e.last ≡ last
+  stands : (e : Class3Connection) → Found id t.messaging.class3_connections e → e.last ≡ last
   used : (count : ℕ) → last ≡ Some count → IsUsed id t
 
-drawn_used : (id : ConnId) (t : AdapterTable) (d : Dialogue) → IsWhole t → Found id t.messaging.dialogues d → IsUsed id t
+drawn_used : (id : ConnId) (t : AdapterTable) (d : Class3Connection) → IsWhole t → Found id t.messaging.class3_connections d → IsUsed id t
 drawn_used id t d kept found =
-    let drawn = each_found (IsDrawn t.profile.incarnation t.next_id) (has_dialogue_id id) t.messaging.dialogues d found kept.messages.own.are_drawn in
-    record { counter = d.opening; below = drawn.below; is = same_id d.o_t_id.0 id.0 (found_passes (has_dialogue_id id) t.messaging.dialogues d found) ∙ ap (λ (i : ConnId). i.0) drawn.id }
+    let drawn = each_found (IsDrawn t.profile.incarnation t.next_id) (has_class3_id id) t.messaging.class3_connections d found kept.messages.own.are_drawn in
+    record { counter = d.opening; below = drawn.below; is = same_id d.o_t_id.0 id.0 (found_passes (has_class3_id id) t.messaging.class3_connections d found) ∙ ap (λ (i : ConnId). i.0) drawn.id }
 
 used_later : (id : ConnId) (t u : AdapterTable) → t.next_id ≤ u.next_id → u.profile ≡ t.profile → IsUsed id t → IsUsed id u
 used_later id t u later same used = record { counter = used.counter; below = omega (arith, used.below, later); is = used.is ∙ ap (λ (p : Profile). (connection_id p.incarnation used.counter).0) (sym same) }
 
 -- a new connection has an id that was not drawn before
-new_last : (id : ConnId) (last : Option ℕ) (t u : AdapterTable) (counts : List ℕ) (e : Dialogue) → Lasts id last t → IsNew id t u counts e → None ≡ last
+new_last : (id : ConnId) (last : Option ℕ) (t u : AdapterTable) (counts : List ℕ) (e : Class3Connection) → Lasts id last t → IsNew id t u counts e → None ≡ last
 new_last id None t u counts e lasts new = refl
 new_last id (Some count) t u counts e lasts new =
     let used = lasts.used count refl in
     absurd (omega (arith, used.is, new.fresh, used.below))
 
-stood_last : (id : ConnId) (last : Option ℕ) (t u : AdapterTable) (counts : List ℕ) (e : Dialogue) → Lasts id last t → Was id t.messaging.dialogues (λ d. after counts d.last) e ⊎ IsNew id t u counts e → e.last ≡ after counts last
+stood_last : (id : ConnId) (last : Option ℕ) (t u : AdapterTable) (counts : List ℕ) (e : Class3Connection) → Lasts id last t → Was id t.messaging.class3_connections (λ d. after counts d.last) e ⊎ IsNew id t u counts e → e.last ≡ after counts last
 stood_last id last t u counts e lasts (inl was) = was.same ∙ ap (after counts) (lasts.stands was.old was.found)
 stood_last id last t u counts e lasts (inr new) = new.last ∙ new_last id last t u counts e lasts new ∙ sym (ap (λ (cs : List ℕ). after cs last) new.none)
 
@@ -751,7 +751,7 @@ all_turns runs id last t (happens ∷ events) kept lasts =
     turns_more last (executed_in id t happens) (executions id (table_of t (step t happens)) events) now.0
     (all_turns runs id (after (executed_in id t happens) last) (table_of t (step t happens)) events (step_whole runs t happens (step t happens) refl kept) now.1)
 
-found_last : (id : ConnId) (t : AdapterTable) (found : Option Dialogue) → find (has_dialogue_id id) t.messaging.dialogues ≡ found → IsWhole t → Lasts id (option_and_then (λ (d : Dialogue). d.last) found) t
+found_last : (id : ConnId) (t : AdapterTable) (found : Option Class3Connection) → find (has_class3_id id) t.messaging.class3_connections ≡ found → IsWhole t → Lasts id (option_and_then (λ (d : Class3Connection). d.last) found) t
 found_last id t None is kept = record { stands = λ e found. absurd (let x = sym is ∙ found in cc); used = λ count never. absurd (let x = never in cc) }
 found_last id t (Some d) is kept = record {
   stands = λ e found. ap own_last (same_Some e d (sym found ∙ is));
@@ -759,7 +759,7 @@ found_last id t (Some d) is kept = record {
 }
 
 device_last : (id : ConnId) (t : DeviceTable) → IsWholeDevice t → DeviceLasts id (last_count id t) t
-device_last id (Adapter t) kept = found_last id t (find (has_dialogue_id id) t.messaging.dialogues) refl kept
+device_last id (Adapter t) kept = found_last id t (find (has_class3_id id) t.messaging.class3_connections) refl kept
 device_last id (Scanner t) kept = tt
 
 pub executed_once : RunsKeepWhole → MessagesAreExecutedOnce

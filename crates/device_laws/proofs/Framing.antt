@@ -25,13 +25,13 @@ use Rattle.cip_router.specs.Frames.{RequestHeader, request_header_of, FrameReply
 use Rattle.cip_router.specs.Frames as frames
 use Rattle.cip_router.specs.Replies.{ReplyFields, opened, closed, object_reply, reply_text}
 use Rattle.cip_router.specs.Replies as replies
-use Rattle.messaging.specs.declared.dialogue.Dialogue.{Dialogue}
-use Rattle.messaging.specs.Changes.{lacks_room, with_dialogue}
+use Rattle.messaging.specs.declared.class3.Class3Connection.{Class3Connection}
+use Rattle.messaging.specs.Changes.{with_class3}
 use Rattle.adapter_table.specs.declared.table.AdapterTable.{AdapterTable}
 use Rattle.adapter_table.specs.Checks.{Check}
-use Rattle.adapter_table.specs.DialogueOpening.{dialogue_view, dialogue_refusal, opened_dialogue, dialogue_table, judged_dialogue, served_dialogue, stream_served}
+use Rattle.adapter_table.specs.Class3Opening.{class3_view, class3_refusal, opened_class3, class3_table, judged_class3, served_class3, stream_served}
 use Rattle.adapter_table.specs.Messages.{messages_table}
-use Rattle.adapter_table.specs.Own.{OwnRequest, own_of}
+use Rattle.adapter_table.specs.Own.{OwnRequest, own_of, cannot_ask}
 use Rattle.adapter_table.specs.declared.table.Stream.{Stream}
 use Rattle.adapter_table.specs.Requests.{Served, router_refusal, served}
 use Rattle.adapter_table.specs.Streams.{has_session}
@@ -87,9 +87,9 @@ of_rows : (t : AdapterTable) (body : List ℕ) (s : Option Served) → IfSome s 
 of_rows t body None says = tt
 of_rows t body (Some s) says = reply_weaker (IsOfRow t s.table) (IsOfNew t s.table body) (λ o row. inl row) s.reply says
 
-dialogue_is_last : (t : AdapterTable) (d : Dialogue) → (dialogue_table t d).messaging.dialogues ≡ t.messaging.dialogues ++ d ∷ []
-unfolding messages_table with_dialogue
-dialogue_is_last t d = refl
+class3_is_last : (t : AdapterTable) (d : Class3Connection) → (class3_table t d).messaging.class3_connections ≡ t.messaging.class3_connections ++ d ∷ []
+unfolding messages_table with_class3
+class3_is_last t d = refl
 
 -- the data of the message are a request to open a connection of class 3
 record IsMessageOpening (body : List ℕ) (large : Bool) (request : OpenFields) : Type 0 where
@@ -98,27 +98,27 @@ record IsMessageOpening (body : List ℕ) (large : Bool) (request : OpenFields) 
   opens : router_request_reading packet.payload ≡ opening large request
   trigger : is_message_trigger request.trigger ≡ true
 
-dialogue_has : (t : AdapterTable) (stream : Stream) (body : List ℕ) (large : Bool) (request : OpenFields) (c : Check) → IsMessageOpening body large request → NewHas t body (judged_dialogue t stream large request c)
-dialogue_has t stream body large request (Some why) is = refl
-dialogue_has t stream body large request None is = λ read ids. inr (record {
+class3_has : (t : AdapterTable) (stream : Stream) (body : List ℕ) (large : Bool) (request : OpenFields) (c : Check) → IsMessageOpening body large request → NewHas t body (judged_class3 t stream large request c)
+class3_has t stream body large request (Some why) is = refl
+class3_has t stream body large request None is = λ read ids. inr (record {
   packet = is.packet;
   packet_is = is.packet_is;
   large = large;
   request = request;
   opens = is.opens;
   trigger = is.trigger;
-  dialogue = opened_dialogue t stream request;
-  new = dialogue_is_last t (opened_dialogue t stream request);
+  class3 = opened_class3 t stream request;
+  new = class3_is_last t (opened_class3 t stream request);
   o_t = ids.o_t_is;
   t_o = ids.t_o_is;
   o_t_api = ids.o_t_api_is;
   t_o_api = ids.t_o_api_is;
 })
 
-open_step : (b : Bool) (t : AdapterTable) (stream : Stream) (body : List ℕ) (packet : PacketFields) (large : Bool) (request : OpenFields) → packet_reading body ≡ Ok packet → router_request_reading packet.payload ≡ opening large request → is_message_trigger request.trigger ≡ b → IdsAreDrawn t.profile t.next_id t.rows → IfSome (cond b (Some (served_dialogue t stream large request)) (served t stream.peer (opening large request))) (NewHas t body)
-unfolding served_dialogue
+open_step : (b : Bool) (t : AdapterTable) (stream : Stream) (body : List ℕ) (packet : PacketFields) (large : Bool) (request : OpenFields) → packet_reading body ≡ Ok packet → router_request_reading packet.payload ≡ opening large request → is_message_trigger request.trigger ≡ b → IdsAreDrawn t.profile t.next_id t.rows → IfSome (cond b (Some (served_class3 t stream large request)) (served t stream.peer (opening large request))) (NewHas t body)
+unfolding served_class3
 open_step true t stream body packet large request reads opens trigger drawn =
-    dialogue_has t stream body large request (dialogue_refusal (dialogue_view t stream.peer request.triad) request) (record { packet = packet; packet_is = reads; opens = opens; trigger = trigger })
+    class3_has t stream body large request (class3_refusal (class3_view t stream.peer request.triad) request) (record { packet = packet; packet_is = reads; opens = opens; trigger = trigger })
 open_step false t stream body packet large request reads opens trigger drawn = of_rows t body (served t stream.peer (opening large request)) (served_has t stream.peer (opening large request) drawn)
 
 over_stream_has : (t : AdapterTable) (stream : Stream) (body : List ℕ) (packet : PacketFields) (requested : RouterRequestFields) → packet_reading body ≡ Ok packet → router_request_reading packet.payload ≡ requested → IdsAreDrawn t.profile t.next_id t.rows → IfSome (stream_served t stream requested) (NewHas t body)
@@ -133,7 +133,7 @@ request_has : (t : AdapterTable) (stream : Stream) (context : ℕ) (body : List 
 request_has t stream context body packet None reads drawn =
     replied_has t body (stream_served t stream (router_request_reading packet.payload)) (over_stream_has t stream body packet (router_request_reading packet.payload) reads refl drawn)
 request_has t stream context body packet (Some own) reads drawn =
-    either (HandledHas t body) (lacks_room t.messaging) (request_replied t (Some (router_refusal t own.service status.ResourceUnavailable))) _ refl tt
+    either (HandledHas t body) (cannot_ask t stream.peer) (request_replied t (Some (router_refusal t own.service status.ResourceUnavailable))) _ refl tt
 
 packet_has : (t : AdapterTable) (stream : Stream) (context : ℕ) (body : List ℕ) (reading : Result PacketFields ItemFault) → packet_reading body ≡ reading → IdsAreDrawn t.profile t.next_id t.rows → HandledHas t body (packet_replied t stream context reading)
 packet_has t stream context body (Err fault) reads drawn = tt

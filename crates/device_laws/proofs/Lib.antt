@@ -32,4 +32,5 @@ mod OwnerReports
 mod OwnerDataSteps
 mod OwnerDataRuns
 mod StatedLimits
+mod WindowSteps
 mod ExecutedSteps

@@ -28,7 +28,8 @@ use Rattle.scanner_table.specs.declared.table.ScannerTable.{ScannerTable}
 use Rattle.scanner_table.specs.Slots.{IndexedSlot, indexed_slots, slot_at}
 use Rattle.scanner_table.specs.Effects.{Next}
 use Rattle.scanner_table.specs.Replies.{new_connection, established_slot}
-use Rattle.scanner_table.specs.Datagrams.{is_for, accepted_connection, accepted_table, delivered, accepted, sized, state_received, received_at, received_as, received}
+use Rattle.cip_productions.specs.Window.{since_accepted, is_within}
+use Rattle.scanner_table.specs.Datagrams.{slot_pace, accepts_at, is_for, accepted_connection, accepted_table, delivered, accepted, sized, state_received, received_at, received_as, received}
 use Rattle.scanner_table.specs.Points.{output_slot}
 use Rattle.scanner_table.specs.Productions.{written_state, state_is_due, produced_state, produced_slot, produced_table}
 use Rattle.scanner_table.specs.Step.{scanner_step}
@@ -331,12 +332,13 @@ duplicate_step : (b : Bool) (R : Option Accepted → Acceptance → Type 0) → 
 duplicate_step true R fits number opening last t indexed d c is before newer = accepted_goes R fits number opening last t indexed d c indexed.slot.image delivery.Duplicate refl before newer (λ never. absurd cc)
 duplicate_step false R fits number opening last t indexed d c is before newer = accepted_goes R fits number opening last t indexed d c d.payload delivery.Applied refl before newer (λ applied. is)
 
-sequence_step : (b : Bool) (R : Option Accepted → Acceptance → Type 0) → FitsNewer R → (number opening : ℕ) (last : Option Accepted) (t : ScannerTable) (indexed : IndexedSlot) (d : DatagramFields) (c : SlotConnection) → accepts_sequence c.last d.sequence ≡ b → Before number opening last t indexed c → GoesBy R number opening last (Some indexed) d (cond b (accepted t indexed d c) (delivered delivery.Old t))
-sequence_step true R fits number opening last t indexed d c is before = duplicate_step (is_duplicate c.last d.count) R fits number opening last t indexed d c refl before is
+sequence_step : (b : Bool) (R : Option Accepted → Acceptance → Type 0) → FitsNewer R → (number opening : ℕ) (last : Option Accepted) (t : ScannerTable) (indexed : IndexedSlot) (d : DatagramFields) (c : SlotConnection) → accepts_at t indexed c d.sequence ≡ b → Before number opening last t indexed c → GoesBy R number opening last (Some indexed) d (cond b (accepted t indexed d c) (delivered delivery.Old t))
+sequence_step true R fits number opening last t indexed d c is before = duplicate_step (is_duplicate c.last d.count) R fits number opening last t indexed d c refl before
+    (and_parts (accepts_sequence c.last d.sequence) (is_within t.profile.newer (since_accepted t.clock c.watchdog c.deadline) (slot_pace indexed c) c.last d.sequence) is).0
 sequence_step false R fits number opening last t indexed d c is before = stays_on R number opening last t d delivery.Old (Some indexed) refl before.table
 
 sized_step : (b : Bool) (R : Option Accepted → Acceptance → Type 0) → FitsNewer R → (number opening : ℕ) (last : Option Accepted) (t : ScannerTable) (indexed : IndexedSlot) (d : DatagramFields) (c : SlotConnection) → Before number opening last t indexed c → GoesBy R number opening last (Some indexed) d (cond b (sized t indexed d c) (delivered delivery.WrongSize t))
-sized_step true R fits number opening last t indexed d c before = sequence_step (accepts_sequence c.last d.sequence) R fits number opening last t indexed d c refl before
+sized_step true R fits number opening last t indexed d c before = sequence_step (accepts_at t indexed c d.sequence) R fits number opening last t indexed d c refl before
 sized_step false R fits number opening last t indexed d c before = stays_on R number opening last t d delivery.WrongSize (Some indexed) refl before.table
 
 state_step : (R : Option Accepted → Acceptance → Type 0) → FitsNewer R → (number opening : ℕ) (last : Option Accepted) (t : ScannerTable) (indexed : IndexedSlot) (d : DatagramFields) (state : SlotState) → indexed.slot.state ≡ state → Stands t indexed → OpeningsAreNumbered t → TableRemembers number opening last t → GoesBy R number opening last (Some indexed) d (state_received t indexed d state)

@@ -22,7 +22,7 @@ use Rattle.cip_events.specs.declared.event.Event.TheVariants.{Datagram, Write, T
 use Rattle.cip_events.specs.Answers.{is_accepted}
 use Rattle.cip_fwdopen.specs.Open.{OpenFields}
 use Rattle.cip_productions.specs.declared.acceptance.Accepted.{Accepted}
-use Rattle.adapter_table.specs.StatedLimits.{accepts_number}
+use Rattle.adapter_table.specs.StatedLimits.{accepts_at}
 use Rattle.cip_productions.specs.Acceptance.{is_duplicate}
 use Rattle.cip_productions.specs.Kinds.{is_owner}
 use Rattle.adapter_table.specs.declared.profile.Profile.{Profile}
@@ -189,6 +189,7 @@ requests_leave_none o = record {
   unstreamed = λ t number none. unowned_without o t number none;
   registered = λ t number none. unowned_registered o t number none;
   messaged = λ t next_id m goes none. unowned_messaged o t next_id m none;
+  counted = λ t next openings keeps. keeps;
 }
 
 found_step : (b : Bool) (p q : Row → Bool) (first row : Row) (rows : List Row) → cond b (Some first) (find p rows) ≡ Some row → q row ≡ true → (find p rows ≡ Some row → list_any q rows ≡ true) → (q first || list_any q rows) ≡ true
@@ -262,9 +263,9 @@ accepted_same true true what is = refl
 accepted_same true false what is = absurd (let e = is in cc)
 accepted_same false newer what is = absurd (let e = is in cc)
 
-delivers : (profile : Profile) (row : Row) (d : DatagramFields) (delivery : Delivery) → row_delivery profile row d ≡ delivery → is_accepted delivery ≡ true → accepted_delivery row d ≡ delivery
-delivers profile row d delivery is accepted =
-    accepted_same (length d.payload == expected_len profile row) (accepts_number profile.limits.newer row.last d.sequence) (accepted_delivery row d) (ap is_accepted is ∙ accepted) ∙ is
+delivers : (profile : Profile) (clock : Ms) (row : Row) (d : DatagramFields) (delivery : Delivery) → row_delivery profile clock row d ≡ delivery → is_accepted delivery ≡ true → accepted_delivery row d ≡ delivery
+delivers profile clock row d delivery is accepted =
+    accepted_same (length d.payload == expected_len profile row) (accepts_at profile.limits.newer clock row d.sequence) (accepted_delivery row d) (ap is_accepted is ∙ accepted) ∙ is
 
 abbrev by_parts : Bool → Bool → Bool → Delivery
 by_parts owner duplicate run = cond owner (cond duplicate Duplicate (cond run Applied Idle)) Heartbeat
@@ -506,19 +507,19 @@ unfed_goes : (own : Bool) (o : Ownership) (t : AdapterTable) (d : DatagramFields
 unfed_goes true o t d row delivery none owned = inr (record { owned = owned; repeated = tt; untouched = ap (λ (l : Option (List ℕ)). cond (row.consumed == o.point) l None) none ∙ still_none (row.consumed == o.point) })
 unfed_goes false o t d row delivery none owned = inr (record { owned = owned; repeated = tt; untouched = ap (λ (l : Option (List ℕ)). cond (row.consumed == o.point) l None) none ∙ still_none (row.consumed == o.point) })
 
-judged_goes : (o : Ownership) (t : AdapterTable) (peer : Node) (d : DatagramFields) (row : Row) (delivery : Delivery) → row_delivery t.profile row d ≡ delivery → find (is_for peer d.connection) t.rows ≡ Some row → IsSound t → is_owned o (judged_datagram t peer d row delivery).1 ≡ true → Goes o t (cond (row.opening == o.opening) (Some (d, delivery)) None) (cond ((row.opening == o.opening) && is_accepted delivery) (acceptance_of d delivery ∷ []) []) (cond (row.consumed == o.point) (left_accepted (find (is_output_at o.point) t.profile.outputs) d delivery) None)
-judged_goes o t peer d row Applied is found sound owned = fed_goes (row.opening == o.opening) o t peer d row Applied refl found sound (delivers t.profile row d Applied is refl) refl owned
-judged_goes o t peer d row Idle is found sound owned = fed_goes (row.opening == o.opening) o t peer d row Idle refl found sound (delivers t.profile row d Idle is refl) refl owned
-judged_goes o t peer d row Heartbeat is found sound owned = fed_goes (row.opening == o.opening) o t peer d row Heartbeat refl found sound (delivers t.profile row d Heartbeat is refl) refl owned
-judged_goes o t peer d row Duplicate is found sound owned = fed_goes (row.opening == o.opening) o t peer d row Duplicate refl found sound (delivers t.profile row d Duplicate is refl) refl owned
+judged_goes : (o : Ownership) (t : AdapterTable) (peer : Node) (d : DatagramFields) (row : Row) (delivery : Delivery) → row_delivery t.profile t.clock row d ≡ delivery → find (is_for peer d.connection) t.rows ≡ Some row → IsSound t → is_owned o (judged_datagram t peer d row delivery).1 ≡ true → Goes o t (cond (row.opening == o.opening) (Some (d, delivery)) None) (cond ((row.opening == o.opening) && is_accepted delivery) (acceptance_of d delivery ∷ []) []) (cond (row.consumed == o.point) (left_accepted (find (is_output_at o.point) t.profile.outputs) d delivery) None)
+judged_goes o t peer d row Applied is found sound owned = fed_goes (row.opening == o.opening) o t peer d row Applied refl found sound (delivers t.profile t.clock row d Applied is refl) refl owned
+judged_goes o t peer d row Idle is found sound owned = fed_goes (row.opening == o.opening) o t peer d row Idle refl found sound (delivers t.profile t.clock row d Idle is refl) refl owned
+judged_goes o t peer d row Heartbeat is found sound owned = fed_goes (row.opening == o.opening) o t peer d row Heartbeat refl found sound (delivers t.profile t.clock row d Heartbeat is refl) refl owned
+judged_goes o t peer d row Duplicate is found sound owned = fed_goes (row.opening == o.opening) o t peer d row Duplicate refl found sound (delivers t.profile t.clock row d Duplicate is refl) refl owned
 judged_goes o t peer d row Old is found sound owned = unfed_goes (row.opening == o.opening) o t d row Old refl owned
 judged_goes o t peer d row UnknownId is found sound owned = unfed_goes (row.opening == o.opening) o t d row UnknownId refl owned
 judged_goes o t peer d row WrongSize is found sound owned = unfed_goes (row.opening == o.opening) o t d row WrongSize refl owned
 judged_goes o t peer d row Malformed is found sound owned = unfed_goes (row.opening == o.opening) o t d row Malformed refl owned
 
-found_goes : (o : Ownership) (t : AdapterTable) (peer : Node) (d : DatagramFields) (found : Option Row) → find (is_for peer d.connection) t.rows ≡ found → IsSound t → is_owned o (found_datagram t peer d found).1 ≡ true → Goes o t (delivered_found o.opening t.profile d found) (accepted_found o.opening t.profile d found) (accepted_by o.point t.profile d found)
+found_goes : (o : Ownership) (t : AdapterTable) (peer : Node) (d : DatagramFields) (found : Option Row) → find (is_for peer d.connection) t.rows ≡ found → IsSound t → is_owned o (found_datagram t peer d found).1 ≡ true → Goes o t (delivered_found o.opening t.profile t.clock d found) (accepted_found o.opening t.profile t.clock d found) (accepted_by o.point t.profile t.clock d found)
 found_goes o t peer d None is sound owned = inr (record { owned = owned; repeated = tt; untouched = refl })
-found_goes o t peer d (Some row) is sound owned = judged_goes o t peer d row (row_delivery t.profile row d) refl is sound owned
+found_goes o t peer d (Some row) is sound owned = judged_goes o t peer d row (row_delivery t.profile t.clock row d) refl is sound owned
 
 read_goes : (o : Ownership) (t : AdapterTable) (peer : Node) (reading : Result DatagramFields DatagramFault) → IsSound t → is_owned o (datagram_of t peer reading).1 ≡ true → Goes o t (delivered_read o.opening t peer reading) (accepted_read o.opening t peer reading) (read_accepted o.point t peer reading)
 read_goes o t peer (Err fault) sound owned = inr (record { owned = owned; repeated = tt; untouched = refl })

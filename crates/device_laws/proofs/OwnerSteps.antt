@@ -34,11 +34,10 @@ use Rattle.cip_router.specs.declared.refusal.Refusal.TheVariants.{InUse}
 use Rattle.cip_router.specs.Requests.{RouterRequestFields, nothing, refused, closing, object, opening, router_request_reading}
 use Rattle.cip_router.specs.Commands.{command_of, is_silent}
 use Rattle.cip_router.specs.Frames.{RequestHeader, FrameFields, without_header, wrong_length, whole, frame_reading, protocol_text}
-use Rattle.messaging.specs.declared.dialogue.Dialogue.{Dialogue}
+use Rattle.messaging.specs.declared.class3.Class3Connection.{Class3Connection}
 use Rattle.messaging.specs.declared.table.Messaging.{Messaging}
-use Rattle.messaging.specs.Changes.{lacks_room}
-use Rattle.messaging.specs.Times.{late_dialogues, aged}
-use Rattle.messaging.specs.Dialogues.{has_dialogue_triad}
+use Rattle.messaging.specs.Times.{late_class3_connections, aged}
+use Rattle.messaging.specs.Class3Connections.{has_class3_triad}
 use Rattle.adapter_table.specs.declared.profile.InputPoint.{InputPoint}
 use Rattle.adapter_table.specs.Connections.{Row}
 use Rattle.adapter_table.specs.declared.table.AdapterTable.{AdapterTable}
@@ -48,9 +47,9 @@ use Rattle.adapter_table.specs.Objects.{ObjectAnswer, said, denied, resetting, o
 use Rattle.adapter_table.specs.Inquiries.{inquiry_reply, inquired_by, inquired}
 use Rattle.adapter_table.specs.Rows.{has_triad, holds_triad}
 use Rattle.adapter_table.specs.Checks.{Check, check, first_of, segment_check, points_of, Points, judged, view_of, verdict, Admitted, admission}
-use Rattle.adapter_table.specs.DialogueOpening.{dialogue_view, dialogue_refusal, opened_dialogue, judged_dialogue, served_dialogue, stream_served}
+use Rattle.adapter_table.specs.Class3Opening.{class3_view, class3_refusal, opened_class3, judged_class3, served_class3, stream_served}
 use Rattle.adapter_table.specs.Messages.{messages_table}
-use Rattle.adapter_table.specs.Own.{OwnRequest, own_of}
+use Rattle.adapter_table.specs.Own.{OwnRequest, own_of, cannot_ask}
 use Rattle.adapter_table.specs.StatedLimits.{limited_admission, is_wrong_closer, is_wrong_ender}
 use Rattle.adapter_table.specs.Opening.{opened_row, opened_table, opened_notices}
 use Rattle.adapter_table.specs.Requests.{Next, Served, judged_open, admitted_open, served_open, close_of, served_close, end_of, served_end, router_refusal, object_served, served_object, served, replied, answered, requested_by, requested}
@@ -84,8 +83,8 @@ triad_is_free : (t : AdapterTable) (request : OpenFields) (admitted : Admitted) 
 unfolding verdict
 triad_is_free t request admitted is =
     let points = points_of (view_of t request.triad) request (result_ok (path_reading request.path)) in
-    let talks = list_any (has_dialogue_triad request.triad) t.messaging.dialogues in
-    let free = second_passes (segment_check (path_reading request.path)) (list_any (holds_triad request.triad) t.rows || list_any (has_dialogue_triad request.triad) t.messaging.dialogues) InUse _ (judged_passes request points _ admitted is) in
+    let talks = list_any (has_class3_triad request.triad) t.messaging.class3_connections in
+    let free = second_passes (segment_check (path_reading request.path)) (list_any (holds_triad request.triad) t.rows || list_any (has_class3_triad request.triad) t.messaging.class3_connections) InUse _ (judged_passes request points _ admitted is) in
     (or_parts (list_any (holds_triad request.triad) t.rows) talks free).0
 
 -- each opening that is admitted keeps the owner
@@ -118,7 +117,7 @@ keeps_messages : (point : ℕ) (t : AdapterTable) (next_id : ℕ) (m : Messaging
 unfolding messages_table
 keeps_messages point t next_id m notices = unchanged point t notices
 
-keeps_end : (point : ℕ) (t : AdapterTable) (peer : Node) (request : CloseFields) (found : Option Dialogue) → ServedKeeps point t (end_of t peer request found)
+keeps_end : (point : ℕ) (t : AdapterTable) (peer : Node) (request : CloseFields) (found : Option Class3Connection) → ServedKeeps point t (end_of t peer request found)
 unfolding served_close
 keeps_end point t peer request None = keeps_close point t peer request (find (has_triad request.triad) t.rows)
 keeps_end point t peer request (Some d) =
@@ -138,7 +137,7 @@ keeps_served : (point : ℕ) (t : AdapterTable) → OpeningsKeep point t → (pe
 unfolding served_open served_end served_object
 keeps_served point t opens peer nothing = tt
 keeps_served point t opens peer (refused service why) = unchanged point t []
-keeps_served point t opens peer (closing request) = keeps_end point t peer request (find (has_dialogue_triad request.triad) t.messaging.dialogues)
+keeps_served point t opens peer (closing request) = keeps_end point t peer request (find (has_class3_triad request.triad) t.messaging.class3_connections)
 keeps_served point t opens peer (object service class instance attribute body) = keeps_object point t service (object_answer t service class instance attribute body)
 keeps_served point t opens peer (opening large request) = keeps_judged point t opens peer large request (limited_admission t peer request) refl
 
@@ -153,7 +152,7 @@ keeps_answered point t peer (Some s) keeps = keeps
 keeps_requested : (point : ℕ) (t : AdapterTable) → OpeningsKeep point t → (peer : Node) (request : RouterRequestFields) (asks : Option OwnRequest) → NextKeeps point t (requested_by t peer request asks)
 keeps_requested point t opens peer request None = keeps_answered point t peer (served t peer request) (keeps_served point t opens peer request)
 keeps_requested point t opens peer request (Some own) =
-    either (NextKeeps point t) (lacks_room t.messaging) (replied peer (router_refusal t own.service status.ResourceUnavailable)) _ (unchanged point t []) (keeps_messages point t t.next_id _ [])
+    either (NextKeeps point t) (cannot_ask t peer) (replied peer (router_refusal t own.service status.ResourceUnavailable)) _ (unchanged point t []) (keeps_messages point t t.next_id _ [])
 
 -- ---- frames
 
@@ -172,16 +171,16 @@ keeps_replied : (point : ℕ) (t : AdapterTable) (s : Option Served) → AnyKeep
 keeps_replied point t None keeps = unchanged point t []
 keeps_replied point t (Some s) keeps = keeps
 
-keeps_dialogue : (point : ℕ) (t : AdapterTable) (stream : Stream) (large : Bool) (request : OpenFields) (c : Check) → ServedKeeps point t (judged_dialogue t stream large request c)
-keeps_dialogue point t stream large request (Some why) = unchanged point t []
-keeps_dialogue point t stream large request None =
-    keeps_messages point t (t.next_id + 1) _ (Opened (opened_dialogue t stream request).triad (opened_dialogue t stream request).o_t_id ∷ [])
+keeps_class3 : (point : ℕ) (t : AdapterTable) (stream : Stream) (large : Bool) (request : OpenFields) (c : Check) → ServedKeeps point t (judged_class3 t stream large request c)
+keeps_class3 point t stream large request (Some why) = unchanged point t []
+keeps_class3 point t stream large request None =
+    keeps_messages point t (t.next_id + 1) _ (Opened (opened_class3 t stream request).triad (opened_class3 t stream request).o_t_id ∷ [])
 
 keeps_over : (point : ℕ) (t : AdapterTable) → OpeningsKeep point t → (stream : Stream) (request : RouterRequestFields) → AnyKeeps point t (stream_served t stream request)
-unfolding served_dialogue
+unfolding served_class3
 keeps_over point t opens stream (opening large request) =
-    either (AnyKeeps point t) (is_message_trigger request.trigger) (Some (served_dialogue t stream large request)) (served t stream.peer (opening large request))
-    (keeps_dialogue point t stream large request (dialogue_refusal (dialogue_view t stream.peer request.triad) request)) (keeps_served point t opens stream.peer (opening large request))
+    either (AnyKeeps point t) (is_message_trigger request.trigger) (Some (served_class3 t stream large request)) (served t stream.peer (opening large request))
+    (keeps_class3 point t stream large request (class3_refusal (class3_view t stream.peer request.triad) request)) (keeps_served point t opens stream.peer (opening large request))
 keeps_over point t opens stream nothing = keeps_served point t opens stream.peer nothing
 keeps_over point t opens stream (refused service why) = keeps_served point t opens stream.peer (refused service why)
 keeps_over point t opens stream (closing request) = keeps_served point t opens stream.peer (closing request)
@@ -190,7 +189,7 @@ keeps_over point t opens stream (object service class instance attribute body) =
 keeps_referred : (point : ℕ) (t : AdapterTable) → OpeningsKeep point t → (stream : Stream) (context : ℕ) (request : RouterRequestFields) (asks : Option OwnRequest) → HandledKeeps point t (request_handled t stream context request asks)
 keeps_referred point t opens stream context request None = keeps_replied point t (stream_served t stream request) (keeps_over point t opens stream request)
 keeps_referred point t opens stream context request (Some own) =
-    either (HandledKeeps point t) (lacks_room t.messaging) (request_replied t (Some (router_refusal t own.service status.ResourceUnavailable))) _ (unchanged point t []) (keeps_messages point t t.next_id _ [])
+    either (HandledKeeps point t) (cannot_ask t stream.peer) (request_replied t (Some (router_refusal t own.service status.ResourceUnavailable))) _ (unchanged point t []) (keeps_messages point t t.next_id _ [])
 
 keeps_packet : (point : ℕ) (t : AdapterTable) → OpeningsKeep point t → (stream : Stream) (context : ℕ) (reading : Result PacketFields ItemFault) → HandledKeeps point t (packet_replied t stream context reading)
 keeps_packet point t opens stream context (Err fault) = unchanged point t []
@@ -221,8 +220,8 @@ keeps_frame point t opens stream (whole request_header body) = keeps_handled poi
 keeps_found : (point : ℕ) (t : AdapterTable) (peer : Node) (d : DatagramFields) (found : Option Row) → NextKeeps point t (found_datagram t peer d found)
 keeps_found point t peer d None = unchanged point t []
 keeps_found point t peer d (Some row) =
-    let delivery = row_delivery t.profile row d in
-    either (NextKeeps point t) (is_accepted (row_delivery t.profile row d)) (delivered delivery (accepted_table t peer d row delivery)) (delivered delivery t)
+    let delivery = row_delivery t.profile t.clock row d in
+    either (NextKeeps point t) (is_accepted (row_delivery t.profile t.clock row d)) (delivered delivery (accepted_table t peer d row delivery)) (delivered delivery t)
     (keeps_fed point t peer d row delivery []) (unchanged point t [])
 
 keeps_datagram : (point : ℕ) (t : AdapterTable) (peer : Node) (reading : Result DatagramFields DatagramFault) → NextKeeps point t (datagram_of t peer reading)
@@ -276,7 +275,7 @@ ok_ticked point t ms =
     let later = (advanced (clocked_table t ms)).1 in
     either (OkKeeps point t) (nat_lt longest_tick ms) (Err TickTooLong) _ tt
     (either (OkKeeps point t) (nat_lt clock_end (t.clock.0 + ms)) (Err ClockEnd) (Ok (aged_next (advanced (clocked_table t ms)))) tt
-    (keeps_more point t later (expiry_notices (clocked_table t ms).clock (clocked_table t ms).rows) (map late_notice (late_dialogues later.clock later.messaging)) later.next_id (aged later.clock later.messaging) (keeps_advanced point t ms)))
+    (keeps_more point t later (expiry_notices (clocked_table t ms).clock (clocked_table t ms).rows) (map late_notice (late_class3_connections later.clock later.messaging)) later.next_id (aged later.clock later.messaging) (keeps_advanced point t ms)))
 
 ok_step : (point : ℕ) (t : AdapterTable) → OpeningsKeep point t → (event : Event) → OkKeeps point t (adapter_step t event)
 unfolding requested received inquired write frame stream_cut stream_opened with_stream

@@ -40,34 +40,34 @@ use Rattle.cip_router.specs.Commands.{command_of, is_silent}
 use Rattle.cip_router.specs.Frames.{RequestHeader, request_header_of, request_header_in, wrong_length_of, frame_fields, FrameReply, router_reply, connected, protocol_text, frame_reading}
 use Rattle.cip_router.specs.Replies.{ReplyFields, own}
 use Rattle.cip_router.specs.Requests.{RouterRequestFields, nothing, refused, closing, object, opening, router_request_reading}
-use Rattle.messaging.specs.declared.dialogue.Dialogue.{Dialogue}
+use Rattle.messaging.specs.declared.class3.Class3Connection.{Class3Connection}
 use Rattle.messaging.specs.declared.requests.Requester.{Requester}
 use Rattle.messaging.specs.declared.requests.Requester.TheVariants as asker
 use Rattle.messaging.specs.declared.requests.Waiting.{Waiting}
 use Rattle.messaging.specs.declared.table.Messaging.{Messaging}
 use Rattle.messaging.specs.Askers.{is_over_stream}
 use Rattle.messaging.specs.Changes as changes
-use Rattle.messaging.specs.Changes.{can_be_answered, referred_elsewhere, has_request_number, lacks_room, waiting_for, referred, answered, replied}
-use Rattle.messaging.specs.Dialogues.{has_dialogue_triad, is_on_stream, is_dialogue, is_last_message, first_changed, replied_dialogue}
+use Rattle.messaging.specs.Changes.{can_be_answered, referred_elsewhere, has_request_number, waiting_for, referred, answered, replied}
+use Rattle.messaging.specs.Class3Connections.{has_class3_triad, is_on_stream, is_class3, is_last_message, first_changed, replied_class3}
 use Rattle.messaging.specs.Lemmas.EachOfLemmas.{each_left, each_more}
 use Rattle.messaging.specs.Sound.{EachOf}
-use Rattle.messaging.specs.Times.{on_time, without_late_dialogues, is_late_request, late_waiting, late_text, late_reply, late_replies, without_late_waiting, aged}
+use Rattle.messaging.specs.Times.{on_time, without_late_class3_connections, is_late_request, late_waiting, late_text, late_reply, late_replies, without_late_waiting, aged}
 use Rattle.adapter_table.specs.declared.profile.InputPoint.{InputPoint}
 use Rattle.adapter_table.specs.declared.table.AdapterTable.{AdapterTable}
 use Rattle.adapter_table.specs.declared.table.Stream.{Stream}
 use Rattle.adapter_table.specs.Connections.{Row}
-use Rattle.adapter_table.specs.Answering.{dialogue_frames, route_frames, rr_header, unit_header, dialogue_keeps, with_reply, respond}
+use Rattle.adapter_table.specs.Answering.{class3_frames, route_frames, rr_header, unit_header, class3_keeps, with_reply, respond}
 use Rattle.adapter_table.specs.Checks.{Admitted}
 use Rattle.adapter_table.specs.Closing.{closed_table}
 use Rattle.adapter_table.specs.Connected.{fitted_text}
 use Rattle.adapter_table.specs.Datagrams.{is_for, row_delivery, accepted_table, delivered, found_datagram, datagram_of, received}
-use Rattle.adapter_table.specs.DialogueOpening.{served_dialogue, stream_served}
+use Rattle.adapter_table.specs.Class3Opening.{served_class3, stream_served}
 use Rattle.adapter_table.specs.Encapsulation.{Handled, refusal, unanswered, session_begun, session_ended, register_session, request_replied, request_handled, packet_replied, message_found, unit_replied, handled, reply_frames, framed, frame_answer, stream_answer, frame_of, frame}
 use Rattle.adapter_table.specs.Inquiries.{inquiry_reply, inquired_by, inquired}
 use Rattle.adapter_table.specs.Messages.{messages_table}
 use Rattle.adapter_table.specs.Objects.{ObjectAnswer, said, denied, resetting, object_answer}
 use Rattle.adapter_table.specs.Opening.{opened_table}
-use Rattle.adapter_table.specs.Own.{OwnRequest, own_of, is_own_class}
+use Rattle.adapter_table.specs.Own.{OwnRequest, own_of, cannot_ask, is_own_class}
 use Rattle.adapter_table.specs.Profiles.{is_at}
 use Rattle.adapter_table.specs.Requests.{Next, Served, judged_open, admitted_open, served_open, close_of, served_close, end_of, served_end, router_refusal, object_served, served_object, served}
 use Rattle.adapter_table.specs.Rows.{has_triad}
@@ -93,7 +93,7 @@ use Rattle.device_laws.proofs.ScannerPlain.{scanner_plain}
 
 plain_filter : (m : Messaging) (test : Waiting → Bool) → ArePlain m → ArePlain (record m { waiting = filter test m.waiting })
 plain_filter m test plain = record {
-  dialogues = plain.dialogues;
+  class3_connections = plain.class3_connections;
   services = each_left (λ (w : Waiting). IsPlainService w.service) test m.waiting plain.services;
   over = each_left (λ (w : Waiting). IsOfStream w.asker) test m.waiting plain.over;
 }
@@ -104,32 +104,32 @@ answered_plain m number plain = plain_filter m (λ w. not (has_request_number nu
 
 replied_plain : (m : Messaging) (id : ConnId) (count : ℕ) (reply : List ℕ) → ArePlain m → ArePlain (replied m id count reply)
 unfolding replied
-replied_plain m id count reply plain = record { dialogues = ap (first_changed (is_last_message id count) (replied_dialogue reply)) plain.dialogues; services = plain.services; over = plain.over }
+replied_plain m id count reply plain = record { class3_connections = ap (first_changed (is_last_message id count) (replied_class3 reply)) plain.class3_connections; services = plain.services; over = plain.over }
 
-keeps_plain : (m : Messaging) (id : ConnId) (count service : ℕ) (reply : ReplyFields) (found : Option Dialogue) → ArePlain m → ArePlain (dialogue_keeps m id count service reply found)
+keeps_plain : (m : Messaging) (id : ConnId) (count service : ℕ) (reply : ReplyFields) (found : Option Class3Connection) → ArePlain m → ArePlain (class3_keeps m id count service reply found)
 keeps_plain m id count service reply None plain = plain
 keeps_plain m id count service reply (Some d) plain = replied_plain m id count (fitted_text d service reply) plain
 
 with_reply_plain : (m : Messaging) (from : Requester) (service : ℕ) (reply : ReplyFields) → ArePlain m → ArePlain (with_reply m from service reply)
 with_reply_plain m (asker.Peer node) service reply plain = plain
 with_reply_plain m (asker.Stream number context) service reply plain = plain
-with_reply_plain m (asker.Dialogue id count) service reply plain = keeps_plain m id count service reply (find (is_last_message id count) m.dialogues) plain
+with_reply_plain m (asker.Class3Connection id count) service reply plain = keeps_plain m id count service reply (find (is_last_message id count) m.class3_connections) plain
 
 late_reply_plain : (from : Requester) (service : ℕ) (m : Messaging) → ArePlain m → ArePlain (late_reply from service m)
 late_reply_plain (asker.Peer node) service m plain = plain
 late_reply_plain (asker.Stream number context) service m plain = plain
-late_reply_plain (asker.Dialogue id count) service m plain = replied_plain m id count (late_text service) plain
+late_reply_plain (asker.Class3Connection id count) service m plain = replied_plain m id count (late_text service) plain
 
 late_replies_plain : (waiting : List Waiting) (m : Messaging) → ArePlain m → ArePlain (late_replies waiting m)
 late_replies_plain [] m plain = plain
 late_replies_plain (w ∷ waiting) m plain = late_replies_plain waiting (late_reply w.asker w.service m) (late_reply_plain w.asker w.service m plain)
 
-left_plain : (clock : Ms) (m : Messaging) → ArePlain m → ArePlain (without_late_dialogues clock m)
-unfolding without_late_dialogues
+left_plain : (clock : Ms) (m : Messaging) → ArePlain m → ArePlain (without_late_class3_connections clock m)
+unfolding without_late_class3_connections
 left_plain clock m plain = record {
-  dialogues = ap (on_time clock) plain.dialogues;
-  services = each_left (λ (w : Waiting). IsPlainService w.service) (can_be_answered (on_time clock m.dialogues)) m.waiting plain.services;
-  over = each_left (λ (w : Waiting). IsOfStream w.asker) (can_be_answered (on_time clock m.dialogues)) m.waiting plain.over;
+  class3_connections = ap (on_time clock) plain.class3_connections;
+  services = each_left (λ (w : Waiting). IsPlainService w.service) (can_be_answered (on_time clock m.class3_connections)) m.waiting plain.services;
+  over = each_left (λ (w : Waiting). IsOfStream w.asker) (can_be_answered (on_time clock m.class3_connections)) m.waiting plain.over;
 }
 
 early_plain : (clock : Ms) (m : Messaging) → ArePlain m → ArePlain (without_late_waiting clock m)
@@ -138,25 +138,25 @@ early_plain clock m plain = late_replies_plain (late_waiting clock m) _ (plain_f
 
 aged_plain : (clock : Ms) (m : Messaging) → ArePlain m → ArePlain (aged clock m)
 unfolding aged
-aged_plain clock m plain = early_plain clock (without_late_dialogues clock m) (left_plain clock m plain)
+aged_plain clock m plain = early_plain clock (without_late_class3_connections clock m) (left_plain clock m plain)
 
 off_stream_plain : (m : Messaging) (number : ℕ) → ArePlain m → ArePlain (changes.without_stream m number)
 unfolding changes.without_stream
 off_stream_plain m number plain =
-    let left = filter (λ (d : Dialogue). not (is_on_stream number d)) m.dialogues in
+    let left = filter (λ (d : Class3Connection). not (is_on_stream number d)) m.class3_connections in
     let elsewhere = referred_elsewhere number m.waiting in
     record {
-      dialogues = ap (filter (λ (d : Dialogue). not (is_on_stream number d))) plain.dialogues;
+      class3_connections = ap (filter (λ (d : Class3Connection). not (is_on_stream number d))) plain.class3_connections;
       services = each_left (λ (w : Waiting). IsPlainService w.service) (can_be_answered left) (referred_elsewhere number m.waiting) (each_left (λ (w : Waiting). IsPlainService w.service) (λ w. not (is_over_stream number w.asker)) m.waiting plain.services);
       over = each_left (λ (w : Waiting). IsOfStream w.asker) (can_be_answered left) (referred_elsewhere number m.waiting) (each_left (λ (w : Waiting). IsOfStream w.asker) (λ w. not (is_over_stream number w.asker)) m.waiting plain.over);
     }
 
-referred_plain : (m : Messaging) (stream context service : ℕ) (clock : Ms) → IsPlainService service → ArePlain m → ArePlain (referred m (asker.Stream stream context) service clock)
+referred_plain : (m : Messaging) (peer : Node) (stream context service : ℕ) (clock : Ms) → IsPlainService service → ArePlain m → ArePlain (referred m peer (asker.Stream stream context) service clock)
 unfolding referred
-referred_plain m stream context service clock serves plain =
-    let new = waiting_for m.next_number (asker.Stream stream context) service clock in
+referred_plain m peer stream context service clock serves plain =
+    let new = waiting_for m.next_number peer (asker.Stream stream context) service clock in
     record {
-      dialogues = plain.dialogues;
+      class3_connections = plain.class3_connections;
       services = each_more (λ (w : Waiting). IsPlainService w.service) m.waiting new plain.services serves;
       over = each_more (λ (w : Waiting). IsOfStream w.asker) m.waiting new plain.over tt;
     }
@@ -183,7 +183,7 @@ unfolding closed_table
 closed_plain t peer request None plain = plain
 closed_plain t peer request (Some row) plain = either ServedPlainly (is_wrong_closer t.profile.limits peer row) _ _ plain plain
 
-ended_plain : (t : AdapterTable) (peer : Node) (request : CloseFields) (found : Option Dialogue) → found ≡ None → IsPlainTable t → ServedPlainly (end_of t peer request found)
+ended_plain : (t : AdapterTable) (peer : Node) (request : CloseFields) (found : Option Class3Connection) → found ≡ None → IsPlainTable t → ServedPlainly (end_of t peer request found)
 unfolding served_close
 ended_plain t peer request None none plain = closed_plain t peer request (find (has_triad request.triad) t.rows) plain
 ended_plain t peer request (Some d) none plain = absurd (let e = none in cc)
@@ -198,11 +198,11 @@ unfolding served_open served_end served_object
 served_plain t peer nothing plain = tt
 served_plain t peer (refused service why) plain = plain
 served_plain t peer (closing request) plain =
-    ended_plain t peer request (find (has_dialogue_triad request.triad) t.messaging.dialogues) (ap (find (has_dialogue_triad request.triad)) plain.dialogues) plain
+    ended_plain t peer request (find (has_class3_triad request.triad) t.messaging.class3_connections) (ap (find (has_class3_triad request.triad)) plain.class3_connections) plain
 served_plain t peer (object service class instance attribute body) plain = object_plain t service (object_answer t service class instance attribute body) plain
 served_plain t peer (opening large request) plain = opened_plain t peer large request (limited_admission t peer request) plain
 
-over_step : (b : Bool) (t : AdapterTable) (stream : Stream) (large : Bool) (request : OpenFields) → b ≡ false → IsPlainTable t → IfSome (cond b (Some (served_dialogue t stream large request)) (served t stream.peer (opening large request))) ServedPlainly
+over_step : (b : Bool) (t : AdapterTable) (stream : Stream) (large : Bool) (request : OpenFields) → b ≡ false → IsPlainTable t → IfSome (cond b (Some (served_class3 t stream large request)) (served t stream.peer (opening large request))) ServedPlainly
 over_step true t stream large request none plain = absurd (let e = none in cc)
 over_step false t stream large request none plain = served_plain t stream.peer (opening large request) plain
 
@@ -235,23 +235,23 @@ own_service objects (opening large request) asks serves is = absurd (let e = is 
 request_plain : (t : AdapterTable) (stream : Stream) (context : ℕ) (request : RouterRequestFields) (asks : Option OwnRequest) → own_of t.profile.objects request ≡ asks → IsPlainRequest request → IsPlainTable t → HandledPlainly (request_handled t stream context request asks)
 request_plain t stream context request None is serves plain = replied_table t (stream_served t stream request) plain (over_plain t stream request serves plain)
 request_plain t stream context request (Some asks) is serves plain =
-    either HandledPlainly (lacks_room t.messaging) (request_replied t (Some (router_refusal t asks.service status.ResourceUnavailable))) _ plain
-    (messages_plain t t.next_id _ (referred_plain t.messaging stream.number context asks.service t.clock (own_service t.profile.objects request asks serves is) plain))
+    either HandledPlainly (cannot_ask t stream.peer) (request_replied t (Some (router_refusal t asks.service status.ResourceUnavailable))) _ plain
+    (messages_plain t t.next_id _ (referred_plain t.messaging stream.peer stream.number context asks.service t.clock (own_service t.profile.objects request asks serves is) plain))
 
 packet_handled : (t : AdapterTable) (stream : Stream) (context : ℕ) (reading : Result PacketFields ItemFault) → PlainPacket reading → IsPlainTable t → HandledPlainly (packet_replied t stream context reading)
 packet_handled t stream context (Err fault) serves plain = plain
 packet_handled t stream context (Ok packet) serves plain =
     request_plain t stream context (router_request_reading packet.payload) (own_of t.profile.objects (router_request_reading packet.payload)) refl serves plain
 
-message_none : (t : AdapterTable) (count : ℕ) (message : List ℕ) (found : Option Dialogue) → found ≡ None → IsPlainTable t → HandledPlainly (message_found t count message found)
+message_none : (t : AdapterTable) (count : ℕ) (message : List ℕ) (found : Option Class3Connection) → found ≡ None → IsPlainTable t → HandledPlainly (message_found t count message found)
 message_none t count message None none plain = plain
 message_none t count message (Some d) none plain = absurd (let e = none in cc)
 
 unit_plain : (t : AdapterTable) (stream : Stream) (reading : Result ConnectedFields ItemFault) → IsPlainTable t → HandledPlainly (unit_replied t stream reading)
 unit_plain t stream (Err fault) plain = plain
 unit_plain t stream (Ok unit) plain =
-    message_none t unit.count unit.message (find (is_dialogue stream.number (record { 0 = unit.connection })) t.messaging.dialogues)
-    (ap (find (is_dialogue stream.number (record { 0 = unit.connection }))) plain.dialogues) plain
+    message_none t unit.count unit.message (find (is_class3 stream.number (record { 0 = unit.connection })) t.messaging.class3_connections)
+    (ap (find (is_class3 stream.number (record { 0 = unit.connection }))) plain.class3_connections) plain
 
 stream_plain : (t : AdapterTable) (number : ℕ) → IsPlainTable t → IsPlainTable (without_stream t number)
 unfolding without_stream
@@ -323,14 +323,14 @@ inquired_goes t peer (Some reply) text plain = record { table = plain; frames = 
 
 -- ---- replies to requests that waited
 
-dialogue_frames_plain : ItemsReadBack → (count service : ℕ) (reply : ReplyFields) (found : Option Dialogue) → AllByRecursion IsShortFrame (dialogue_frames count service reply found) → AllByRecursion SendsPlainly (dialogue_frames count service reply found)
-dialogue_frames_plain back count service reply None few = tt
-dialogue_frames_plain back count service reply (Some d) few = (frame_reply_plain back (unit_header d.stream) (connected d.t_o_id.0 count (fitted_text d service reply)) few.0, tt)
+class3_frames_plain : ItemsReadBack → (count service : ℕ) (reply : ReplyFields) (found : Option Class3Connection) → AllByRecursion IsShortFrame (class3_frames count service reply found) → AllByRecursion SendsPlainly (class3_frames count service reply found)
+class3_frames_plain back count service reply None few = tt
+class3_frames_plain back count service reply (Some d) few = (frame_reply_plain back (unit_header d.stream) (connected d.t_o_id.0 count (fitted_text d service reply)) few.0, tt)
 
 route_plain : ItemsReadBack → (m : Messaging) (from : Requester) (service : ℕ) (reply : ReplyFields) → IsOfStream from → AllByRecursion IsShortFrame (route_frames m from service reply) → AllByRecursion SendsPlainly (route_frames m from service reply)
 route_plain back m (asker.Peer node) service reply over few = absurd over
 route_plain back m (asker.Stream number context) service reply over few = (frame_reply_plain back (rr_header number context) (router_reply reply None) few.0, tt)
-route_plain back m (asker.Dialogue id count) service reply over few = dialogue_frames_plain back count service reply (find (is_last_message id count) m.dialogues) few
+route_plain back m (asker.Class3Connection id count) service reply over few = class3_frames_plain back count service reply (find (is_last_message id count) m.class3_connections) few
 
 all_parts : (P : Frame → Type 0) (xs ys : List Frame) → AllByRecursion P (xs ++ ys) → AllByRecursion P xs × AllByRecursion P ys
 all_parts P [] ys all = (tt, all)
@@ -344,7 +344,7 @@ late_plain back m (w ∷ waiting) over few =
 
 aged_goes : ItemsReadBack → (next : Next) → IsPlainTable next.1 → GoesPlainly (aged_next next)
 aged_goes back next plain =
-    let left = without_late_dialogues next.1.clock next.1.messaging in
+    let left = without_late_class3_connections next.1.clock next.1.messaging in
     let kept = left_plain next.1.clock next.1.messaging plain in
     record {
       table = messages_plain next.1 next.1.next_id _ (aged_plain next.1.clock next.1.messaging plain);
@@ -378,8 +378,8 @@ found_goes : (t : AdapterTable) (peer : Node) (d : DatagramFields) (found : Opti
 unfolding accepted_table
 found_goes t peer d None plain = record { table = plain; frames = λ small. tt }
 found_goes t peer d (Some row) plain =
-    let delivery = row_delivery t.profile row d in
-    either GoesPlainly (is_accepted (row_delivery t.profile row d)) (delivered delivery (accepted_table t peer d row delivery)) (delivered delivery t)
+    let delivery = row_delivery t.profile t.clock row d in
+    either GoesPlainly (is_accepted (row_delivery t.profile t.clock row d)) (delivered delivery (accepted_table t peer d row delivery)) (delivered delivery t)
     (record { table = plain; frames = λ small. tt }) (record { table = plain; frames = λ small. tt })
 
 datagram_goes : (t : AdapterTable) (peer : Node) (reading : Result DatagramFields DatagramFault) → IsPlainTable t → GoesPlainly (datagram_of t peer reading)

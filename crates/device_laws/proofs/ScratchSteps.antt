@@ -15,7 +15,7 @@ use Rattle.cip_events.specs.declared.event.Event.TheVariants.{Frame, Datagram, W
 use Rattle.cip_events.specs.declared.event.StepFault.{StepFault}
 use Rattle.cip_events.specs.declared.event.StepFault.TheVariants as fault
 use Rattle.cip_fwdopen.specs.declared.reply.Opened as made
-use Rattle.cip_productions.specs.Acceptance.{accepts_sequence, is_duplicate}
+use Rattle.cip_productions.specs.Acceptance.{is_duplicate}
 use Rattle.cip_productions.specs.Kinds.{is_owner}
 use Rattle.scanner_table.specs.declared.profile.SlotConfig.{SlotConfig}
 use Rattle.scanner_table.specs.declared.slot.SlotConnection.{SlotConnection}
@@ -27,7 +27,7 @@ use Rattle.scanner_table.specs.declared.table.ScannerTable.{ScannerTable}
 use Rattle.scanner_table.specs.Slots.{IndexedSlot, indexed_slots, slot_at}
 use Rattle.scanner_table.specs.Effects.{Next}
 use Rattle.scanner_table.specs.Replies.{new_connection, established_slot}
-use Rattle.scanner_table.specs.Datagrams.{is_for, accepted_connection, accepted_table, delivered, accepted, sized, state_received, received_at, received_as, received}
+use Rattle.scanner_table.specs.Datagrams.{accepts_at, is_for, accepted_connection, accepted_table, delivered, accepted, sized, state_received, received_at, received_as, received}
 use Rattle.scanner_table.specs.Points.{output_slot, output_written, write_at, write}
 use Rattle.scanner_table.specs.Productions.{written_state, state_is_due, produced_state}
 use Rattle.scanner_table.specs.Step.{scanner_step, fresh_slot, scanner_table}
@@ -194,7 +194,7 @@ sequence_step true t indexed d c stands is = accepted_step (is_duplicate c.last 
 sequence_step false t indexed d c stands is = stays_by t (Some indexed) d delivery.Old refl
 
 sized_step : (b : Bool) (t : ScannerTable) (indexed : IndexedSlot) (d : DatagramFields) (c : SlotConnection) → Stands t indexed → indexed.slot.state ≡ Established c → GoesBy t (Some indexed) d (cond b (sized t indexed d c) (delivered delivery.WrongSize t))
-sized_step true t indexed d c stands is = sequence_step (accepts_sequence c.last d.sequence) t indexed d c stands is
+sized_step true t indexed d c stands is = sequence_step (accepts_at t indexed c d.sequence) t indexed d c stands is
 sized_step false t indexed d c stands is = stays_by t (Some indexed) d delivery.WrongSize refl
 
 state_step : (t : ScannerTable) (indexed : IndexedSlot) (d : DatagramFields) (state : SlotState) → indexed.slot.state ≡ state → Stands t indexed → GoesBy t (Some indexed) d (state_received t indexed d state)

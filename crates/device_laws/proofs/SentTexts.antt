@@ -13,9 +13,8 @@ use Rattle.cip_events.specs.declared.event.StepFault.TheVariants as fault
 use Rattle.cip_events.specs.declared.event.Verdict.TheVariants.{BadFrame}
 use Rattle.cip_router.specs.declared.refusal.Status.TheVariants as refusal_status
 use Rattle.cip_router.specs.Requests.{RouterRequestFields, router_request_reading}
-use Rattle.messaging.specs.Changes.{lacks_room}
 use Rattle.adapter_table.specs.Answering.{respond}
-use Rattle.adapter_table.specs.Own.{OwnRequest, own_of}
+use Rattle.adapter_table.specs.Own.{OwnRequest, own_of, cannot_ask}
 use Rattle.device_laws.specs.Lemmas.MessageSteps.{respond_holds}
 use Rattle.device_laws.specs.Lemmas.Texts.{either}
 use Rattle.cip_router.specs.Commands.{command_of, is_silent}
@@ -73,7 +72,7 @@ answered_quiet t peer (Some s) = refl
 
 by_quiet : (t : AdapterTable) (peer : Node) (request : RouterRequestFields) (asks : Option OwnRequest) → QuietNext (requested_by t peer request asks)
 by_quiet t peer request None = answered_quiet t peer (served t peer request)
-by_quiet t peer request (Some own) = either QuietNext (lacks_room t.messaging) (replied peer (router_refusal t own.service refusal_status.ResourceUnavailable)) _ refl refl
+by_quiet t peer request (Some own) = either QuietNext (cannot_ask t peer) (replied peer (router_refusal t own.service refusal_status.ResourceUnavailable)) _ refl refl
 
 requested_quiet : (t : AdapterTable) (peer : Node) (bytes : List ℕ) → QuietNext (requested t peer bytes)
 unfolding requested

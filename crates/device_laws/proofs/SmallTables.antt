@@ -55,6 +55,7 @@ profile = record {
   serial = 0x12345678;
   open_timeout = 2000;
   retry = 3000;
+  newer = None;
   slots = owner ∷ gatherer ∷ [];
 }
 

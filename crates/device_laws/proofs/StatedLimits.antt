@@ -1,5 +1,5 @@
 -- A close of another node is refused, and a number that is far ahead is not accepted.
-use Rattle.std.proofs.Common.{◌≡◌, ◌≢◌, ◌≤◌, inl, inr, ℕ, ◌==◌, nat_lt, Bool, true, false, cond, List, [], ◌∷◌, length, find, Option, Some, None, Result, Ok, refl, sym, ◌∙◌, ap, subst, arith}
+use Rattle.std.proofs.Common.{◌≡◌, ◌≢◌, ◌≤◌, ◌+◌, ◌*◌, inl, inr, ℕ, ◌==◌, nat_lt, Bool, true, false, cond, List, [], ◌∷◌, length, find, Option, Some, None, Result, Ok, refl, sym, ◌∙◌, ap, subst, arith}
 use Rattle.std.proofs.lemmas.Bool.{le-ltb}
 use Rattle.std.proofs.lemmas.Bool.Decides.{nat_tests}
 use Rattle.std.specs.List.{list_any}
@@ -23,20 +23,21 @@ use Rattle.cip_events.specs.declared.event.Notice.{Notice}
 use Rattle.cip_fwdopen.specs.Close.{CloseFields}
 use Rattle.cip_productions.specs.declared.acceptance.Accepted.{Accepted}
 use Rattle.cip_productions.specs.Acceptance.{accepts_sequence}
+use Rattle.cip_productions.specs.Window.{intervals_in, since_accepted, accepts_number}
 use Rattle.cip_router.specs.declared.refusal.Status.TheVariants as status
 use Rattle.cip_router.specs.Commands.{command_of}
 use Rattle.cip_router.specs.Frames.{request_header_of, frame_fields, frame_reading}
 use Rattle.cip_router.specs.Refusals.{status_fault}
 use Rattle.cip_router.specs.Requests.{RouterRequestFields, closing, router_request_reading}
-use Rattle.messaging.specs.declared.dialogue.Dialogue.{Dialogue}
-use Rattle.messaging.specs.Dialogues.{has_dialogue_triad}
+use Rattle.messaging.specs.declared.class3.Class3Connection.{Class3Connection}
+use Rattle.messaging.specs.Class3Connections.{has_class3_triad}
 use Rattle.messaging.specs.Sound.{EachOf}
 use Rattle.adapter_table.specs.declared.maker_limits.MakerLimits.{MakerLimits}
 use Rattle.adapter_table.specs.Connections.{Row}
 use Rattle.adapter_table.specs.declared.table.AdapterTable.{AdapterTable}
 use Rattle.adapter_table.specs.declared.table.Stream.{Stream}
 use Rattle.adapter_table.specs.Datagrams.{expected_len, accepted_delivery, judged_datagram, found_datagram, datagram_of, received}
-use Rattle.adapter_table.specs.DialogueOpening.{stream_served}
+use Rattle.adapter_table.specs.Class3Opening.{stream_served}
 use Rattle.adapter_table.specs.Encapsulation.{Handled, request_replied, request_handled, packet_replied, handled, frame_answer, stream_answer, frame_of, frame}
 use Rattle.adapter_table.specs.Inquiries.{inquiry_reply}
 use Rattle.adapter_table.specs.Lemmas.MessageLemmas.{found_any}
@@ -45,7 +46,7 @@ use Rattle.adapter_table.specs.MessagesSound.{IsInPlace}
 use Rattle.adapter_table.specs.Own.{OwnRequest, own_of}
 use Rattle.adapter_table.specs.Requests.{Next, Served, refused_close, close_of, served_close, end_of, served_end, served, answered, requested_by, requested}
 use Rattle.adapter_table.specs.Rows.{has_triad}
-use Rattle.adapter_table.specs.StatedLimits.{is_wrong_closer, accepts_number}
+use Rattle.adapter_table.specs.StatedLimits.{is_wrong_closer, accepts_at}
 use Rattle.adapter_table.specs.Step.{adapter_step}
 use Rattle.adapter_table.specs.Streams.{has_session}
 use Rattle.device_laws.specs.StatedLimits.{IsCloseFrame, IsStreamOf, BringsClose, AnotherNodeClosesNothing, IsFarAhead, IsNotAccepted, FarNumbersChangeNothing}
@@ -62,26 +63,26 @@ wrong_closer limits peer row own other = let apart = differs row.peer.0 peer.0 o
 abbrev IsRefused : AdapterTable → Node → CloseFields → Type 0
 IsRefused t peer request = served t peer (closing request) ≡ Some (refused_close t request (status_fault status.PrivilegeViolation))
 
-close_refused : (t : AdapterTable) (peer : Node) (request : CloseFields) (row : Row) → t.profile.limits.own_closers ≡ true → find (has_triad request.triad) t.rows ≡ Some row → row.peer.0 ≢ peer.0 → find (has_dialogue_triad request.triad) t.messaging.dialogues ≡ None → IsRefused t peer request
+close_refused : (t : AdapterTable) (peer : Node) (request : CloseFields) (row : Row) → t.profile.limits.own_closers ≡ true → find (has_triad request.triad) t.rows ≡ Some row → row.peer.0 ≢ peer.0 → find (has_class3_triad request.triad) t.messaging.class3_connections ≡ None → IsRefused t peer request
 unfolding served_close served_end
 close_refused t peer request row own found other free =
     let wrong = wrong_closer t.profile.limits peer row own other in
-    ap (λ (o : Option Dialogue). Some (end_of t peer request o)) free ∙ ap (λ (o : Option Row). Some (close_of t peer request o)) found ∙ rw wrong refl
+    ap (λ (o : Option Class3Connection). Some (end_of t peer request o)) free ∙ ap (λ (o : Option Row). Some (close_of t peer request o)) found ∙ rw wrong refl
 
 -- a class 3 connection of the triad would have that of the row
-other_triad : (triad : Triad) (d : Dialogue) (row : Row) → has_dialogue_triad triad d ≡ true → has_triad triad row ≡ true → has_triad d.triad row ≡ true
+other_triad : (triad : Triad) (d : Class3Connection) (row : Row) → has_class3_triad triad d ≡ true → has_triad triad row ≡ true → has_triad d.triad row ≡ true
 other_triad triad d row talks holds = grind (arith, nat_tests)
 
-free_step : (b : Bool) (triad : Triad) (rows : List Row) (row : Row) (d : Dialogue) (rest : Option Dialogue) → has_dialogue_triad triad d ≡ b → find (has_triad triad) rows ≡ Some row → list_any (has_triad d.triad) rows ≡ false → rest ≡ None → cond b (Some d) rest ≡ None
+free_step : (b : Bool) (triad : Triad) (rows : List Row) (row : Row) (d : Class3Connection) (rest : Option Class3Connection) → has_class3_triad triad d ≡ b → find (has_triad triad) rows ≡ Some row → list_any (has_triad d.triad) rows ≡ false → rest ≡ None → cond b (Some d) rest ≡ None
 free_step true triad rows row d rest talks found alone none =
     let there = found_any (has_triad triad) (has_triad d.triad) rows row found (other_triad triad d row talks (found_passes (has_triad triad) rows row found)) in
     absurd (let e : true ≡ false = sym there ∙ alone in cc)
 free_step false triad rows row d rest talks found alone none = none
 
-none_talks : (triad : Triad) (rows : List Row) (open_streams : List Stream) (row : Row) (dialogues : List Dialogue) → find (has_triad triad) rows ≡ Some row → EachOf (IsInPlace rows open_streams) dialogues → find (has_dialogue_triad triad) dialogues ≡ None
+none_talks : (triad : Triad) (rows : List Row) (open_streams : List Stream) (row : Row) (class3_connections : List Class3Connection) → find (has_triad triad) rows ≡ Some row → EachOf (IsInPlace rows open_streams) class3_connections → find (has_class3_triad triad) class3_connections ≡ None
 none_talks triad rows open_streams row [] found all = refl
-none_talks triad rows open_streams row (d ∷ dialogues) found all =
-    free_step (has_dialogue_triad triad d) triad rows row d (find (has_dialogue_triad triad) dialogues) refl found all.0.triad (none_talks triad rows open_streams row dialogues found all.1)
+none_talks triad rows open_streams row (d ∷ class3_connections) found all =
+    free_step (has_class3_triad triad d) triad rows row d (find (has_class3_triad triad) class3_connections) refl found all.0.triad (none_talks triad rows open_streams row class3_connections found all.1)
 
 abbrev Stays : AdapterTable → AdapterTable → List Notice → Type 0
 Stays t next notices = (next ≡ t) × (notices ≡ [])
@@ -140,15 +141,15 @@ step_stays t other peer request refused next is brings = absurd brings
 
 pub closes_nothing : AnotherNodeClosesNothing
 closes_nothing t happens peer request row next is whole brings own found other =
-    let free = none_talks request.triad t.rows t.streams row t.messaging.dialogues found whole.messages.dialogues in
+    let free = none_talks request.triad t.rows t.streams row t.messaging.class3_connections found whole.messages.class3_connections in
     let stays = step_stays t happens peer request (close_refused t peer request row own found other free) next is brings in
     record { table = stays.0; notices = stays.1 }
 
 -- ---- a number that is far ahead
 
-far_refused : (newer : Option ℕ) (last : Option Accepted) (number within : ℕ) (newest : Accepted) → newer ≡ Some within → last ≡ Some newest → within ≤ distance number newest.number → accepts_number newer last number ≡ false
-far_refused newer last number within newest states accepted far =
-    let near : nat_lt (distance number newest.number) within ≡ false = le-ltb _ _ far in
+pub far_refused : (newer : Option ℕ) (since pace : ℕ) (last : Option Accepted) (number within : ℕ) (newest : Accepted) → newer ≡ Some within → last ≡ Some newest → within + 2 * intervals_in since pace ≤ distance number newest.number → accepts_number newer since pace last number ≡ false
+far_refused newer since pace last number within newest states accepted far =
+    let near : nat_lt (distance number newest.number) (within + 2 * intervals_in since pace) ≡ false = le-ltb _ _ far in
     rw (states, accepted, near) (and_none (accepts_sequence (Some newest) number))
 
 refused_step : (sized newer : Bool) (t : AdapterTable) (peer : Node) (d : DatagramFields) (row : Row) (what : Delivery) → newer ≡ false → IsNotAccepted t (judged_datagram t peer d row (cond sized (cond newer what Old) WrongSize))
@@ -156,14 +157,14 @@ refused_step true true t peer d row what is = absurd (let e = is in cc)
 refused_step true false t peer d row what is = record { table = refl; answer = inl refl }
 refused_step false newer t peer d row what is = record { table = refl; answer = inr refl }
 
-far_found : (t : AdapterTable) (peer : Node) (d : DatagramFields) (row : Row) → accepts_number t.profile.limits.newer row.last d.sequence ≡ false → IsNotAccepted t (found_datagram t peer d (Some row))
+far_found : (t : AdapterTable) (peer : Node) (d : DatagramFields) (row : Row) → accepts_at t.profile.limits.newer t.clock row d.sequence ≡ false → IsNotAccepted t (found_datagram t peer d (Some row))
 far_found t peer d row refused =
-    refused_step (length d.payload == expected_len t.profile row) (accepts_number t.profile.limits.newer row.last d.sequence) t peer d row (accepted_delivery row d) refused
+    refused_step (length d.payload == expected_len t.profile row) (accepts_at t.profile.limits.newer t.clock row d.sequence) t peer d row (accepted_delivery row d) refused
 
 far_received : (t : AdapterTable) (peer : Node) (bytes : List ℕ) → IsFarAhead t peer bytes → IsNotAccepted t (received t peer bytes)
 unfolding received
 far_received t peer bytes is =
-    let refused = far_refused t.profile.limits.newer is.row.last is.datagram.sequence is.within is.last is.within_is is.last_is is.far in
+    let refused = far_refused t.profile.limits.newer (since_accepted t.clock is.row.watchdog is.row.deadline) is.row.o_t_pace_ms is.row.last is.datagram.sequence is.within is.last is.within_is is.last_is is.far in
     subst (λ (r : Result DatagramFields DatagramFault). IsNotAccepted t (datagram_of t peer r)) (sym is.reads)
     (subst (λ (o : Option Row). IsNotAccepted t (found_datagram t peer is.datagram o)) (sym is.found) (far_found t peer is.datagram is.row refused))
 

@@ -5,6 +5,7 @@ use Rattle.std.proofs.lemmas.Bool.{and_parts}
 use Rattle.std.proofs.lemmas.Bool.Decides.{nat_tests}
 use Rattle.base_lemmas.specs.Lists.{found_passes}
 use Rattle.cip_types.specs.declared.names.Node.{Node}
+use Rattle.cip_types.specs.declared.names.Ms.{Ms}
 use Rattle.cip_datagram.specs.declared.datagram.DatagramFault.{DatagramFault}
 use Rattle.cip_datagram.specs.Datagram.{DatagramFields}
 use Rattle.cip_datagram.specs.Reading.{datagram_reading}
@@ -14,7 +15,7 @@ use Rattle.cip_events.specs.declared.event.Event.{Event}
 use Rattle.cip_events.specs.declared.event.Event.TheVariants.{Datagram}
 use Rattle.cip_events.specs.declared.event.Notice.{Notice}
 use Rattle.cip_events.specs.declared.event.StepFault.{StepFault}
-use Rattle.adapter_table.specs.StatedLimits.{accepts_number}
+use Rattle.adapter_table.specs.StatedLimits.{accepts_at}
 use Rattle.cip_productions.specs.Kinds.{is_owner}
 use Rattle.adapter_table.specs.declared.profile.Profile.{Profile}
 use Rattle.adapter_table.specs.Connections.{Row}
@@ -75,10 +76,10 @@ all_three true false c x y z = absurd cc
 all_three false b c x y z = absurd cc
 
 -- data are applied to the output of their connection, which drives it
-applied_drives : (point : ℕ) (profile : Profile) (peer : Node) (d : DatagramFields) (row : Row) → is_for peer d.connection row ≡ true → (row.consumed == point && is_applied (row_delivery profile row d)) ≡ true → drives point row ≡ true
-applied_drives point profile peer d row to is =
-    let parts = and_parts (row.consumed == point) (is_applied (row_delivery profile row d)) is in
-    let owns = owned_parts (length d.payload == expected_len profile row) (accepts_number profile.limits.newer row.last d.sequence) (is_owner row.kind) (owned_delivery row d) parts.1 in
+applied_drives : (point : ℕ) (profile : Profile) (clock : Ms) (peer : Node) (d : DatagramFields) (row : Row) → is_for peer d.connection row ≡ true → (row.consumed == point && is_applied (row_delivery profile clock row d)) ≡ true → drives point row ≡ true
+applied_drives point profile clock peer d row to is =
+    let parts = and_parts (row.consumed == point) (is_applied (row_delivery profile clock row d)) is in
+    let owns = owned_parts (length d.payload == expected_len profile row) (accepts_at profile.limits.newer clock row d.sequence) (is_owner row.kind) (owned_delivery row d) parts.1 in
     all_three (is_established row) (is_owner row.kind) (row.consumed == point) (and_parts (is_established row) _ to).0 owns parts.0
 
 first_same : (a b : ℕ) (xs : List ℕ) → xs ≡ a ∷ [] → xs ≡ b ∷ [] → a ≡ b
@@ -97,12 +98,12 @@ brings : (b : Bool) (point : ℕ) (owner : Option ℕ) (t : AdapterTable) (row :
 brings true point owner t row one owns = ((is_in_turn point row.opening owner t (one refl) owns, tt), one refl)
 brings false point owner t row one owns = (tt, owns)
 
-brings_found : (point : ℕ) (owner : Option ℕ) (t : AdapterTable) (peer : Node) (d : DatagramFields) (found : Option Row) → find (is_for peer d.connection) t.rows ≡ found → HasOneOwner t.rows → Owns point owner t → Goes point owner (brought_found point t.profile d found) t
+brings_found : (point : ℕ) (owner : Option ℕ) (t : AdapterTable) (peer : Node) (d : DatagramFields) (found : Option Row) → find (is_for peer d.connection) t.rows ≡ found → HasOneOwner t.rows → Owns point owner t → Goes point owner (brought_found point t.profile t.clock d found) t
 brings_found point owner t peer d None is one owns = (tt, owns)
 brings_found point owner t peer d (Some row) is one owns =
-    brings (row.consumed == point && is_applied (row_delivery t.profile row d)) point owner t row (λ applied.
+    brings (row.consumed == point && is_applied (row_delivery t.profile t.clock row d)) point owner t row (λ applied.
     let to = found_passes (is_for peer d.connection) t.rows row is in
-    ap (map opening_of) (found_alone (is_for peer d.connection) (drives point) t.rows row is (applied_drives point t.profile peer d row to applied) (one point))) owns
+    ap (map opening_of) (found_alone (is_for peer d.connection) (drives point) t.rows row is (applied_drives point t.profile t.clock peer d row to applied) (one point))) owns
 
 brings_read : (point : ℕ) (owner : Option ℕ) (t : AdapterTable) (peer : Node) (reading : Result DatagramFields DatagramFault) → HasOneOwner t.rows → Owns point owner t → Goes point owner (brought_read point t peer reading) t
 brings_read point owner t peer (Err fault) one owns = (tt, owns)

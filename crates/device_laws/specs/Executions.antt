@@ -13,8 +13,8 @@ use Rattle.cip_router.specs.declared.command.Command.TheVariants as command
 use Rattle.cip_router.specs.Commands.{command_of}
 use Rattle.cip_router.specs.Frames.{FrameFields, without_header, wrong_length, whole, frame_reading}
 use Rattle.cip_router.specs.Requests.{RouterRequestFields, nothing, refused, closing, object, opening, router_request_reading}
-use Rattle.messaging.specs.declared.dialogue.Dialogue.{Dialogue}
-use Rattle.messaging.specs.Dialogues.{has_dialogue_id, is_dialogue, repeats_last}
+use Rattle.messaging.specs.declared.class3.Class3Connection.{Class3Connection}
+use Rattle.messaging.specs.Class3Connections.{has_class3_id, is_class3, repeats_last}
 use Rattle.adapter_table.specs.declared.table.AdapterTable.{AdapterTable}
 use Rattle.adapter_table.specs.declared.table.Stream.{Stream}
 use Rattle.adapter_table.specs.Inquiries.{inquiry_reply}
@@ -37,18 +37,18 @@ is_request (opening large request) = true
 
 -- The message of the connection that is found is executed on that of this O->T id: it is not longer than the connection's size, not
 -- the last one again, and a request.
-abbrev pub is_executed : ConnId → ConnectedFields → Dialogue → Bool
+abbrev pub is_executed : ConnId → ConnectedFields → Class3Connection → Bool
 is_executed id unit d =
-    not (nat_lt d.o_t_size (2 + length unit.message)) && (not (repeats_last d unit.count) && (is_request (router_request_reading unit.message) && has_dialogue_id id d))
+    not (nat_lt d.o_t_size (2 + length unit.message)) && (not (repeats_last d unit.count) && (is_request (router_request_reading unit.message) && has_class3_id id d))
 
 -- its count, if it is executed
-abbrev pub executed_found : ConnId → ConnectedFields → Option Dialogue → List ℕ
+abbrev pub executed_found : ConnId → ConnectedFields → Option Class3Connection → List ℕ
 executed_found id unit None = []
 executed_found id unit (Some d) = if is_executed id unit d then unit.count ∷ [] else []
 
 abbrev pub executed_unit : ConnId → AdapterTable → Stream → Result ConnectedFields ItemFault → List ℕ
 executed_unit id t stream (Err fault) = []
-executed_unit id t stream (Ok unit) = executed_found id unit (find (is_dialogue stream.number (record { 0 = unit.connection })) t.messaging.dialogues)
+executed_unit id t stream (Ok unit) = executed_found id unit (find (is_class3 stream.number (record { 0 = unit.connection })) t.messaging.class3_connections)
 
 abbrev pub executed_command : ConnId → AdapterTable → Stream → (session : ℕ) → List ℕ → Command → List ℕ
 executed_command id t stream session body command.SendUnitData = if has_session stream session then executed_unit id t stream (connected_reading body) else []
@@ -90,7 +90,7 @@ DifferInTurn last (count ∷ counts) = (last ≢ Some count) × DifferInTurn (So
 
 -- the count of the last message that was executed on the connection, as the table has it
 abbrev pub last_count : ConnId → DeviceTable → Option ℕ
-last_count id (Adapter t) = option_and_then (λ (d : Dialogue). d.last) (find (has_dialogue_id id) t.messaging.dialogues)
+last_count id (Adapter t) = option_and_then (λ (d : Class3Connection). d.last) (find (has_class3_id id) t.messaging.class3_connections)
 last_count id (Scanner t) = None
 
 -- over every run from a whole table

@@ -124,7 +124,7 @@ EventIds P other = Unit {0}
 abbrev pub WayIds : (ℕ → Type 0) → Requester → List ℕ → Type 0
 WayIds P (asker.Peer node) text = FrameIds P text
 WayIds P (asker.Stream number context) text = PayloadIds P text
-WayIds P (asker.Dialogue id count) text = Unit {0}
+WayIds P (asker.Class3Connection id count) text = Unit {0}
 
 -- the property holds of each id in an answer of the application
 abbrev pub AnsweredIds : (ℕ → Type 0) → AdapterTable → Event → Type 0

@@ -27,4 +27,5 @@ pub mod Scanners
 pub mod States
 pub mod OwnerData
 pub mod StatedLimits
+pub mod Windows
 pub mod Executions

@@ -4,6 +4,7 @@
 use Rattle.std.specs.Prelude.{ℕ, ◌≡◌, if◌then◌else◌, List, [], ◌∷◌, ◌++◌, find, Option, Some, None, Result, Ok, Err}
 use Rattle.std.specs.List.{AllByRecursion}
 use Rattle.cip_types.specs.declared.names.Node.{Node}
+use Rattle.cip_types.specs.declared.names.Ms.{Ms}
 use Rattle.cip_datagram.specs.declared.datagram.DatagramFault.{DatagramFault}
 use Rattle.cip_datagram.specs.Datagram.{DatagramFields}
 use Rattle.cip_datagram.specs.Header.{header_at}
@@ -37,18 +38,18 @@ use Rattle.cip_tables.specs.Step.{opening_table, config_fault, bytes_in}
 
 -- DELIVERIES TO A CONNECTION
 
--- a datagram with its delivery, if the connection has this opening number
-abbrev pub delivered_by : ℕ → Profile → DatagramFields → Row → Option (DatagramFields × Delivery)
-delivered_by opening profile d row = if was_opened_as opening row then Some (d, row_delivery profile row d) else None
+-- a datagram with its delivery at a time, if the connection has this opening number
+abbrev pub delivered_by : ℕ → Profile → Ms → DatagramFields → Row → Option (DatagramFields × Delivery)
+delivered_by opening profile clock d row = if was_opened_as opening row then Some (d, row_delivery profile clock row d) else None
 
 -- the same, if the datagram is for a connection
-abbrev pub delivered_found : ℕ → Profile → DatagramFields → Option Row → Option (DatagramFields × Delivery)
-delivered_found opening profile d None = None
-delivered_found opening profile d (Some row) = delivered_by opening profile d row
+abbrev pub delivered_found : ℕ → Profile → Ms → DatagramFields → Option Row → Option (DatagramFields × Delivery)
+delivered_found opening profile clock d None = None
+delivered_found opening profile clock d (Some row) = delivered_by opening profile clock d row
 
 abbrev pub delivered_read : ℕ → AdapterTable → Node → Result DatagramFields DatagramFault → Option (DatagramFields × Delivery)
 delivered_read opening t peer (Err fault) = None
-delivered_read opening t peer (Ok d) = delivered_found opening t.profile d (find (is_for peer d.connection) t.rows)
+delivered_read opening t peer (Ok d) = delivered_found opening t.profile t.clock d (find (is_for peer d.connection) t.rows)
 
 -- the datagram of an event with its delivery, if it is for the connection of this opening number
 abbrev pub delivered_at : ℕ → AdapterTable → Event → Option (DatagramFields × Delivery)

@@ -51,7 +51,7 @@ SendsPlainly frame = IsPlainFrame frame.bytes
 
 -- there is no class 3 connection; each request that waits came over a stream, and has no service of an opening
 pub record ArePlain (m : Messaging) : Type 0 where
-  pub dialogues : m.dialogues ≡ []
+  pub class3_connections : m.class3_connections ≡ []
   pub services : AsksPlainly m
   pub over : AsksOverStreams m
 

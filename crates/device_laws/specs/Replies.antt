@@ -19,7 +19,7 @@ use Rattle.cip_fwdopen.specs.Open.{OpenFields}
 use Rattle.cip_fwdopen.specs.Reply.{reply_service}
 use Rattle.cip_netparams.specs.Word.{is_message_trigger}
 use Rattle.cip_router.specs.Requests.{opening, router_request_reading}
-use Rattle.messaging.specs.declared.dialogue.Dialogue.{Dialogue}
+use Rattle.messaging.specs.declared.class3.Class3Connection.{Class3Connection}
 use Rattle.messaging.specs.declared.requests.Requester.{Requester}
 use Rattle.messaging.specs.declared.requests.Requester.TheVariants as asker
 use Rattle.messaging.specs.declared.requests.Waiting.{Waiting}
@@ -49,22 +49,22 @@ pub record IsOfRow (t next : AdapterTable) (opened : Opened) : Type 0 where
   pub t_o_api : opened.t_o_api_us ≡ again w32 (1000 * row.t_o_api_ms)
 
 -- the same of the connection of class 3, where these data of a message are a request to open one
-pub record IsOfDialogue (t next : AdapterTable) (body : List ℕ) (opened : Opened) : Type 0 where
+pub record IsOfClass3 (t next : AdapterTable) (body : List ℕ) (opened : Opened) : Type 0 where
   pub packet : PacketFields
   pub packet_is : packet_reading body ≡ Ok packet
   pub large : Bool
   pub request : OpenFields
   pub opens : router_request_reading packet.payload ≡ opening large request
   pub trigger : is_message_trigger request.trigger ≡ true
-  pub dialogue : Dialogue
-  pub new : next.messaging.dialogues ≡ t.messaging.dialogues ++ dialogue ∷ []
-  pub o_t : opened.o_t_id.0 ≡ again w32 dialogue.o_t_id.0
-  pub t_o : opened.t_o_id.0 ≡ again w32 dialogue.t_o_id.0
-  pub o_t_api : opened.o_t_api_us ≡ again w32 (1000 * dialogue.o_t_api_ms)
-  pub t_o_api : opened.t_o_api_us ≡ again w32 (1000 * dialogue.t_o_api_ms)
+  pub class3 : Class3Connection
+  pub new : next.messaging.class3_connections ≡ t.messaging.class3_connections ++ class3 ∷ []
+  pub o_t : opened.o_t_id.0 ≡ again w32 class3.o_t_id.0
+  pub t_o : opened.t_o_id.0 ≡ again w32 class3.t_o_id.0
+  pub o_t_api : opened.o_t_api_us ≡ again w32 (1000 * class3.o_t_api_ms)
+  pub t_o_api : opened.t_o_api_us ≡ again w32 (1000 * class3.t_o_api_ms)
 
 abbrev pub IsOfNew : AdapterTable → AdapterTable → List ℕ → Opened → Type 0
-IsOfNew t next body opened = IsOfRow t next opened ⊎ IsOfDialogue t next body opened
+IsOfNew t next body opened = IsOfRow t next opened ⊎ IsOfClass3 t next body opened
 
 -- The success answers the request of this message, which opened a connection. It has the connection's ids and its actual packet
 -- intervals, in microseconds, as their fields bring them back.
@@ -111,7 +111,7 @@ pub record IsReplyOverStream (t : AdapterTable) (frame : Frame) : Type 0 where
 abbrev pub IsOfStream : Requester → Type 0
 IsOfStream (asker.Peer node) = ⊥
 IsOfStream (asker.Stream number context) = Unit {0}
-IsOfStream (asker.Dialogue id count) = Unit {0}
+IsOfStream (asker.Class3Connection id count) = Unit {0}
 
 -- so did each request that waits
 abbrev pub AsksOverStreams : Messaging → Type 0

@@ -1,6 +1,7 @@
 -- What the limits that the maker of an adapter states keep from its connections: closes of another node, and datagrams whose
 -- number is far ahead (Volume 1, chapter 3, Forward_Close service, and class 1 transport).
-use Rattle.std.specs.Prelude.{ℕ, ◌≡◌, ◌≢◌, ◌≤◌, ◌⊎◌, true, List, [], find, Some, Ok}
+use Rattle.std.specs.Prelude.{ℕ, ◌≡◌, ◌≢◌, ◌≤◌, ◌+◌, ◌*◌, ◌⊎◌, true, List, [], find, Some, Ok}
+use Rattle.cip_types.specs.declared.names.Ms.{Ms}
 use Rattle.cip_types.specs.declared.names.Node.{Node}
 use Rattle.cip_types.specs.Circle.{distance}
 use Rattle.cip_datagram.specs.Datagram.{DatagramFields}
@@ -16,6 +17,7 @@ use Rattle.cip_events.specs.declared.event.Verdict.TheVariants.{Delivered}
 use Rattle.cip_events.specs.Answers.{plain_answer}
 use Rattle.cip_fwdopen.specs.Close.{CloseFields}
 use Rattle.cip_productions.specs.declared.acceptance.Accepted.{Accepted}
+use Rattle.cip_productions.specs.Window.{intervals_in, since_accepted}
 use Rattle.cip_router.specs.Requests.{closing, router_request_reading}
 use Rattle.adapter_table.specs.Connections.{Row}
 use Rattle.adapter_table.specs.declared.table.AdapterTable.{AdapterTable}
@@ -64,8 +66,13 @@ AnotherNodeClosesNothing =
 
 -- NUMBERS FAR AHEAD
 
--- The datagram is for a connection that accepted one before. Its number is ahead of the newest one by as much as the maker
--- states, or more.
+-- no number that is ahead of the newest one by so much, or more, is accepted at this time: the maker's limit, and two more
+-- for each interval of the producer that has passed since then
+abbrev pub window_at : Ms → Row → ℕ → ℕ
+window_at clock row within = within + 2 * intervals_in (since_accepted clock row.watchdog row.deadline) row.o_t_pace_ms
+
+-- The datagram is for a connection that accepted one before. Its number is ahead of the newest one by as much as the window
+-- at this time, or more.
 pub record IsFarAhead (t : AdapterTable) (peer : Node) (bytes : List ℕ) : Type 0 where
   pub datagram : DatagramFields
   pub reads : datagram_reading bytes ≡ Ok datagram
@@ -75,7 +82,7 @@ pub record IsFarAhead (t : AdapterTable) (peer : Node) (bytes : List ℕ) : Type
   pub last_is : row.last ≡ Some last
   pub within : ℕ
   pub within_is : t.profile.limits.newer ≡ Some within
-  pub far : within ≤ distance datagram.sequence last.number
+  pub far : window_at t.clock row within ≤ distance datagram.sequence last.number
 
 -- the table stays, with its watchdogs; the verdict is that the datagram is old, or has another size
 pub record IsNotAccepted (t : AdapterTable) (next : Next) : Type 0 where

@@ -5,6 +5,7 @@ use Rattle.std.specs.Prelude.{ℕ, ◌≡◌, ◌≢◌, ◌==◌, ◌&&◌, Boo
 use Rattle.std.specs.List.{Contains, list_any}
 use Rattle.std.specs.Option.{option_map}
 use Rattle.cip_types.specs.declared.names.Node.{Node}
+use Rattle.cip_types.specs.declared.names.Ms.{Ms}
 use Rattle.cip_types.specs.declared.names.Triad.{Triad}
 use Rattle.cip_datagram.specs.declared.datagram.DatagramFault.{DatagramFault}
 use Rattle.cip_datagram.specs.Datagram.{DatagramFields}
@@ -37,19 +38,19 @@ pub data Turn : Type 0 where
 
 -- ---- data
 
--- the turn of a datagram for this connection, if its data are applied to the output
-abbrev pub brought_by : ℕ → Profile → DatagramFields → Row → List Turn
-brought_by point profile d row =
-    if row.consumed == point && is_applied (row_delivery profile row d) then brought row.opening ∷ [] else []
+-- the turn of a datagram for this connection at a time, if its data are applied to the output
+abbrev pub brought_by : ℕ → Profile → Ms → DatagramFields → Row → List Turn
+brought_by point profile clock d row =
+    if row.consumed == point && is_applied (row_delivery profile clock row d) then brought row.opening ∷ [] else []
 
 -- the turn of a datagram for the connection that the lookup found, if any
-abbrev pub brought_found : ℕ → Profile → DatagramFields → Option Row → List Turn
-brought_found point profile d None = []
-brought_found point profile d (Some row) = brought_by point profile d row
+abbrev pub brought_found : ℕ → Profile → Ms → DatagramFields → Option Row → List Turn
+brought_found point profile clock d None = []
+brought_found point profile clock d (Some row) = brought_by point profile clock d row
 
 abbrev pub brought_read : ℕ → AdapterTable → Node → Result DatagramFields DatagramFault → List Turn
 brought_read point t peer (Err fault) = []
-brought_read point t peer (Ok d) = brought_found point t.profile d (find (is_for peer d.connection) t.rows)
+brought_read point t peer (Ok d) = brought_found point t.profile t.clock d (find (is_for peer d.connection) t.rows)
 
 -- the turn of an event that applies data to the output; only a datagram applies data
 abbrev pub brought_at : ℕ → AdapterTable → Event → List Turn

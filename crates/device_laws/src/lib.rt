@@ -24,6 +24,7 @@ mod scanner_ticks;
 mod sending;
 mod stated_limits;
 mod states;
+mod windows;
 
 pub use asking::{new_connections_are_requested, scanners_ask_once};
 pub use due_ticks::due_ticks_act;
@@ -58,3 +59,6 @@ pub use scanner_ticks::ticks_leave_none_late;
 pub use sending::devices_send_over_their_streams;
 pub use stated_limits::{another_node_closes_nothing, numbers_far_ahead_change_nothing};
 pub use states::{outputs_hold_newest_data, owners_are_said};
+pub use windows::{
+    near_numbers_are_accepted, near_numbers_are_accepted_by_slots, numbers_far_ahead_change_no_slot,
+};

@@ -10,9 +10,9 @@ pub fn another_node_closes_nothing()
     ensures { AnotherNodeClosesNothing }
 {}
 
-/// A datagram whose number is ahead of the connection's newest one by as much as the maker states, or more, leaves the
-/// table of an adapter as it is: the connection, its watchdog and its output. Its verdict is `Old`, or `WrongSize` if it
-/// has another size.
+/// A datagram whose number is ahead of the connection's newest one by as much as the window at this time, or more, leaves
+/// the table of an adapter as it is: the connection, its watchdog and its output. Its verdict is `Old`, or `WrongSize` if
+/// it has another size. The window is what the maker states, and two more for each interval of the producer since then.
 ///
 /// Volume 1, chapter 3, class 1 transport.
 pub fn numbers_far_ahead_change_nothing()

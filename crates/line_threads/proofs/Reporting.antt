@@ -77,9 +77,9 @@ get_job ss i s j lt =
     get_or-map job_of (enumerate_from 0 ss) i (0, s) j lt' ∙ rw (get_or-enumerate_from 0 ss i (0, s) lt, zero-add) refl
 
 -- what each worker ends with, place by place, as a list
-pub accounts_of : {S : Type 0} (f : S → ℕ) (seats : List S) (ss : List (Vec Event Global)) (xs : List Account) → length ss ≡ length seats → length xs ≡ length seats
-    → ((i : ℕ) (d : S) (s : Vec Event Global) (x : Account) → i < length xs → IfOk (get_or xs i x) (λ v. IsAccount (f (get_or seats i d)) (get_or ss i s).items v.items))
-    → AccountsOf (map f seats) (map (λ (v : Vec Event Global). v.items) ss) xs
+pub accounts_of : {S : Type 0} (f : S → ℕ) (threads : List S) (ss : List (Vec Event Global)) (xs : List Account) → length ss ≡ length threads → length xs ≡ length threads
+    → ((i : ℕ) (d : S) (s : Vec Event Global) (x : Account) → i < length xs → IfOk (get_or xs i x) (λ v. IsAccount (f (get_or threads i d)) (get_or ss i s).items v.items))
+    → AccountsOf (map f threads) (map (λ (v : Vec Event Global). v.items) ss) xs
 accounts_of f [] ss [] ls la each = refl
 accounts_of f [] ss (x ∷ xs) ls la each = absurd (omega arith)
 accounts_of f (d ∷ ds) [] xs ls la each = absurd (omega arith)

@@ -14,7 +14,6 @@ use crate::gate::Gate;
 use crate::inbox::Inbox;
 use crate::line_device::{close_devices, open_devices};
 use crate::line_stream::open_streams;
-use crate::openings::nodes_of;
 use crate::receipts::gather;
 use crate::sending::Network;
 use crate::worker::{Locked, work};
@@ -22,7 +21,7 @@ use cip_events::Event;
 use cip_tables::{Config, Device};
 use cip_types::OutOfMemory;
 use device_lock::{History, Receipt};
-use segment_world::world_fault;
+use segment_world::{nodes_of, world_fault};
 use std::alloc::{AllocError, Global};
 use std::sync::Wait;
 use std::thread;
@@ -92,7 +91,7 @@ pub fn run_line<D: Device + Drop + Send, G: Gate + Sync, R: Threads + Wait + Syn
     })
 }
 
-// Performs the scripts at the devices, and returns the receipts of all once each has ended.
+/// Performs the scripts at the devices, and returns the receipts of all once each has ended.
 fn run_devices<L: Locked + Sync, G: Gate + Sync, R: Threads + Wait + Sync>(
     rt: &R,
     alloc: Global,
@@ -141,7 +140,7 @@ fn jobs_of(alloc: Global, scripts: Vec<Vec<Event>>) -> Result<Vec<Job>, AllocErr
         .collect(alloc)
 }
 
-// One worker for each job.
+/// One worker for each job.
 fn run_jobs<L: Locked + Sync, G: Gate + Sync, R: Threads + Wait + Sync>(
     rt: &R,
     alloc: Global,

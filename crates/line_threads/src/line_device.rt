@@ -83,7 +83,7 @@ impl<D: Device + Drop> LineDevice<D> {
     }
 }
 
-// A fresh device under a lock.
+/// A fresh device under a lock.
 fn locked<D: Device + Drop>(alloc: Global, config: Config) -> Result<LockedDevice<D>, OutOfMemory>
     requires accepts { D.accepts config ≡ true }
     requires valid { config_fault config ≡ None }
@@ -97,7 +97,7 @@ fn locked<D: Device + Drop>(alloc: Global, config: Config) -> Result<LockedDevic
     }
 }
 
-// The one segment of a device's book.
+/// The one segment of a device's book.
 fn segments_of<D: Device + Drop>(
     alloc: Global,
     device: LockedDevice<D>,

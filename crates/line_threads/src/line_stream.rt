@@ -42,7 +42,7 @@ impl Model for LineStream {
 }
 
 impl LineEnd {
-    // An end for which the mark waits that a stream has opened.
+    /// An end for which the mark waits that a stream has opened.
     fn open(alloc: Global, stream: u16, device: usize, peer: Node) -> Result<LineEnd, OutOfMemory>
         ensures { IfOk result (λ end. end.device ≡ device) }
     {
@@ -71,7 +71,7 @@ impl LineStream {
         })
     }
 
-    // The end of a device, and the other end. None for a device at neither end.
+    /// The end of a device, and the other end. None for a device at neither end.
     fn ends_of(&self, device: usize) -> Option<(&LineEnd, &LineEnd)> {
         if self.from.device == device {
             Some((&self.from, &self.to))
@@ -124,7 +124,7 @@ pub fn open_streams(
     streams_of(alloc, nodes, &openings)
 }
 
-// The streams between these places.
+/// The streams between these places.
 fn streams_of(
     alloc: Global,
     nodes: &[Node],
@@ -158,7 +158,7 @@ fn opened(
     )
 }
 
-// The address of the device of this place. (Both ends of a stream are devices of the line.)
+/// The address of the device of this place. (Both ends of a stream are devices of the line.)
 fn node_at(nodes: &[Node], place: usize) -> Node {
     nodes.get(place).copied().unwrap_or(Node(0))
 }

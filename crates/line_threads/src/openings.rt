@@ -1,7 +1,6 @@
 //! Which streams a line opens.
 
 ghost use Rattle.std.specs.Prelude.{◌≡◌, ◌++◌, map, IfOk, OnOk};
-ghost use Rattle.segment_world.specs.Configs.{node_of_config};
 ghost use Rattle.line_threads.specs.Openings.{distinct, has, opening, openings, other_than, others_at, place_of, reached, target_of, without};
 
 use cip_tables::{Config, SlotConfig};
@@ -13,26 +12,6 @@ use std::alloc::Global;
 pub struct StreamPlaces {
     pub from: usize,
     pub to: usize,
-}
-
-fn node_of(config: &Config) -> Node
-    ensures { result ≡ node_of_config config.now }
-{
-    match config {
-        Config::Adapter(profile) => profile.node,
-        Config::Scanner(profile) => profile.node,
-    }
-}
-
-/// The addresses of devices, in order. `OutOfMemory` is the only error.
-pub fn nodes_of(alloc: Global, configs: &[Config]) -> Result<Vec<Node>, OutOfMemory>
-    ensures { IfOk result (λ nodes. nodes.items ≡ map node_of_config configs.now) }
-{
-    let mut nodes = Vec::new(alloc);
-    for config in configs {
-        nodes.push(node_of(config))?;
-    }
-    Ok(nodes)
 }
 
 /// The place of the device with this address, if there is the device. Takes no memory.
@@ -59,7 +38,7 @@ pub fn openings_of(
     Ok(openings)
 }
 
-// Adds the streams that the device of this place opens.
+/// Adds the streams that the device of this place opens.
 fn add_openings(
     openings: &mut Vec<StreamPlaces>,
     from: usize,
@@ -73,7 +52,7 @@ fn add_openings(
     Ok(())
 }
 
-// The other devices of the line that a device has as targets, each once. `OutOfMemory` is the only error.
+/// The other devices of the line that a device has as targets, each once. `OutOfMemory` is the only error.
 fn reached(
     alloc: Global,
     nodes: &[Node],
@@ -88,7 +67,7 @@ fn reached(
     }
 }
 
-// The same over the slots of a scanner.
+/// The same over the slots of a scanner.
 fn reached_over(
     alloc: Global,
     nodes: &[Node],
@@ -104,7 +83,7 @@ fn reached_over(
     Ok(reached)
 }
 
-// Adds a place that is not the device's own, and not there yet.
+/// Adds a place that is not the device's own, and not there yet.
 fn add_reached(
     reached: &mut Vec<usize>,
     own: usize,

@@ -58,7 +58,7 @@ fn joined(
     Ok(all)
 }
 
-// The events behind this one, if it is the first of them.
+/// The events behind this one, if it is the first of them.
 fn behind<'a>(events: &'a [Event], event: &Event) -> Option<&'a [Event]>
     ensures some { IfSome result (λ later. events.now ≡ event.now ∷ later.now) }
     ensures none { IfNone result ((later : List Event) → events.now ≡ event.now ∷ later → ⊥) }

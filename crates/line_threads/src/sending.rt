@@ -50,8 +50,8 @@ impl<'n, R: Wait> Outlet<Network<'n>> for LineOutlet<'_, R> {
         self.send_over(network, stream, Arrival::Frame { stream, bytes })
     }
 
-    // Sends a copy of the datagram, in the name of its sender, to each of its nodes that is a device of the line. What a
-    // full inbox loses is a datagram that is not delivered.
+    /// Sends a copy of the datagram, in the name of its sender, to each of its nodes that is a device of the line. What a
+    /// full inbox loses is a datagram that is not delivered.
     fn datagram(
         &self,
         network: &mut Network<'n>,
@@ -82,7 +82,7 @@ impl<'n, R: Wait> Outlet<Network<'n>> for LineOutlet<'_, R> {
 }
 
 impl<R: Wait> LineOutlet<'_, R> {
-    // Sends what arrives at the other end of a stream. `StreamFull` is the only error.
+    /// Sends what arrives at the other end of a stream. `StreamFull` is the only error.
     fn send_over(
         &self,
         network: &Network<'_>,

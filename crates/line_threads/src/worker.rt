@@ -61,7 +61,7 @@ pub fn work<L: Locked, G: Gate, R: Wait>(
     Ok(receipts)
 }
 
-// Performs what waits for the device, at most 64 arrivals.
+/// Performs what waits for the device, at most 64 arrivals.
 fn take_arrivals<L: Locked, G: Gate, R: Wait>(
     outlet: &LineOutlet<'_, R>,
     network: &Network<'_>,
@@ -81,7 +81,7 @@ fn take_arrivals<L: Locked, G: Gate, R: Wait>(
     Ok(())
 }
 
-// Takes what waits first for the device: on the first stream that has something for it, or else a datagram.
+/// Takes what waits first for the device: on the first stream that has something for it, or else a datagram.
 fn first_waiting<R: Wait>(rt: &R, network: &Network<'_>, place: usize) -> Option<Arrival> {
     for stream in network.streams {
         if let Some(arrival) = stream.take(rt, place) {
@@ -91,7 +91,7 @@ fn first_waiting<R: Wait>(rt: &R, network: &Network<'_>, place: usize) -> Option
     network.inboxes.get(place)?.take(rt)
 }
 
-// Performs one event, and sends what the device answers.
+/// Performs one event, and sends what the device answers.
 fn step<L: Locked, G: Gate, R: Wait>(
     outlet: &LineOutlet<'_, R>,
     network: &Network<'_>,

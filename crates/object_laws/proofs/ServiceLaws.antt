@@ -21,7 +21,7 @@ use Rattle.cip_router.specs.Frames.{request_header_of, frame_fields, frame_readi
 use Rattle.cip_router.specs.Requests.{RouterRequestFields, object, router_request_reading}
 use Rattle.cip_router.specs.declared.object_service.ObjectService.TheVariants.{GetSingle}
 use Rattle.messaging.specs.declared.requests.Requester.TheVariants as asker
-use Rattle.messaging.specs.Changes.{lacks_room, referred}
+use Rattle.messaging.specs.Changes.{referred}
 use Rattle.adapter_table.specs.declared.profile.Description.{Description}
 use Rattle.adapter_table.specs.declared.table.AdapterTable.{AdapterTable}
 use Rattle.adapter_table.specs.declared.table.Stream.{Stream}
@@ -30,7 +30,7 @@ use Rattle.adapter_table.specs.Inquiries.{inquiry_reply}
 use Rattle.adapter_table.specs.Lemmas.RequestLemmas.{next_is}
 use Rattle.adapter_table.specs.Objects.{Attribute, Instance, identity_instance, status_word, described_at, instance_at, is_numbered, is_owning, ObjectAnswer, said, denied, resetting, attribute_of, single_of, set_of, all_of, reset_of, reset_by, instance_answer, object_said, object_answer}
 use Rattle.adapter_table.specs.Messages.{messages_table}
-use Rattle.adapter_table.specs.Own.{OwnRequest, own_of, is_own_class, referred_verdict, referred_table}
+use Rattle.adapter_table.specs.Own.{OwnRequest, own_of, cannot_ask, is_own_class, referred_verdict, referred_table}
 use Rattle.adapter_table.specs.Requests.{Next, router_refusal, object_served, served_object, served, replied, requested_by, requested}
 use Rattle.adapter_table.specs.Step.{adapter_step}
 use Rattle.adapter_table.specs.Streams.{is_stream, has_session}
@@ -267,8 +267,8 @@ same_messages t = refl
 
 own_asks : (t : AdapterTable) (peer : Node) (request : RouterRequestFields) (asks : OwnRequest) → AsksAlone t (requested_by t peer request (Some asks))
 own_asks t peer request asks =
-    either (AsksAlone t) (lacks_room t.messaging) (replied peer (router_refusal t asks.service status.ResourceUnavailable)) (plain_answer (referred_verdict t asks), referred_table t (asker.Peer peer) asks)
-    (record { messages = t.messaging; table = same_messages t; notices = refl }) (record { messages = referred t.messaging (asker.Peer peer) asks.service t.clock; table = refl; notices = refl })
+    either (AsksAlone t) (cannot_ask t peer) (replied peer (router_refusal t asks.service status.ResourceUnavailable)) (plain_answer (referred_verdict t asks), referred_table t peer (asker.Peer peer) asks)
+    (record { messages = t.messaging; table = same_messages t; notices = refl }) (record { messages = referred t.messaging peer (asker.Peer peer) asks.service t.clock; table = refl; notices = refl })
 
 requested_asks : (t : AdapterTable) (peer : Node) (bytes : List ℕ) (asks : OwnRequest) → own_of t.profile.objects (router_request_reading bytes) ≡ Some asks → AsksAlone t (requested t peer bytes)
 unfolding requested

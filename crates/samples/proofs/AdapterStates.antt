@@ -200,17 +200,17 @@ without_the_timed_out_owner = refl
 
 -- ---- totals
 
-an_adapter_begins_with_all_ids : totals_of (fresh common) ≡ record { streams = 0; sessions = 0; connections = 0; dialogues = 0; ids_left = 16777215 }
+an_adapter_begins_with_all_ids : totals_of (fresh common) ≡ record { streams = 0; sessions = 0; connections = 0; class3_connections = 0; ids_left = 16777215 }
 an_adapter_begins_with_all_ids = refl
 
 -- the multicast connection draws two ids
 three_ids_are_drawn : totals_of (after common (opens owner ∷ opens gatherer ∷ []))
-    ≡ record { streams = 0; sessions = 0; connections = 2; dialogues = 0; ids_left = 16777212 }
+    ≡ record { streams = 0; sessions = 0; connections = 2; class3_connections = 0; ids_left = 16777212 }
 unfolding computing
 three_ids_are_drawn = refl
 
 a_stream_without_a_session : totals_of (after common (StreamOpened 3 peer ∷ []))
-    ≡ record { streams = 1; sessions = 0; connections = 0; dialogues = 0; ids_left = 16777215 }
+    ≡ record { streams = 1; sessions = 0; connections = 0; class3_connections = 0; ids_left = 16777215 }
 unfolding computing
 a_stream_without_a_session = refl
 

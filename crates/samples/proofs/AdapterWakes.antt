@@ -81,9 +81,9 @@ at_the_clock_s_end = refl
 
 -- a request that waits for the application until this time, at clock 3 and without connections
 abbrev waits : ℕ → Waiting
-waits deadline = record { number = 1; asker = Peer peer; service = 0x0E; deadline = record { 0 = deadline } }
+waits deadline = record { number = 1; peer = peer; asker = Peer peer; service = 0x0E; deadline = record { 0 = deadline } }
 
-its_request : due_in (Adapter (record (adapter_table common) { messaging = record { dialogues = []; waiting = waits 20 ∷ []; next_number = 2 }; clock = record { 0 = 3 } })) ≡ 17
+its_request : due_in (Adapter (record (adapter_table common) { messaging = record { class3_connections = []; waiting = waits 20 ∷ []; next_number = 2 }; clock = record { 0 = 3 } })) ≡ 17
 unfolding first_moment
 its_request = refl
 

@@ -1,5 +1,5 @@
 -- Samples of the limits that a maker states, from bytes to bytes.
-use Rattle.std.proofs.Common.{◌≡◌, refl, ℕ, true, List, [], ◌∷◌, map, Some}
+use Rattle.std.proofs.Common.{◌≡◌, refl, ℕ, true, List, [], ◌∷◌, map, Some, None}
 use Rattle.cip_events.specs.declared.event.Delivery.TheVariants.{Applied, Old}
 use Rattle.cip_events.specs.declared.event.Event.{Event}
 use Rattle.cip_events.specs.declared.event.Event.TheVariants.{Request, Datagram, Read, Tick}
@@ -35,7 +35,7 @@ below_the_least = refl
 
 -- one reader has a place, another has none, and the owner has its own
 an_owner_has_its_place :
-    said (limited (record no_limits { places = Some (record { owners = 1; readers = 1; listeners = 0 }) })) (opens gatherer ∷ opens (consumer 7) ∷ opens owner ∷ [])
+    said (limited (record no_limits { places = Some (record { owners = 1; readers = 1; listeners = 0; class3_connections = None }) })) (opens gatherer ∷ opens (consumer 7) ∷ opens owner ∷ [])
     ≡ accepts peer gatherer 1 0x10000002 ∷ refuses peer (consumer 7) 0x0113 ∷ accepts peer owner 3 0x20000001 ∷ []
 unfolding computing
 an_owner_has_its_place = refl
@@ -45,7 +45,7 @@ abbrev second : OpeningRequest
 second = record owner { serial = 9; originator = 0x12345679 }
 
 one_connection_of_a_node :
-    said (limited (record no_limits { node_connections = Some 1 })) (opens gatherer ∷ opens owner ∷ Request other (opening second) ∷ [])
+    said (limited (record no_limits { node_connections = Some (record { connections = 1; openings = None }) })) (opens gatherer ∷ opens owner ∷ Request other (opening second) ∷ [])
     ≡ accepts peer gatherer 1 0x10000002 ∷ refuses peer owner 0x0113 ∷ accepts other second 3 0x20000001 ∷ []
 unfolding computing
 one_connection_of_a_node = refl
@@ -80,7 +80,16 @@ a_number_far_ahead_is_old : then_said (runs 11 2 next ∷ Read 150 ∷ runs 10 2
 unfolding computing
 a_number_far_ahead_is_old = refl
 
--- its watchdog of 160 ms does not begin again
-it_keeps_no_connection : map notices_of (then_said (Tick 159 ∷ runs 11 2 next ∷ Tick 1 ∷ [])) ≡ [] ∷ [] ∷ (Expired (own 1) ∷ []) ∷ []
+-- 159 ms after number 1 the limit is 40: a jump by 40 does not begin the watchdog of 160 ms again
+it_keeps_no_connection : map notices_of (then_said (Tick 159 ∷ runs 41 2 next ∷ Tick 1 ∷ [])) ≡ [] ∷ [] ∷ (Expired (own 1) ∷ []) ∷ []
 unfolding computing
 it_keeps_no_connection = refl
+
+-- The limit of 10 grows by two for each packet interval of 10 ms: 100 ms after number 1 it is 30. So an owner whose datagrams
+-- were lost for so long is heard again, and a jump by 30 is old.
+abbrev later_said : List Event → List Outcome
+later_said events = outcomes_of (after near_ones (opens owner ∷ runs 1 1 (hex "11 22 33 44") ∷ Tick 100 ∷ [])) events
+
+a_burst_of_losses_locks_nobody_out : later_said (runs 31 2 next ∷ runs 30 2 next ∷ Read 150 ∷ []) ≡ delivers Old ∷ delivers Applied ∷ holds next ∷ []
+unfolding computing
+a_burst_of_losses_locks_nobody_out = refl

@@ -90,11 +90,11 @@ timed_out_behind_its_data = refl
 -- ---- totals
 
 -- a session, and a connection with an id of the scanner's
-one_of_each : totals_of (Scanner (after connected (opens []))) ≡ record { streams = 1; sessions = 1; connections = 1; dialogues = 0; ids_left = 16777214 }
+one_of_each : totals_of (Scanner (after connected (opens []))) ≡ record { streams = 1; sessions = 1; connections = 1; class3_connections = 0; ids_left = 16777214 }
 unfolding computing
 one_of_each = refl
 
-no_connection_yet : totals_of (Scanner (after connected (Start 0 ∷ []))) ≡ record { streams = 1; sessions = 1; connections = 0; dialogues = 0; ids_left = 16777214 }
+no_connection_yet : totals_of (Scanner (after connected (Start 0 ∷ []))) ≡ record { streams = 1; sessions = 1; connections = 0; class3_connections = 0; ids_left = 16777214 }
 unfolding computing
 no_connection_yet = refl
 

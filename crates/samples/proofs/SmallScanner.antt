@@ -63,6 +63,7 @@ profile slots = record {
   serial = 0x12345678;
   open_timeout = 2000;
   retry = 3000;
+  newer = None;
   slots = slots;
 }
 

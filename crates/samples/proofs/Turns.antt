@@ -11,7 +11,7 @@ use Rattle.cip_fwdopen.specs.Request.{request_reading}
 use Rattle.cip_netparams.specs.Word.{params16}
 use Rattle.cip_productions.specs.declared.kind.Kind.TheVariants.{ExclusiveOwner}
 use Rattle.cip_router.specs.Requests.{router_request_reading}
-use Rattle.messaging.specs.Times.{without_late_dialogues, without_late_waiting, aged}
+use Rattle.messaging.specs.Times.{without_late_class3_connections, without_late_waiting, aged}
 use Rattle.adapter_table.specs.Checks.{verdict}
 use Rattle.adapter_table.specs.Closing.{closed_table}
 use Rattle.adapter_table.specs.Datagrams.{accepted_table, received}
@@ -81,5 +81,5 @@ two_owners :
     turns 150 (fresh common) (
     opens owner ∷ arrives 1 1 ∷ opens second ∷ arrives 1 2 ∷ closes peer owner ∷ arrives 1 3 ∷ opens second ∷ arrives 2 1 ∷ Tick 160 ∷ [])
     ≡ brought 1 ∷ brought 1 ∷ ended 1 ∷ brought 2 ∷ ended 2 ∷ []
-unfolding messages_table without_late_dialogues without_late_waiting aged datagram_reading paths.path_reading paths.target_reading paths.segments_at paths.segment_at paths.logical_at paths.value_at paths.key_at paths.key_fields_at paths.data_at close_reading open_reading request_reading params16 router_request_reading verdict closed_table accepted_table received opened_row opened_table admitted_open served_open served_close served_end requested step clocked_table expired_table produced_table tick
+unfolding messages_table without_late_class3_connections without_late_waiting aged datagram_reading paths.path_reading paths.target_reading paths.segments_at paths.segment_at paths.logical_at paths.value_at paths.key_at paths.key_fields_at paths.data_at close_reading open_reading request_reading params16 router_request_reading verdict closed_table accepted_table received opened_row opened_table admitted_open served_open served_close served_end requested step clocked_table expired_table produced_table tick
 two_owners = refl

@@ -37,6 +37,7 @@ connection_in opening state = record {
   t_o_id = record { 0 = 0x20000002 };
   o_t_api_ms = 10;
   t_o_api_ms = 10;
+  o_t_pace_ms = 10;
   watchdog = record { 0 = 160 };
   multicast = false;
   opening = opening;

@@ -57,6 +57,7 @@ scanner slot = record {
   serial = 0x12345678;
   open_timeout = 2000;
   retry = 3000;
+  newer = None;
   slots = slot ∷ [];
 }
 

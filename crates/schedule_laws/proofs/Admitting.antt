@@ -107,7 +107,7 @@ unfolding opened_row
 admitted_requested t peer request points reads first =
     let found = reads.found in
     -- the answers of checks 2 to 9, and from 10 on
-    let second = first.1.1.1.1.1.1.1.1.1.1.1 in
+    let second = first.1.1.1.1.1.1.1.1.1.1.1.1 in
     record {
       path = reads.path;
       reads = reads.reads;

@@ -94,8 +94,8 @@ accepted_rows : (O : Row → Type 0) → Lasts O → (t : AdapterTable) (peer : 
 unfolding accepted_table
 accepted_rows O lasts t peer d None rows = rows
 accepted_rows O lasts t peer d (Some row) rows =
-    let delivery = row_delivery t.profile row d in
-    either (NextRows O) (is_accepted (row_delivery t.profile row d)) (delivered (row_delivery t.profile row d) (accepted_table t peer d row (row_delivery t.profile row d))) (delivered (row_delivery t.profile row d) t)
+    let delivery = row_delivery t.profile t.clock row d in
+    either (NextRows O) (is_accepted (row_delivery t.profile t.clock row d)) (delivered (row_delivery t.profile t.clock row d) (accepted_table t peer d row (row_delivery t.profile t.clock row d))) (delivered (row_delivery t.profile t.clock row d) t)
     (mapped_rows O lasts (accepted_if_for t.clock peer d) (accepted_one t.clock peer d) t.rows rows) rows
 
 datagram_rows : (O : Row → Type 0) → Lasts O → (t : AdapterTable) (peer : Node) (reading : Result DatagramFields DatagramFault) → RowsAre O t → NextRows O (datagram_of t peer reading)

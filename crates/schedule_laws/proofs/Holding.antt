@@ -7,6 +7,7 @@ use Rattle.std.proofs.lemmas.Option.{same_Some}
 use Rattle.schedule_laws.specs.Lemmas.Deliveries.{same_delivery}
 use Rattle.base_lemmas.specs.Lists.{found_passes}
 use Rattle.cip_types.specs.declared.names.Node.{Node}
+use Rattle.cip_types.specs.declared.names.Ms.{Ms}
 use Rattle.cip_datagram.specs.declared.datagram.DatagramFault.{DatagramFault}
 use Rattle.cip_datagram.specs.Datagram.{DatagramFields, datagram_text}
 use Rattle.cip_datagram.specs.Header.{header_at}
@@ -19,7 +20,7 @@ use Rattle.cip_events.specs.declared.event.Event.{Event}
 use Rattle.cip_events.specs.declared.event.Event.TheVariants as event
 use Rattle.cip_events.specs.declared.event.Verdict.{Verdict}
 use Rattle.cip_events.specs.declared.event.Verdict.TheVariants.{Delivered}
-use Rattle.adapter_table.specs.StatedLimits.{accepts_number}
+use Rattle.adapter_table.specs.StatedLimits.{accepts_at}
 use Rattle.cip_productions.specs.Acceptance.{is_duplicate}
 use Rattle.cip_productions.specs.declared.acceptance.Accepted.{Accepted}
 use Rattle.cip_productions.specs.Kinds.{is_owner}
@@ -171,8 +172,8 @@ headed reads profile row d p (inr empty) same owns sized =
     expected_is : (profile : Profile) (row : Row) → is_owner row.kind ≡ true → expected_len profile row ≡ output_len (find (is_output_at row.consumed) profile.outputs) + 4
     expected_is profile row owns = rw owns refl
 
-owned_delivery_is : (profile : Profile) (row : Row) (d : DatagramFields) → is_owner row.kind ≡ true → row_delivery profile row d ≡ cond (length d.payload == expected_len profile row) (cond (accepts_number profile.limits.newer row.last d.sequence) (cond (is_duplicate row.last d.count) Duplicate (moded (header_at d.payload))) Old) WrongSize
-owned_delivery_is profile row d owns = rw owns refl
+owned_delivery_is : (profile : Profile) (clock : Ms) (row : Row) (d : DatagramFields) → is_owner row.kind ≡ true → row_delivery profile clock row d ≡ cond (length d.payload == expected_len profile row) (cond (accepts_at profile.limits.newer clock row d.sequence) (cond (is_duplicate row.last d.count) Duplicate (moded (header_at d.payload))) Old) WrongSize
+owned_delivery_is profile clock row d owns = rw owns refl
 
 -- what was accepted before with the same count has the same payload
 pub record IsSame (p : Production) (a : Acceptance) : Type 0 where
@@ -195,18 +196,18 @@ some_header a b xs ys is = (ap (λ (o : Option (Bool × List ℕ)). bit o) is, a
     bit (Some x) = x.0
 
 -- the output of the owner that the datagram is for
-own_value : HeaderReadsBack → (accepted : List Acceptance) (device : ℕ) (p : Production) (t : AdapterTable) (row : Row) (d : DatagramFields) (delivery : Delivery) → row_delivery t.profile row d ≡ delivery → is_accepted delivery ≡ true → ComesBack p.made.datagram d → IsNumbered p → HasForm p.made → Has row t.rows → is_established row ≡ true → is_owner row.kind ≡ true → p.made.run ≡ true → (kept : List ℕ) → bytes_at t.values row.consumed ≡ Some kept → Remembers accepted device t → Repeats accepted device p row.opening → TableHolds accepted device t → bytes_at (accepted_values t.profile row.consumed d delivery t.values) row.consumed ≡ Some p.made.value
+own_value : HeaderReadsBack → (accepted : List Acceptance) (device : ℕ) (p : Production) (t : AdapterTable) (row : Row) (d : DatagramFields) (delivery : Delivery) → row_delivery t.profile t.clock row d ≡ delivery → is_accepted delivery ≡ true → ComesBack p.made.datagram d → IsNumbered p → HasForm p.made → Has row t.rows → is_established row ≡ true → is_owner row.kind ≡ true → p.made.run ≡ true → (kept : List ℕ) → bytes_at t.values row.consumed ≡ Some kept → Remembers accepted device t → Repeats accepted device p row.opening → TableHolds accepted device t → bytes_at (accepted_values t.profile row.consumed d delivery t.values) row.consumed ≡ Some p.made.value
 own_value reads accepted device p t row d delivery said so back numbered form has lives owns run kept holds remembers repeats ok =
-    let sized = sized_of (length d.payload == expected_len t.profile row) (accepts_number t.profile.limits.newer row.last d.sequence) (is_owner row.kind) (is_duplicate row.last d.count) (header_at d.payload) (ap is_accepted said ∙ so) in
+    let sized = sized_of (length d.payload == expected_len t.profile row) (accepts_at t.profile.limits.newer t.clock row d.sequence) (is_owner row.kind) (is_duplicate row.last d.count) (header_at d.payload) (ap is_accepted said ∙ so) in
     let header = headed reads t.profile row d p form back.payload owns sized in
     let runs : run_bit (header_at d.payload) ≡ true = ap run_bit header ∙ run in
-    by_delivery header (owned_of (length d.payload == expected_len t.profile row) (accepts_number t.profile.limits.newer row.last d.sequence) (is_duplicate row.last d.count) (header_at d.payload) delivery runs (sym (owned_delivery_is t.profile row d owns) ∙ said) so)
+    by_delivery header (owned_of (length d.payload == expected_len t.profile row) (accepts_at t.profile.limits.newer t.clock row d.sequence) (is_duplicate row.last d.count) (header_at d.payload) delivery runs (sym (owned_delivery_is t.profile t.clock row d owns) ∙ said) so)
   where
     repeat : header_at d.payload ≡ Some (p.made.run, p.made.value) → (a : Acceptance) → newest (end_at device row.opening) accepted ≡ Some a → d.count ≡ a.production.made.datagram.count → bytes_at t.values row.consumed ≡ Some p.made.value
     repeat header a newest_is same =
         let one = repeats a newest_is (sym (count_back p d numbered back) ∙ same) in
         let payload : d.payload ≡ a.production.made.datagram.payload = back.payload ∙ one.payload in
-        let sized = sized_of (length d.payload == expected_len t.profile row) (accepts_number t.profile.limits.newer row.last d.sequence) (is_owner row.kind) (is_duplicate row.last d.count) (header_at d.payload) (ap is_accepted said ∙ so) in
+        let sized = sized_of (length d.payload == expected_len t.profile row) (accepts_at t.profile.limits.newer t.clock row d.sequence) (is_owner row.kind) (is_duplicate row.last d.count) (header_at d.payload) (ap is_accepted said ∙ so) in
         let other = headed reads t.profile row d a.production one.form payload owns sized in
         let equal = some_header a.production.made.run p.made.run a.production.made.value p.made.value (sym other ∙ header) in
         ok row has lives owns a newest_is (equal.0 ∙ run) ∙ ap Some equal.1
@@ -257,11 +258,11 @@ apart_by true t found row same whole has_found has ne lives owns living owning =
     absurd (ne (ap (λ (r : Row). r.opening) one))
 apart_by false t found row same whole has_found has ne lives owns living owning = refl
 
-other_apart : (t : AdapterTable) (peer : Node) (d : DatagramFields) (found row : Row) (delivery : Delivery) → row_delivery t.profile found d ≡ delivery → IsWhole t → Has found t.rows → is_for peer d.connection found ≡ true → Has row t.rows → found.opening ≢ row.opening → is_established row ≡ true → is_owner row.kind ≡ true → (delivery ≡ Applied) ⊎ (delivery ≡ Idle) → (found.consumed == row.consumed) ≡ false
+other_apart : (t : AdapterTable) (peer : Node) (d : DatagramFields) (found row : Row) (delivery : Delivery) → row_delivery t.profile t.clock found d ≡ delivery → IsWhole t → Has found t.rows → is_for peer d.connection found ≡ true → Has row t.rows → found.opening ≢ row.opening → is_established row ≡ true → is_owner row.kind ≡ true → (delivery ≡ Applied) ⊎ (delivery ≡ Idle) → (found.consumed == row.consumed) ≡ false
 other_apart t peer d found row delivery said whole has_found for_it has ne lives owns acts =
-    apart_by (found.consumed == row.consumed) t found row refl whole has_found has ne (for_established peer d.connection found for_it) (owner_of (length d.payload == expected_len t.profile found) (accepts_number t.profile.limits.newer found.last d.sequence) (is_owner found.kind) (is_duplicate found.last d.count) (header_at d.payload) (acted acts)) lives owns
+    apart_by (found.consumed == row.consumed) t found row refl whole has_found has ne (for_established peer d.connection found for_it) (owner_of (length d.payload == expected_len t.profile found) (accepts_at t.profile.limits.newer t.clock found d.sequence) (is_owner found.kind) (is_duplicate found.last d.count) (header_at d.payload) (acted acts)) lives owns
   where
-    acted : (delivery ≡ Applied) ⊎ (delivery ≡ Idle) → (row_delivery t.profile found d ≡ Applied) ⊎ (row_delivery t.profile found d ≡ Idle)
+    acted : (delivery ≡ Applied) ⊎ (delivery ≡ Idle) → (row_delivery t.profile t.clock found d ≡ Applied) ⊎ (row_delivery t.profile t.clock found d ≡ Idle)
     acted (inl is) = inl (said ∙ is)
     acted (inr is) = inr (said ∙ is)
 
@@ -284,7 +285,7 @@ output_kept t row whole has owns = record {
     kept : (bytes : List ℕ) × (bytes_at t.values row.consumed ≡ Some bytes)
     kept = some_bytes (bytes_at t.values row.consumed) output.0.len (length_is t.profile t.values row.consumed whole.shaped ∙ output_fits t.profile row.consumed output.0 output.0.len output.1 refl)
 
-fed_holds : HeaderReadsBack → (accepted : List Acceptance) (device : ℕ) (p : Production) (t : AdapterTable) (peer : Node) (d : DatagramFields) (found : Row) (delivery : Delivery) → find (is_for peer d.connection) t.rows ≡ Some found → row_delivery t.profile found d ≡ delivery → is_accepted delivery ≡ true → ComesBack p.made.datagram d → IsNumbered p → HasForm p.made → IsWhole t → Remembers accepted device t → Repeats accepted device p found.opening → TableHolds accepted device t → TableHolds (Entry device p found.opening delivery ∷ accepted) device (accepted_table t peer d found delivery)
+fed_holds : HeaderReadsBack → (accepted : List Acceptance) (device : ℕ) (p : Production) (t : AdapterTable) (peer : Node) (d : DatagramFields) (found : Row) (delivery : Delivery) → find (is_for peer d.connection) t.rows ≡ Some found → row_delivery t.profile t.clock found d ≡ delivery → is_accepted delivery ≡ true → ComesBack p.made.datagram d → IsNumbered p → HasForm p.made → IsWhole t → Remembers accepted device t → Repeats accepted device p found.opening → TableHolds accepted device t → TableHolds (Entry device p found.opening delivery ∷ accepted) device (accepted_table t peer d found delivery)
 unfolding accepted_table
 fed_holds reads accepted device p t peer d found delivery there said so back numbered form whole remembers repeats ok row has lives owns a newest_is run =
     by_opening (found.opening == row.opening) refl
@@ -327,9 +328,9 @@ pub record AcceptFacts (accepted : List Acceptance) (device : ℕ) (p : Producti
   pub form : HasForm p.made
   pub repeats : Repeats accepted device p n
 
-judged_holds : HeaderReadsBack → (b : Bool) (accepted : List Acceptance) (device : ℕ) (p : Production) (t : AdapterTable) (peer : Node) (d : DatagramFields) (found : Row) → is_accepted (row_delivery t.profile found d) ≡ b → find (is_for peer d.connection) t.rows ≡ Some found → ComesBack p.made.datagram d → IsNumbered p → IsWhole t → Remembers accepted device t → (is_accepted (row_delivery t.profile found d) ≡ true → AcceptFacts accepted device p found.opening) → TableHolds accepted device t → TableHolds (cond b (Entry device p found.opening (row_delivery t.profile found d) ∷ []) [] ++ accepted) device (cond b (delivered (row_delivery t.profile found d) (accepted_table t peer d found (row_delivery t.profile found d))) (delivered (row_delivery t.profile found d) t)).1
+judged_holds : HeaderReadsBack → (b : Bool) (accepted : List Acceptance) (device : ℕ) (p : Production) (t : AdapterTable) (peer : Node) (d : DatagramFields) (found : Row) → is_accepted (row_delivery t.profile t.clock found d) ≡ b → find (is_for peer d.connection) t.rows ≡ Some found → ComesBack p.made.datagram d → IsNumbered p → IsWhole t → Remembers accepted device t → (is_accepted (row_delivery t.profile t.clock found d) ≡ true → AcceptFacts accepted device p found.opening) → TableHolds accepted device t → TableHolds (cond b (Entry device p found.opening (row_delivery t.profile t.clock found d) ∷ []) [] ++ accepted) device (cond b (delivered (row_delivery t.profile t.clock found d) (accepted_table t peer d found (row_delivery t.profile t.clock found d))) (delivered (row_delivery t.profile t.clock found d) t)).1
 judged_holds reads true accepted device p t peer d found so there back numbered whole remembers facts ok =
-    fed_holds reads accepted device p t peer d found (row_delivery t.profile found d) there refl so back numbered (facts so).form whole remembers (facts so).repeats ok
+    fed_holds reads accepted device p t peer d found (row_delivery t.profile t.clock found d) there refl so back numbered (facts so).form whole remembers (facts so).repeats ok
 judged_holds reads false accepted device p t peer d found so there back numbered whole remembers facts ok = ok
 
 -- the same, of the connection that a datagram names, where the verdict accepts it
@@ -339,7 +340,7 @@ FactsAt accepted device p number verdict = (n : ℕ) → number ≡ Some n → r
 found_holds : HeaderReadsBack → (accepted : List Acceptance) (device : ℕ) (p : Production) (t : AdapterTable) (peer : Node) (d : DatagramFields) (found : Option Row) → find (is_for peer d.connection) t.rows ≡ found → ComesBack p.made.datagram d → IsNumbered p → IsWhole t → Remembers accepted device t → FactsAt accepted device p (row_number found) (found_datagram t peer d found).0.verdict → TableHolds accepted device t → TableHolds (accepted_by_verdict device p (row_number found) (found_datagram t peer d found).0.verdict ++ accepted) device (found_datagram t peer d found).1
 found_holds reads accepted device p t peer d None is back numbered whole remembers facts ok = ok
 found_holds reads accepted device p t peer d (Some found) is back numbered whole remembers facts ok =
-    let delivery = row_delivery t.profile found d in
+    let delivery = row_delivery t.profile t.clock found d in
     let verdict = judged_verdict (is_accepted delivery) t (accepted_table t peer d found delivery) delivery in
     rw verdict
     (judged_holds reads (is_accepted delivery) accepted device p t peer d found refl is back numbered whole remembers (λ so. facts found.opening refl (ap reports_accepted verdict ∙ so)) ok)
@@ -368,15 +369,15 @@ runs_of false new_data repeated header is = absurd (let e = is in cc)
 found_runs : HeaderReadsBack → (accepted : List Acceptance) (device : ℕ) (p : Production) (t : AdapterTable) (peer : Node) (d : DatagramFields) (found : Option Row) → ComesBack p.made.datagram d → FactsAt accepted device p (row_number found) (found_datagram t peer d found).0.verdict → (n : ℕ) → row_number found ≡ Some n → (found_datagram t peer d found).0.verdict ≡ Delivered Applied → p.made.run ≡ true
 found_runs reads accepted device p t peer d None back facts n named said = absurd (let e = named in cc)
 found_runs reads accepted device p t peer d (Some found) back facts n named said =
-    let delivery = row_delivery t.profile found d in
+    let delivery = row_delivery t.profile t.clock found d in
     let verdict = judged_verdict (is_accepted delivery) t (accepted_table t peer d found delivery) delivery in
     let applied : delivery ≡ Applied = same_delivery delivery Applied (sym verdict ∙ said) in
     let so : is_accepted delivery ≡ true = ap is_accepted applied in
     let form = (facts found.opening refl (ap reports_accepted verdict ∙ so)).form in
-    let owns = owner_of (length d.payload == expected_len t.profile found) (accepts_number t.profile.limits.newer found.last d.sequence) (is_owner found.kind) (is_duplicate found.last d.count) (header_at d.payload) (inl applied) in
-    let sized = sized_of (length d.payload == expected_len t.profile found) (accepts_number t.profile.limits.newer found.last d.sequence) (is_owner found.kind) (is_duplicate found.last d.count) (header_at d.payload) so in
+    let owns = owner_of (length d.payload == expected_len t.profile found) (accepts_at t.profile.limits.newer t.clock found d.sequence) (is_owner found.kind) (is_duplicate found.last d.count) (header_at d.payload) (inl applied) in
+    let sized = sized_of (length d.payload == expected_len t.profile found) (accepts_at t.profile.limits.newer t.clock found d.sequence) (is_owner found.kind) (is_duplicate found.last d.count) (header_at d.payload) so in
     let header = headed reads t.profile found d p form back.payload owns sized in
-    sym (ap run_bit header) ∙ runs_of (length d.payload == expected_len t.profile found) (accepts_number t.profile.limits.newer found.last d.sequence) (is_duplicate found.last d.count) (header_at d.payload) (sym (owned_delivery_is t.profile found d owns) ∙ applied)
+    sym (ap run_bit header) ∙ runs_of (length d.payload == expected_len t.profile found) (accepts_at t.profile.limits.newer t.clock found d.sequence) (is_duplicate found.last d.count) (header_at d.payload) (sym (owned_delivery_is t.profile t.clock found d owns) ∙ applied)
 
 read_runs : HeaderReadsBack → (accepted : List Acceptance) (device : ℕ) (p : Production) (t : AdapterTable) (peer : Node) (reading : Result DatagramFields DatagramFault) → datagram_reading (datagram_text p.made.datagram) ≡ reading → FactsAt accepted device p (names_in (Adapter t) peer reading) (datagram_of t peer reading).0.verdict → (n : ℕ) → names_in (Adapter t) peer reading ≡ Some n → (datagram_of t peer reading).0.verdict ≡ Delivered Applied → p.made.run ≡ true
 read_runs reads accepted device p t peer (Err why) is facts n named said = absurd (let e = named in cc)

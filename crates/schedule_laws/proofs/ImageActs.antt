@@ -14,7 +14,7 @@ use Rattle.cip_datagram.specs.Reading.{datagram_reading}
 use Rattle.cip_events.specs.declared.event.Delivery.TheVariants.{Applied, Duplicate, Old, WrongSize}
 use Rattle.cip_events.specs.declared.event.Event.{Event}
 use Rattle.cip_events.specs.declared.event.StepFault.{StepFault}
-use Rattle.cip_productions.specs.Acceptance.{accepts_sequence, is_duplicate}
+use Rattle.cip_productions.specs.Acceptance.{is_duplicate}
 use Rattle.conn_state.specs.declared.names.Link.{Link}
 use Rattle.scanner_table.specs.declared.profile.SlotConfig.{SlotConfig}
 use Rattle.scanner_table.specs.declared.slot.SlotConnection.{SlotConnection}
@@ -22,7 +22,7 @@ use Rattle.scanner_table.specs.declared.slot.Slot.{Slot}
 use Rattle.scanner_table.specs.declared.slot.SlotState.{SlotState}
 use Rattle.scanner_table.specs.declared.slot.SlotState.TheVariants.{Idle, Opening, Established, TimedOut, Closing}
 use Rattle.scanner_table.specs.declared.table.ScannerTable.{ScannerTable}
-use Rattle.scanner_table.specs.Datagrams.{accepted, accepted_connection, accepted_table, connected, delivered, is_for, received, received_as, received_at, sized, state_received}
+use Rattle.scanner_table.specs.Datagrams.{accepts_at, accepted, accepted_connection, accepted_table, connected, delivered, is_for, received, received_as, received_at, sized, state_received}
 use Rattle.scanner_table.specs.Effects.{Next}
 use Rattle.scanner_table.specs.Replies.{state_consumes}
 use Rattle.scanner_table.specs.Slots.{IndexedSlot, is_numbered, is_with, slot_at, indexed_slots, with_slot}
@@ -386,7 +386,7 @@ connected_gathers so_far established device p t place d c stands is id payload o
     let same = goes_gathers so_far established device t t (same_goes t) (same_links t) ok in
     let P : Next → Type 0 = NextGathers so_far established device p t (Some c.opening) in
     either P (length d.payload == place.config.in_len) (sized t place d c) (delivered WrongSize t)
-    (either P (accepts_sequence c.last d.sequence) (accepted t place d c) (delivered Old t)
+    (either P (accepts_at t place c d.sequence) (accepted t place d c) (delivered Old t)
     (either P (is_duplicate c.last d.count) (delivered Duplicate (accepted_table t place d c place.slot.image)) (delivered Applied (accepted_table t place d c d.payload))
     (goes_gathers (Entry device p c.opening Duplicate ∷ so_far) established device t (accepted_table t place d c place.slot.image) (repeat_goes t place d c stands is) (set_links t place (fed_slot t place d c place.slot.image) stands (fed_same t place d c place.slot.image is))
     (gathers_more (Entry device p c.opening Duplicate ∷ []) so_far established device t ok))

@@ -223,7 +223,7 @@ later_row was device t u opening peer s d row ids all at byte whole table none t
 accepts_none : (opening : ℕ) (u : AdapterTable) (peer : Node) (reading : Result DatagramFields DatagramFault) → ((d : DatagramFields) (row : Row) → reading ≡ Ok d → find (is_for peer d.connection) u.rows ≡ Some row → was_opened_as opening row ≡ false) → accepted_read opening u peer reading ≡ []
 accepts_none opening u peer (Err fault) later = refl
 accepts_none opening u peer (Ok d) later = found_none (find (is_for peer d.connection) u.rows) refl where
-  found_none : (found : Option Row) → find (is_for peer d.connection) u.rows ≡ found → accepted_found opening u.profile d found ≡ []
+  found_none : (found : Option Row) → find (is_for peer d.connection) u.rows ≡ found → accepted_found opening u.profile u.clock d found ≡ []
   found_none None is = refl
   found_none (Some row) is = none_by (was_opened_as opening row) _ _ (later d row refl is)
 

@@ -83,7 +83,7 @@ fresh_all test (made ∷ configs) zero t at = subst (TableIds test any_opening) 
 fresh_all test (made ∷ configs) (suc device) t at = fresh_all test configs device t at
 
 fresh_device : (made : Config) → IsPlainDevice (opening_table made)
-fresh_device (config.Adapter profile) = record { dialogues = refl; services = tt; over = tt }
+fresh_device (config.Adapter profile) = record { class3_connections = refl; services = tt; over = tt }
 fresh_device (config.Scanner profile) = tt
 
 fresh_plain : (configs : List Config) (device : ℕ) (t : DeviceTable) → slice_get (map opening_table configs) device ≡ Some t → IsPlainDevice t

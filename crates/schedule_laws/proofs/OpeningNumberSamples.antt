@@ -50,6 +50,7 @@ profile = record {
   serial = 0x12345678;
   open_timeout = 2000;
   retry = 3000;
+  newer = None;
   slots = owner ∷ record owner { produced = 101 } ∷ [];
 }
 

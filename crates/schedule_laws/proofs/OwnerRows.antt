@@ -126,6 +126,7 @@ requests_from = record {
   unstreamed = without_from;
   registered = registered_from;
   messaged = λ t next_id m goes. messaged_from t next_id m;
+  counted = λ t next openings from. from;
 }
 
 written_from : (t : AdapterTable) (point : ℕ) (bytes : List ℕ) → RowsFrom t (changed_table (written_table t point bytes) point)
@@ -139,13 +140,13 @@ advanced_from t ms =
     let left = expired_rows clock t.rows in
     rows_left t (produced_row clock) (like_leaves (produced_row clock) (due_keeps clock)) (filter (stays left) left) (all_filtered (IsOldOrNew t) (stays left) left (rows_left t (expired_row clock) (expired_leaves clock) t.rows (own_rows t)))
 
-fed_from : (t : AdapterTable) (peer : Node) (d : DatagramFields) (row : Row) → RowsFrom t (accepted_table t peer d row (row_delivery t.profile row d))
+fed_from : (t : AdapterTable) (peer : Node) (d : DatagramFields) (row : Row) → RowsFrom t (accepted_table t peer d row (row_delivery t.profile t.clock row d))
 unfolding accepted_table
 fed_from t peer d row = rows_left t (accepted_if_for t.clock peer d) (like_leaves (accepted_if_for t.clock peer d) (fed_keeps t.clock peer d)) t.rows (own_rows t)
 
 found_from : (t : AdapterTable) (peer : Node) (d : DatagramFields) (found : Option Row) → RowsFrom t (found_datagram t peer d found).1
 found_from t peer d None = own_rows t
-found_from t peer d (Some row) = either (λ (next : Next). RowsFrom t next.1) (is_accepted (row_delivery t.profile row d)) _ _ (fed_from t peer d row) (own_rows t)
+found_from t peer d (Some row) = either (λ (next : Next). RowsFrom t next.1) (is_accepted (row_delivery t.profile t.clock row d)) _ _ (fed_from t peer d row) (own_rows t)
 
 datagram_from : (t : AdapterTable) (peer : Node) (reading : Result DatagramFields DatagramFault) → RowsFrom t (datagram_of t peer reading).1
 datagram_from t peer (Err fault) = own_rows t

@@ -3,6 +3,7 @@ use Rattle.std.proofs.Common.{◌≡◌, ◌<◌, ℕ, zero, suc, ◌==◌, ◌&
 use Rattle.std.specs.List.{Contains}
 use Rattle.std.proofs.lemmas.List.Elements.{Contains-append_cases}
 use Rattle.cip_types.specs.declared.names.Node.{Node}
+use Rattle.cip_types.specs.declared.names.Ms.{Ms}
 use Rattle.cip_datagram.specs.declared.datagram.DatagramFault.{DatagramFault}
 use Rattle.cip_datagram.specs.Datagram.{DatagramFields}
 use Rattle.cip_datagram.specs.Reading.{datagram_reading}
@@ -66,8 +67,8 @@ turns_both point t device (x ∷ first) rest =
 
 quiet_found : (t : AdapterTable) (peer : Node) (d : DatagramFields) (found : Option Row) → (found_datagram t peer d found).0.notices ≡ []
 quiet_found t peer d None = refl
-quiet_found t peer d (Some row) = accepted_or (is_accepted (row_delivery t.profile row d)) where
-  accepted_or : (b : Bool) → (cond b (delivered (row_delivery t.profile row d) (accepted_table t peer d row (row_delivery t.profile row d))) (delivered (row_delivery t.profile row d) t)).0.notices ≡ []
+quiet_found t peer d (Some row) = accepted_or (is_accepted (row_delivery t.profile t.clock row d)) where
+  accepted_or : (b : Bool) → (cond b (delivered (row_delivery t.profile t.clock row d) (accepted_table t peer d row (row_delivery t.profile t.clock row d))) (delivered (row_delivery t.profile t.clock row d) t)).0.notices ≡ []
   accepted_or true = refl
   accepted_or false = refl
 
@@ -116,13 +117,13 @@ brought_or : (b : Bool) (from opening : ℕ) → Contains (cond b (brought from 
 brought_or true from opening there = let same = one_there (brought from) (ended opening) there.0 there.1 there.2 in absurd cc
 brought_or false from opening there = nothing_there (ended opening) there
 
-found_no_end : (point : ℕ) (profile : Profile) (d : DatagramFields) (opening : ℕ) (found : Option Row) → Contains (brought_found point profile d found) (ended opening) → ⊥
-found_no_end point profile d opening None there = nothing_there (ended opening) there
-found_no_end point profile d opening (Some row) there = brought_or (row.consumed == point && is_applied (row_delivery profile row d)) row.opening opening there
+found_no_end : (point : ℕ) (profile : Profile) (clock : Ms) (d : DatagramFields) (opening : ℕ) (found : Option Row) → Contains (brought_found point profile clock d found) (ended opening) → ⊥
+found_no_end point profile clock d opening None there = nothing_there (ended opening) there
+found_no_end point profile clock d opening (Some row) there = brought_or (row.consumed == point && is_applied (row_delivery profile clock row d)) row.opening opening there
 
 read_no_end : (point : ℕ) (t : AdapterTable) (peer : Node) (opening : ℕ) (reading : Result DatagramFields DatagramFault) → Contains (brought_read point t peer reading) (ended opening) → ⊥
 read_no_end point t peer opening (Err fault) there = nothing_there (ended opening) there
-read_no_end point t peer opening (Ok d) there = found_no_end point t.profile d opening (find (is_for peer d.connection) t.rows) there
+read_no_end point t peer opening (Ok d) there = found_no_end point t.profile t.clock d opening (find (is_for peer d.connection) t.rows) there
 
 -- data are no end
 brought_no_end : (point : ℕ) (t : AdapterTable) (event : Event) (opening : ℕ) → Contains (brought_at point t event) (ended opening) → ⊥

@@ -14,7 +14,7 @@ use Rattle.segment_world.specs.declared.act.Act.TheVariants.{Local, Deliver}
 use Rattle.segment_world.specs.declared.act.Call.{Call}
 use Rattle.segment_world.specs.World.{World, event_of_call, event_of_item, node_at}
 use Rattle.schedule_search.specs.Causes.{Causes, CutReachesAt, IsFrontAt, IsFrontOf}
-use Rattle.schedule_search.specs.Endpoints.{sender_in, receiver_in}
+use Rattle.segment_world.specs.Receptions.{sender_in, receiver_in}
 use Rattle.schedule_search.specs.Schedules.{is_unused, uses}
 use Rattle.schedule_search.proofs.Causing.{call_causes, sent_causes}
 use Rattle.schedule_search.specs.Lemmas.Cases.{none_some, some_is}

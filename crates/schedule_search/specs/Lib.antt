@@ -1,5 +1,4 @@
 pub mod Replays
-pub mod Endpoints
 pub mod Causes
 pub mod Schedules
 pub mod Placements

@@ -7,34 +7,14 @@ ghost use Rattle.segment_traffic.specs.Fronts.{view_front};
 ghost use Rattle.segment_world.specs.World.{event_of_item, node_at};
 ghost use Rattle.schedule_search.specs.declared.cause.Search.TheVariants as seek;
 ghost use Rattle.schedule_search.specs.Causes.{CanCome, Causes, IsFront, WaitsFirst, WasSent};
-ghost use Rattle.schedule_search.specs.Endpoints.{receiver_in, sender_in};
 
 use cip_tables::{Device, Event};
 use cip_types::{Node, OutOfMemory};
-use segment_world::{Act, Call, Direction, Endpoints, QueueFront, World};
+use segment_world::{Act, Call, Direction, QueueFront, World, receiver_of, sender_of};
 use std::alloc::Global;
 
 /// How many datagrams before the place where a search begins are looked at, too.
 const WINDOW: usize = 64;
-
-/// The device that takes what runs in a direction.
-pub fn receiver_of(endpoints: Endpoints, direction: Direction) -> u32
-    ensures { result ≡ receiver_in direction endpoints }
-{
-    match direction {
-        Direction::Forth => endpoints.to,
-        Direction::Back => endpoints.from,
-    }
-}
-
-fn sender_of(endpoints: Endpoints, direction: Direction) -> u32
-    ensures { result ≡ sender_in direction endpoints }
-{
-    match direction {
-        Direction::Forth => endpoints.from,
-        Direction::Back => endpoints.to,
-    }
-}
 
 fn node_of<D: Device + Drop>(world: &World<D>, device: u32) -> Node
     ensures { result ≡ node_at world.now device }
@@ -42,7 +22,7 @@ fn node_of<D: Device + Drop>(world: &World<D>, device: u32) -> Node
     world.node(device).unwrap_or(Node(0))
 }
 
-// Whether what waits first is this event.
+/// Whether what waits first is this event.
 fn is_event(number: u16, node: Node, front: QueueFront<'_>, event: &Event) -> bool
     ensures { IsTrue result ↔ (event_of_item number node (view_front front.entry) ≡ event.now) }
 {
@@ -56,7 +36,7 @@ fn is_event(number: u16, node: Node, front: QueueFront<'_>, event: &Event) -> bo
     }
 }
 
-// Whether what waits first in a direction of a stream is this event of this device.
+/// Whether what waits first in a direction of a stream is this event of this device.
 fn is_front<D: Device + Drop>(
     world: &World<D>,
     stream: u16,
@@ -76,7 +56,7 @@ fn is_front<D: Device + Drop>(
     receiver_of(endpoints, direction) == device && is_event(stream, node, front, event)
 }
 
-// The act that takes the event off a stream.
+/// The act that takes the event off a stream.
 #[tactic(auto, using(crate::proofs::Causing::front_causes))]
 fn stream_cause<D: Device + Drop>(
     world: &World<D>,
@@ -102,7 +82,7 @@ fn stream_cause<D: Device + Drop>(
     None
 }
 
-// Whether this is the datagram at a place among those that were sent.
+/// Whether this is the datagram at a place among those that were sent.
 fn is_sent<D: Device + Drop>(world: &World<D>, place: usize, peer: Node, bytes: &[u8]) -> bool
     ensures { IsTrue result ↔ (slice_get world.now.sent place ≡ Some (record { from = peer; bytes = bytes.now })) }
 {
@@ -112,7 +92,7 @@ fn is_sent<D: Device + Drop>(world: &World<D>, place: usize, peer: Node, bytes: 
     }
 }
 
-// The last place of an equal datagram.
+/// The last place of an equal datagram.
 fn sent_place<D: Device + Drop>(world: &World<D>, peer: Node, bytes: &[u8]) -> Option<usize>
     ensures none { IfNone result (WasSent world.now.sent peer bytes.now → ⊥) }
     ensures some { IfSome result (λ k. slice_get world.now.sent k ≡ Some (record { from = peer; bytes = bytes.now })) }
@@ -125,7 +105,7 @@ fn sent_place<D: Device + Drop>(world: &World<D>, peer: Node, bytes: &[u8]) -> O
     None
 }
 
-// A place of an equal datagram, from a place on or shortly before it.
+/// A place of an equal datagram, from a place on or shortly before it.
 fn sent_near<D: Device + Drop>(
     world: &World<D>,
     peer: Node,
@@ -157,7 +137,7 @@ pub enum Search {
     Near(usize),
 }
 
-// The act that delivers the datagram.
+/// The act that delivers the datagram.
 #[tactic(auto, using(crate::proofs::Ways::sent_is_cause))]
 fn sent_cause<D: Device + Drop>(
     world: &World<D>,
@@ -178,7 +158,7 @@ fn sent_cause<D: Device + Drop>(
     Some(Act::Deliver { index, device })
 }
 
-// The act that is this event of a device's application, of time at it, or of a peer outside, if it is one.
+/// The act that is this event of a device's application, of time at it, or of a peer outside, if it is one.
 #[tactic(auto, using(crate::proofs::Ways::call_is_cause))]
 fn local_cause<D: Device + Drop>(
     alloc: Global,

@@ -8,13 +8,12 @@ ghost use Rattle.schedule_search.specs.Histories.{events_of_all};
 ghost use Rattle.schedule_search.specs.Placements.{rest};
 ghost use Rattle.schedule_search.specs.Schedules.{is_unused, uses};
 
-use crate::cause::receiver_of;
 use crate::histories::events_left;
 use cip_tables::{Device, Event};
 use device_lock::History;
-use segment_world::{Direction, World};
+use segment_world::{Direction, World, receiver_of};
 
-// Whether the event is the mark that the stream opens, or a frame over it.
+/// Whether the event is the mark that the stream opens, or a frame over it.
 fn uses_stream(number: u16, event: &Event) -> bool
     ensures { result ≡ uses number event.now }
 {
@@ -31,7 +30,7 @@ fn is_used(number: u16, events: &[Event]) -> bool
     events.iter().any(|event| uses_stream(number, event))
 }
 
-// Whether neither end of a stream has an event to come that uses it.
+/// Whether neither end of a stream has an event to come that uses it.
 fn is_unused<D: Device + Drop>(
     world: &World<D>,
     histories: &[History],
@@ -48,7 +47,7 @@ fn is_unused<D: Device + Drop>(
     }
 }
 
-// Whether a cut of the stream would reach this device, which takes from this direction.
+/// Whether a cut of the stream would reach this device, which takes from this direction.
 fn cut_reaches<D: Device + Drop>(
     world: &World<D>,
     stream: u16,

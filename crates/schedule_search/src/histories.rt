@@ -29,7 +29,7 @@ pub fn placed_at(placed: &[usize], device: u32) -> usize
     }
 }
 
-// The events from a place on.
+/// The events from a place on.
 fn events_from(events: &[Event], place: usize) -> &[Event]
     ensures { result.now ≡ drop place events.now }
 {

@@ -35,7 +35,7 @@ impl From<OutOfMemory> for Unplaced {
 }
 
 impl<D: Device + Drop> Placement<D> {
-    // Places events of a device as long as short searches find them.
+    /// Places events of a device as long as short searches find them.
     fn advance(
         &mut self,
         alloc: Global,
@@ -56,7 +56,7 @@ impl<D: Device + Drop> Placement<D> {
         }
     }
 
-    // Advances each device.
+    /// Advances each device.
     fn advance_each(
         &mut self,
         alloc: Global,
@@ -77,7 +77,7 @@ impl<D: Device + Drop> Placement<D> {
         Ok(moved)
     }
 
-    // Places events as long as short searches find them.
+    /// Places events as long as short searches find them.
     fn advance_all(
         &mut self,
         alloc: Global,
@@ -98,7 +98,7 @@ impl<D: Device + Drop> Placement<D> {
         }
     }
 
-    // Places one event, of the first device that has a way to it. Where none has one, all are stuck.
+    /// Places one event, of the first device that has a way to it. Where none has one, all are stuck.
     fn place_one(
         &mut self,
         alloc: Global,
@@ -141,7 +141,7 @@ impl<D: Device + Drop> Placement<D> {
         }
     }
 
-    // Of the devices with events to come, the one with the lowest byte, and how many of its events are placed.
+    /// Of the devices with events to come, the one with the lowest byte, and how many of its events are placed.
     fn lowest_over(&self, histories: &[History], devices: u32) -> Option<(usize, usize)>
         requires devices { devices ≡ length histories.now }
         ensures { IsLowest (IsPlaced (events_of_all histories.now) self.now)

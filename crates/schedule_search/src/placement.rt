@@ -64,7 +64,7 @@ pub fn perform<D: Device + Drop>(
     }
 }
 
-// One event more of a device is placed, of at most so many.
+/// One event more of a device is placed, of at most so many.
 fn place_more(placed: &mut Vec<usize>, device: u32, most: usize)
     requires device { device < length placed.old.items }
     requires more { slice_index placed.old.items device < most }
@@ -124,7 +124,7 @@ impl<D: Device + Drop> Placement<D> {
         }
     }
 
-    // The act that brings the device this event now.
+    /// The act that brings the device this event now.
     fn cause_of(
         &self,
         alloc: Global,
@@ -139,7 +139,7 @@ impl<D: Device + Drop> Placement<D> {
         cause(alloc, &self.world, device, event, search)
     }
 
-    // The direction in which a cut of this stream, where it may be made, brings its mark to the device.
+    /// The direction in which a cut of this stream, where it may be made, brings its mark to the device.
     fn way_of(&self, histories: &[History], stream: u16, device: u32) -> Option<Direction>
         ensures none { IfNone result
             (IsPermitted (rest (events_of_all histories.now) self.now.placed) self.now.world (act.CutStream stream)
@@ -151,13 +151,13 @@ impl<D: Device + Drop> Placement<D> {
         cut_way(&self.world, histories, &self.placed, stream, device)
     }
 
-    // Where the next datagram of a device is looked for first.
+    /// Where the next datagram of a device is looked for first.
     fn search_near(&self, device: u32) -> Search {
         Search::Near(placed_at(&self.search_from, device))
     }
 
-    // Notes where the next datagram of a device is to be looked for first: behind the one that an act delivers, or, where
-    // a search found none, among those that are still to be sent.
+    /// Notes where the next datagram of a device is to be looked for first: behind the one that an act delivers, or, where
+    /// a search found none, among those that are still to be sent.
     fn note_search(&mut self, device: u32, event: &Event, act: Option<&Act>)
         ensures { self.new ≡ self.old }
     {
@@ -169,7 +169,7 @@ impl<D: Device + Drop> Placement<D> {
         set_place(&mut self.search_from, device, place);
     }
 
-    // The act, which brings the device its next event.
+    /// The act, which brings the device its next event.
     fn place_event(
         &mut self,
         histories: &[History],
@@ -188,7 +188,7 @@ impl<D: Device + Drop> Placement<D> {
         Ok(())
     }
 
-    // A cut, whose mark reaches the device in this direction.
+    /// A cut, whose mark reaches the device in this direction.
     fn cut_stream(
         &mut self,
         _histories: &[History],

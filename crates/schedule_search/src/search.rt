@@ -37,7 +37,7 @@ pub fn check_configs(alloc: Global, histories: &[History]) -> Result<(), WorldFa
 
 // THE WORLD BEFORE THE FIRST EVENTS
 
-// The world that the devices were in before their first events.
+/// The world that the devices were in before their first events.
 fn opening_world<D: Device + Drop>(
     alloc: Global,
     histories: &[History],
@@ -63,7 +63,7 @@ fn copy_configs(alloc: Global, histories: &[History]) -> Result<Vec<Config>, Out
     Ok(configs)
 }
 
-// How many devices there are. No two have one incarnation byte, so 32 bits suffice.
+/// How many devices there are. No two have one incarnation byte, so 32 bits suffice.
 fn count_devices(histories: &[History]) -> u32
     requires valid { world_fault (configs_of histories.now) ≡ None }
     ensures { result ≡ length histories.now }
@@ -81,7 +81,7 @@ fn in_32_bits(count: usize) -> u32
     count as u32
 }
 
-// Opens the streams that the histories name.
+/// Opens the streams that the histories name.
 fn open_first<D: Device + Drop>(
     world: &mut World<D>,
     acts: &mut Vec<Act>,

@@ -10,7 +10,7 @@ use cip_types::{Node, OutOfMemory};
 use device_lock::History;
 use segment_world::{Act, World};
 
-// One more than the stream that an event names.
+/// One more than the stream that an event names.
 fn named_of(event: &Event) -> u32
     ensures named { result ≡ named event.now }
     ensures small { result ≤ 65536 }
@@ -46,7 +46,7 @@ pub fn count_named(histories: &[History]) -> u32
     most
 }
 
-// The peer that an event names as the other end of this stream.
+/// The peer that an event names as the other end of this stream.
 fn peer_of(number: u32, event: &Event) -> Option<Node>
     ensures { result ≡ peer_if number event.now }
 {
@@ -73,7 +73,7 @@ fn peer_among(number: u32, events: &[Event]) -> Option<Node>
     None
 }
 
-// The first device that is reported of this stream, and the peer that it is reported.
+/// The first device that is reported of this stream, and the peer that it is reported.
 fn opener_of(number: u32, histories: &[History]) -> Option<(usize, Node)>
     ensures { result ≡ opener number 0 (events_of_all histories.now) }
 {
@@ -94,7 +94,7 @@ fn node_of(history: &History) -> Node
     }
 }
 
-// The device that has an address.
+/// The device that has an address.
 fn device_of_node(histories: &[History], peer: Node) -> Option<usize>
     ensures { result ≡ position (has_node peer.0) histories.now }
 {
@@ -118,7 +118,7 @@ fn pair_with(device: usize, other: Option<usize>) -> (usize, usize)
     }
 }
 
-// The devices between which a stream is opened.
+/// The devices between which a stream is opened.
 #[tactic(auto, using(crate::specs::Lemmas::Listing::position_node))]
 fn pair_for(histories: &[History], number: u32) -> (usize, usize)
     ensures { result ≡ pair_of (nodes_of histories.now) (events_of_all histories.now) number }

@@ -106,7 +106,7 @@ impl<D: Device + Drop> Plant<D> {
 }
 
 impl<D: Device + Drop> Plant<D> {
-    // Ends the life of a device, and begins its next one. `OutOfMemory` is the only error, and leaves the plant unchanged.
+    /// Ends the life of a device, and begins its next one. `OutOfMemory` is the only error, and leaves the plant unchanged.
     fn replace(&mut self, device: u32, life: u32, config: Config) -> Result<(), OutOfMemory>
         requires accepts { D.accepts config ≡ true }
         requires good { config_fault config ≡ None }

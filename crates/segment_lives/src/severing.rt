@@ -24,7 +24,7 @@ fn is_open_at(life: u32, ends: Endpoints) -> bool
     !ends.ended && (ends.from == life || ends.to == life)
 }
 
-// Cuts the stream of this number, if it is open at the life.
+/// Cuts the stream of this number, if it is open at the life.
 fn sever_at<D: Device>(world: &mut World<D>, life: u32, number: u16)
     ensures { world.new ≡ record world.old { streams = with_stream (severed life) number world.old.streams } }
 {

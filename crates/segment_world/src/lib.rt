@@ -12,8 +12,8 @@ mod traffic;
 mod world;
 
 pub use act::{Act, ActFault, Call};
-pub use configs::{DeviceKey, has_key, world_fault};
+pub use configs::{DeviceKey, has_key, node_of, nodes_of, world_fault};
 pub use fault::WorldFault;
-pub use reception::receiver_of;
+pub use reception::{receiver_of, sender_of};
 pub use segment_traffic::{Direction, Endpoints, QueueFront};
 pub use world::{MOST_STREAM_NUMBERS, World};

@@ -23,7 +23,7 @@ impl Model for MarkRow {
 }
 
 impl MarkRow {
-    // So many marks, none of which is set.
+    /// So many marks, none of which is set.
     fn new(alloc: Global, count: usize) -> Result<MarkRow, OutOfMemory>
         ensures { IfOk result (λ row. row ≡ replicate count false) }
     {

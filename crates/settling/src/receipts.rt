@@ -17,7 +17,7 @@ use std::alloc::Global;
 
 // WHAT FRESH DEVICES ANSWER
 
-// What a fresh device answers to the events of a history.
+/// What a fresh device answers to the events of a history.
 fn outcomes_of<D: Device + Drop>(
     alloc: Global,
     history: &History,
@@ -48,7 +48,7 @@ pub fn outcomes_of_all<D: Device + Drop>(
 
 // ONE RECEIPT
 
-// The device that has an incarnation byte.
+/// The device that has an incarnation byte.
 fn device_of(histories: &[History], byte: u8) -> Option<usize>
     ensures { result ≡ device_at histories.now byte }
 {
@@ -57,7 +57,7 @@ fn device_of(histories: &[History], byte: u8) -> Option<usize>
         .position(|history| byte_of(history) == byte)
 }
 
-// The device whose receipt it is, and the place of its event in that device's history.
+/// The device whose receipt it is, and the place of its event in that device's history.
 fn place_of(histories: &[History], receipt: &Receipt) -> Option<(usize, usize)>
     ensures { result ≡ place_of histories.now receipt.now }
 {
@@ -73,7 +73,7 @@ fn place_of(histories: &[History], receipt: &Receipt) -> Option<(usize, usize)>
     Some((device, place))
 }
 
-// Whether a device has this event at this place.
+/// Whether a device has this event at this place.
 fn has_event(histories: &[History], place: (usize, usize), event: &Event) -> bool
     ensures { IsTrue result ↔ (slice_get (history (events_of_all histories.now) place.0) place.1 ≡ Some event.now) }
 {
@@ -86,7 +86,7 @@ fn has_event(histories: &[History], place: (usize, usize), event: &Event) -> boo
     found.same(event)
 }
 
-// Whether a device's outcome at this place is this answer.
+/// Whether a device's outcome at this place is this answer.
 fn has_answer(outcomes: &[Items<Outcome>], place: (usize, usize), answer: &Answer) -> bool
     ensures { IsTrue result ↔ (slice_get (slice_index_or outcomes.now place.0 []) place.1 ≡ Some (Ok answer.now)) }
 {
@@ -102,7 +102,7 @@ fn has_answer(outcomes: &[Items<Outcome>], place: (usize, usize), answer: &Answe
     }
 }
 
-// Whether a device has the receipt's event at this place, and gives the receipt's answer to it.
+/// Whether a device has the receipt's event at this place, and gives the receipt's answer to it.
 fn fits(
     histories: &[History],
     outcomes: &[Items<Outcome>],
@@ -115,7 +115,7 @@ fn fits(
     has_event(histories, place, &receipt.event) && has_answer(outcomes, place, &receipt.answer)
 }
 
-// Marks the event of a receipt that fits, if the event has no mark.
+/// Marks the event of a receipt that fits, if the event has no mark.
 fn mark_event(
     histories: &[History],
     outcomes: &[Items<Outcome>],
@@ -161,7 +161,7 @@ pub fn first_foreign(
     None
 }
 
-// The first of so many events of a device that has no mark.
+/// The first of so many events of a device that has no mark.
 fn missing_of(marks: &Marks, device: usize, count: usize) -> Option<usize>
     ensures none { IfNone result (HasAllMarks marks.now count device) }
     ensures some { IfSome result (LacksMark marks.now count device) }

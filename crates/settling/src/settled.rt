@@ -55,7 +55,7 @@ impl From<OutOfMemory> for Unsettled {
     }
 }
 
-// A mark for each event that has a receipt, where all receipts are good.
+/// A mark for each event that has a receipt, where all receipts are good.
 fn marks_of<D: Device + Drop>(
     alloc: Global,
     histories: &[History],

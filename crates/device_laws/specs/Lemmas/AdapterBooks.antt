@@ -119,7 +119,7 @@ written_produces : (t : AdapterTable) (point : ℕ) (bytes : List ℕ) → RowsP
 unfolding written_table changed_table
 written_produces t point bytes ok = mapped_produces t.profile (changed_row t.clock point) (same_changed t.clock point) (map (written_row point) t.rows) (mapped_produces t.profile (written_row point) (same_written point) t.rows ok)
 
-fed_produces : (t : AdapterTable) (peer : Node) (d : DatagramFields) (row : Row) → RowsProduceInputs t → RowsProduceInputs (accepted_table t peer d row (row_delivery t.profile row d))
+fed_produces : (t : AdapterTable) (peer : Node) (d : DatagramFields) (row : Row) → RowsProduceInputs t → RowsProduceInputs (accepted_table t peer d row (row_delivery t.profile t.clock row d))
 unfolding accepted_table
 fed_produces t peer d row ok = mapped_produces t.profile (accepted_if_for t.clock peer d) (same_fed t.clock peer d) t.rows ok
 
@@ -157,6 +157,7 @@ effects_produce = record {
   unstreamed = without_produces;
   registered = registered_produces;
   messaged = λ t next_id m goes ok. messages_produce t next_id m ok;
+  counted = λ t openings ok. ok;
 }
 
 -- each step keeps that connections produce inputs
@@ -272,12 +273,13 @@ requests_keep sent device value = record {
   unstreamed = without_keeps sent device value;
   registered = registered_keeps sent device value;
   messaged = λ t next_id m goes. messages_keep sent device value t next_id m goes.later;
+  counted = λ t next openings keeps ok. let kept = keeps ok in record { unproduced = kept.unproduced; rows = kept.rows };
 }
 
 accepted_books : (sent : List Production) (device next : ℕ) (value : ℕ → List ℕ) (clock : Ms) (peer : Node) (d : DatagramFields) (row : Row) → RowBooks sent device next value row → RowBooks sent device next value (accepted_if_for clock peer d row)
 accepted_books sent device next value clock peer d row ok = either (RowBooks sent device next value) (is_for peer d.connection row) (accepted_row clock d row) row ok ok
 
-fed_keeps : (sent : List Production) (device : ℕ) (value : ℕ → List ℕ) (t : AdapterTable) (peer : Node) (d : DatagramFields) (row : Row) → Keeps sent device value t (accepted_table t peer d row (row_delivery t.profile row d))
+fed_keeps : (sent : List Production) (device : ℕ) (value : ℕ → List ℕ) (t : AdapterTable) (peer : Node) (d : DatagramFields) (row : Row) → Keeps sent device value t (accepted_table t peer d row (row_delivery t.profile t.clock row d))
 unfolding accepted_table
 fed_keeps sent device value t peer d row ok =
     record { unproduced = ok.unproduced; rows = all_mapped (RowBooks sent device t.next_id value) (RowBooks sent device t.next_id value) (accepted_if_for t.clock peer d) (accepted_books sent device t.next_id value t.clock peer d) t.rows ok.rows }
@@ -285,7 +287,7 @@ fed_keeps sent device value t peer d row ok =
 found_keeps : (sent : List Production) (device : ℕ) (value : ℕ → List ℕ) (t : AdapterTable) (peer : Node) (d : DatagramFields) (found : Option Row) → Keeps sent device value t (found_datagram t peer d found).1
 found_keeps sent device value t peer d None = λ ok. ok
 found_keeps sent device value t peer d (Some row) =
-    either (λ (next : Next). Keeps sent device value t next.1) (is_accepted (row_delivery t.profile row d)) _ _ (fed_keeps sent device value t peer d row) (λ ok. ok)
+    either (λ (next : Next). Keeps sent device value t next.1) (is_accepted (row_delivery t.profile t.clock row d)) _ _ (fed_keeps sent device value t peer d row) (λ ok. ok)
 
 datagram_keeps : (sent : List Production) (device : ℕ) (value : ℕ → List ℕ) (t : AdapterTable) (peer : Node) (reading : Result DatagramFields DatagramFault) → Keeps sent device value t (datagram_of t peer reading).1
 datagram_keeps sent device value t peer (Err fault) = λ ok. ok

@@ -56,14 +56,13 @@ use Rattle.cip_router.specs.Frames as frames
 use Rattle.cip_router.specs.Refusals.{status_fault, refusal_fault, status_code}
 use Rattle.cip_router.specs.Replies.{ReplyFields, opened, closed, object_reply, object_reply_text, own_reply_text, reply_text}
 use Rattle.cip_router.specs.Replies as replies
-use Rattle.messaging.specs.declared.dialogue.Dialogue.{Dialogue}
+use Rattle.messaging.specs.declared.class3.Class3Connection.{Class3Connection}
 use Rattle.messaging.specs.declared.requests.Requester.{Requester}
 use Rattle.messaging.specs.declared.requests.Requester.TheVariants as asker
 use Rattle.messaging.specs.declared.requests.Waiting.{Waiting}
 use Rattle.messaging.specs.declared.table.Messaging.{Messaging}
-use Rattle.messaging.specs.Changes.{lacks_room}
-use Rattle.messaging.specs.Dialogues.{has_dialogue_triad, is_last_message}
-use Rattle.messaging.specs.Times.{without_late_dialogues, late_waiting}
+use Rattle.messaging.specs.Class3Connections.{has_class3_triad, is_last_message}
+use Rattle.messaging.specs.Times.{without_late_class3_connections, late_waiting}
 use Rattle.adapter_table.specs.declared.profile.InputPoint.{InputPoint}
 use Rattle.adapter_table.specs.Connections.{Row}
 use Rattle.adapter_table.specs.declared.row.State.{State}
@@ -76,12 +75,13 @@ use Rattle.adapter_table.specs.Objects.{ObjectAnswer, said, denied, resetting, o
 use Rattle.adapter_table.specs.Inquiries.{frame_alone, inquiry_reply, inquired_by, inquired}
 use Rattle.adapter_table.specs.Rows.{has_triad, is_member, written_state, written_row}
 use Rattle.adapter_table.specs.Checks.{Check, Points, Admitted, drawn_ids, group_of, joined, named_points, points_of, path_check, consumed_point_of, input_of, is_multicast, judged, view_of, verdict, admission}
-use Rattle.adapter_table.specs.Answering.{dialogue_frames, route_frames, rr_header, unit_header, responded, respond}
+use Rattle.adapter_table.specs.Answering.{class3_frames, route_frames, rr_header, unit_header, responded, respond}
 use Rattle.adapter_table.specs.Connected.{fitted_text}
-use Rattle.adapter_table.specs.DialogueOpening.{dialogue_view, dialogue_refusal, opened_dialogue, judged_dialogue, served_dialogue, stream_served}
+use Rattle.adapter_table.specs.Class3Opening.{class3_view, class3_refusal, opened_class3, judged_class3, served_class3, stream_served}
 use Rattle.adapter_table.specs.Messages.{messages_table}
-use Rattle.adapter_table.specs.Own.{OwnRequest, own_of}
-use Rattle.adapter_table.specs.StatedLimits.{exceeds, limited, limited_admission, is_wrong_closer, is_wrong_ender}
+use Rattle.adapter_table.specs.Own.{OwnRequest, own_of, cannot_ask}
+use Rattle.adapter_table.specs.Rates.{has_opened_enough_at}
+use Rattle.adapter_table.specs.StatedLimits.{exceeds, limited, paced, limited_admission, is_wrong_closer, is_wrong_ender}
 use Rattle.adapter_table.specs.declared.maker_limits.MakerLimits.{MakerLimits}
 use Rattle.adapter_table.specs.Opening.{opened_t_o_id, opened_row, opened_table}
 use Rattle.adapter_table.specs.Closing.{stays, without_triad, closed_table}
@@ -177,6 +177,10 @@ limited_holds : (P : ℕ → Type 0) (limits : MakerLimits) (rows : List Row) (p
 limited_holds P limits rows peer (Err why) holds = tt
 limited_holds P limits rows peer (Ok admitted) holds = limited_step P (exceeds limits rows peer admitted.kind) admitted holds
 
+paced_holds : (P : ℕ → Type 0) (enough : Bool) (said : Result Admitted Refusal) → AdmittedHolds P said → AdmittedHolds P (paced enough said)
+paced_holds P enough (Err why) holds = tt
+paced_holds P enough (Ok admitted) holds = limited_step P enough admitted holds
+
 -- the ids of the new connection
 t_o_holds : (P : ℕ → Type 0) (t : AdapterTable) (request : OpenFields) (multicast : Bool) (group : Option Row) (to : ℕ) → GroupHolds P group → P request.t_o_id.0 → IdsFromTo P t.profile.incarnation t.next_id to → t.next_id + drawn_ids multicast group ≤ to → P (opened_t_o_id t request multicast group).0
 t_o_holds P t request true None to joins requested drawn in_range = drawn (t.next_id + 1) (omega arith) (omega (arith, in_range))
@@ -230,7 +234,7 @@ close_holds P Q t peer request (Some row) rows =
     (refused_ids P 0x4E (status_fault status.PrivilegeViolation) (Some request.triad) refl, rows)
     (closed_ids P row.triad, all_filtered (RowIds P Q) (stays (without_triad row.triad t.rows)) (without_triad row.triad t.rows) (all_filtered (RowIds P Q) _ t.rows rows))
 
-end_holds : (P Q : ℕ → Type 0) (t : AdapterTable) (peer : Node) (request : CloseFields) (found : Option Dialogue) → RowsHold P Q t.rows → ServedHolds P Q (end_of t peer request found)
+end_holds : (P Q : ℕ → Type 0) (t : AdapterTable) (peer : Node) (request : CloseFields) (found : Option Class3Connection) → RowsHold P Q t.rows → ServedHolds P Q (end_of t peer request found)
 unfolding served_close messages_table
 end_holds P Q t peer request None rows = close_holds P Q t peer request (find (has_triad request.triad) t.rows) rows
 end_holds P Q t peer request (Some d) rows =
@@ -253,25 +257,25 @@ served_holds : (P Q : ℕ → Type 0) → Cuts P → (t : AdapterTable) (peer : 
 unfolding served_open served_end served_object
 served_holds P Q cuts t peer nothing to below drawn ids rows = tt
 served_holds P Q cuts t peer (refused service why) to below drawn ids rows = refusal_holds P Q t service why rows
-served_holds P Q cuts t peer (closing request) to below drawn ids rows = end_holds P Q t peer request (find (has_dialogue_triad request.triad) t.messaging.dialogues) rows
+served_holds P Q cuts t peer (closing request) to below drawn ids rows = end_holds P Q t peer request (find (has_class3_triad request.triad) t.messaging.class3_connections) rows
 served_holds P Q cuts t peer (object service class instance attribute body) to below drawn ids rows = object_holds P Q t service (object_answer t service class instance attribute body) rows
 served_holds P Q cuts t peer (opening large request) to below drawn ids rows =
     open_holds P Q cuts t peer large request (limited_admission t peer request) to below drawn
-    (limited_holds P t.profile.limits t.rows peer (admission t request) (admission_holds P Q t request rows)) ids rows
+    (paced_holds P (has_opened_enough_at t peer) _ (limited_holds P t.profile.limits t.rows peer (admission t request) (admission_holds P Q t request rows))) ids rows
 
 -- ---- what is replied over a stream
 
-dialogue_holds : (P Q : ℕ → Type 0) → Cuts P → (t : AdapterTable) (stream : Stream) (large : Bool) (request : OpenFields) (c : Check) (to : ℕ) → (judged_dialogue t stream large request c).table.next_id ≤ to → HasDrawn P Q t to → P request.t_o_id.0 → RowsHold P Q t.rows → ServedHolds P Q (judged_dialogue t stream large request c)
-unfolding messages_table opened_dialogue
-dialogue_holds P Q cuts t stream large request (Some why) to below drawn requested rows = (refused_ids P _ (refusal_fault why) (Some request.triad) refl, rows)
-dialogue_holds P Q cuts t stream large request None to below drawn requested rows =
+class3_holds : (P Q : ℕ → Type 0) → Cuts P → (t : AdapterTable) (stream : Stream) (large : Bool) (request : OpenFields) (c : Check) (to : ℕ) → (judged_class3 t stream large request c).table.next_id ≤ to → HasDrawn P Q t to → P request.t_o_id.0 → RowsHold P Q t.rows → ServedHolds P Q (judged_class3 t stream large request c)
+unfolding messages_table opened_class3
+class3_holds P Q cuts t stream large request (Some why) to below drawn requested rows = (refused_ids P _ (refusal_fault why) (Some request.triad) refl, rows)
+class3_holds P Q cuts t stream large request None to below drawn requested rows =
     let o_t = drawn.0 t.next_id (omega arith) (omega (arith, below)) in
     (opened_ids P large _ (cuts _ o_t) (cuts _ requested), rows)
 
-over_stream_step : (P Q : ℕ → Type 0) → Cuts P → (b : Bool) (t : AdapterTable) (stream : Stream) (large : Bool) (request : OpenFields) (to : ℕ) → next_of to (cond b (Some (served_dialogue t stream large request)) (served t stream.peer (opening large request))) ≤ to → HasDrawn P Q t to → P request.t_o_id.0 → RowsHold P Q t.rows → AnyHolds P Q (cond b (Some (served_dialogue t stream large request)) (served t stream.peer (opening large request)))
-unfolding served_dialogue
+over_stream_step : (P Q : ℕ → Type 0) → Cuts P → (b : Bool) (t : AdapterTable) (stream : Stream) (large : Bool) (request : OpenFields) (to : ℕ) → next_of to (cond b (Some (served_class3 t stream large request)) (served t stream.peer (opening large request))) ≤ to → HasDrawn P Q t to → P request.t_o_id.0 → RowsHold P Q t.rows → AnyHolds P Q (cond b (Some (served_class3 t stream large request)) (served t stream.peer (opening large request)))
+unfolding served_class3
 over_stream_step P Q cuts true t stream large request to below drawn requested rows =
-    dialogue_holds P Q cuts t stream large request (dialogue_refusal (dialogue_view t stream.peer request.triad) request) to below drawn requested rows
+    class3_holds P Q cuts t stream large request (class3_refusal (class3_view t stream.peer request.triad) request) to below drawn requested rows
 over_stream_step P Q cuts false t stream large request to below drawn requested rows = served_holds P Q cuts t stream.peer (opening large request) to below drawn requested rows
 
 over_stream_holds : (P Q : ℕ → Type 0) → Cuts P → (t : AdapterTable) (stream : Stream) (request : RouterRequestFields) (to : ℕ) → next_of to (stream_served t stream request) ≤ to → HasDrawn P Q t to → RequestIds P request → RowsHold P Q t.rows → AnyHolds P Q (stream_served t stream request)
@@ -311,7 +315,7 @@ unfolding messages_table
 request_holds P Q cuts to t stream context request None drawn ids rows =
     replied_holds P Q to t (stream_served t stream request) rows (λ below. over_stream_holds P Q cuts t stream request to below drawn ids rows)
 request_holds P Q cuts to t stream context request (Some own) drawn ids rows =
-    either (HandledHolds P Q to) (lacks_room t.messaging) (request_replied t (Some (router_refusal t own.service status.ResourceUnavailable))) _
+    either (HandledHolds P Q to) (cannot_ask t stream.peer) (request_replied t (Some (router_refusal t own.service status.ResourceUnavailable))) _
     (λ below. refusal_holds P Q t own.service status.ResourceUnavailable rows) (λ below. (tt, rows))
 
 packet_holds : (P Q : ℕ → Type 0) → Cuts P → (to : ℕ) (t : AdapterTable) (stream : Stream) (context : ℕ) (reading : Result PacketFields ItemFault) → HasDrawn P Q t to → PacketIds P reading → RowsHold P Q t.rows → HandledHolds P Q to (packet_replied t stream context reading)
@@ -437,8 +441,8 @@ found_holds : (P Q : ℕ → Type 0) (to : ℕ) (t : AdapterTable) (peer : Node)
 unfolding accepted_table
 found_holds P Q to t peer d None rows = (λ below small. (record { frames = tt; datagrams = tt }, rows))
 found_holds P Q to t peer d (Some row) rows =
-    let delivery = row_delivery t.profile row d in
-    either (NextHolds P Q to) (is_accepted (row_delivery t.profile row d)) (delivered delivery (accepted_table t peer d row delivery)) (delivered delivery t)
+    let delivery = row_delivery t.profile t.clock row d in
+    either (NextHolds P Q to) (is_accepted (row_delivery t.profile t.clock row d)) (delivered delivery (accepted_table t peer d row delivery)) (delivered delivery t)
     (λ below small. (record { frames = tt; datagrams = tt }, (all_mapped (RowIds P Q) (RowIds P Q) (accepted_if_for t.clock peer d) (accepted_holds P Q t.clock peer d) t.rows rows))) (λ below small. (record { frames = tt; datagrams = tt }, rows))
 
 datagram_holds : (P Q : ℕ → Type 0) (to : ℕ) (t : AdapterTable) (peer : Node) (reading : Result DatagramFields DatagramFault) → RowsHold P Q t.rows → NextHolds P Q to (datagram_of t peer reading)
@@ -485,22 +489,22 @@ four_bytes : (P : ℕ → Type 0) (a b c d : ℕ) → FrameIds P (a ∷ b ∷ c 
 unfolding message_reading
 four_bytes P a b c d = tt
 
-dialogue_frames_hold : (P : ℕ → Type 0) (count service : ℕ) (reply : ReplyFields) (found : Option Dialogue) → AllByRecursion (HasFrameIds P) (dialogue_frames count service reply found)
-dialogue_frames_hold P count service reply None = tt
-dialogue_frames_hold P count service reply (Some d) =
+class3_frames_hold : (P : ℕ → Type 0) (count service : ℕ) (reply : ReplyFields) (found : Option Class3Connection) → AllByRecursion (HasFrameIds P) (class3_frames count service reply found)
+class3_frames_hold P count service reply None = tt
+class3_frames_hold P count service reply (Some d) =
     let text : FrameReply = connected d.t_o_id.0 count (fitted_text d service reply) in
     (message_ids P (reply_message (unit_header d.stream) text) (subst (PacketIds P) (sym (connected_bad d.t_o_id.0 count (fitted_text d service reply))) tt), tt)
 
 route_hold : ItemsReadBack → (P : ℕ → Type 0) (m : Messaging) (from : Requester) (service : ℕ) (reply : ReplyFields) → WayIds P from (reply_text reply) → AllByRecursion IsShortFrame (route_frames m from service reply) → AllByRecursion (HasFrameIds P) (route_frames m from service reply)
 route_hold back P m (asker.Peer node) service reply ids short = (ids, tt)
 route_hold back P m (asker.Stream number context) service reply ids short = replies_hold back P number (rr_header number context) (Some (router_reply reply None)) ids short
-route_hold back P m (asker.Dialogue id count) service reply ids short = dialogue_frames_hold P count service reply (find (is_last_message id count) m.dialogues)
+route_hold back P m (asker.Class3Connection id count) service reply ids short = class3_frames_hold P count service reply (find (is_last_message id count) m.class3_connections)
 
 late_ids : (P : ℕ → Type 0) (from : Requester) (service : ℕ) → WayIds P from (own_reply_text service 0x1F [])
 unfolding own_reply_text
 late_ids P (asker.Peer node) service = four_bytes P (reply_service service) 0 0x1F 0
 late_ids P (asker.Stream number context) service = own_refused_ids P service 0x1F [] refl
-late_ids P (asker.Dialogue id count) service = tt
+late_ids P (asker.Class3Connection id count) service = tt
 
 all_front : (P : Frame → Type 0) (xs ys : List Frame) → AllByRecursion P (xs ++ ys) → AllByRecursion P xs × AllByRecursion P ys
 all_front P [] ys all = (tt, all)
@@ -518,7 +522,7 @@ aged_holds : ItemsReadBack → (P Q : ℕ → Type 0) (to : ℕ) (next : Next) �
 unfolding messages_table
 aged_holds back P Q to next holds = λ below small.
     let both = holds below in
-    (record { frames = late_hold back P (without_late_dialogues next.1.clock next.1.messaging) (late_waiting next.1.clock (without_late_dialogues next.1.clock next.1.messaging)) small.short_frames; datagrams = both.0 }, both.1)
+    (record { frames = late_hold back P (without_late_class3_connections next.1.clock next.1.messaging) (late_waiting next.1.clock (without_late_class3_connections next.1.clock next.1.messaging)) small.short_frames; datagrams = both.0 }, both.1)
 
 tick_holds : ItemsReadBack → (P Q : ℕ → Type 0) → Cuts P → (to : ℕ) (t : AdapterTable) (ms : ℕ) → RowsHold P Q t.rows → OkHolds P Q to (tick t ms)
 unfolding tick

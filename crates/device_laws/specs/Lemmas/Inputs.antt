@@ -5,6 +5,7 @@ use Rattle.std.specs.List.{list_any}
 use Rattle.std.specs.Option.{option_map, unwrap_or}
 use Rattle.base_lemmas.specs.Numbers.{other_number}
 use Rattle.cip_types.specs.declared.names.Node.{Node}
+use Rattle.cip_types.specs.declared.names.Ms.{Ms}
 use Rattle.cip_datagram.specs.declared.datagram.DatagramFault.{DatagramFault}
 use Rattle.cip_datagram.specs.Datagram.{DatagramFields}
 use Rattle.cip_datagram.specs.Header.{header_at}
@@ -102,16 +103,16 @@ applied_holds : (profile : Profile) (point other : ℕ) (kept bytes : List ℕ) 
 applied_holds profile point other kept bytes values None is some input holds = absurd (let e = some in cc)
 applied_holds profile point other kept bytes values (Some output) is some input holds = put_beside point other bytes values kept (output_apart profile point other input.input output input.faultless input.there is) holds
 
-fed_holds : (profile : Profile) (row : Row) (d : DatagramFields) (delivery : Delivery) (point : ℕ) (kept : List ℕ) (values : List PointValue) → row_delivery profile row d ≡ delivery → ConsumesOutput profile row → IsInput profile point → Holds point kept values → Holds point kept (accepted_values profile row.consumed d delivery values)
-fed_holds profile row d Applied point kept values is consumes input holds =
-    applied_holds profile point row.consumed kept (run_data (header_at d.payload)) values (find (is_output_at row.consumed) profile.outputs) refl (applied_output profile row d consumes is) input holds
-fed_holds profile row d Idle point kept values is consumes input holds = idle_by profile point row.consumed kept values (find (is_output_at row.consumed) profile.outputs) refl input holds
-fed_holds profile row d Heartbeat point kept values is consumes input holds = holds
-fed_holds profile row d Duplicate point kept values is consumes input holds = holds
-fed_holds profile row d Old point kept values is consumes input holds = holds
-fed_holds profile row d UnknownId point kept values is consumes input holds = holds
-fed_holds profile row d WrongSize point kept values is consumes input holds = holds
-fed_holds profile row d Malformed point kept values is consumes input holds = holds
+fed_holds : (profile : Profile) (clock : Ms) (row : Row) (d : DatagramFields) (delivery : Delivery) (point : ℕ) (kept : List ℕ) (values : List PointValue) → row_delivery profile clock row d ≡ delivery → ConsumesOutput profile row → IsInput profile point → Holds point kept values → Holds point kept (accepted_values profile row.consumed d delivery values)
+fed_holds profile clock row d Applied point kept values is consumes input holds =
+    applied_holds profile point row.consumed kept (run_data (header_at d.payload)) values (find (is_output_at row.consumed) profile.outputs) refl (applied_output profile clock row d consumes is) input holds
+fed_holds profile clock row d Idle point kept values is consumes input holds = idle_by profile point row.consumed kept values (find (is_output_at row.consumed) profile.outputs) refl input holds
+fed_holds profile clock row d Heartbeat point kept values is consumes input holds = holds
+fed_holds profile clock row d Duplicate point kept values is consumes input holds = holds
+fed_holds profile clock row d Old point kept values is consumes input holds = holds
+fed_holds profile clock row d UnknownId point kept values is consumes input holds = holds
+fed_holds profile clock row d WrongSize point kept values is consumes input holds = holds
+fed_holds profile clock row d Malformed point kept values is consumes input holds = holds
 
 -- ---- what an event leaves at an input that held these bytes
 
@@ -154,17 +155,18 @@ requests_keep = record {
   unstreamed = λ t number whole. without_keeps t number;
   registered = λ t number whole. registered_keeps t number;
   messaged = λ t next_id m goes whole. messages_keep t next_id m;
+  counted = λ t next openings keeps. keeps;
 }
 
-fed_keeps : (t : AdapterTable) (peer : Node) (d : DatagramFields) (row : Row) (delivery : Delivery) → row_delivery t.profile row d ≡ delivery → find (is_for peer d.connection) t.rows ≡ Some row → IsWhole t → KeepsInputs t (accepted_table t peer d row delivery)
+fed_keeps : (t : AdapterTable) (peer : Node) (d : DatagramFields) (row : Row) (delivery : Delivery) → row_delivery t.profile t.clock row d ≡ delivery → find (is_for peer d.connection) t.rows ≡ Some row → IsWhole t → KeepsInputs t (accepted_table t peer d row delivery)
 unfolding accepted_table
 fed_keeps t peer d row delivery said found whole = λ point input kept is holds.
-    fed_holds t.profile row d delivery point kept t.values said (each_found (ConsumesOutput t.profile) (is_for peer d.connection) t.rows row found whole.consume) (input_of_whole t point input whole is) holds
+    fed_holds t.profile t.clock row d delivery point kept t.values said (each_found (ConsumesOutput t.profile) (is_for peer d.connection) t.rows row found whole.consume) (input_of_whole t point input whole is) holds
 
 found_keeps : (t : AdapterTable) (peer : Node) (d : DatagramFields) (found : Option Row) → find (is_for peer d.connection) t.rows ≡ found → IsWhole t → KeepsInputs t (found_datagram t peer d found).1
 found_keeps t peer d None is whole = λ point input kept is holds. holds
 found_keeps t peer d (Some row) is whole =
-    either (λ (next : Next). KeepsInputs t next.1) (is_accepted (row_delivery t.profile row d)) _ _ (fed_keeps t peer d row (row_delivery t.profile row d) refl is whole) (λ point input kept is holds. holds)
+    either (λ (next : Next). KeepsInputs t next.1) (is_accepted (row_delivery t.profile t.clock row d)) _ _ (fed_keeps t peer d row (row_delivery t.profile t.clock row d) refl is whole) (λ point input kept is holds. holds)
 
 datagram_keeps : (t : AdapterTable) (peer : Node) (reading : Result DatagramFields DatagramFault) → IsWhole t → KeepsInputs t (datagram_of t peer reading).1
 datagram_keeps t peer (Err fault) whole = λ point input kept is holds. holds

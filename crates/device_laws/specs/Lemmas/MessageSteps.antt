@@ -16,11 +16,11 @@ use Rattle.cip_router.specs.Frames.{FrameReply, services, registered, other_vers
 use Rattle.cip_router.specs.Frames as frames
 use Rattle.cip_router.specs.Replies.{own}
 use Rattle.cip_router.specs.Requests.{RouterRequestFields, nothing, refused, closing, object, opening, router_request_reading}
-use Rattle.messaging.specs.declared.dialogue.Dialogue.{Dialogue}
+use Rattle.messaging.specs.declared.class3.Class3Connection.{Class3Connection}
 use Rattle.messaging.specs.declared.requests.Waiting.{Waiting}
 use Rattle.messaging.specs.declared.table.Messaging.{Messaging}
-use Rattle.messaging.specs.Changes.{longest_answer, has_request_number, lacks_room, executed, repeated, referred_over}
-use Rattle.messaging.specs.Dialogues.{is_dialogue, repeats_last}
+use Rattle.messaging.specs.Changes.{longest_answer, has_request_number, executed, repeated, referred_over}
+use Rattle.messaging.specs.Class3Connections.{is_class3, repeats_last}
 use Rattle.adapter_table.specs.declared.table.AdapterTable.{AdapterTable}
 use Rattle.adapter_table.specs.declared.table.Stream.{Stream}
 use Rattle.adapter_table.specs.Answering.{responded, respond_of, respond}
@@ -28,7 +28,7 @@ use Rattle.adapter_table.specs.Connected.{service_in, fitted_text, connected_ser
 use Rattle.adapter_table.specs.Encapsulation.{Handled, refusal, undelivered, kept_reply, message_repeated, message_replied, message_served, message_executed, message_found, unit_replied}
 use Rattle.adapter_table.specs.Messages.{messages_table}
 use Rattle.adapter_table.specs.Objects.{ObjectAnswer, said, denied, resetting, object_answer}
-use Rattle.adapter_table.specs.Own.{OwnRequest, own_of}
+use Rattle.adapter_table.specs.Own.{OwnRequest, own_of, cannot_ask}
 use Rattle.adapter_table.specs.Requests.{Next, Served, open_service, router_refusal, object_served, served_object}
 
 -- ---- connected messages
@@ -58,7 +58,7 @@ refusal_of t why = record { messages = t.messaging; table = same_table t; reply 
 undelivered_of : (t : AdapterTable) (why : Delivery) → IsOfMessages t (undelivered t why)
 undelivered_of t why = record { messages = t.messaging; table = same_table t; reply = tt }
 
-replied_of : (t : AdapterTable) (d : Dialogue) (count service : ℕ) (s : Served) → s.table ≡ t → IsOfMessages t (message_replied d count service s)
+replied_of : (t : AdapterTable) (d : Class3Connection) (count service : ℕ) (s : Served) → s.table ≡ t → IsOfMessages t (message_replied d count service s)
 replied_of t d count service s same = record {
   messages = executed t.messaging d.o_t_id count (fitted_text d service s.reply) (next_deadline t d);
   table = ap (λ (u : AdapterTable). executed_table u d count (fitted_text d service s.reply)) same;
@@ -70,7 +70,7 @@ object_table t service (said by value) = refl
 object_table t service (denied why) = refl
 object_table t service (resetting kind) = refl
 
-served_of : (t : AdapterTable) (d : Dialogue) (count first : ℕ) (request : RouterRequestFields) → IsOfMessages t (message_served t d count first (connected_served t d.peer request))
+served_of : (t : AdapterTable) (d : Class3Connection) (count first : ℕ) (request : RouterRequestFields) → IsOfMessages t (message_served t d count first (connected_served t d.peer request))
 unfolding served_object
 served_of t d count first nothing = refusal_of t encap.IncorrectData
 served_of t d count first (refused service why) = replied_of t d count first (router_refusal t service why) refl
@@ -79,21 +79,21 @@ served_of t d count first (object service class instance attribute body) =
     replied_of t d count first (object_served t service (object_answer t service class instance attribute body)) (object_table t service (object_answer t service class instance attribute body))
 served_of t d count first (opening large request) = replied_of t d count first (router_refusal t (open_service large) router.Service) refl
 
-executed_of : (t : AdapterTable) (d : Dialogue) (count first : ℕ) (request : RouterRequestFields) (asks : Option OwnRequest) → IsOfMessages t (message_executed t d count first request asks)
+executed_of : (t : AdapterTable) (d : Class3Connection) (count first : ℕ) (request : RouterRequestFields) (asks : Option OwnRequest) → IsOfMessages t (message_executed t d count first request asks)
 executed_of t d count first request None = served_of t d count first request
 executed_of t d count first request (Some asks) =
-    either (IsOfMessages t) (lacks_room t.messaging) (message_replied d count asks.service (router_refusal t asks.service router.ResourceUnavailable)) _
+    either (IsOfMessages t) (cannot_ask t d.peer) (message_replied d count asks.service (router_refusal t asks.service router.ResourceUnavailable)) _
     (replied_of t d count asks.service (router_refusal t asks.service router.ResourceUnavailable) refl)
-    (record { messages = referred_over t.messaging d.o_t_id count asks.service (next_deadline t d) t.clock; table = refl; reply = tt })
+    (record { messages = referred_over t.messaging d.peer d.o_t_id count asks.service (next_deadline t d) t.clock; table = refl; reply = tt })
 
-kept_itemless : (d : Dialogue) (count : ℕ) (text : List ℕ) → IfSome (kept_reply d count text) IsItemless
+kept_itemless : (d : Class3Connection) (count : ℕ) (text : List ℕ) → IfSome (kept_reply d count text) IsItemless
 kept_itemless d count [] = tt
 kept_itemless d count (first ∷ rest) = tt
 
-repeated_of : (t : AdapterTable) (d : Dialogue) (count : ℕ) → IsOfMessages t (message_repeated t d count)
+repeated_of : (t : AdapterTable) (d : Class3Connection) (count : ℕ) → IsOfMessages t (message_repeated t d count)
 repeated_of t d count = record { messages = repeated t.messaging d.o_t_id (next_deadline t d); table = refl; reply = kept_itemless d count d.reply }
 
-found_of : (t : AdapterTable) (count : ℕ) (message : List ℕ) (found : Option Dialogue) → IsOfMessages t (message_found t count message found)
+found_of : (t : AdapterTable) (count : ℕ) (message : List ℕ) (found : Option Class3Connection) → IsOfMessages t (message_found t count message found)
 found_of t count message None = undelivered_of t UnknownId
 found_of t count message (Some d) =
     let new = message_executed t d count (service_in message) (router_request_reading message) (own_of t.profile.objects (router_request_reading message)) in
@@ -104,7 +104,7 @@ found_of t count message (Some d) =
 -- what becomes of each of them
 pub unit_of : (t : AdapterTable) (stream : Stream) (reading : Result ConnectedFields ItemFault) → IsOfMessages t (unit_replied t stream reading)
 unit_of t stream (Err fault) = refusal_of t encap.IncorrectData
-unit_of t stream (Ok unit) = found_of t unit.count unit.message (find (is_dialogue stream.number (record { 0 = unit.connection })) t.messaging.dialogues)
+unit_of t stream (Ok unit) = found_of t unit.count unit.message (find (is_class3 stream.number (record { 0 = unit.connection })) t.messaging.class3_connections)
 
 -- ---- answers of the application
 

@@ -25,16 +25,15 @@ use Rattle.cip_router.specs.declared.refusal.Status.TheVariants as status
 use Rattle.cip_router.specs.Requests.{RouterRequestFields, nothing, refused, closing, object, opening, router_request_reading}
 use Rattle.cip_router.specs.Commands.{command_of, is_silent}
 use Rattle.cip_router.specs.Frames.{RequestHeader, request_header_of, request_header_in, wrong_length_of, frame_fields, protocol_text, frame_reading}
-use Rattle.messaging.specs.declared.dialogue.Dialogue.{Dialogue}
+use Rattle.messaging.specs.declared.class3.Class3Connection.{Class3Connection}
 use Rattle.messaging.specs.declared.table.Messaging.{Messaging}
-use Rattle.messaging.specs.Changes.{lacks_room}
-use Rattle.messaging.specs.Dialogues.{has_dialogue_triad}
+use Rattle.messaging.specs.Class3Connections.{has_class3_triad}
 use Rattle.adapter_table.specs.declared.table.AdapterTable.{AdapterTable}
 use Rattle.adapter_table.specs.declared.table.Stream.{Stream}
 use Rattle.adapter_table.specs.Checks.{Check, Admitted, admission}
-use Rattle.adapter_table.specs.DialogueOpening.{dialogue_view, dialogue_refusal, judged_dialogue, served_dialogue, stream_served}
+use Rattle.adapter_table.specs.Class3Opening.{class3_view, class3_refusal, judged_class3, served_class3, stream_served}
 use Rattle.adapter_table.specs.Messages.{messages_table}
-use Rattle.adapter_table.specs.Own.{OwnRequest, own_of}
+use Rattle.adapter_table.specs.Own.{OwnRequest, own_of, cannot_ask}
 use Rattle.adapter_table.specs.Closing.{stays, without_triad, closed_table}
 use Rattle.adapter_table.specs.Connections.{Row}
 use Rattle.adapter_table.specs.Encapsulation.{Handled, refusal, unanswered, session_begun, session_ended, register_session, request_replied, request_handled, packet_replied, unit_replied, handled, framed, frame_answer, stream_answer, frame_of}
@@ -79,7 +78,7 @@ messages_rows : (O : Row → Type 0) (t : AdapterTable) (next_id : ℕ) (m : Mes
 unfolding messages_table
 messages_rows O t next_id m rows = rows
 
-end_rows : (O : Row → Type 0) (t : AdapterTable) (peer : Node) (request : CloseFields) (found : Option Dialogue) → RowsAre O t → ServedRows O (end_of t peer request found)
+end_rows : (O : Row → Type 0) (t : AdapterTable) (peer : Node) (request : CloseFields) (found : Option Class3Connection) → RowsAre O t → ServedRows O (end_of t peer request found)
 unfolding served_close
 end_rows O t peer request None rows = close_rows O t peer request (find (has_triad request.triad) t.rows) rows
 end_rows O t peer request (Some d) rows = either (ServedRows O) (is_wrong_ender t.profile.limits peer d) _ _ rows (messages_rows O t t.next_id _ rows)
@@ -93,7 +92,7 @@ served_rows : (O : Row → Type 0) (t : AdapterTable) (peer : Node) (requested :
 unfolding served_open served_end served_object
 served_rows O t peer nothing makes rows = tt
 served_rows O t peer (refused service why) makes rows = rows
-served_rows O t peer (closing request) makes rows = end_rows O t peer request (find (has_dialogue_triad request.triad) t.messaging.dialogues) rows
+served_rows O t peer (closing request) makes rows = end_rows O t peer request (find (has_class3_triad request.triad) t.messaging.class3_connections) rows
 served_rows O t peer (object service class instance attribute body) makes rows = object_rows O t service (object_answer t service class instance attribute body) rows
 served_rows O t peer (opening large request) makes rows = open_rows O t peer large request (limited_admission t peer request) refl (makes large request refl peer) rows
 
@@ -123,15 +122,15 @@ replied_rows O t (Some s) goes rows = goes
 abbrev pub PacketMakes : (Row → Type 0) → AdapterTable → Result PacketFields ItemFault → Type 0
 PacketMakes O t reading = (packet : PacketFields) → reading ≡ Ok packet → Makes O t (router_request_reading packet.payload)
 
-dialogue_rows : (O : Row → Type 0) (t : AdapterTable) (stream : Stream) (large : Bool) (request : OpenFields) (c : Check) → RowsAre O t → ServedRows O (judged_dialogue t stream large request c)
-dialogue_rows O t stream large request (Some why) rows = rows
-dialogue_rows O t stream large request None rows = messages_rows O t (t.next_id + 1) _ rows
+class3_rows : (O : Row → Type 0) (t : AdapterTable) (stream : Stream) (large : Bool) (request : OpenFields) (c : Check) → RowsAre O t → ServedRows O (judged_class3 t stream large request c)
+class3_rows O t stream large request (Some why) rows = rows
+class3_rows O t stream large request None rows = messages_rows O t (t.next_id + 1) _ rows
 
 over_stream_rows : (O : Row → Type 0) (t : AdapterTable) (stream : Stream) (requested : RouterRequestFields) → Makes O t requested → RowsAre O t → IfSome (stream_served t stream requested) (ServedRows O)
-unfolding served_dialogue
+unfolding served_class3
 over_stream_rows O t stream (opening large request) makes rows =
-    either (λ (s : Option Served). IfSome s (ServedRows O)) (is_message_trigger request.trigger) (Some (served_dialogue t stream large request)) (served t stream.peer (opening large request))
-    (dialogue_rows O t stream large request (dialogue_refusal (dialogue_view t stream.peer request.triad) request) rows) (served_rows O t stream.peer (opening large request) makes rows)
+    either (λ (s : Option Served). IfSome s (ServedRows O)) (is_message_trigger request.trigger) (Some (served_class3 t stream large request)) (served t stream.peer (opening large request))
+    (class3_rows O t stream large request (class3_refusal (class3_view t stream.peer request.triad) request) rows) (served_rows O t stream.peer (opening large request) makes rows)
 over_stream_rows O t stream nothing makes rows = served_rows O t stream.peer nothing makes rows
 over_stream_rows O t stream (refused service why) makes rows = served_rows O t stream.peer (refused service why) makes rows
 over_stream_rows O t stream (closing request) makes rows = served_rows O t stream.peer (closing request) makes rows
@@ -140,7 +139,7 @@ over_stream_rows O t stream (object service class instance attribute body) makes
 request_rows : (O : Row → Type 0) (t : AdapterTable) (stream : Stream) (context : ℕ) (requested : RouterRequestFields) (own : Option OwnRequest) → Makes O t requested → RowsAre O t → HandledRows O (request_handled t stream context requested own)
 request_rows O t stream context requested None makes rows = replied_rows O t (stream_served t stream requested) (over_stream_rows O t stream requested makes rows) rows
 request_rows O t stream context requested (Some own) makes rows =
-    either (HandledRows O) (lacks_room t.messaging) (request_replied t (Some (router_refusal t own.service status.ResourceUnavailable))) _ rows (messages_rows O t t.next_id _ rows)
+    either (HandledRows O) (cannot_ask t stream.peer) (request_replied t (Some (router_refusal t own.service status.ResourceUnavailable))) _ rows (messages_rows O t t.next_id _ rows)
 
 packet_rows : (O : Row → Type 0) (t : AdapterTable) (stream : Stream) (context : ℕ) (reading : Result PacketFields ItemFault) → PacketMakes O t reading → RowsAre O t → HandledRows O (packet_replied t stream context reading)
 packet_rows O t stream context (Err why) makes rows = rows

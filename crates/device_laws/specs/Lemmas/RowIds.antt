@@ -39,20 +39,21 @@ use Rattle.cip_router.specs.declared.refusal.Status.TheVariants as status
 use Rattle.cip_router.specs.Requests.{RouterRequestFields, nothing, refused, closing, object, opening, router_request_reading}
 use Rattle.cip_router.specs.Commands.{command_of, is_silent}
 use Rattle.cip_router.specs.Frames.{RequestHeader, request_header_of, request_header_in, wrong_length_of, frame_fields, protocol_text, frame_reading}
-use Rattle.messaging.specs.declared.dialogue.Dialogue.{Dialogue}
+use Rattle.messaging.specs.declared.class3.Class3Connection.{Class3Connection}
 use Rattle.messaging.specs.declared.table.Messaging.{Messaging}
-use Rattle.messaging.specs.Changes.{lacks_room}
-use Rattle.messaging.specs.Dialogues.{has_dialogue_triad}
+use Rattle.messaging.specs.Class3Connections.{has_class3_triad}
 use Rattle.adapter_table.specs.declared.profile.InputPoint.{InputPoint}
 use Rattle.adapter_table.specs.Connections.{Row}
 use Rattle.adapter_table.specs.declared.row.State.{State}
 use Rattle.adapter_table.specs.declared.row.State.TheVariants.{Established, TimedOut}
+use Rattle.opening_rates.specs.declared.rates.NodeOpenings.{NodeOpenings}
 use Rattle.adapter_table.specs.declared.table.AdapterTable.{AdapterTable}
+use Rattle.adapter_table.specs.Rates.{with_openings}
 use Rattle.adapter_table.specs.declared.table.Stream.{Stream}
 use Rattle.adapter_table.specs.Checks.{Check, Admitted}
-use Rattle.adapter_table.specs.DialogueOpening.{dialogue_view, dialogue_refusal, judged_dialogue, served_dialogue, stream_served}
+use Rattle.adapter_table.specs.Class3Opening.{class3_view, class3_refusal, judged_class3, served_class3, stream_served}
 use Rattle.adapter_table.specs.Messages.{messages_table}
-use Rattle.adapter_table.specs.Own.{OwnRequest, own_of}
+use Rattle.adapter_table.specs.Own.{OwnRequest, own_of, cannot_ask}
 use Rattle.adapter_table.specs.StatedLimits.{limited_admission, is_wrong_closer, is_wrong_ender}
 use Rattle.adapter_table.specs.Closing.{stays, without_triad, closed_table}
 use Rattle.adapter_table.specs.Datagrams.{is_for, accepted_row, accepted_if_for, row_delivery, accepted_table, delivered, found_datagram, datagram_of, received}
@@ -223,7 +224,7 @@ messages_after : (O : OpenFields → Type 0) (t : AdapterTable) (peer : Node) (n
 unfolding messages_table
 messages_after O t peer next_id m = record { rows = old_rows O t (messages_table t next_id m) peer t.rows (were_there t); streams = were_open t }
 
-end_after : (O : OpenFields → Type 0) (t : AdapterTable) (peer : Node) (request : CloseFields) (found : Option Dialogue) → ServedAfter O t peer (end_of t peer request found)
+end_after : (O : OpenFields → Type 0) (t : AdapterTable) (peer : Node) (request : CloseFields) (found : Option Class3Connection) → ServedAfter O t peer (end_of t peer request found)
 unfolding served_close
 end_after O t peer request None = close_after O t peer request (find (has_triad request.triad) t.rows)
 end_after O t peer request (Some d) = either (ServedAfter O t peer) (is_wrong_ender t.profile.limits peer d) _ _ (stays_so O t peer) (messages_after O t peer t.next_id _)
@@ -237,7 +238,7 @@ served_after : (O : OpenFields → Type 0) (t : AdapterTable) (peer : Node) (req
 unfolding served_open served_end served_object
 served_after O t peer nothing asks drawn = tt
 served_after O t peer (refused service why) asks drawn = stays_so O t peer
-served_after O t peer (closing request) asks drawn = end_after O t peer request (find (has_dialogue_triad request.triad) t.messaging.dialogues)
+served_after O t peer (closing request) asks drawn = end_after O t peer request (find (has_class3_triad request.triad) t.messaging.class3_connections)
 served_after O t peer (object service class instance attribute body) asks drawn = object_after O t peer service (object_answer t service class instance attribute body)
 served_after O t peer (opening large request) asks drawn = open_after O t peer large request (limited_admission t peer request) refl (asks large request refl) drawn
 
@@ -274,15 +275,20 @@ replied_after O t peer (Some s) goes = goes
 abbrev PacketRequests : (OpenFields → Type 0) → Result PacketFields ItemFault → Type 0
 PacketRequests O reading = (packet : PacketFields) → reading ≡ Ok packet → (large : Bool) (request : OpenFields) → router_request_reading packet.payload ≡ opening large request → O request
 
-dialogue_after : (O : OpenFields → Type 0) (t : AdapterTable) (stream : Stream) (large : Bool) (request : OpenFields) (c : Check) → ServedAfter O t stream.peer (judged_dialogue t stream large request c)
-dialogue_after O t stream large request (Some why) = stays_so O t stream.peer
-dialogue_after O t stream large request None = messages_after O t stream.peer (t.next_id + 1) _
+-- an opening is counted, too
+counted_after : (O : OpenFields → Type 0) (t : AdapterTable) (peer : Node) (next_id : ℕ) (m : Messaging) (openings : List NodeOpenings) → TableAfter O t peer (with_openings (messages_table t next_id m) openings)
+unfolding messages_table
+counted_after O t peer next_id m openings = record { rows = old_rows O t (with_openings (messages_table t next_id m) openings) peer t.rows (were_there t); streams = were_open t }
+
+class3_after : (O : OpenFields → Type 0) (t : AdapterTable) (stream : Stream) (large : Bool) (request : OpenFields) (c : Check) → ServedAfter O t stream.peer (judged_class3 t stream large request c)
+class3_after O t stream large request (Some why) = stays_so O t stream.peer
+class3_after O t stream large request None = counted_after O t stream.peer (t.next_id + 1) _ _
 
 over_stream_after : (O : OpenFields → Type 0) (t : AdapterTable) (stream : Stream) (requested : RouterRequestFields) → ((large : Bool) (request : OpenFields) → requested ≡ opening large request → O request) → IdsAreDrawn t.profile t.next_id t.rows → IfSome (stream_served t stream requested) (ServedAfter O t stream.peer)
-unfolding served_dialogue
+unfolding served_class3
 over_stream_after O t stream (opening large request) asks drawn =
-    either (λ (s : Option Served). IfSome s (ServedAfter O t stream.peer)) (is_message_trigger request.trigger) (Some (served_dialogue t stream large request)) (served t stream.peer (opening large request))
-    (dialogue_after O t stream large request (dialogue_refusal (dialogue_view t stream.peer request.triad) request)) (served_after O t stream.peer (opening large request) asks drawn)
+    either (λ (s : Option Served). IfSome s (ServedAfter O t stream.peer)) (is_message_trigger request.trigger) (Some (served_class3 t stream large request)) (served t stream.peer (opening large request))
+    (class3_after O t stream large request (class3_refusal (class3_view t stream.peer request.triad) request)) (served_after O t stream.peer (opening large request) asks drawn)
 over_stream_after O t stream nothing asks drawn = served_after O t stream.peer nothing asks drawn
 over_stream_after O t stream (refused service why) asks drawn = served_after O t stream.peer (refused service why) asks drawn
 over_stream_after O t stream (closing request) asks drawn = served_after O t stream.peer (closing request) asks drawn
@@ -291,7 +297,7 @@ over_stream_after O t stream (object service class instance attribute body) asks
 request_after : (O : OpenFields → Type 0) (t : AdapterTable) (stream : Stream) (context : ℕ) (requested : RouterRequestFields) (own : Option OwnRequest) → ((large : Bool) (request : OpenFields) → requested ≡ opening large request → O request) → IdsAreDrawn t.profile t.next_id t.rows → HandledAfter O t stream.peer (request_handled t stream context requested own)
 request_after O t stream context requested None asks drawn = replied_after O t stream.peer (stream_served t stream requested) (over_stream_after O t stream requested asks drawn)
 request_after O t stream context requested (Some own) asks drawn =
-    either (HandledAfter O t stream.peer) (lacks_room t.messaging) (request_replied t (Some (router_refusal t own.service status.ResourceUnavailable))) _ (stays_so O t stream.peer) (messages_after O t stream.peer t.next_id _)
+    either (HandledAfter O t stream.peer) (cannot_ask t stream.peer) (request_replied t (Some (router_refusal t own.service status.ResourceUnavailable))) _ (stays_so O t stream.peer) (messages_after O t stream.peer t.next_id _)
 
 packet_after : (O : OpenFields → Type 0) (t : AdapterTable) (stream : Stream) (context : ℕ) (reading : Result PacketFields ItemFault) → PacketRequests O reading → IdsAreDrawn t.profile t.next_id t.rows → HandledAfter O t stream.peer (packet_replied t stream context reading)
 packet_after O t stream context (Err fault) asks drawn = stays_so O t stream.peer
@@ -394,7 +400,7 @@ answered_came t peer bytes (Some s) goes = peer_came t s.table peer bytes goes
 request_came : (t : AdapterTable) (peer : Node) (bytes : List ℕ) (requested : RouterRequestFields) (own : Option OwnRequest) → IdsAreDrawn t.profile t.next_id t.rows → OkCame t (event.Request peer bytes) (Ok (requested_by t peer requested own))
 request_came t peer bytes requested None drawn = answered_came t peer bytes (served t peer requested) (served_after Anything t peer requested (λ large request is. tt) drawn)
 request_came t peer bytes requested (Some own) drawn =
-    either (λ (next : Next). Came t next.1 (event.Request peer bytes)) (lacks_room t.messaging) (replied peer (router_refusal t own.service status.ResourceUnavailable)) _
+    either (λ (next : Next). Came t next.1 (event.Request peer bytes)) (cannot_ask t peer) (replied peer (router_refusal t own.service status.ResourceUnavailable)) _
     (table_stays t (event.Request peer bytes)) (peer_came t _ peer bytes (messages_after Anything t peer t.next_id _))
 
 opened_came : (t : AdapterTable) (number : ℕ) (peer : Node) → Came t (with_stream t number peer) (event.StreamOpened number peer)
@@ -419,8 +425,8 @@ accepted_came : (t : AdapterTable) (peer : Node) (bytes : List ℕ) (d : Datagra
 unfolding accepted_table
 accepted_came t peer bytes d None = table_stays t (event.Datagram peer bytes)
 accepted_came t peer bytes d (Some row) =
-    let delivery = row_delivery t.profile row d in
-    either (λ (next : Next). Came t next.1 (event.Datagram peer bytes)) (is_accepted (row_delivery t.profile row d)) (delivered delivery (accepted_table t peer d row delivery)) (delivered delivery t)
+    let delivery = row_delivery t.profile t.clock row d in
+    either (λ (next : Next). Came t next.1 (event.Datagram peer bytes)) (is_accepted (row_delivery t.profile t.clock row d)) (delivered delivery (accepted_table t peer d row delivery)) (delivered delivery t)
     (rows_stay t (accepted_table t peer d row delivery) (event.Datagram peer bytes) (there_on t (accepted_if_for t.clock peer d) (accepted_row_same t.clock peer d) t.rows (were_there t)) refl)
     (table_stays t (event.Datagram peer bytes))
 

@@ -25,7 +25,7 @@ use Rattle.cip_fwdopen.specs.Open.{open_text}
 use Rattle.cip_fwdopen.specs.Close.{close_text}
 use Rattle.cip_fwdopen.specs.declared.reply.OpenAnswer.{OpenAnswer}
 use Rattle.cip_fwdopen.specs.declared.reply.OpenAnswer.TheVariants as answer
-use Rattle.cip_productions.specs.Acceptance.{accepts_sequence, is_duplicate}
+use Rattle.cip_productions.specs.Acceptance.{is_duplicate}
 use Rattle.cip_productions.specs.Kinds.{is_owner}
 use Rattle.cip_productions.specs.Productions.{Produced, sent}
 use Rattle.scanner_table.specs.declared.profile.SlotConfig.{SlotConfig}
@@ -41,7 +41,7 @@ use Rattle.scanner_table.specs.declared.table.TargetStream.{TargetStream}
 use Rattle.cip_fwdopen.specs.Services.{open_service}
 use Rattle.scanner_table.specs.Requests.{Request, registering, opening, closing, requesting, Sent, is_large, manager_text, sent_message, sent_frame}
 use Rattle.scanner_table.specs.Closing.{idle_slot, target_lost, closing_slot, close_requested, slot_resigned, closed_within, stopped, stopped_at}
-use Rattle.scanner_table.specs.Datagrams.{is_for, accepted_connection, accepted_table, delivered, accepted, sized, connected, state_received, received_at, received_as, received}
+use Rattle.scanner_table.specs.Datagrams.{accepts_at, is_for, accepted_connection, accepted_table, delivered, accepted, sized, connected, state_received, received_at, received_as, received}
 use Rattle.scanner_table.specs.Effects.{Next, Effect, and_then, changed, counted, done}
 use Rattle.scanner_table.specs.Explicit.{awaits, explicit_sent, explicit_request, explicit_timed_out, explicit_lost}
 use Rattle.scanner_table.specs.Encapsulation.{registering_on, stream_opened, stream_lost, cut_of, stream_cut, is_registered, session_begun, session_failed, registered, ignored, waits_for, is_awaiting, replied, replied_to, reported, frame_answer, frame_of, frame}
@@ -215,7 +215,7 @@ accepted_holds G to t happens kept indexed d c bytes slots there is =
 connected_holds : (G : OfSlots) (P : ℕ → Type 0) (to : ℕ) (t : ScannerTable) (happens : Event) → Kept G t to happens → (indexed : IndexedSlot) (d : DatagramFields) (c : SlotConnection) → SlotsHold G t → slice_get t.profile.slots indexed.number ≡ Some indexed.config → G indexed.number indexed.config (Established c) → NextHolds G P to (connected t indexed d c)
 connected_holds G P to t happens kept indexed d c slots there is =
     either (NextHolds G P to) (length d.payload == indexed.config.in_len) (sized t indexed d c) _
-    (either (NextHolds G P to) (accepts_sequence c.last d.sequence) (accepted t indexed d c) _
+    (either (NextHolds G P to) (accepts_at t indexed c d.sequence) (accepted t indexed d c) _
     (either (NextHolds G P to) (is_duplicate c.last d.count) (delivered _ (accepted_table t indexed d c indexed.slot.image)) (delivered _ (accepted_table t indexed d c d.payload))
     (λ below small. (record { frames = tt; datagrams = tt }, accepted_holds G to t happens kept indexed d c indexed.slot.image slots there is))
     (λ below small. (record { frames = tt; datagrams = tt }, accepted_holds G to t happens kept indexed d c d.payload slots there is)))

@@ -7,8 +7,8 @@ use Rattle.base_lemmas.specs.Numbers.{less_other, number_same}
 use Rattle.cip_types.specs.declared.names.Node.{Node}
 use Rattle.cip_fwdopen.specs.Open.{OpenFields}
 use Rattle.cip_fwdopen.specs.Close.{CloseFields}
-use Rattle.messaging.specs.declared.dialogue.Dialogue.{Dialogue}
-use Rattle.messaging.specs.Dialogues.{has_dialogue_triad}
+use Rattle.messaging.specs.declared.class3.Class3Connection.{Class3Connection}
+use Rattle.messaging.specs.Class3Connections.{has_class3_triad}
 use Rattle.cip_router.specs.declared.refusal.Refusal.{Refusal}
 use Rattle.cip_router.specs.Requests.{RouterRequestFields, nothing, refused, closing, object, opening}
 use Rattle.adapter_table.specs.declared.profile.Profile.{Profile}
@@ -66,7 +66,7 @@ close_has : (t : AdapterTable) (peer : Node) (request : CloseFields) (found : Op
 close_has t peer request None = refl
 close_has t peer request (Some row) = either (ServedHas t) (is_wrong_closer t.profile.limits peer row) _ _ refl tt
 
-end_has : (t : AdapterTable) (peer : Node) (request : CloseFields) (found : Option Dialogue) → ServedHas t (end_of t peer request found)
+end_has : (t : AdapterTable) (peer : Node) (request : CloseFields) (found : Option Class3Connection) → ServedHas t (end_of t peer request found)
 unfolding served_close
 end_has t peer request None = close_has t peer request (find (has_triad request.triad) t.rows)
 end_has t peer request (Some d) = either (ServedHas t) (is_wrong_ender t.profile.limits peer d) _ _ refl tt
@@ -80,6 +80,6 @@ pub served_has : (t : AdapterTable) (peer : Node) (requested : RouterRequestFiel
 unfolding served_open served_end served_object
 served_has t peer nothing drawn = tt
 served_has t peer (refused service why) drawn = nonzero why
-served_has t peer (closing request) drawn = end_has t peer request (find (has_dialogue_triad request.triad) t.messaging.dialogues)
+served_has t peer (closing request) drawn = end_has t peer request (find (has_class3_triad request.triad) t.messaging.class3_connections)
 served_has t peer (object service class instance attribute body) drawn = object_has t service (object_answer t service class instance attribute body)
 served_has t peer (opening large request) drawn = open_has t peer large request (limited_admission t peer request) drawn

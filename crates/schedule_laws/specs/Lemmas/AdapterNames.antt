@@ -42,7 +42,7 @@ use Rattle.device_laws.specs.Ids.{RequestIds}
 use Rattle.device_laws.specs.OwnIds.{IsDrawnId, AsksOwnId}
 use Rattle.device_laws.specs.Frames.{again, OpensNothing, IsNoOpening, ContextFits, IsOpening}
 use Rattle.device_laws.specs.Plain.{IsPlainRequest, PlainPacket, PlainMessage, IsPlainFrame, SendsPlainly, ArePlain}
-use Rattle.device_laws.specs.Replies.{IsOfRow, IsOfDialogue, IsOfNew, IsSuccessOf, IsReplyTo, IsLateReply, IsAnswerTo}
+use Rattle.device_laws.specs.Replies.{IsOfRow, IsOfClass3, IsOfNew, IsSuccessOf, IsReplyTo, IsLateReply, IsAnswerTo}
 use Rattle.device_laws.specs.RowIds.{WasThere, IsSingle, IsProduced, IsNewOver, IsNewRow, RowCame, WasOpen, StreamCame, Came}
 use Rattle.device_laws.specs.Productions.{End, end_at}
 use Rattle.schedule_laws.specs.Chronicle.{Opened, opens_row, other_end, requester, opened_for, frame_opens}
@@ -329,8 +329,8 @@ stream_named Q w new device t happens s later known comes (inr is) = opened_stre
 -- ---- frames
 
 -- a plain frame opens no class 3 connection
-no_dialogue : {X : Type 0} (t u : AdapterTable) (bytes : List ℕ) (m : MessageFields) (o : made.Opened) → IsPlainFrame bytes → message_reading bytes ≡ Ok m → IsOfDialogue t u m.payload o → X
-no_dialogue t u bytes m o plain reads is =
+no_class3 : {X : Type 0} (t u : AdapterTable) (bytes : List ℕ) (m : MessageFields) (o : made.Opened) → IsPlainFrame bytes → message_reading bytes ≡ Ok m → IsOfClass3 t u m.payload o → X
+no_class3 t u bytes m o plain reads is =
     let message : PlainPacket (packet_reading m.payload) = subst PlainMessage reads plain in
     let packet : IsPlainRequest (router_request_reading is.packet.payload) = subst PlainPacket is.packet_is message in
     let class_1 : is_message_trigger is.request.trigger ≡ false = subst IsPlainRequest is.opens packet in
@@ -357,7 +357,7 @@ row_success w new opened device t u n bytes other more number o step fits (inr o
 
 success_by : (w new : World) (opened : List Opened) (device : ℕ) (t u : AdapterTable) (n : ℕ) (bytes : List ℕ) (other : ℕ) (more : List Opened) (number : ℕ) (o : made.Opened) → AdapterStep w new opened device t u → ContextFits bytes → IsPlainFrame bytes → Opens w device t u n bytes other more → (is : IsSuccessOf t u bytes number o) → IsOfNew t u is.message.payload o → IsOpenedWith (opened ++ more) device (end_at other number) o.o_t_id.0 o.t_o_id.0
 success_by w new opened device t u n bytes other more number o step fits plain opens is (inl row) = row_success w new opened device t u n bytes other more number o step fits opens is row
-success_by w new opened device t u n bytes other more number o step fits plain opens is (inr dialogue) = no_dialogue t u bytes is.message o plain is.reads dialogue
+success_by w new opened device t u n bytes other more number o step fits plain opens is (inr class3) = no_class3 t u bytes is.message o plain is.reads class3
 
 success_named : (w new : World) (opened : List Opened) (device : ℕ) (t u : AdapterTable) (n : ℕ) (bytes : List ℕ) (other : ℕ) (more : List Opened) (number : ℕ) (o : made.Opened) → AdapterStep w new opened device t u → ContextFits bytes → IsPlainFrame bytes → Opens w device t u n bytes other more → IsSuccessOf t u bytes number o → IsOpenedWith (opened ++ more) device (end_at other number) o.o_t_id.0 o.t_o_id.0
 success_named w new opened device t u n bytes other more number o step fits plain opens is = success_by w new opened device t u n bytes other more number o step fits plain opens is is.new

@@ -61,10 +61,10 @@ judged_verdict false t u delivery = refl
 
 found_matches : (device n : ℕ) (p : Production) (t : AdapterTable) (peer : Node) (d : DatagramFields) (found : Option Row) (old : List Acceptance) → IsNumbered p → ComesBack p.made.datagram d →
     pair_of (newest (end_at device n) (accepted_by_verdict device p (row_number found) (found_datagram t peer d found).0.verdict ++ old))
-    ≡ rows.last_accepted (pair_of (newest (end_at device n) old)) (rows.accepted_found n t.profile d found)
+    ≡ rows.last_accepted (pair_of (newest (end_at device n) old)) (rows.accepted_found n t.profile t.clock d found)
 found_matches device n p t peer d None old numbered back = refl
 found_matches device n p t peer d (Some row) old numbered back =
-    let delivery = row_delivery t.profile row d in
+    let delivery = row_delivery t.profile t.clock row d in
     rw (judged_verdict (is_accepted delivery) t (accepted_table t peer d row delivery) delivery)
     (matched_step (is_accepted delivery) (row.opening == n) device n p d row delivery old refl refl numbered back)
 

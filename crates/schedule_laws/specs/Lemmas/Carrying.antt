@@ -141,7 +141,7 @@ each_two P R (x ∷ xs) first second = ((first.0, second.0), each_two P R xs fir
 way_ids : (P : ℕ → Type 0) (from : Requester) (service status : ℕ) (bytes : List ℕ) → IsPlainService service → IsOfStream from → WayIds P from (own_reply_text service status bytes)
 way_ids P (asker.Peer node) service status bytes plain over = absurd over
 way_ids P (asker.Stream number context) service status bytes plain over = own_ids P service status bytes (record { small = plain.small; large = plain.large })
-way_ids P (asker.Dialogue id count) service status bytes plain over = tt
+way_ids P (asker.Class3Connection id count) service status bytes plain over = tt
 
 some_more : (A B : Waiting → Type 0) → ((w : Waiting) → A w → B w) → (o : Option Waiting) → IfSome o A → IfSome o B
 some_more A B more None holds = tt

@@ -176,11 +176,11 @@ judged_delivery false t u delivery = refl
 pub same_delivery : (a b : Delivery) → Delivered a ≡ Delivered b → a ≡ b
 same_delivery a b is = cc
 
-row_found_newer : (p : Production) (t : AdapterTable) (peer : Node) (d : DatagramFields) (found : Option Row) (last : Option Accepted) (m : ℕ) (delivery : Delivery) → IsNumbered p → ComesBack p.made.datagram d → row_number found ≡ Some m → (found_datagram t peer d found).0.verdict ≡ Delivered delivery → is_accepted delivery ≡ true → rows.EachAfter rows.HasNewerNumber last (rows.accepted_found m t.profile d found) → IsNewerThan p.made.datagram.sequence last
+row_found_newer : (p : Production) (t : AdapterTable) (peer : Node) (d : DatagramFields) (found : Option Row) (last : Option Accepted) (m : ℕ) (delivery : Delivery) → IsNumbered p → ComesBack p.made.datagram d → row_number found ≡ Some m → (found_datagram t peer d found).0.verdict ≡ Delivered delivery → is_accepted delivery ≡ true → rows.EachAfter rows.HasNewerNumber last (rows.accepted_found m t.profile t.clock d found) → IsNewerThan p.made.datagram.sequence last
 row_found_newer p t peer d None last m delivery numbered back named reported so_accepted each = absurd (let e = named in cc)
 row_found_newer p t peer d (Some row) last m delivery numbered back named reported so_accepted each =
     let one : row.opening ≡ m = same_Some row.opening m named in
-    let was = row_delivery t.profile row d in
+    let was = row_delivery t.profile t.clock row d in
     let same : was ≡ delivery = same_delivery was delivery (sym (judged_delivery (is_accepted was) t (accepted_table t peer d row was) was) ∙ reported) in
     row_taken ((row.opening == m) && is_accepted was) p d was last (and_from (row.opening == m) (is_accepted was) (eq-eqb row.opening m one) (ap is_accepted same ∙ so_accepted)) numbered back each
 
