@@ -1,6 +1,6 @@
 //! An adapter over any table of connections.
 
-mod dialogues;
+mod class3_connections;
 mod messages;
 mod objects;
 mod own;

@@ -13,12 +13,12 @@ use Rattle.cip_router.specs.Frames.{FrameReply, connected, router_reply}
 use Rattle.cip_router.specs.Refusals.{status_fault}
 use Rattle.cip_router.specs.Replies as replies
 use Rattle.cip_router.specs.Replies.{ReplyFields, object_reply, reply_text}
-use Rattle.messaging.specs.declared.dialogue.Dialogue as kept
+use Rattle.messaging.specs.declared.class3.Class3Connection as kept
 use Rattle.messaging.specs.declared.requests.Requester.{Requester}
-use Rattle.messaging.specs.declared.requests.Requester.TheVariants.{Peer, Stream, Dialogue}
+use Rattle.messaging.specs.declared.requests.Requester.TheVariants.{Peer, Stream, Class3Connection}
 use Rattle.messaging.specs.declared.table.Messaging.{Messaging}
-use Rattle.messaging.specs.Dialogues.{is_last_message}
-use Rattle.adapter_table.specs.Answering.{dialogue_frames, rr_header}
+use Rattle.messaging.specs.Class3Connections.{is_last_message}
+use Rattle.adapter_table.specs.Answering.{class3_frames, rr_header}
 use Rattle.adapter_table.specs.Connected.{fitted}
 use Rattle.adapter_table.specs.Encapsulation.{reply_frames}
 use Rattle.adapter_table.specs.Objects.{ObjectAnswer, said, denied, resetting}
@@ -74,7 +74,7 @@ referred_answer number own = plain_answer (Asked number own.service own.class ow
 -- ITS ANSWERS
 
 -- the route of the answer to the last message of a class 3 connection
-abbrev pub response_route : kept.Dialogue → (count : ℕ) → MessageRoute
+abbrev pub response_route : kept.Class3Connection → (count : ℕ) → MessageRoute
 response_route d count = record {
   number = d.stream;
   request_header = record { command = 0x70; session = d.stream + 1; context = 0 };
@@ -84,13 +84,13 @@ response_route d count = record {
 }
 
 -- the class 3 connection whose last message is the request, if it is open
-abbrev pub found_last : Messaging → Requester → Option kept.Dialogue
+abbrev pub found_last : Messaging → Requester → Option kept.Class3Connection
 found_last m (Peer node) = None
 found_last m (Stream number context) = None
-found_last m (Dialogue id count) = find (is_last_message id count) m.dialogues
+found_last m (Class3Connection id count) = find (is_last_message id count) m.class3_connections
 
 -- the frame of a reply by the route of its request, with the class 3 connection whose last message is the request, if it is open
-abbrev pub response_frames : Requester → Option kept.Dialogue → (service : ℕ) → ReplyFields → List Frame
+abbrev pub response_frames : Requester → Option kept.Class3Connection → (service : ℕ) → ReplyFields → List Frame
 response_frames (Peer node) found service reply = reply_frame node reply ∷ []
 response_frames (Stream number context) found service reply = reply_frames number (rr_header number context) (Some (router_reply reply None))
-response_frames (Dialogue id count) found service reply = dialogue_frames count service reply found
+response_frames (Class3Connection id count) found service reply = class3_frames count service reply found

@@ -11,7 +11,7 @@ use Rattle.adapter_replies.specs.declared.routes.Route.TheVariants as route
 use Rattle.adapter_replies.specs.Routes.{view_request_header, routed, object_routed}
 use Rattle.adapter_replies.specs.Messages.{found_last, response_frames}
 use Rattle.messaging.specs.declared.requests.Requester.{Requester}
-use Rattle.messaging.specs.declared.requests.Requester.TheVariants.{Peer, Stream, Dialogue}
+use Rattle.messaging.specs.declared.requests.Requester.TheVariants.{Peer, Stream, Class3Connection}
 use Rattle.messaging.specs.declared.table.Messaging.{Messaging}
 use Rattle.cip_router.specs.Replies.{ReplyFields}
 use Rattle.adapter_table.specs.Answering.{route_frames}
@@ -36,4 +36,4 @@ routed_object t way service (resetting kind) = refl
 pub late_is_response : (m : Messaging) (from : Requester) (service : ℕ) (reply : ReplyFields) → response_frames from (found_last m from) service reply ≡ route_frames m from service reply
 late_is_response m (Peer node) service reply = refl
 late_is_response m (Stream number context) service reply = refl
-late_is_response m (Dialogue id count) service reply = refl
+late_is_response m (Class3Connection id count) service reply = refl

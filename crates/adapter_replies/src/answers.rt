@@ -2,7 +2,7 @@
 
 ghost use Rattle.std.specs.Prelude.{◌≡◌, ◌∷◌, ◌++◌, [], map, IfOk, OnOk, ◌≤◌};
 ghost use Rattle.cip_router.specs.Replies.{view_reply};
-ghost use Rattle.adapter_table.specs.DialogueOpening.{dialogue_opened};
+ghost use Rattle.adapter_table.specs.Class3Opening.{class3_opened};
 ghost use Rattle.adapter_table.specs.Opening.{opened_reply, opened_address, replaced_notices};
 ghost use Rattle.adapter_table.specs.Ticks.{expired_notice};
 ghost use Rattle.adapter_replies.specs.Routes.{view_request_header, view_frame_reply, IsWritable, IsWritableFrame, routed_answer, framed_answer, unserved_answer};
@@ -14,7 +14,7 @@ use cip_events::{Answer, Frame, Notice, OutgoingDatagram, Recipient, Verdict};
 use cip_fwdopen::Opened;
 use cip_router::{EncapStatus, Reply};
 use cip_types::{Items, Node, OutOfMemory, Triad};
-use messaging::Dialogue;
+use messaging::Class3Connection;
 use std::alloc::Global;
 use std::iter;
 
@@ -278,17 +278,17 @@ pub fn opened_reply(row: &Row) -> Opened
 }
 
 /// The same of a class 3 connection.
-pub fn dialogue_opened(dialogue: &Dialogue) -> Opened
-    requires o_t { dialogue.now.o_t_api_ms ≤ 10000 }
-    requires t_o { dialogue.now.t_o_api_ms ≤ 10000 }
-    ensures { result ≡ dialogue_opened dialogue.now }
+pub fn class3_opened(class3: &Class3Connection) -> Opened
+    requires o_t { class3.now.o_t_api_ms ≤ 10000 }
+    requires t_o { class3.now.t_o_api_ms ≤ 10000 }
+    ensures { result ≡ class3_opened class3.now }
 {
     Opened {
-        o_t_id: dialogue.o_t_id,
-        t_o_id: dialogue.t_o_id,
-        triad: dialogue.triad,
-        o_t_api_us: 1000 * dialogue.o_t_api_ms,
-        t_o_api_us: 1000 * dialogue.t_o_api_ms,
+        o_t_id: class3.o_t_id,
+        t_o_id: class3.t_o_id,
+        triad: class3.triad,
+        o_t_api_us: 1000 * class3.o_t_api_ms,
+        t_o_api_us: 1000 * class3.t_o_api_ms,
     }
 }
 

@@ -14,7 +14,7 @@ mod routes;
 
 pub use addresses::address_of;
 pub use answers::{
-    closed_notices, cut_answer, dialogue_opened, ended_answer, expiry_notices, frame_answer,
+    class3_opened, closed_notices, cut_answer, ended_answer, expiry_notices, frame_answer,
     late_answer, late_notices, notices_answer, one_notice, opened_address, opened_reply,
     opening_notices, reply_answer, unserved_answer,
 };

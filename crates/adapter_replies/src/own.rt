@@ -6,9 +6,9 @@ ghost use Rattle.std.specs.Option.{option_map};
 ghost use Rattle.cip_encap.specs.Message.{message_text};
 ghost use Rattle.cip_router.specs.Frames.{reply_message};
 ghost use Rattle.cip_router.specs.Replies.{view_reply};
-ghost use Rattle.messaging.specs.Times.{late_waiting, without_late_dialogues};
+ghost use Rattle.messaging.specs.Times.{late_waiting, without_late_class3_connections};
 ghost use Rattle.adapter_objects.specs.Views.{view_own};
-ghost use Rattle.adapter_table.specs.Answering.{dialogue_frames};
+ghost use Rattle.adapter_table.specs.Answering.{class3_frames};
 ghost use Rattle.adapter_table.specs.Ticks.{late_frames};
 ghost use Rattle.adapter_replies.specs.Messages.{referred_answer, found_last, response_frames, response_route};
 ghost use Rattle.adapter_replies.specs.Routes.{IsWritable, IsWritableFrame, view_frame_reply, view_request_header};
@@ -21,7 +21,7 @@ use cip_encap::command::{SEND_RR_DATA, SEND_UNIT_DATA};
 use cip_events::{Answer, Frame, Recipient, Verdict};
 use cip_router::{Reply, Status};
 use cip_types::{Items, Ms, OutOfMemory};
-use messaging::{Dialogue, MessagingState, Requester, Waiting};
+use messaging::{Class3Connection, MessagingState, Requester, Waiting};
 use std::alloc::Global;
 
 // REQUESTS TO THE APPLICATION
@@ -51,18 +51,18 @@ pub fn referred_answer(
 /// The route of the answer to the last message of a class 3 connection, whose sequence count this is.
 ///
 /// Volume 2, chapter 2, SendUnitData.
-pub fn response_route(dialogue: &Dialogue, count: u16) -> MessageRoute
-    ensures { result ≡ response_route dialogue.now count }
+pub fn response_route(class3: &Class3Connection, count: u16) -> MessageRoute
+    ensures { result ≡ response_route class3.now count }
 {
     MessageRoute {
-        number: dialogue.stream,
+        number: class3.stream,
         request_header: RequestHeader {
             command: SEND_UNIT_DATA,
-            session: u32::from(dialogue.stream) + 1,
+            session: u32::from(class3.stream) + 1,
             context: 0,
         },
-        t_o_id: dialogue.t_o_id,
-        t_o_size: dialogue.t_o_size,
+        t_o_id: class3.t_o_id,
+        t_o_size: class3.t_o_size,
         count,
     }
 }
@@ -89,24 +89,24 @@ fn stream_frame(
 }
 
 /// The frame of a reply to the last message of a class 3 connection.
-fn dialogue_frame(
+fn class3_frame(
     alloc: Global,
-    dialogue: &Dialogue,
+    class3: &Class3Connection,
     count: u16,
     service: u8,
     reply: &Reply<'_>,
 ) -> Result<Frame, OutOfMemory>
     requires { IsWritable (view_reply reply.now) }
     ensures { IfOk result (λ frame. frame ∷ []
-        ≡ dialogue_frames count service (view_reply reply.now) (Some dialogue.now)) }
+        ≡ class3_frames count service (view_reply reply.now) (Some class3.now)) }
 {
-    let route = response_route(dialogue, count);
+    let route = response_route(class3, count);
     let text = message_text(alloc, &route, service, reply)?;
     let reply = FrameReply::Connected(route.t_o_id, count, &text);
     stream_frame(alloc, route.number, route.request_header, &reply)
 }
 
-/// The frame of an answer of the application, or of the device in its place, on the route of the request. `dialogue`
+/// The frame of an answer of the application, or of the device in its place, on the route of the request. `class3`
 /// is the class 3 connection whose last message is the request, if it is open; without it such a request has no frame.
 /// `OutOfMemory` is the only error.
 ///
@@ -114,13 +114,13 @@ fn dialogue_frame(
 pub fn response_frame(
     alloc: Global,
     asker: Requester,
-    dialogue: Option<&Dialogue>,
+    class3: Option<&Class3Connection>,
     service: u8,
     reply: &Reply<'_>,
 ) -> Result<Option<Frame>, OutOfMemory>
     requires { IsWritable (view_reply reply.now) }
     ensures { IfOk result (λ frame. option_to_list frame
-        ≡ response_frames asker (option_map (λ lent. lent.now) dialogue.entry) service (view_reply reply.now)) }
+        ≡ response_frames asker (option_map (λ lent. lent.now) class3.entry) service (view_reply reply.now)) }
 {
     match asker {
         Requester::Peer(node) => {
@@ -137,8 +137,8 @@ pub fn response_frame(
             let reply = FrameReply::Router(*reply, None);
             Ok(Some(stream_frame(alloc, number, request_header, &reply)?))
         }
-        Requester::Dialogue { count, .. } => match dialogue {
-            Some(dialogue) => Ok(Some(dialogue_frame(alloc, dialogue, count, service, reply)?)),
+        Requester::Class3Connection { count, .. } => match class3 {
+            Some(class3) => Ok(Some(class3_frame(alloc, class3, count, service, reply)?)),
             None => Ok(None),
         },
     }
@@ -147,12 +147,12 @@ pub fn response_frame(
 // ANSWERS IN PLACE OF THE APPLICATION
 
 /// The class 3 connection whose last message is the request, if it is still open once the late ones have ended.
-fn found_last(messaging: &MessagingState, clock: Ms, asker: Requester) -> Option<&Dialogue>
+fn found_last(messaging: &MessagingState, clock: Ms, asker: Requester) -> Option<&Class3Connection>
     ensures { option_map (λ lent. lent.now) result
-        ≡ found_last (without_late_dialogues clock messaging.now) asker }
+        ≡ found_last (without_late_class3_connections clock messaging.now) asker }
 {
     match asker {
-        Requester::Dialogue { id, count } => messaging.find_last_on_time(clock, id, count),
+        Requester::Class3Connection { id, count } => messaging.find_last_on_time(clock, id, count),
         Requester::Peer(_) | Requester::Stream { .. } => None,
     }
 }
@@ -166,12 +166,12 @@ fn late_frame(
     request: &Waiting,
 ) -> Result<Option<Frame>, OutOfMemory>
     ensures { IfOk result (λ frame. option_to_list frame
-        ≡ late_frames (without_late_dialogues clock messaging.now) request.now) }
+        ≡ late_frames (without_late_class3_connections clock messaging.now) request.now) }
 {
-    let dialogue = found_last(messaging, clock, request.asker);
+    let class3 = found_last(messaging, clock, request.asker);
     let status = Status::VendorSpecific.fault().general;
     let reply = Reply::Own(request.service, status, &[]);
-    response_frame(alloc, request.asker, dialogue, request.service, &reply)
+    response_frame(alloc, request.asker, class3, request.service, &reply)
 }
 
 /// The frames that answer these late requests, in their order, where they can still be answered.
@@ -182,7 +182,7 @@ fn frames_of(
     late: &[Waiting],
 ) -> Result<Vec<Frame>, OutOfMemory>
     ensures { IfOk result (λ frames. frames.items
-        ≡ flat_map (late_frames (without_late_dialogues clock messaging.now)) late.now) }
+        ≡ flat_map (late_frames (without_late_class3_connections clock messaging.now)) late.now) }
 {
     let mut frames = Vec::new(alloc);
     for request in late {
@@ -201,8 +201,8 @@ pub fn late_frames(
     clock: Ms,
 ) -> Result<Vec<Frame>, OutOfMemory>
     ensures { IfOk result (λ frames. frames.items
-        ≡ flat_map (late_frames (without_late_dialogues clock messaging.now))
-        (late_waiting clock (without_late_dialogues clock messaging.now))) }
+        ≡ flat_map (late_frames (without_late_class3_connections clock messaging.now))
+        (late_waiting clock (without_late_class3_connections clock messaging.now))) }
 {
     let late = messaging.late_waiting(alloc, clock)?;
     frames_of(alloc, messaging, clock, &late)

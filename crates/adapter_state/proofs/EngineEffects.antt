@@ -54,14 +54,14 @@ are_whole t whole = record { table = t; whole = whole; same = refl }
 -- ---- a datagram is applied
 
 -- an output is there for the data
-pub feeds_output : AppliedDataHaveOutputs → (t : AdapterTable) (peer : Node) (d : DatagramFields) (row : Row) (delivery : Delivery) → find (is_for peer d.connection) t.rows ≡ Some row → row_delivery t.profile row d ≡ delivery → IsWhole t → delivery ≡ Applied → IsTrue (is_output t.profile row.consumed)
+pub feeds_output : AppliedDataHaveOutputs → (t : AdapterTable) (peer : Node) (d : DatagramFields) (row : Row) (delivery : Delivery) → find (is_for peer d.connection) t.rows ≡ Some row → row_delivery t.profile t.clock row d ≡ delivery → IsWhole t → delivery ≡ Applied → IsTrue (is_output t.profile row.consumed)
 feeds_output have t peer d row delivery found is whole applied =
-    have t.profile row d (each_found (ConsumesOutput t.profile) (is_for peer d.connection) t.rows row found whole.consume) (is ∙ applied)
+    have t.profile t.clock row d (each_found (ConsumesOutput t.profile) (is_for peer d.connection) t.rows row found whole.consume) (is ∙ applied)
 
 -- and is as long as they are
-pub feeds_len : AppliedDataFit → (t : AdapterTable) (peer : Node) (d : DatagramFields) (row : Row) (delivery : Delivery) → find (is_for peer d.connection) t.rows ≡ Some row → row_delivery t.profile row d ≡ delivery → IsWhole t → delivery ≡ Applied → len_of t.profile row.consumed ≡ Some (length (run_data (header_at d.payload)))
+pub feeds_len : AppliedDataFit → (t : AdapterTable) (peer : Node) (d : DatagramFields) (row : Row) (delivery : Delivery) → find (is_for peer d.connection) t.rows ≡ Some row → row_delivery t.profile t.clock row d ≡ delivery → IsWhole t → delivery ≡ Applied → len_of t.profile row.consumed ≡ Some (length (run_data (header_at d.payload)))
 feeds_len fit t peer d row delivery found is whole applied =
-    fit t.profile row d (each_found (ConsumesOutput t.profile) (is_for peer d.connection) t.rows row found whole.consume) (is ∙ applied)
+    fit t.profile t.clock row d (each_found (ConsumesOutput t.profile) (is_for peer d.connection) t.rows row found whole.consume) (is ∙ applied)
 
 -- ---- a write that makes no producer produce
 
@@ -142,10 +142,10 @@ pub record Laws : Type 0 where
   pub lengths : AppliedDataFit
   pub effects : EffectsKeep IsWhole
 
-fed_step : (b : Bool) → Laws → (t : AdapterTable) (peer : Node) (d : DatagramFields) (row : Row) (new : List Row) → is_accepted (row_delivery t.profile row d) ≡ b → find (is_for peer d.connection) t.rows ≡ Some row → new ≡ cond b (map (accepted_if_for t.clock peer d) t.rows) t.rows → IsWhole t → Fed t peer d row.consumed (row_delivery t.profile row d) new
+fed_step : (b : Bool) → Laws → (t : AdapterTable) (peer : Node) (d : DatagramFields) (row : Row) (new : List Row) → is_accepted (row_delivery t.profile t.clock row d) ≡ b → find (is_for peer d.connection) t.rows ≡ Some row → new ≡ cond b (map (accepted_if_for t.clock peer d) t.rows) t.rows → IsWhole t → Fed t peer d row.consumed (row_delivery t.profile t.clock row d) new
 unfolding accepted_table
 fed_step true laws t peer d row new accepted found is whole =
-    let delivery = row_delivery t.profile row d in
+    let delivery = row_delivery t.profile t.clock row d in
     record {
       output = feeds_output laws.outputs t peer d row delivery found refl whole;
       len = feeds_len laws.lengths t peer d row delivery found refl whole;
@@ -153,7 +153,7 @@ fed_step true laws t peer d row new accepted found is whole =
       said = rw (found, accepted, is) refl;
     }
 fed_step false laws t peer d row new accepted found is whole =
-    let delivery = row_delivery t.profile row d in
+    let delivery = row_delivery t.profile t.clock row d in
     record {
       output = feeds_output laws.outputs t peer d row delivery found refl whole;
       len = feeds_len laws.lengths t peer d row delivery found refl whole;
@@ -191,19 +191,19 @@ received_len t peer d received new is run applied =
     let same = applied_run _ run _ received.judgement applied is.judged in
     is.fed.len same.0 ∙ ap (λ (r : List ℕ). Some (length r)) same.1
 
-received_found : Laws → (t : AdapterTable) (peer : Node) (d : DatagramFields) (found : Option Row) (received : ReceivedDatagram) (new : List Row) → find (is_for peer d.connection) t.rows ≡ found → IsReceived t.profile d found (Some received) → new ≡ receiving t.profile t.clock peer d found t.rows → IsWhole t → Received t peer d received new
+received_found : Laws → (t : AdapterTable) (peer : Node) (d : DatagramFields) (found : Option Row) (received : ReceivedDatagram) (new : List Row) → find (is_for peer d.connection) t.rows ≡ found → IsReceived t.profile t.clock d found (Some received) → new ≡ receiving t.profile t.clock peer d found t.rows → IsWhole t → Received t peer d received new
 received_found laws t peer d None received new is ends rows whole = absurd ends
 received_found laws t peer d (Some row) received new is reported rows whole =
-    let said = judged_as (row_delivery t.profile row d) _ received.judgement reported.0 in
-    let fed = fed_step (is_accepted (row_delivery t.profile row d)) laws t peer d row new refl is rows whole in
+    let said = judged_as (row_delivery t.profile t.clock row d) _ received.judgement reported.0 in
+    let fed = fed_step (is_accepted (row_delivery t.profile t.clock row d)) laws t peer d row new refl is rows whole in
     record {
       judged = subst (λ (s : Delivery). IsJudged s (run_data (header_at d.payload)) received.judgement) said reported.0;
       fed = subst (λ (p : ℕ). Fed t peer d p (judged_delivery received.judgement) new) (sym reported.1) (subst (λ (s : Delivery). Fed t peer d row.consumed s new) said fed);
     }
 
-pub received_by : Laws → (t : AdapterTable) (peer : Node) (d : DatagramFields) (reported : Option ReceivedDatagram) (received : ReceivedDatagram) (new : List Row) → IsReceived t.profile d (find (is_for peer d.connection) t.rows) reported → new ≡ receiving t.profile t.clock peer d (find (is_for peer d.connection) t.rows) t.rows → IsWhole t → reported ≡ Some received → Received t peer d received new
+pub received_by : Laws → (t : AdapterTable) (peer : Node) (d : DatagramFields) (reported : Option ReceivedDatagram) (received : ReceivedDatagram) (new : List Row) → IsReceived t.profile t.clock d (find (is_for peer d.connection) t.rows) reported → new ≡ receiving t.profile t.clock peer d (find (is_for peer d.connection) t.rows) t.rows → IsWhole t → reported ≡ Some received → Received t peer d received new
 received_by laws t peer d reported received new is rows whole some =
-    received_found laws t peer d (find (is_for peer d.connection) t.rows) received new refl (subst (IsReceived t.profile d (find (is_for peer d.connection) t.rows)) some is) rows whole
+    received_found laws t peer d (find (is_for peer d.connection) t.rows) received new refl (subst (IsReceived t.profile t.clock d (find (is_for peer d.connection) t.rows)) some is) rows whole
 
 -- ---- connections that are dropped, and those that time out
 

@@ -2,12 +2,11 @@
 use Rattle.std.proofs.Common.{◌≤◌, ℕ, List, [], length, None, arith}
 use Rattle.cip_types.specs.declared.names.ConnId.{ConnId}
 use Rattle.cip_types.specs.declared.names.Triad.{Triad}
-use Rattle.cip_router.specs.Requests.{opening}
-use Rattle.messaging.specs.declared.dialogue.Dialogue.{Dialogue}
+use Rattle.messaging.specs.declared.class3.Class3Connection.{Class3Connection}
 use Rattle.messaging.specs.declared.requests.Waiting.{Waiting}
 use Rattle.messaging.specs.declared.table.Messaging.{Messaging}
 use Rattle.messaging.specs.Changes.{answered, replied}
-use Rattle.messaging.specs.Dialogues.{replied_dialogue}
+use Rattle.messaging.specs.Class3Connections.{replied_class3}
 use Rattle.messaging.specs.Lemmas.KeptLemmas.{Keeps, replied_keeps, answered_keeps, keeps_both}
 use Rattle.messaging.specs.Lemmas.SoundLemmas.{replied_sound, answered_sound}
 use Rattle.adapter_table.specs.declared.table.AdapterTable.{AdapterTable}
@@ -17,10 +16,10 @@ use Rattle.adapter_table.specs.Lemmas.MessageLemmas.{WaitsNot}
 
 -- ---- the application answers
 
-place_replied : (t : AdapterTable) (text : List ℕ) → length text ≤ 1404 → (d : Dialogue) → IsInPlace t.rows t.streams d → IsInPlace t.rows t.streams (replied_dialogue text d)
+place_replied : (t : AdapterTable) (text : List ℕ) → length text ≤ 1404 → (d : Class3Connection) → IsInPlace t.rows t.streams d → IsInPlace t.rows t.streams (replied_class3 text d)
 place_replied t text short d is = record { triad = is.triad; id = is.id; stream = is.stream; watchdog = is.watchdog; o_t_api_ms = is.o_t_api_ms; t_o_api_ms = is.t_o_api_ms; reply = short }
 
-settled_keeps : (P : Dialogue → Type 0) (Q : Waiting → Type 0) (m : Messaging) (id : ConnId) (count number : ℕ) (text : List ℕ) → ((d : Dialogue) → P d → P (replied_dialogue text d)) → Keeps P Q m (answered (replied m id count text) number)
+settled_keeps : (P : Class3Connection → Type 0) (Q : Waiting → Type 0) (m : Messaging) (id : ConnId) (count number : ℕ) (text : List ℕ) → ((d : Class3Connection) → P d → P (replied_class3 text d)) → Keeps P Q m (answered (replied m id count text) number)
 settled_keeps P Q m id count number text keeps =
     keeps_both P Q m (replied m id count text) (answered (replied m id count text) number) (replied_keeps P Q m id count text keeps) (answered_keeps P Q (replied m id count text) number)
 
@@ -36,14 +35,14 @@ goes_settled t id count number text short =
       left = λ few. few;
       sound = λ rows sound. record {
         own = answered_sound t.profile.incarnation t.next_id (replied t.messaging id count text) number (replied_sound t.profile.incarnation t.next_id t.messaging id count text sound.own);
-        dialogues = keeps.dialogues sound.dialogues;
+        class3_connections = keeps.class3_connections sound.class3_connections;
         waiting = keeps.waiting sound.waiting;
       };
       settled = λ n settled. record { given = rw (asks n).number settled.given; waits_not = (asks n).waiting settled.waits_not };
     }
 
 -- a class 3 connection of a triad
-abbrev pub of_triad : Triad → Dialogue
+abbrev pub of_triad : Triad → Class3Connection
 of_triad triad = record {
   triad = triad;
   peer = record { 0 = 0 };

@@ -10,13 +10,13 @@ use Rattle.cip_router.specs.Refusals.{status_fault}
 use Rattle.cip_router.specs.Replies as replies
 use Rattle.cip_router.specs.Replies.{ReplyFields}
 use Rattle.cip_router.specs.Requests.{RouterRequestFields, nothing, refused, closing, object, opening, router_request_reading}
-use Rattle.messaging.specs.declared.dialogue.Dialogue.{Dialogue}
-use Rattle.messaging.specs.Changes.{lacks_room, executed, referred_over}
+use Rattle.messaging.specs.declared.class3.Class3Connection.{Class3Connection}
+use Rattle.messaging.specs.Changes.{executed, referred_over}
 use Rattle.adapter_table.specs.declared.table.AdapterTable.{AdapterTable}
 use Rattle.adapter_table.specs.Connected.{service_in, next_deadline}
 use Rattle.adapter_table.specs.Messages.{with_messages}
 use Rattle.adapter_table.specs.Objects.{ObjectAnswer, object_answer}
-use Rattle.adapter_table.specs.Own.{OwnRequest, own_of}
+use Rattle.adapter_table.specs.Own.{OwnRequest, own_of, cannot_ask}
 use Rattle.adapter_table.specs.Requests.{Next, open_service}
 use Rattle.adapter_replies.specs.declared.routes.RequestHeader.{RequestHeader}
 use Rattle.adapter_replies.specs.Messages.{message_answer, message_text_of, object_fields, object_notices, referred_answer}
@@ -24,7 +24,7 @@ use Rattle.adapter_replies.specs.Routes.{view_request_header, framed_answer}
 use Rattle.adapter_state.specs.declared.state.messages.Message.{Message}
 
 -- the message of a connection that a frame over a stream brings
-abbrev pub message_of : AdapterTable → Dialogue → (number : ℕ) → RequestHeader → (count : ℕ) → Message
+abbrev pub message_of : AdapterTable → Class3Connection → (number : ℕ) → RequestHeader → (count : ℕ) → Message
 message_of t d number request_header count = record {
   route = record {
     number = number;
@@ -33,6 +33,7 @@ message_of t d number request_header count = record {
     t_o_size = d.t_o_size;
     count = count;
   };
+  peer = d.peer;
   id = d.o_t_id;
   deadline = next_deadline t d;
 }
@@ -71,13 +72,13 @@ message_next t message first (opening large request) = refusal_next t message fi
 abbrev pub asking_next : AdapterTable → Message → OwnRequest → Next
 asking_next t message own = (
   referred_answer t.messaging.next_number own,
-  with_messages t (referred_over t.messaging message.id message.route.count own.service message.deadline t.clock),
+  with_messages t (referred_over t.messaging message.peer message.id message.route.count own.service message.deadline t.clock),
 )
 
 -- a request to an object of the maker's own
 abbrev pub own_next : AdapterTable → Message → OwnRequest → Next
 own_next t message own =
-    if lacks_room t.messaging then refusal_next t message own.service own.service status.ResourceUnavailable else asking_next t message own
+    if cannot_ask t message.peer then refusal_next t message own.service own.service status.ResourceUnavailable else asking_next t message own
 
 -- any request
 abbrev pub executed_next : AdapterTable → Message → (first : ℕ) → RouterRequestFields → Option OwnRequest → Next

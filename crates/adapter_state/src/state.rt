@@ -1,8 +1,8 @@
 //! What an adapter holds.
 
+mod class3_connections;
 mod closings;
 mod datagrams;
-mod dialogues;
 pub mod messages;
 mod openings;
 mod own;
@@ -13,15 +13,17 @@ mod time;
 
 ghost use Rattle.std.specs.Prelude.{◌≡◌, ◌≤◌, ◌^◌, IfOk};
 ghost use Rattle.adapter_table.specs.Profiles.{profile_fault};
+ghost use Rattle.adapter_table.specs.Rates.{counted_at, has_opened_enough_at};
 ghost use Rattle.adapter_table.specs.Step.{adapter_table};
 ghost use Rattle.adapter_table.specs.Whole.{IsWhole};
 
 use adapter_table::{AdapterTable, Profile, Stream};
 use assembly_set::AssemblySet;
-use cip_types::{Items, Ms, OutOfMemory};
+use cip_types::{Items, Ms, Node, OutOfMemory};
 use connection_list::ConnectionTable;
 use messaging::MessagingState;
 use open_streams::copied_streams;
+use opening_rates::{NodeOpenings, counted_openings, has_opened_enough};
 use std::alloc::Global;
 use std::marker::Model;
 
@@ -38,6 +40,7 @@ pub struct AdapterState<T: ConnectionTable> {
     next_id: u32,
     streams: Vec<Stream>,
     messaging: MessagingState,
+    openings: Vec<NodeOpenings>,
 }
 
 impl<T: ConnectionTable> Model for AdapterState<T> {
@@ -46,9 +49,9 @@ impl<T: ConnectionTable> Model for AdapterState<T> {
 
     ghost Value = { AdapterTable };
 
-    ghost view = { λ a. record { profile = a.assemblies.profile; rows = T.rows a.table; values = a.assemblies.values; clock = a.clock; next_id = a.next_id; streams = a.streams.items; messaging = a.messaging } };
+    ghost view = { λ a. record { profile = a.assemblies.profile; rows = T.rows a.table; values = a.assemblies.values; clock = a.clock; next_id = a.next_id; streams = a.streams.items; messaging = a.messaging; openings = a.openings.items } };
 
-    ghost invariant = { λ a. IsWhole (record { profile = a.assemblies.profile; rows = T.rows a.table; values = a.assemblies.values; clock = a.clock; next_id = a.next_id; streams = a.streams.items; messaging = a.messaging }) };
+    ghost invariant = { λ a. IsWhole (record { profile = a.assemblies.profile; rows = T.rows a.table; values = a.assemblies.values; clock = a.clock; next_id = a.next_id; streams = a.streams.items; messaging = a.messaging; openings = a.openings.items }) };
 }
 
 impl<T: ConnectionTable> AdapterState<T> {
@@ -66,6 +69,7 @@ impl<T: ConnectionTable> AdapterState<T> {
             next_id: 1,
             streams: Vec::new(alloc),
             messaging: MessagingState::new(alloc),
+            openings: Vec::new(alloc),
         })
     }
 
@@ -83,6 +87,7 @@ impl<T: ConnectionTable> AdapterState<T> {
             next_id: table.next_id,
             streams: copied_streams(alloc, table.streams.as_slice())?,
             messaging: MessagingState::holding(alloc, &table.messaging)?,
+            openings: Vec::from_slice(alloc, table.openings.as_slice())?,
         })
     }
 
@@ -98,11 +103,20 @@ impl<T: ConnectionTable> AdapterState<T> {
             next_id: self.next_id,
             streams: Items::copy_of(self.alloc, &self.streams)?,
             messaging: self.messaging.copy(self.alloc)?,
+            openings: Items::copy_of(self.alloc, &self.openings)?,
         })
     }
 }
 
 impl<T: ConnectionTable> AdapterState<T> {
+    /// The openings once a node has opened a connection. `OutOfMemory` is the only error.
+    fn counted_openings(&self, node: Node) -> Result<Vec<NodeOpenings>, OutOfMemory>
+        ensures { IfOk result (λ openings. openings.items ≡ counted_at self.now node) }
+    {
+        let most = self.assemblies.profile().limits.most_openings();
+        counted_openings(self.alloc, most, self.clock, node, &self.openings)
+    }
+
     /// Gives the prover that the table is whole.
     pub fn is_whole(&self)
         ensures { IsWhole self.now }
@@ -149,6 +163,16 @@ impl<T: ConnectionTable> AdapterState<T> {
         ensures { result.now ≡ self.now.streams }
     {
         &self.streams
+    }
+
+    /// Whether a node has opened as many connections in its second as the maker states. Takes no memory.
+    ///
+    /// Volume 1, chapter 3, Connection Manager object.
+    pub fn has_opened_enough(&self, node: Node) -> bool
+        ensures { result ≡ has_opened_enough_at self.now node }
+    {
+        let most = self.assemblies.profile().limits.most_openings();
+        has_opened_enough(most, self.clock, node, &self.openings)
     }
 
     /// The milliseconds that have passed.

@@ -21,7 +21,7 @@ points_staged request points None = refl
 points_staged request points (Some why) = refl
 
 -- checks 9 to 15
-found_staged : (view : View) (request : OpenFields) (path : Option PathFields) (points : Result Points Refusal) → judged request points (first_of (drop 10 (checks view request (path_read path) points))) ≡ and_then points (staged_points view request)
+found_staged : (view : View) (request : OpenFields) (path : Option PathFields) (points : Result Points Refusal) → judged request points (first_of (drop 11 (checks view request (path_read path) points))) ≡ and_then points (staged_points view request)
 unfolding points_check
 found_staged view request path (Ok points) = points_staged request points (points_check view request points)
 found_staged view request path (Err why) = refl
@@ -30,7 +30,7 @@ found_staged view request path (Err why) = refl
 path_staged : (view : View) (request : OpenFields) (path : Option PathFields) → judged request (points_of view request path) (first_of (drop 1 (checks view request (path_read path) (points_of view request path)))) ≡ staged_path view request path
 unfolding request_check
 path_staged view request path =
-    judged_front 9 request (points_of view request path) (drop 1 (checks view request (path_read path) (points_of view request path)))
+    judged_front 10 request (points_of view request path) (drop 1 (checks view request (path_read path) (points_of view request path)))
     ∙ ap (after (request_check view request path)) (found_staged view request path (points_of view request path))
 
 pub verdict_is_staged : (view : View) (request : OpenFields) (path : Result PathFields PathFault) → judged_path view request path ≡ staged view request path
@@ -44,3 +44,18 @@ verdict_is_staged view request (Err path_fault.KeyFormat) = refl
 pub all_passed : (view : View) (request : OpenFields) (path : Result PathFields PathFault) (found : Option PathFields) (points : Points) (admitted : Admitted) → readable path ≡ Ok found → request_check view request found ≡ None → points_of view request found ≡ Ok points → points_check view request points ≡ None → admitted ≡ admitted_at request points → judged_path view request path ≡ Ok admitted
 all_passed view request path found points admitted reads first named last is_admitted =
     verdict_is_staged view request path ∙ rw (reads, first, named, last, is_admitted) refl
+
+-- a check of the request fails
+pub refused_request : (view : View) (request : OpenFields) (path : Result PathFields PathFault) (found : Option PathFields) (why : Refusal) → readable path ≡ Ok found → request_check view request found ≡ Some why → judged_path view request path ≡ Err why
+refused_request view request path found why reads first =
+    verdict_is_staged view request path ∙ rw (reads, first) refl
+
+-- a point is not found
+pub refused_points : (view : View) (request : OpenFields) (path : Result PathFields PathFault) (found : Option PathFields) (why : Refusal) → readable path ≡ Ok found → request_check view request found ≡ None → points_of view request found ≡ Err why → judged_path view request path ≡ Err why
+refused_points view request path found why reads first named =
+    verdict_is_staged view request path ∙ rw (reads, first, named) refl
+
+-- a check of the points fails
+pub refused_at_points : (view : View) (request : OpenFields) (path : Result PathFields PathFault) (found : Option PathFields) (points : Points) (why : Refusal) → readable path ≡ Ok found → request_check view request found ≡ None → points_of view request found ≡ Ok points → points_check view request points ≡ Some why → judged_path view request path ≡ Err why
+refused_at_points view request path found points why reads first named last =
+    verdict_is_staged view request path ∙ rw (reads, first, named, last) refl

@@ -10,7 +10,7 @@ use Rattle.cip_fwdopen.specs.Open.{OpenFields}
 use Rattle.cip_router.specs.declared.refusal.Refusal.{Refusal}
 use Rattle.cip_router.specs.declared.refusal.Refusal.TheVariants as refusal
 use Rattle.adapter_table.specs.Checks.{View, Points, Check, first_of, is_multicast, checks, segment_check, points_of, served_trigger, served_inhibit, stored, Admitted, admitted_at}
-use Rattle.app_rules.specs.declared.dialogues.DialogueTimes.{DialogueTimes}
+use Rattle.app_rules.specs.declared.class3_connections.Class3Times.{Class3Times}
 use Rattle.app_rules.specs.declared.questions.Transport.{Transport}
 
 -- the result of checks: something if none fails, or the refusal of the first that does
@@ -39,11 +39,11 @@ readable path = after (segment_check path) (Ok (result_ok path))
 
 -- checks 3 to 8, of a path that reads or whose segments are in a wrong order
 unfoldable pub request_check : View → OpenFields → Option PathFields → Check
-request_check view request path = first_of (take 9 (drop 1 (checks view request (path_read path) (Err refusal.Path))))
+request_check view request path = first_of (take 10 (drop 1 (checks view request (path_read path) (Err refusal.Path))))
 
 -- checks 10 to 15, of points that exist
 unfoldable pub points_check : View → OpenFields → Points → Check
-points_check view request points = first_of (drop 11 (checks view request (path_read None) (Ok points)))
+points_check view request points = first_of (drop 12 (checks view request (path_read None) (Ok points)))
 
 -- the production inhibit time that a path asks for, if it names one
 abbrev pub path_inhibit : Option PathFields → Option ℕ
@@ -89,8 +89,8 @@ abbrev pub staged : View → OpenFields → Result PathFields PathFault → Resu
 staged view request path = and_then (readable path) (staged_path view request)
 
 -- the times of a class 3 connection that a request asks for
-abbrev pub dialogue_times : OpenFields → DialogueTimes
-dialogue_times request = record {
+abbrev pub class3_times : OpenFields → Class3Times
+class3_times request = record {
   o_t_api_ms = interval_ms request.o_t_rpi;
   t_o_api_ms = interval_ms request.t_o_rpi;
   watchdog = record { 0 = timeout request.multiplier (interval_ms request.o_t_rpi) };

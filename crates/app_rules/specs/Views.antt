@@ -5,9 +5,9 @@ use Rattle.cip_types.specs.declared.names.Triad.{Triad}
 use Rattle.cip_epath.specs.Path.{view_path}
 use Rattle.adapter_table.specs.Connections.{Row}
 use Rattle.adapter_table.specs.Checks as checks
-use Rattle.adapter_table.specs.DialogueOpening as opening
+use Rattle.adapter_table.specs.Class3Opening as opening
 use Rattle.app_rules.specs.declared.view.View.{View}
-use Rattle.app_rules.specs.declared.view.DialogueView.{DialogueView}
+use Rattle.app_rules.specs.declared.view.Class3View.{Class3View}
 use Rattle.app_rules.specs.declared.questions.NamedPoints.{NamedPoints}
 
 -- the state that the checks of a request of the triad read, from the list of the connections
@@ -18,11 +18,12 @@ abbrev pub view_named_points : NamedPoints → checks.Points
 view_named_points points = record { path = view_path points.path; consumer = points.consumer; input = points.input; group = points.group }
 
 -- the state that the checks of a class 3 connection read
-abbrev pub seen_dialogues : DialogueView → opening.DialogueView
-seen_dialogues view = record {
+abbrev pub seen_class3_connections : Class3View → opening.Class3View
+seen_class3_connections view = record {
   profile = view.profile.now;
   in_use = view.in_use;
   next_id = view.next_id;
   count = view.count;
   node_count = view.node_count;
+  opened_enough = view.opened_enough;
 }

@@ -5,7 +5,7 @@ ghost use Rattle.std.specs.Option.{option_map};
 ghost use Rattle.cip_epath.specs.Path.{view_path};
 ghost use Rattle.cip_fwdopen.specs.Open.{view_open};
 ghost use Rattle.adapter_table.specs.Checks.{Gives, view_admission, verdict, points_of, admitted_at, drawn_ids, is_multicast};
-ghost use Rattle.adapter_table.specs.StatedLimits.{limited};
+ghost use Rattle.adapter_table.specs.StatedLimits.{limited, paced};
 ghost use Rattle.app_rules.specs.Views.{seen, view_named_points};
 ghost use Rattle.app_rules.specs.Stages.{request_check, points_check, transport_of, IsPassed};
 
@@ -14,7 +14,8 @@ use crate::questions::{
     NamedPoints, Transport, admission_at, changes_config, consumed_point_of, exceeds,
     has_other_o_t_size, has_other_t_o_size, is_below_least, is_known_config, is_owned, is_unserved,
     is_unsupported, joined, joins_other_api, joins_other_inhibit, joins_other_trigger, key_check,
-    lacks_capacity, lacks_ids, listens_alone, misfits_config, readable, refuse_if, served_inhibit,
+    lacks_capacity, lacks_ids, lacks_pace, listens_alone, misfits_config, readable, refuse_if,
+    served_inhibit,
 };
 use crate::view::View;
 use adapter_table::Admission;
@@ -36,7 +37,8 @@ use cip_types::Node;
 /// 6. The transport class is 1, and the trigger cyclic or change of state (0x0103).
 /// 7. The multiplier is at most 7, and no redundant owner is requested (0x0108).
 /// 8. Each packet interval is 1 microsecond to 10 seconds, and no shorter than the least that the maker states
-///    (0x0111), and the inhibit time is no longer than the T->O one (0x011B).
+///    (0x0111), and the inhibit time is no longer than the T->O one, and not 0 at changes of state if the maker states
+///    how far ahead numbers can be (0x011B).
 /// 9. The path is of the Assembly class (0x0117), and names the configuration (0x0129), a consumed (0x012A) and a
 ///    produced (0x012B) point.
 /// 10. The data segment has the length of the configuration (0x0126), and does not change it while a connection is
@@ -48,7 +50,8 @@ use cip_types::Node;
 ///     group.
 /// 15. Ids are left, and there are fewer than 64 connections or one has timed out (0x0113).
 /// 16. Fewer connections of the application type are established than the maker states places for, and fewer of the
-///     peer's than the maker states for one node (0x0113).
+///     peer's than the maker states for one node, and the peer has opened fewer in its second than the maker states
+///     (0x0113).
 ///
 /// Volume 1, chapter 3, Forward_Open service and Connection Manager extended status codes.
 pub fn admit<'a, C: ConnectionsView>(
@@ -56,9 +59,9 @@ pub fn admit<'a, C: ConnectionsView>(
     peer: Node,
     request: &OpenRequest<&'a [u8]>,
 ) -> Result<Admission<'a>, Refusal>
-    ensures limited { Gives view_admission result
+    ensures limited { Gives view_admission result (paced view.now.opened_enough
         (limited view.now.profile.now.limits (C.rows view.now.connections.now) peer
-        (verdict (seen C.rows view.now request.now.triad) (view_open request.now))) }
+        (verdict (seen C.rows view.now request.now.triad) (view_open request.now)))) }
     ensures drawn { IfOk result (λ a. a.drawn ≡ drawn_ids a.multicast a.group) }
 {
     let admission = judge(view, request)?;
@@ -67,6 +70,7 @@ pub fn admit<'a, C: ConnectionsView>(
         exceeds(view, peer, admission.kind),
         Refusal::OutOfConnections,
     )?;
+    refuse_if(view.opened_enough, Refusal::OutOfConnections)?;
     Ok(admission)
 }
 
@@ -127,6 +131,8 @@ fn transport_of<C: ConnectionsView>(
     refuse_if(is_below_least(least, request), Refusal::PacketInterval)?;
     let inhibit = served_inhibit(trigger, path);
     refuse_if(t_o_api_ms < u32::from(inhibit), Refusal::InhibitTime)?;
+    let within = view.profile.limits.newer;
+    refuse_if(lacks_pace(within, request, path), Refusal::InhibitTime)?;
     Ok(Transport {
         multicast,
         trigger,

@@ -6,17 +6,17 @@
 #![tactic(auto)]
 
 mod checks;
+mod class3_connections;
 mod connections;
 mod counts;
-mod dialogues;
 mod questions;
 mod rules;
 mod view;
 
 pub use adapter_table::Admission;
 pub use checks::admit;
+pub use class3_connections::{Class3Times, admit_class3};
 pub use connections::{ConnectionsView, ListView};
 pub use counts::Count;
-pub use dialogues::{DialogueTimes, admit_dialogue};
 pub use rules::Rules;
-pub use view::{DialogueView, View};
+pub use view::{Class3View, View};

@@ -9,14 +9,16 @@ ghost use Rattle.cip_epath.specs.Reading.{path_reading};
 ghost use Rattle.cip_productions.specs.declared.kind.Kind.{Kind};
 ghost use Rattle.cip_productions.specs.Kinds.{is_owner, is_listener};
 ghost use Rattle.adapter_table.specs.Rows.{most_rows, is_established, is_timed_out, drives, is_supported};
-ghost use Rattle.adapter_table.specs.Checks.{Gives, view_admission, check, key_of, key_check, is_unserved, is_below_least, served_inhibit, is_known_config, consumed_point_of, group_of, joined, named_len, has_other_length, has_other_bytes, has_other_o_t_size, has_other_t_o_size, joins, has_other_trigger, has_other_inhibit, drawn_ids};
+ghost use Rattle.adapter_table.specs.Checks.{Gives, view_admission, check, key_of, key_check, is_unserved, is_below_least, inhibit_of, lacks_pace, served_inhibit, is_known_config, consumed_point_of, group_of, joined, named_len, has_other_length, has_other_bytes, has_other_o_t_size, has_other_t_o_size, joins, has_other_trigger, has_other_inhibit, drawn_ids};
 ghost use Rattle.adapter_table.specs.StatedLimits.{has_no_place, has_node_enough, exceeds};
 ghost use Rattle.app_rules.specs.Views.{view_named_points};
 ghost use Rattle.app_rules.specs.Stages.{IsPassed, readable, path_inhibit, admission_at};
 
 use crate::connections::ConnectionsView;
 use crate::view::View;
-use adapter_table::{Admission, ConsumedPoint, InputPoint, Places, Profile, Row, State};
+use adapter_table::{
+    Admission, ConsumedPoint, InputPoint, NodeLimits, Places, Profile, Row, State,
+};
 use cip_epath::{ConnPath, KeyFault, PathFault, check_key, read_path};
 use cip_fwdopen::OpenRequest;
 use cip_netparams::Trigger;
@@ -103,6 +105,31 @@ pub fn served_inhibit(trigger: Trigger, path: &Option<ConnPath<'_>>) -> u8
     match (trigger, path) {
         (Trigger::ChangeOfState, Some(path)) => path.inhibit.unwrap_or(0),
         (Trigger::ChangeOfState, None) | (Trigger::Cyclic, _) => 0,
+    }
+}
+
+/// The production inhibit time that a path asks for, in milliseconds.
+fn inhibit_of(path: &Option<ConnPath<'_>>) -> u8
+    ensures { result ≡ inhibit_of (option_map view_path path.now) }
+{
+    match path {
+        Some(path) => path.inhibit.unwrap_or(0),
+        None => 0,
+    }
+}
+
+/// Whether the maker states how far ahead numbers can be, and the request asks for changes of state that are never held
+/// back.
+pub fn lacks_pace(
+    within: Option<u32>,
+    request: &OpenRequest<&[u8]>,
+    path: &Option<ConnPath<'_>>,
+) -> bool
+    ensures { result ≡ lacks_pace within (view_open request.now) (option_map view_path path.now) }
+{
+    match (within, Trigger::read(request.trigger)) {
+        (Some(_), Some(Trigger::ChangeOfState)) => inhibit_of(path) == 0,
+        (Some(_), Some(Trigger::Cyclic)) | (Some(_), None) | (None, _) => false,
     }
 }
 
@@ -315,11 +342,15 @@ fn has_no_place<C: ConnectionsView>(connections: &C, places: Option<Places>, kin
 }
 
 /// Whether the node has as many established connections as one node can have.
-fn has_node_enough<C: ConnectionsView>(connections: &C, most: Option<u8>, peer: Node) -> bool
-    ensures { result ≡ has_node_enough most (C.rows connections.now) peer }
+fn has_node_enough<C: ConnectionsView>(
+    connections: &C,
+    limits: Option<NodeLimits>,
+    peer: Node,
+) -> bool
+    ensures { result ≡ has_node_enough limits (C.rows connections.now) peer }
 {
-    match most {
-        Some(most) => connections.node_count(peer) >= usize::from(most),
+    match limits {
+        Some(limits) => connections.node_count(peer) >= usize::from(limits.connections),
         None => false,
     }
 }

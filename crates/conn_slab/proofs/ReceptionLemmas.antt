@@ -29,7 +29,7 @@ use Rattle.adapter_table.specs.declared.acceptance.Judgement.TheVariants as judg
 use Rattle.adapter_table.specs.Judging.{IsJudged, judged_delivery}
 use Rattle.cip_events.specs.declared.event.Delivery.{Delivery}
 use Rattle.cip_events.specs.declared.event.Delivery.TheVariants.{Old, WrongSize}
-use Rattle.adapter_table.specs.StatedLimits.{accepts_number}
+use Rattle.adapter_table.specs.StatedLimits.{accepts_at}
 use Rattle.conn_slab.proofs.Running.{runs, by_source, nobody, somebody, target_is, rows_changed, filed_changed, items_changed}
 use Rattle.conn_slab.proofs.RowLemmas.{find_rows}
 
@@ -131,8 +131,8 @@ judged_says said bytes judged.Old is = sym is
 judged_says said bytes judged.WrongSize is = sym is
 
 -- an accepted datagram has the connection's size and is newer than the last one
-pub accepted_is : {P : Type 0} (profile : Profile) (row : Connection P) (d : DatagramFields) → is_accepted (row_delivery profile row d) ≡ true → row_delivery profile row d ≡ accepted_delivery row d
-accepted_is profile row d = split (length d.payload == expected_len profile row) (accepts_number profile.limits.newer row.last d.sequence)
+pub accepted_is : {P : Type 0} (profile : Profile) (clock : Ms) (row : Connection P) (d : DatagramFields) → is_accepted (row_delivery profile clock row d) ≡ true → row_delivery profile clock row d ≡ accepted_delivery row d
+accepted_is profile clock row d = split (length d.payload == expected_len profile row) (accepts_at profile.limits.newer clock row d.sequence)
   where
     split : (size newer : Bool) → is_accepted (cond size (cond newer (accepted_delivery row d) Old) WrongSize) ≡ true → cond size (cond newer (accepted_delivery row d) Old) WrongSize ≡ accepted_delivery row d
     split true true is = refl
@@ -177,7 +177,7 @@ module _ (slab : Slab Record) (triads : List (TriadKey × ℕ)) (sources : List 
         }
 
     pub received_kept : IsConsistent (with_value slab key (received_row profile clock d r)) triads sources pool
-    received_kept = received_consistent (is_accepted (row_delivery profile r d))
+    received_kept = received_consistent (is_accepted (row_delivery profile clock r d))
 
     pub received_rows : map (row_of pool) (items_of (with_value slab key (received_row profile clock d r)) triads)
         ≡ reception profile clock peer d (find (is_for peer d.connection) (map (row_of pool) (items_of slab triads))) (map (row_of pool) (items_of slab triads))
@@ -185,7 +185,7 @@ module _ (slab : Slab Record) (triads : List (TriadKey × ℕ)) (sources : List 
         let place : Source = record { peer = peer.0; id = d.connection } in
         let test : Record → Bool = λ x. same_source place (source_of x) && runs x in
         let rows = map (row_of pool) (items_of slab triads) in
-        let b = is_accepted (row_delivery profile r d) in
+        let b = is_accepted (row_delivery profile clock r d) in
         ap (map (row_of pool)) (received_items b)
         ∙ rows_changed (row_of pool) (is_for peer d.connection) test (λ row. cond b (accepted_row clock d row) row) (λ x. cond b (accepted_row clock d x) x) (target_is pool peer d.connection) (row_after pool clock d b) (items_of slab triads)
         ∙ rows_after clock peer d b rows

@@ -14,15 +14,15 @@ use Rattle.conn_slab.specs.declared.reception.Received.{Received}
 
 -- a connection that has received a datagram, which it accepts if its delivery is an accepted one
 abbrev pub received_row : {P : Type 0} → Profile → Ms → DatagramFields → Connection P → Connection P
-received_row profile clock d row = if is_accepted (row_delivery profile row d) then accepted_row clock d row else row
+received_row profile clock d row = if is_accepted (row_delivery profile clock row d) then accepted_row clock d row else row
 
 -- when its watchdog runs out then
 abbrev pub received_deadline : {P : Type 0} → Profile → Ms → DatagramFields → Connection P → Ms
-received_deadline profile clock d row = if is_accepted (row_delivery profile row d) then later_deadline clock row else row.deadline
+received_deadline profile clock d row = if is_accepted (row_delivery profile clock row d) then later_deadline clock row else row.deadline
 
 -- what the datagram brings it
 pub record IsReceivedBy {P : Type 0} (profile : Profile) (clock : Ms) (d : DatagramFields) (row : Connection P) (received : Received) : Type 0 where
-  pub judgement : IsJudged (row_delivery profile row d) (run_data (header_at d.payload)) received.judgement
+  pub judgement : IsJudged (row_delivery profile clock row d) (run_data (header_at d.payload)) received.judgement
   pub consumed : received.consumed ≡ row.consumed
   pub deadline : received.deadline ≡ received_deadline profile clock d row
 
@@ -37,4 +37,4 @@ IsReceived profile clock d (Some row) (Some received) = IsReceivedBy profile clo
 abbrev pub reception : Profile → Ms → Node → DatagramFields → Option Row → List Row → List Row
 reception profile clock peer d None rows = rows
 reception profile clock peer d (Some row) rows =
-    if is_accepted (row_delivery profile row d) then map (accepted_if_for clock peer d) rows else rows
+    if is_accepted (row_delivery profile clock row d) then map (accepted_if_for clock peer d) rows else rows

@@ -33,7 +33,7 @@ pub(crate) fn receive_record<'a>(
     ensures received { IsReceivedBy profile.now clock (view_datagram datagram.now) record.old result }
     ensures after { record.new ≡ received_row profile.now clock (view_datagram datagram.now) record.old }
 {
-    let judgement = judge(profile, record, datagram);
+    let judgement = judge(profile, clock, record, datagram);
     if judgement.delivery().is_accepted() {
         record.accept(clock, datagram, &judgement);
     }

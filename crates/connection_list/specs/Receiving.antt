@@ -12,15 +12,15 @@ use Rattle.adapter_table.specs.Judging.{IsJudged}
 use Rattle.connection_list.specs.declared.table.ReceivedDatagram.{ReceivedDatagram}
 
 -- what a datagram brings the connection that is found, if one is
-abbrev pub IsReceived : Profile → DatagramFields → Option Row → Option ReceivedDatagram → Type 0
-IsReceived profile d None None = Unit {0}
-IsReceived profile d None (Some received) = ⊥
-IsReceived profile d (Some row) None = ⊥
-IsReceived profile d (Some row) (Some received) =
-    IsJudged (row_delivery profile row d) (run_data (header_at d.payload)) received.judgement × (received.consumed ≡ row.consumed)
+abbrev pub IsReceived : Profile → Ms → DatagramFields → Option Row → Option ReceivedDatagram → Type 0
+IsReceived profile clock d None None = Unit {0}
+IsReceived profile clock d None (Some received) = ⊥
+IsReceived profile clock d (Some row) None = ⊥
+IsReceived profile clock d (Some row) (Some received) =
+    IsJudged (row_delivery profile clock row d) (run_data (header_at d.payload)) received.judgement × (received.consumed ≡ row.consumed)
 
 -- the connections after a datagram that is for the found one: it has accepted it, if its delivery is an accepted one
 abbrev pub receiving : Profile → Ms → Node → DatagramFields → Option Row → List Row → List Row
 receiving profile clock peer d None rows = rows
 receiving profile clock peer d (Some row) rows =
-    if is_accepted (row_delivery profile row d) then map (accepted_if_for clock peer d) rows else rows
+    if is_accepted (row_delivery profile clock row d) then map (accepted_if_for clock peer d) rows else rows

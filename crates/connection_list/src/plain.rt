@@ -128,7 +128,7 @@ impl ConnectionTable for ConnectionList {
         datagram: &Datagram<'a>,
     ) -> Option<ReceivedDatagram<'a>> {
         let row = find_target(&self.0, peer, datagram.connection)?;
-        let judgement = judge(profile, &row, datagram);
+        let judgement = judge(profile, clock, &row, datagram);
         if judgement.delivery().is_accepted() {
             accept_rows(&mut self.0, clock, peer, datagram);
         }

@@ -134,7 +134,7 @@ pub trait ConnectionTable: ConnectionsView + Drop {
     ) -> Option<ReceivedDatagram<'a>>
         requires whole { AreWhole (Self.rows self.old) }
         requires time { clock.0 ≤ 2 ^ 48 }
-        ensures received { IsReceived profile.now (view_datagram datagram.now)
+        ensures received { IsReceived profile.now clock (view_datagram datagram.now)
             (find (is_for peer datagram.now.connection.0) (Self.rows self.old)) result }
         ensures rows { Self.rows self.new
             ≡ receiving profile.now clock peer (view_datagram datagram.now)

@@ -99,7 +99,7 @@ received_if false clock peer d counts rows counted = counted
 
 received_found : (profile : Profile) (clock : Ms) (peer : Node) (d : DatagramFields) (counts : Counts) (rows : List Row) (o : Option Row) → AreCounted counts rows → AreCounted counts (reception profile clock peer d o rows)
 received_found profile clock peer d counts rows None counted = counted
-received_found profile clock peer d counts rows (Some row) counted = received_if (is_accepted (row_delivery profile row d)) clock peer d counts rows counted
+received_found profile clock peer d counts rows (Some row) counted = received_if (is_accepted (row_delivery profile clock row d)) clock peer d counts rows counted
 
 pub received_counted : (profile : Profile) (clock : Ms) (peer : Node) (d : DatagramFields) (counts : Counts) (rows : List Row) → AreCounted counts rows → AreCounted counts (reception profile clock peer d (find (is_for peer d.connection) rows) rows)
 received_counted profile clock peer d counts rows counted = received_found profile clock peer d counts rows (find (is_for peer d.connection) rows) counted
@@ -128,7 +128,7 @@ listen_if false clock peer d rows = refl
 
 listen_found : (profile : Profile) (clock : Ms) (peer : Node) (d : DatagramFields) (rows : List Row) (o : Option Row) → list_any is_listening (reception profile clock peer d o rows) ≡ list_any is_listening rows
 listen_found profile clock peer d rows None = refl
-listen_found profile clock peer d rows (Some row) = listen_if (is_accepted (row_delivery profile row d)) clock peer d rows
+listen_found profile clock peer d rows (Some row) = listen_if (is_accepted (row_delivery profile clock row d)) clock peer d rows
 
 pub received_listen : (profile : Profile) (clock : Ms) (peer : Node) (d : DatagramFields) (rows : List Row) → list_any is_listening (reception profile clock peer d (find (is_for peer d.connection) rows) rows) ≡ list_any is_listening rows
 received_listen profile clock peer d rows = listen_found profile clock peer d rows (find (is_for peer d.connection) rows)

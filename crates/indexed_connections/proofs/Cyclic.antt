@@ -115,7 +115,7 @@ received_if false clock peer d rows = refl
 
 received_found : (profile : Profile) (clock : Ms) (peer : Node) (d : DatagramFields) (rows : List Row) (o : Option Row) → list_any is_changing (reception profile clock peer d o rows) ≡ list_any is_changing rows
 received_found profile clock peer d rows None = refl
-received_found profile clock peer d rows (Some row) = received_if (is_accepted (row_delivery profile row d)) clock peer d rows
+received_found profile clock peer d rows (Some row) = received_if (is_accepted (row_delivery profile clock row d)) clock peer d rows
 
 pub received_changing : (profile : Profile) (clock : Ms) (peer : Node) (d : DatagramFields) (rows : List Row) → list_any is_changing (reception profile clock peer d (find (is_for peer d.connection) rows) rows) ≡ list_any is_changing rows
 received_changing profile clock peer d rows = received_found profile clock peer d rows (find (is_for peer d.connection) rows)

@@ -76,7 +76,7 @@ received_if false clock peer d rows = refl
 
 received_found : (profile : Profile) (clock : Ms) (peer : Node) (d : DatagramFields) (rows : List Row) (o : Option Row) → consumers_by_producer (reception profile clock peer d o rows) ≡ consumers_by_producer rows
 received_found profile clock peer d rows None = refl
-received_found profile clock peer d rows (Some row) = received_if (is_accepted (row_delivery profile row d)) clock peer d rows
+received_found profile clock peer d rows (Some row) = received_if (is_accepted (row_delivery profile clock row d)) clock peer d rows
 
 pub received_served : (profile : Profile) (clock : Ms) (peer : Node) (d : DatagramFields) (rows : List Row) → consumers_by_producer (reception profile clock peer d (find (is_for peer d.connection) rows) rows) ≡ consumers_by_producer rows
 received_served profile clock peer d rows = received_found profile clock peer d rows (find (is_for peer d.connection) rows)

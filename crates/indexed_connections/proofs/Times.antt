@@ -146,7 +146,7 @@ received_rest false clock peer d bound rows all = all
 ends_found : (profile : Profile) (clock : Ms) (peer : Node) (d : DatagramFields) (low watchdog : ℕ) (rows : List Row) (o : Option Row) (received : Received) → find (is_for peer d.connection) rows ≡ o → IdsDiffer rows → IsReceived profile clock d o (Some received) → low ≤ watchdog → low ≤ received.deadline.0 → watchdog ≤ next_watchdog rows → low ≤ next_watchdog (reception profile clock peer d o rows)
 ends_found profile clock peer d low watchdog rows None received is differ reported below after before = absurd reported
 ends_found profile clock peer d low watchdog rows (Some row) received is differ reported below after before =
-    received_end (is_accepted (row_delivery profile row d)) clock peer d low rows row differ is (subst (λ (deadline : Ms). low ≤ deadline.0) reported.deadline after) (omega arith)
+    received_end (is_accepted (row_delivery profile clock row d)) clock peer d low rows row differ is (subst (λ (deadline : Ms). low ≤ deadline.0) reported.deadline after) (omega arith)
 
 pub ends_received : (profile : Profile) (clock : Ms) (peer : Node) (d : DatagramFields) (low watchdog : ℕ) (rows : List Row) (received : Received) → IdsDiffer rows → IsReceived profile clock d (find (is_for peer d.connection) rows) (Some received) → low ≤ watchdog → low ≤ received.deadline.0 → watchdog ≤ next_watchdog rows → low ≤ next_watchdog (reception profile clock peer d (find (is_for peer d.connection) rows) rows)
 ends_received profile clock peer d low watchdog rows received differ reported below after before =
@@ -154,7 +154,7 @@ ends_received profile clock peer d low watchdog rows received differ reported be
 
 rests_found : (profile : Profile) (clock : Ms) (peer : Node) (d : DatagramFields) (bound : ℕ) (rows : List Row) (o : Option Row) → AllNotDueBefore bound rows → AllNotDueBefore bound (reception profile clock peer d o rows)
 rests_found profile clock peer d bound rows None all = all
-rests_found profile clock peer d bound rows (Some row) all = received_rest (is_accepted (row_delivery profile row d)) clock peer d bound rows all
+rests_found profile clock peer d bound rows (Some row) all = received_rest (is_accepted (row_delivery profile clock row d)) clock peer d bound rows all
 
 pub rests_received : (profile : Profile) (clock : Ms) (peer : Node) (d : DatagramFields) (bound : ℕ) (rows : List Row) → AllNotDueBefore bound rows → AllNotDueBefore bound (reception profile clock peer d (find (is_for peer d.connection) rows) rows)
 rests_received profile clock peer d bound rows all = rests_found profile clock peer d bound rows (find (is_for peer d.connection) rows) all

@@ -12,8 +12,8 @@ use Rattle.adapter_table.specs.Sound.{ShareInGroup, GroupsAloneShare}
 use Rattle.conn_slab.specs.Producing.{is_producer, producer_by}
 use Rattle.indexed_connections.specs.Turns.{written_if, rows_on, producer_on}
 use Rattle.indexed_connections.specs.ConsumerTables.{consumers_by_producer}
-use Rattle.indexed_connections.specs.declared.occasion.Occasion.{Occasion}
-use Rattle.indexed_connections.specs.declared.occasion.Occasion.TheVariants.{Due, DueBut, Change}
+use Rattle.indexed_connections.specs.declared.cause.SendCause.{SendCause}
+use Rattle.indexed_connections.specs.declared.cause.SendCause.TheVariants.{Due, DueBut, Change}
 use Rattle.indexed_connections.proofs.ProducerConsumers.{written_made, written_served}
 
 -- the row, whose producer has new data if the test holds
@@ -64,18 +64,18 @@ found_written number point (p ∷ ps) =
 by_written : (number point : ℕ) (rows : List Row) → producer_by number (map (written_row point) rows) ≡ option_map (written_if point) (producer_by number rows)
 by_written number point rows = ap (find (is_producer number)) (listed_written point rows) ∙ found_written number point (filter_map producer_in rows)
 
--- the producer of a number is one of the connections on the occasion if it is one of them, and is as on the occasion
-pub any_on : (o : Occasion) (number : ℕ) (rows : List Row) → list_any (is_produced_by number) (rows_on o rows) ≡ list_any (is_produced_by number) rows
+-- the producer of a number is one of the connections on the cause if it is one of them, and is as on the cause
+pub any_on : (o : SendCause) (number : ℕ) (rows : List Row) → list_any (is_produced_by number) (rows_on o rows) ≡ list_any (is_produced_by number) rows
 any_on (Due clock) number rows = refl
 any_on (DueBut clock ends) number rows = refl
 any_on (Change clock point) number rows = any_written number point rows
 
-pub producer_is : (o : Occasion) (number : ℕ) (rows : List Row) (producer : Producer) → Some producer ≡ producer_by number rows → Some (producer_on o producer) ≡ producer_by number (rows_on o rows)
+pub producer_is : (o : SendCause) (number : ℕ) (rows : List Row) (producer : Producer) → Some producer ≡ producer_by number rows → Some (producer_on o producer) ≡ producer_by number (rows_on o rows)
 producer_is (Due clock) number rows producer found = found
 producer_is (DueBut clock ends) number rows producer found = found
 producer_is (Change clock point) number rows producer found = ap (option_map (written_if point)) found ∙ sym (by_written number point rows)
 
-pub consumers_on : (o : Occasion) (rows : List Row) → consumers_by_producer (rows_on o rows) ≡ consumers_by_producer rows
+pub consumers_on : (o : SendCause) (rows : List Row) → consumers_by_producer (rows_on o rows) ≡ consumers_by_producer rows
 consumers_on (Due clock) rows = refl
 consumers_on (DueBut clock ends) rows = refl
 consumers_on (Change clock point) rows = written_served point rows

@@ -14,10 +14,10 @@ use Rattle.adapter_table.specs.declared.row.State.TheVariants.{Established, Time
 use Rattle.adapter_table.specs.Rows.{written_row}
 use Rattle.adapter_table.specs.Ticks.{has_expired}
 use Rattle.adapter_table.specs.Productions.{producers, consumers, production_of, input_of, is_due, is_produced_by, produces_on_change}
-use Rattle.indexed_connections.specs.declared.occasion.Occasion.{Occasion}
-use Rattle.indexed_connections.specs.declared.occasion.Occasion.TheVariants.{Due, DueBut, Change}
-use Rattle.indexed_connections.specs.declared.occasion.Inputs.{Inputs}
-use Rattle.indexed_connections.specs.declared.occasion.Inputs.TheVariants.{Held, Written}
+use Rattle.indexed_connections.specs.declared.cause.SendCause.{SendCause}
+use Rattle.indexed_connections.specs.declared.cause.SendCause.TheVariants.{Due, DueBut, Change}
+use Rattle.indexed_connections.specs.declared.cause.Inputs.{Inputs}
+use Rattle.indexed_connections.specs.declared.cause.Inputs.TheVariants.{Held, Written}
 
 -- a producer, and the nodes that consume its datagrams
 pub record Turn : Type 0 where
@@ -34,8 +34,8 @@ turns rows = map (turn_of rows) (producers rows)
 
 -- WHO SENDS
 
--- the connections on the occasion: at a change, those whose input is written
-abbrev pub rows_on : Occasion → List Row → List Row
+-- the connections for the cause: at a change, those whose input is written
+abbrev pub rows_on : SendCause → List Row → List Row
 rows_on (Due clock) rows = rows
 rows_on (DueBut clock ends) rows = rows
 rows_on (Change clock point) rows = map (written_row point) rows
@@ -44,14 +44,14 @@ rows_on (Change clock point) rows = map (written_row point) rows
 abbrev pub written_if : ℕ → Producer → Producer
 written_if point producer = if producer.point == point then record producer { production = record producer.production { written = true } } else producer
 
--- the producer of a connection, as it is on the occasion
-abbrev pub producer_on : Occasion → Producer → Producer
+-- the producer of a connection, as it is for the cause
+abbrev pub producer_on : SendCause → Producer → Producer
 producer_on (Due clock) producer = producer
 producer_on (DueBut clock ends) producer = producer
 producer_on (Change clock point) producer = written_if point producer
 
 -- a time at which the production inhibit time is compared
-abbrev pub IsInTime : Occasion → Type 0
+abbrev pub IsInTime : SendCause → Type 0
 IsInTime (Due clock) = Unit {0}
 IsInTime (DueBut clock ends) = Unit {0}
 IsInTime (Change clock point) = clock.0 ≤ 2 ^ 48
@@ -73,32 +73,32 @@ abbrev pub is_due_but : Ms → List Row → Row → Bool
 is_due_but clock ends row = is_due clock row && not (state_is_among ends row.state)
 
 -- the connection is established, and its producer sends
-abbrev pub row_sends : Occasion → Row → Bool
+abbrev pub row_sends : SendCause → Row → Bool
 row_sends (Due clock) = is_due clock
 row_sends (DueBut clock ends) = is_due_but clock ends.now
 row_sends (Change clock point) = produces_on_change clock point
 
-abbrev pub sends : Occasion → Producer → Bool
+abbrev pub sends : SendCause → Producer → Bool
 sends (Due clock) producer = is_production_due clock producer.production
 sends (DueBut clock ends) producer = is_production_due clock producer.production && not (is_among ends.now producer.production)
 sends (Change clock point) producer = producer.point == point && is_produced_on_change clock producer.production
 
-abbrev pub has_turn : Occasion → Turn → Bool
-has_turn occasion turn = sends occasion turn.producer
+abbrev pub has_turn : SendCause → Turn → Bool
+has_turn cause turn = sends cause turn.producer
 
 -- what orders producers before their numbers do: when they are due, and nothing at a change
-abbrev pub rank : Occasion → Producer → ℕ
+abbrev pub rank : SendCause → Producer → ℕ
 rank (Due clock) producer = producer.production.due.0
 rank (DueBut clock ends) producer = producer.production.due.0
 rank (Change clock point) producer = 0
 
-abbrev pub before : Occasion → Producer → Producer → Bool
+abbrev pub before : SendCause → Producer → Producer → Bool
 before (Due clock) = by_due
 before (DueBut clock ends) = by_due
 before (Change clock point) = by_number
 
-abbrev pub turn_before : Occasion → Turn → Turn → Bool
-turn_before occasion turn other = before occasion turn.producer other.producer
+abbrev pub turn_before : SendCause → Turn → Turn → Bool
+turn_before cause turn other = before cause turn.producer other.producer
 
 -- WHAT THEY SEND
 
@@ -120,6 +120,6 @@ sent_turn input turn = sent (produced_by turn.nodes (input turn.producer) turn.p
 abbrev pub one_production : List Row → (Producer → List ℕ) → Producer → Produced
 one_production rows input producer = production_of rows (input producer) producer
 
--- the datagrams of the producers that send on the occasion, in their order
-abbrev pub turns_sent : Occasion → (Producer → List ℕ) → List Row → List OutgoingDatagram
-turns_sent occasion input rows = map (sent_turn input) (in_order (turn_before occasion) (filter (has_turn occasion) (turns rows)))
+-- the datagrams of the producers that send for the cause, in their order
+abbrev pub turns_sent : SendCause → (Producer → List ℕ) → List Row → List OutgoingDatagram
+turns_sent cause input rows = map (sent_turn input) (in_order (turn_before cause) (filter (has_turn cause) (turns rows)))

@@ -7,13 +7,13 @@
 //! sequenced address item, and chapter 3, multicast connections.
 #![tactic(auto)]
 
+mod cause;
 mod consumer_table;
 mod counts;
 mod datagrams;
 mod expiries;
 mod from_list;
 mod keys;
-mod occasion;
 mod table;
 
 pub use consumer_table::ConsumerTable;

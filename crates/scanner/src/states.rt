@@ -57,7 +57,7 @@ impl ScannerSlots {
             streams: self.state.streams.len(),
             sessions: up_count(self.state.streams.as_slice()),
             connections: open_count(self.state.slots.as_slice()),
-            dialogues: 0,
+            class3_connections: 0,
             ids_left: IDS_PER_INCARNATION - self.state.next_id,
         }
     }

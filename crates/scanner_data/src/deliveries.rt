@@ -7,10 +7,9 @@ ghost use Rattle.cip_events.specs.Answers.{plain_answer};
 ghost use Rattle.cip_events.specs.declared.event.Verdict.TheVariants.{Delivered};
 ghost use Rattle.cip_events.specs.declared.event.Delivery.TheVariants as delivery;
 ghost use Rattle.cip_productions.specs.Acceptance.{is_duplicate};
-ghost use Rattle.scanner_table.specs.declared.table.ScannerTable.{ScannerTable};
 ghost use Rattle.scanner_table.specs.declared.slot.SlotState.TheVariants as state;
 ghost use Rattle.scanner_table.specs.Slots.{indexed_slots};
-ghost use Rattle.scanner_table.specs.Datagrams.{is_for, state_received, received_at, received};
+ghost use Rattle.scanner_table.specs.Datagrams.{is_for, accepts_at, state_received, received_at, received};
 ghost use Rattle.scanner_table.specs.WellFormed.{IsWellFormed};
 ghost use Rattle.scanner_slots.specs.Views.{view_slot, table_of};
 ghost use Rattle.scanner_table.specs.Opening.{later};
@@ -19,7 +18,7 @@ ghost use Rattle.scanner_slots.specs.Bounding.{IsHinted};
 
 use cip_datagram::{Datagram, read_datagram};
 use cip_events::Delivery;
-use cip_productions::{Accepted, accepts_sequence, is_duplicate};
+use cip_productions::{Accepted, accepts_number, is_duplicate, pace_of, since_accepted};
 use cip_types::{ConnId, Ms, Node};
 use scanner_slots::{
     Hints, ScannerState, SlotTest, SlotView, accepted_datagrams_keep_bounds,
@@ -38,15 +37,36 @@ fn deadline_after(clock: Ms, watchdog: Ms) -> Ms
     Ms(clock.0 + watchdog.0)
 }
 
-/// Returns the connection of a slot if it accepts a datagram: the datagram has the size of the input, and its sequence
-/// number is newer than the last accepted one. The error is the delivery of a datagram that is not accepted.
+/// Whether a slot's connection accepts a number at this time: it is newer than the last accepted one, and near it.
+fn accepts_at(
+    profile: &ScannerProfile,
+    scanner: &ScannerState,
+    indexed: SlotView<'_>,
+    connection: &SlotConnection,
+    number: u32,
+) -> bool
+    ensures { result
+        ≡ accepts_at (table_of profile.now scanner.now) (view_slot indexed.entry) connection.now number }
+{
+    let config = indexed.config;
+    let pace = pace_of(config.trigger, connection.t_o_api_ms, config.inhibit);
+    let since = since_accepted(scanner.clock, connection.watchdog, connection.deadline);
+    accepts_number(profile.newer, since, pace, connection.last, number)
+}
+
+/// Returns the connection of a slot if it accepts a datagram at this time: the datagram has the size of the input, and its
+/// sequence number is newer than the last accepted one, and not farther ahead of it than the profile allows. The error is
+/// the delivery of a datagram that is not accepted.
 fn accepting<'a>(
+    profile: &ScannerProfile,
+    scanner: &ScannerState,
     indexed: SlotView<'a>,
     datagram: &Datagram<'_>,
 ) -> Result<&'a SlotConnection, Delivery>
-    ensures judged { (t : ScannerTable)
-        → state_received t (view_slot indexed.entry) (view_datagram datagram.now) indexed.entry.slot.now.state
-        ≡ judged t (view_slot indexed.entry) (view_datagram datagram.now) (view_judgement result) }
+    ensures judged { state_received (table_of profile.now scanner.now) (view_slot indexed.entry)
+        (view_datagram datagram.now) indexed.entry.slot.now.state
+        ≡ judged (table_of profile.now scanner.now) (view_slot indexed.entry) (view_datagram datagram.now)
+        (view_judgement result) }
     ensures established { IfOk result
         (λ connection. indexed.entry.slot.now.state ≡ state.Established connection.now) }
     ensures size { IfOk result (λ _. length datagram.now.«data».now ≡ indexed.entry.config.now.in_len) }
@@ -57,7 +77,7 @@ fn accepting<'a>(
     if datagram.data.len() as u64 != indexed.config.in_len {
         return Err(Delivery::WrongSize);
     }
-    if !accepts_sequence(connection.last, datagram.sequence) {
+    if !accepts_at(profile, scanner, indexed, connection, datagram.sequence) {
         return Err(Delivery::Old);
     }
     Ok(connection)
@@ -188,7 +208,7 @@ fn receive_read<H: Hints>(
         return Delivery::UnknownId;
     };
     let number = indexed.number as usize;
-    match accepting(indexed, datagram) {
+    match accepting(profile, scanner, indexed, datagram) {
         Err(delivery) => delivery,
         Ok(connection) => {
             let last = connection.last;
@@ -200,9 +220,9 @@ fn receive_read<H: Hints>(
 }
 
 /// Delivers a datagram of a peer. It is for the established slot of the peer with the datagram's connection id. The slot
-/// accepts it if it has the size of the slot's input and a newer sequence number than the last accepted one. The slot then
-/// starts its watchdog anew, and its image becomes the data, unless the count is that of the last accepted datagram. Takes
-/// no memory.
+/// accepts it if it has the size of the slot's input and a newer sequence number than the last accepted one, which is not
+/// farther ahead of that than the profile allows. The slot then starts its watchdog anew, and its image becomes the data,
+/// unless the count is that of the last accepted datagram. Takes no memory.
 ///
 /// Volume 1, chapter 3, class 1 transport and connection timeouts; Volume 2, chapter 2, sequenced address item.
 #[tactic(auto, unfolding(scanner_table::specs::Datagrams::received))]

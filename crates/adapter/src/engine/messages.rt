@@ -16,7 +16,7 @@ ghost use Rattle.adapter_table.specs.Objects.{object_answer};
 ghost use Rattle.cip_encap.specs.Connected.{view_connected};
 ghost use Rattle.messaging.specs.Changes.{repeated};
 ghost use Rattle.adapter_table.specs.Messages.{with_messages};
-ghost use Rattle.messaging.specs.Dialogues.{has_dialogue_id};
+ghost use Rattle.messaging.specs.Class3Connections.{has_class3_id};
 ghost use Rattle.adapter_state.specs.Messages.{bytes_next, message_next, object_next, own_next, refusal_next};
 
 use super::Adapter;
@@ -34,7 +34,7 @@ use cip_tables::{
 };
 use cip_types::OutOfMemory;
 use connection_list::ConnectionTable;
-use messaging::Dialogue;
+use messaging::Class3Connection;
 use session_streams::has_session;
 
 /// The service of a message.
@@ -48,10 +48,10 @@ fn service_in(bytes: &[u8]) -> u8
 }
 
 /// Whether a message, behind its sequence count, is longer than the connection's O->T size.
-fn is_too_long(dialogue: &Dialogue, bytes: &[u8]) -> bool
-    ensures { result ≡ nat_lt dialogue.now.o_t_size (2 + length bytes.now) }
+fn is_too_long(class3: &Class3Connection, bytes: &[u8]) -> bool
+    ensures { result ≡ nat_lt class3.now.o_t_size (2 + length bytes.now) }
 {
-    let size = dialogue.o_t_size as usize;
+    let size = class3.o_t_size as usize;
     size < 2 || size - 2 < bytes.len()
 }
 
@@ -149,11 +149,12 @@ impl<T: ConnectionTable> Adapter<T> {
     }
 
     /// A message with a request to an object of the maker's own.
+    #[tactic(auto, using(adapter_table::specs::Lemmas::RequestLemmas::leaves_room))]
     fn own_message(&mut self, message: &Message, own: &OwnRequest<'_>) -> Outcome
-        requires { list_any (has_dialogue_id message.now.id) self.old.messaging.dialogues ≡ true }
+        requires { list_any (has_class3_id message.now.id) self.old.messaging.class3_connections ≡ true }
         ensures { Follows (Ok (own_next self.old message.now (view_own own.now))) self.old result self.new }
     {
-        if self.state.messaging().lacks_room() {
+        if self.state.cannot_ask(message.peer) {
             return self.refuse_message(
                 message,
                 own.service,
@@ -166,7 +167,7 @@ impl<T: ConnectionTable> Adapter<T> {
 
     /// A message of a new count.
     fn execute(&mut self, message: &Message, bytes: &[u8]) -> Outcome
-        requires { list_any (has_dialogue_id message.now.id) self.old.messaging.dialogues ≡ true }
+        requires { list_any (has_class3_id message.now.id) self.old.messaging.class3_connections ≡ true }
         ensures { Follows (Ok (bytes_next self.old message.now bytes.now)) self.old result self.new }
     {
         let request = read_router_request(bytes);
@@ -210,19 +211,19 @@ impl<T: ConnectionTable> Adapter<T> {
         // What a connection keeps of its last reply is short, and its watchdog within the limit.
         self.state.is_whole();
         let (alloc, clock) = (self.state.alloc(), self.state.clock());
-        let Some(dialogue) = self
+        let Some(class3) = self
             .state
             .messaging()
-            .find_dialogue(stream.number, packet.connection)
+            .find_class3(stream.number, packet.connection)
         else {
             return self.undelivered(Delivery::UnknownId);
         };
-        if is_too_long(dialogue, packet.message) {
+        if is_too_long(class3, packet.message) {
             return self.undelivered(Delivery::WrongSize);
         }
-        let message = Message::over(dialogue, stream.number, request_header, packet.count, clock);
-        if dialogue.repeats_last(packet.count) {
-            let answer = repeated_answer(alloc, &message.route, dialogue.reply.as_slice());
+        let message = Message::over(class3, stream.number, request_header, packet.count, clock);
+        if class3.repeats_last(packet.count) {
+            let answer = repeated_answer(alloc, &message.route, class3.reply.as_slice());
             return self.repeat(&message, answer);
         }
         self.execute(&message, packet.message)

@@ -21,7 +21,7 @@ use cip_encap::command::SEND_RR_DATA;
 use cip_tables::{Answer, Outcome, Reply, Status, StepFault, Stream, Verdict};
 use cip_types::{ConnId, Node};
 use connection_list::ConnectionTable;
-use messaging::{Dialogue, Requester, Waiting};
+use messaging::{Class3Connection, Requester, Waiting};
 
 /// The bytes of data of the application's longest answer.
 const LONGEST_ANSWER: usize = 1_400;
@@ -30,16 +30,18 @@ const LONGEST_ANSWER: usize = 1_400;
 
 impl<T: ConnectionTable> Adapter<T> {
     /// A request of a peer to an object of the maker's own.
+    #[tactic(auto, using(adapter_table::specs::Lemmas::RequestLemmas::leaves_room))]
     pub(crate) fn ask_of_peer(&mut self, peer: Node, own: &OwnRequest<'_>) -> Outcome
         ensures { Follows (Ok (own_answered self.old peer (view_own own.now))) self.old result self.new }
     {
-        if self.state.messaging().lacks_room() {
+        if self.state.cannot_ask(peer) {
             return self.state.refuse(Route::Peer(peer), own.service, Status::ResourceUnavailable);
         }
-        self.state.ask(Requester::Peer(peer), own)
+        self.state.ask(peer, Requester::Peer(peer), own)
     }
 
     /// The same of a request over a stream.
+    #[tactic(auto, using(adapter_table::specs::Lemmas::RequestLemmas::leaves_room))]
     pub(crate) fn ask_of_stream(
         &mut self,
         stream: &Stream,
@@ -50,7 +52,7 @@ impl<T: ConnectionTable> Adapter<T> {
         ensures { Follows (Ok (framed stream.now.number (view_request_header request_header)
             (own_replied self.old stream.now request_header.context (view_own own.now)))) self.old result self.new }
     {
-        if self.state.messaging().lacks_room() {
+        if self.state.cannot_ask(stream.peer) {
             let route = Route::Stream(stream.number, stream.peer, request_header);
             return self
                 .state
@@ -60,7 +62,7 @@ impl<T: ConnectionTable> Adapter<T> {
             number: stream.number,
             context: request_header.context,
         };
-        self.state.ask(asker, own)
+        self.state.ask(stream.peer, asker, own)
     }
 }
 
@@ -75,15 +77,15 @@ impl<T: ConnectionTable> Adapter<T> {
         count: u16,
         reply: &Reply<'_>,
     ) -> Outcome
-        requires asker { request.now.asker ≡ asker_of.Dialogue id count }
+        requires asker { request.now.asker ≡ asker_of.Class3Connection id count }
         requires writable { IsWritable (view_reply reply.now) }
         ensures { Follows (Ok (responded self.old request.now (view_reply reply.now))) self.old result self.new }
     {
-        let Some(dialogue) = self.state.messaging().find_last(id, count) else {
+        let Some(class3) = self.state.messaging().find_last(id, count) else {
             let answer = Answer::plain(self.state.alloc(), Verdict::Done);
             return self.state.settle(request.number, answer);
         };
-        let route = response_route(dialogue, count);
+        let route = response_route(class3, count);
         let text = message_text(self.state.alloc(), &route, request.service, reply)?;
         let answer = message_answer(
             self.state.alloc(),
@@ -144,7 +146,9 @@ impl<T: ConnectionTable> Adapter<T> {
             Requester::Stream { number, context } => {
                 self.answer_stream(request, number, context, reply)
             }
-            Requester::Dialogue { id, count } => self.answer_message(request, id, count, reply),
+            Requester::Class3Connection { id, count } => self.answer_message(
+                request, id, count, reply,
+            ),
         }
     }
 

@@ -7,7 +7,7 @@ ghost use Rattle.std.specs.List.{list_any};
 ghost use Rattle.adapter_table.specs.declared.table.AdapterTable.{AdapterTable};
 ghost use Rattle.adapter_table.specs.Messages.{with_messages};
 ghost use Rattle.messaging.specs.Changes.{lacks_room, repeated};
-ghost use Rattle.messaging.specs.Dialogues.{has_dialogue_id};
+ghost use Rattle.messaging.specs.Class3Connections.{has_class3_id};
 ghost use Rattle.adapter_state.specs.Messages.{asking_next, kept_next, message_of};
 
 use super::AdapterState;
@@ -16,17 +16,18 @@ use adapter_replies::{MessageRoute, RequestHeader, message_answer, referred_answ
 use adapter_table::laws::tables_are_whole;
 use cip_events::Notice;
 use cip_tables::{Answer, Outcome};
-use cip_types::{ConnId, Items, Ms};
+use cip_types::{ConnId, Items, Ms, Node};
 use connection_list::ConnectionTable;
-use messaging::Dialogue;
+use messaging::Class3Connection;
 
-/// A message of a class 3 connection: the route of its reply, the connection's O->T id, and the deadline of the next
-/// message.
+/// A message of a class 3 connection: the route of its reply, the node that sent it, the connection's O->T id, and the
+/// deadline of the next message.
 ///
 /// Volume 1, chapter 3, transport class 3.
 #[derive(Clone, Copy)]
 pub struct Message {
     pub route: MessageRoute,
+    pub peer: Node,
     pub id: ConnId,
     pub deadline: Ms,
 }
@@ -34,18 +35,18 @@ pub struct Message {
 impl Message {
     /// The message of a connection that a frame over a stream brings at a time.
     pub fn over(
-        dialogue: &Dialogue,
+        class3: &Class3Connection,
         number: u16,
         request_header: RequestHeader,
         count: u16,
         clock: Ms,
     ) -> Message
-        requires waits { dialogue.now.watchdog.0 ≤ 5120000 }
+        requires waits { class3.now.watchdog.0 ≤ 5120000 }
         requires time { clock.0 ≤ 2 ^ 48 }
         ensures { (t : AdapterTable) → t.clock ≡ clock
-            → result ≡ message_of t dialogue.now number request_header count }
+            → result ≡ message_of t class3.now number request_header count }
     {
-        let (t_o_id, t_o_size) = (dialogue.t_o_id, dialogue.t_o_size);
+        let (t_o_id, t_o_size) = (class3.t_o_id, class3.t_o_size);
         Message {
             route: MessageRoute {
                 number,
@@ -54,8 +55,9 @@ impl Message {
                 t_o_size,
                 count,
             },
-            id: dialogue.o_t_id,
-            deadline: Ms(clock.0 + dialogue.watchdog.0),
+            peer: class3.peer,
+            id: class3.o_t_id,
+            deadline: Ms(clock.0 + class3.watchdog.0),
         }
     }
 }
@@ -81,14 +83,16 @@ impl<T: ConnectionTable> AdapterState<T> {
     #[tactic(auto, unfolding(adapter_table::specs::Messages::messages_table))]
     pub fn ask_over(&mut self, message: &Message, own: &OwnRequest<'_>) -> Outcome
         requires room { lacks_room self.old.messaging ≡ false }
-        requires open { list_any (has_dialogue_id message.now.id) self.old.messaging.dialogues ≡ true }
+        requires open { list_any (has_class3_id message.now.id) self.old.messaging.class3_connections ≡ true }
         ensures { Follows (Ok (asking_next self.old message.now (view_own own.now))) self.old result self.new }
     {
         // The table stays whole.
         tables_are_whole();
         let answer = referred_answer(self.alloc, self.messaging.next_number(), own)?;
         let named = (message.id, message.route.count);
-        self.messaging.ask_over(self.alloc, named, own.service, message.deadline, self.clock)?;
+        let (peer, deadline, clock) = (message.peer, message.deadline, self.clock);
+        self.messaging
+            .ask_over(self.alloc, peer, named, own.service, deadline, clock)?;
         Ok(answer)
     }
 

@@ -20,7 +20,7 @@ use adapter_table::laws::{admitted_requests_fit, tables_are_whole};
 use app_rules::{View, admit};
 use assembly_set::AssemblySet;
 use cip_fwdopen::{OpenRequest, OpenService};
-use cip_productions::{first_deadline, first_production};
+use cip_productions::{first_deadline, first_production, pace_of};
 use cip_tables::{Admission, Outcome, Production, Refusal, Reply, Row, State};
 use cip_types::{ConnId, Node, connection_id};
 use connection_list::ConnectionTable;
@@ -51,6 +51,7 @@ impl<T: ConnectionTable> AdapterState<T> {
             connections: &self.table,
             next_id: self.next_id,
             talks: self.messaging.has_triad(request.triad),
+            opened_enough: self.has_opened_enough(peer),
         };
         admit(&view, peer, request)
     }
@@ -112,6 +113,7 @@ impl<T: ConnectionTable> AdapterState<T> {
             t_o_id: self.opened_t_o_id(request, admission),
             o_t_api_ms: admission.o_t_api_ms,
             t_o_api_ms: admission.t_o_api_ms,
+            o_t_pace_ms: pace_of(admission.trigger, admission.o_t_api_ms, admission.inhibit),
             watchdog: admission.watchdog,
             multicast: admission.multicast,
             opening: self.next_id,
@@ -146,9 +148,11 @@ impl<T: ConnectionTable> AdapterState<T> {
         let notices = opening_notices(self.alloc, replaced, &row)?;
         let reply = Reply::Opened(service, opened_reply(&row));
         let answer = reply_answer(self.alloc, route, &reply, opened_address(&row), notices)?;
+        let openings = self.counted_openings(row.peer)?;
         self.table.open(replaced, row)?;
         configure(&mut self.assemblies, admitted.segment);
         self.next_id += admitted.drawn;
+        self.openings = openings;
         Ok(answer)
     }
 

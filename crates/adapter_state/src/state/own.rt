@@ -6,7 +6,7 @@ ghost use Rattle.cip_events.specs.Outcomes.{Follows};
 ghost use Rattle.adapter_table.specs.Messages.{with_messages};
 ghost use Rattle.messaging.specs.Changes.{lacks_room, answered, can_be_answered, replied, waiting_for};
 ghost use Rattle.adapter_table.specs.MessagesSound.{RouteIsOpen};
-ghost use Rattle.adapter_table.specs.Own.{referred_table, referred_verdict};
+ghost use Rattle.adapter_table.specs.Own.{cannot_ask, referred_table, referred_verdict};
 ghost use Rattle.cip_events.specs.Answers.{plain_answer};
 
 use super::AdapterState;
@@ -14,28 +14,36 @@ use adapter_objects::OwnRequest;
 use adapter_replies::referred_answer;
 use adapter_table::laws::tables_are_whole;
 use cip_tables::{Answer, Outcome};
-use cip_types::{ConnId, Items};
+use cip_types::{ConnId, Items, Node};
 use connection_list::ConnectionTable;
 use messaging::Requester;
 
 impl<T: ConnectionTable> AdapterState<T> {
-    /// The application is asked, and the request waits for its answer.
+    /// Whether no request of a node can wait for the application. Takes no memory.
+    pub fn cannot_ask(&self, peer: Node) -> bool
+        ensures { result ≡ cannot_ask self.now peer }
+    {
+        let shared = self.assemblies.profile().limits.shares_requests();
+        self.messaging.lacks_share(shared, peer)
+    }
+
+    /// A node asks the application, and the request waits for its answer.
     #[tactic(auto, unfolding(adapter_table::specs::Messages::messages_table))]
-    pub fn ask(&mut self, asker: Requester, own: &OwnRequest<'_>) -> Outcome
+    pub fn ask(&mut self, peer: Node, asker: Requester, own: &OwnRequest<'_>) -> Outcome
         requires room { lacks_room self.old.messaging ≡ false }
         requires open { RouteIsOpen self.old.streams asker }
-        requires answerable { can_be_answered self.old.messaging.dialogues
-            (waiting_for self.old.messaging.next_number asker own.now.service self.old.clock) ≡ true }
+        requires answerable { can_be_answered self.old.messaging.class3_connections
+            (waiting_for self.old.messaging.next_number peer asker own.now.service self.old.clock) ≡ true }
         ensures { Follows (Ok (
           plain_answer (referred_verdict self.old (view_own own.now)),
-          referred_table self.old asker (view_own own.now),
+          referred_table self.old peer asker (view_own own.now),
         ))
             self.old result self.new }
     {
         // The table stays whole.
         tables_are_whole();
         let answer = referred_answer(self.alloc, self.messaging.next_number(), own)?;
-        self.messaging.ask(asker, own.service, self.clock)?;
+        self.messaging.ask(peer, asker, own.service, self.clock)?;
         Ok(answer)
     }
 

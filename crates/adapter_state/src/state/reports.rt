@@ -50,7 +50,7 @@ impl<T: ConnectionTable> AdapterState<T> {
             streams: self.streams.len(),
             sessions: sessions(&self.streams),
             connections: self.table.len(),
-            dialogues: self.messaging.dialogues().len(),
+            class3_connections: self.messaging.class3_connections().len(),
             ids_left: IDS_PER_INCARNATION - self.next_id,
         }
     }

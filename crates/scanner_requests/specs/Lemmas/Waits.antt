@@ -3,21 +3,21 @@ use Rattle.std.proofs.Common.{◌≡◌, ◌≤◌, ℕ, Bool, true, false, not,
 use Rattle.std.specs.List.{list_all}
 use Rattle.std.proofs.lemmas.Bool.Decides.{nat_tests}
 use Rattle.cip_types.specs.Cases.{Case, first_case}
-use Rattle.cip_events.specs.declared.profile_fault.ProfileFault.TheVariants.{Incarnation, Points, SameInstance, Length, Timing}
+use Rattle.cip_events.specs.declared.profile_fault.ProfileFault.TheVariants.{Incarnation, Points, SameInstance, Length, Timing, Limits}
 use Rattle.scanner_table.specs.declared.profile.ScannerProfile.{ScannerProfile}
-use Rattle.scanner_table.specs.Profiles.{profile_fault, are_served, are_apart, has_lengths, has_times, keeps_time, is_wait}
+use Rattle.scanner_table.specs.Profiles.{profile_fault, are_served, are_apart, has_lengths, has_times, keeps_time, is_wait, are_paced}
 
 pub no_more : {A : Type 0} (test : Bool) (says : A) (rest : List (Case A)) → first_case ((test, says) ∷ rest) ≡ None → (test ≡ false) × (first_case rest ≡ None)
 no_more true says rest is = absurd (cc)
 no_more false says rest is = (refl, is)
 
-last_two : {A : Type 0} (a b c d e : Bool) (v w x y z : A) → first_case ((a, v) ∷ (b, w) ∷ (c, x) ∷ (d, y) ∷ (e, z) ∷ []) ≡ None → (d ≡ false) × (e ≡ false)
-last_two a b c d e v w x y z is =
-    let second = (no_more a v ((b, w) ∷ (c, x) ∷ (d, y) ∷ (e, z) ∷ []) is).1 in
-    let third = (no_more b w ((c, x) ∷ (d, y) ∷ (e, z) ∷ []) second).1 in
-    let fourth = (no_more c x ((d, y) ∷ (e, z) ∷ []) third).1 in
-    let fifth = no_more d y ((e, z) ∷ []) fourth in
-    (fifth.0, (no_more e z [] fifth.1).0)
+fourth_and_fifth : {A : Type 0} (a b c d e : Bool) (v w x y z : A) (rest : List (Case A)) → first_case ((a, v) ∷ (b, w) ∷ (c, x) ∷ (d, y) ∷ (e, z) ∷ rest) ≡ None → (d ≡ false) × (e ≡ false)
+fourth_and_fifth a b c d e v w x y z rest is =
+    let second = (no_more a v ((b, w) ∷ (c, x) ∷ (d, y) ∷ (e, z) ∷ rest) is).1 in
+    let third = (no_more b w ((c, x) ∷ (d, y) ∷ (e, z) ∷ rest) second).1 in
+    let fourth = (no_more c x ((d, y) ∷ (e, z) ∷ rest) third).1 in
+    let fifth = no_more d y ((e, z) ∷ rest) fourth in
+    (fifth.0, (no_more e z rest fifth.1).0)
 
 pub is_so : (b : Bool) → not b ≡ false → b ≡ true
 is_so true is = refl
@@ -40,7 +40,7 @@ wait_fits ms is = grind (arith, nat_tests)
 pub faultless : (profile : ScannerProfile) → profile_fault profile ≡ None → Faultless profile
 unfolding profile_fault
 faultless profile is =
-    let passed = last_two (profile.incarnation == 0) (not (are_served profile)) (not (are_apart profile.slots)) (not (list_all has_lengths profile.slots)) (not (keeps_time profile)) Incarnation Points SameInstance Length Timing is in
+    let passed = fourth_and_fifth (profile.incarnation == 0) (not (are_served profile)) (not (are_apart profile.slots)) (not (list_all has_lengths profile.slots)) (not (keeps_time profile)) Incarnation Points SameInstance Length Timing ((not (are_paced profile.newer profile.slots), Limits) ∷ []) is in
     let timely = both_so (list_all has_times profile.slots) (is_wait profile.open_timeout && is_wait profile.retry) (is_so (keeps_time profile) passed.1) in
     let waits = both_so (is_wait profile.open_timeout) (is_wait profile.retry) timely.1 in
     record {

@@ -35,7 +35,7 @@ returns-in-Ok-clause-step g c =
     let connection = c.in-Ok.connection.now in
     let old = c.index_mut.result.now in
     let image = cond (is_duplicate connection.last d.count) old.image d.payload in
-    received_is t (view_slot c.in-Some.indexed) d connection _ old c.gather.new.slot c.gather.result c.in-Some.ensures.found (c.in-Ok.ensures.judged t) (c.index_mut.ensures.value ∙ at.slot _) c.gather.ensures.delivery
+    received_is t (view_slot c.in-Some.indexed) d connection _ old c.gather.new.slot c.gather.result c.in-Some.ensures.found c.in-Ok.ensures.judged (c.index_mut.ensures.value ∙ at.slot _) c.gather.ensures.delivery
     (recorded_is old c.in-Some.indexed.slot.now c.gather.new.slot t.clock c.deadline_after-deadline.result d connection image (c.index_mut.ensures.value ∙ at.slot _) c.in-Ok.ensures.established c.deadline_after-deadline.ensures c.gather.ensures.slot)
 
 pub returns-in-Ok-clause-hints : goal.returns-in-Ok-clause-hints

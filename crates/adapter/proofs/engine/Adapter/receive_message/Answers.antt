@@ -1,7 +1,7 @@
 use Rattle.std.proofs.Common.{◌≡◌, ℕ, List, find, Some, Ok, IfOk, ◌∙◌, sym, ap, subst}
 use Rattle.std.specs.Option.{option_map}
 use Rattle.cip_encap.specs.Connected.{view_connected}
-use Rattle.messaging.specs.Dialogues.{is_dialogue, has_dialogue_id}
+use Rattle.messaging.specs.Class3Connections.{is_class3, has_class3_id}
 use Rattle.adapter_table.specs.declared.table.AdapterTable.{AdapterTable}
 use Rattle.adapter_table.specs.MessagesSound.{IsInPlace}
 use Rattle.adapter_table.specs.Lemmas.MessageLemmas.{found_any, same_number}
@@ -17,26 +17,26 @@ use Rattle.adapter.proofs.engine.Adapter.receive_message.Goals as goal
 pub over-message-requires-clause-waits : goal.over-message-requires-clause-waits
 over-message-requires-clause-waits g c =
     let t : AdapterTable = c.self.inside.state in
-    let found : find (is_dialogue c.args.stream.now.number c.args.packet.now.connection) t.messaging.dialogues ≡ Some c.in-Some.dialogue.now = sym (rw c.messaging.ensures at c.find_dialogue.ensures) ∙ ap (option_map (λ lent. lent.now)) c.in-Some.is in
-    (each_of_found (IsInPlace t.rows t.streams) _ t.messaging.dialogues c.in-Some.dialogue.now found c.is_whole.ensures.messages.dialogues).watchdog
+    let found : find (is_class3 c.args.stream.now.number c.args.packet.now.connection) t.messaging.class3_connections ≡ Some c.in-Some.class3.now = sym (rw c.messaging.ensures at c.find_class3.ensures) ∙ ap (option_map (λ lent. lent.now)) c.in-Some.is in
+    (each_of_found (IsInPlace t.rows t.streams) _ t.messaging.class3_connections c.in-Some.class3.now found c.is_whole.ensures.messages.class3_connections).watchdog
 
 pub repeated_answer-answer-requires : goal.repeated_answer-answer-requires
 repeated_answer-answer-requires g c =
     let t : AdapterTable = c.self.inside.state in
-    let found : find (is_dialogue c.args.stream.now.number c.args.packet.now.connection) t.messaging.dialogues ≡ Some c.in-Some.dialogue.now = sym (rw c.messaging.ensures at c.find_dialogue.ensures) ∙ ap (option_map (λ lent. lent.now)) c.in-Some.is in
-    rw c.as_slice.ensures (each_of_found (IsInPlace t.rows t.streams) _ t.messaging.dialogues c.in-Some.dialogue.now found c.is_whole.ensures.messages.dialogues).reply
+    let found : find (is_class3 c.args.stream.now.number c.args.packet.now.connection) t.messaging.class3_connections ≡ Some c.in-Some.class3.now = sym (rw c.messaging.ensures at c.find_class3.ensures) ∙ ap (option_map (λ lent. lent.now)) c.in-Some.is in
+    rw c.as_slice.ensures (each_of_found (IsInPlace t.rows t.streams) _ t.messaging.class3_connections c.in-Some.class3.now found c.is_whole.ensures.messages.class3_connections).reply
 
 pub execute-requires : goal.execute-requires
 execute-requires g c =
     let t : AdapterTable = c.self.inside.state in
-    let found : find (is_dialogue c.args.stream.now.number c.args.packet.now.connection) t.messaging.dialogues ≡ Some c.in-Some.dialogue.now = sym (rw c.messaging.ensures at c.find_dialogue.ensures) ∙ ap (option_map (λ lent. lent.now)) c.in-Some.is in
-    rw (c.over-message.ensures t (sym c.clock-clock.ensures.value), ← c.self.view_is) (found_any _ (has_dialogue_id c.in-Some.dialogue.now.o_t_id) t.messaging.dialogues c.in-Some.dialogue.now found (same_number c.in-Some.dialogue.now.o_t_id.0))
+    let found : find (is_class3 c.args.stream.now.number c.args.packet.now.connection) t.messaging.class3_connections ≡ Some c.in-Some.class3.now = sym (rw c.messaging.ensures at c.find_class3.ensures) ∙ ap (option_map (λ lent. lent.now)) c.in-Some.is in
+    rw (c.over-message.ensures t (sym c.clock-clock.ensures.value), ← c.self.view_is) (found_any _ (has_class3_id c.in-Some.class3.now.o_t_id) t.messaging.class3_connections c.in-Some.class3.now found (same_number c.in-Some.class3.now.o_t_id.0))
 
 pub returns-then-repeats_last : goal.returns-then-repeats_last
 returns-then-repeats_last g c =
     let t : AdapterTable = c.args.self.now in
-    let d = c.in-Some.dialogue.now in
-    let found : find (is_dialogue c.args.stream.now.number c.args.packet.now.connection) t.messaging.dialogues ≡ Some d = rw (← c.self.view_is) (sym (rw c.messaging.ensures at c.find_dialogue.ensures) ∙ ap (option_map (λ lent. lent.now)) c.in-Some.is) in
+    let d = c.in-Some.class3.now in
+    let found : find (is_class3 c.args.stream.now.number c.args.packet.now.connection) t.messaging.class3_connections ≡ Some d = rw (← c.self.view_is) (sym (rw c.messaging.ensures at c.find_class3.ensures) ∙ ap (option_map (λ lent. lent.now)) c.in-Some.is) in
     let fits = sym c.is_too_long.ensures ∙ c.if-is_too_long.false in
     let again = sym c.repeats_last.ensures ∙ c.if-repeats_last.true in
     let message = c.over-message.ensures t (ap (λ (u : AdapterTable). u.clock) (sym c.self.view_is) ∙ sym c.clock-clock.ensures.value) in
@@ -49,8 +49,8 @@ returns-then-repeats_last g c =
 pub returns : goal.returns
 returns g c =
     let t : AdapterTable = c.args.self.now in
-    let d = c.in-Some.dialogue.now in
-    let found : find (is_dialogue c.args.stream.now.number c.args.packet.now.connection) t.messaging.dialogues ≡ Some d = rw (← c.self.view_is) (sym (rw c.messaging.ensures at c.find_dialogue.ensures) ∙ ap (option_map (λ lent. lent.now)) c.in-Some.is) in
+    let d = c.in-Some.class3.now in
+    let found : find (is_class3 c.args.stream.now.number c.args.packet.now.connection) t.messaging.class3_connections ≡ Some d = rw (← c.self.view_is) (sym (rw c.messaging.ensures at c.find_class3.ensures) ∙ ap (option_map (λ lent. lent.now)) c.in-Some.is) in
     let fits = sym c.is_too_long.ensures ∙ c.if-is_too_long.false in
     let new = sym c.repeats_last.ensures ∙ c.if-repeats_last.false in
     let message = c.over-message.ensures t (ap (λ (u : AdapterTable). u.clock) (sym c.self.view_is) ∙ sym c.clock-clock.ensures.value) in

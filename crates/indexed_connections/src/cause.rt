@@ -15,7 +15,7 @@ use row_productions::is_produced_by;
 
 /// Why producers send.
 #[derive(Clone, Copy)]
-pub(crate) enum Occasion<'a> {
+pub(crate) enum SendCause<'a> {
     /// They are due at this time.
     Due(Ms),
     /// They are due at this time, and are none of these connections', which time out.
@@ -63,29 +63,29 @@ pub(crate) fn written_if(point: u32, producer: Producer) -> Producer
     }
 }
 
-/// A producer as it is on an occasion.
+/// A producer as it is when a cause arises.
 #[inline(always)]
-fn producer_on(occasion: Occasion<'_>, producer: Producer) -> Producer
-    ensures { result ≡ producer_on occasion.entry producer }
+fn producer_on(cause: SendCause<'_>, producer: Producer) -> Producer
+    ensures { result ≡ producer_on cause.entry producer }
 {
-    match occasion {
-        Occasion::Due(_) | Occasion::DueBut(..) => producer,
-        Occasion::Change(_, point) => written_if(point, producer),
+    match cause {
+        SendCause::Due(_) | SendCause::DueBut(..) => producer,
+        SendCause::Change(_, point) => written_if(point, producer),
     }
 }
 
-/// The producer of a number, as it is on an occasion. The search tries one index first.
+/// The producer of a number, as it is when a cause arises. The search tries one index first.
 #[inline(always)]
 pub(crate) fn producer_at(
-    occasion: Occasion<'_>,
+    cause: SendCause<'_>,
     connections: &Connections,
     number: u32,
     hint: usize,
 ) -> Producer
-    requires { list_any (is_produced_by number) (rows_on occasion connections.now) ≡ true }
-    ensures { Some result ≡ producer_by number (rows_on occasion.entry connections.now) }
+    requires { list_any (is_produced_by number) (rows_on cause connections.now) ≡ true }
+    ensures { Some result ≡ producer_by number (rows_on cause.entry connections.now) }
 {
-    producer_on(occasion, connections.producer_with_hint(number, hint))
+    producer_on(cause, connections.producer_with_hint(number, hint))
 }
 
 /// Whether one of the connections has the producer.
@@ -96,18 +96,18 @@ fn is_among(rows: &[Row], producer: &Producer) -> bool
         .any(|row| is_produced_by(row, producer.production.producer))
 }
 
-/// Whether a producer sends on an occasion.
+/// Whether a producer sends for a cause.
 #[inline(always)]
-pub(crate) fn sends(occasion: Occasion<'_>, producer: &Producer) -> bool
-    requires { IsInTime occasion }
-    ensures { result ≡ sends occasion.entry producer.now }
+pub(crate) fn sends(cause: SendCause<'_>, producer: &Producer) -> bool
+    requires { IsInTime cause }
+    ensures { result ≡ sends cause.entry producer.now }
 {
-    match occasion {
-        Occasion::Due(clock) => is_production_due(&producer.production, clock),
-        Occasion::DueBut(clock, rows) => {
+    match cause {
+        SendCause::Due(clock) => is_production_due(&producer.production, clock),
+        SendCause::DueBut(clock, rows) => {
             is_production_due(&producer.production, clock) && !is_among(rows, producer)
         }
-        Occasion::Change(clock, point) => {
+        SendCause::Change(clock, point) => {
             producer.point == point && is_produced_on_change(&producer.production, clock)
         }
     }
@@ -115,11 +115,11 @@ pub(crate) fn sends(occasion: Occasion<'_>, producer: &Producer) -> bool
 
 /// What orders producers before their numbers do: when they are due, and nothing at a change.
 #[inline(always)]
-pub(crate) fn rank(occasion: Occasion<'_>, producer: &Producer) -> u64
-    ensures { result ≡ rank occasion.entry producer.now }
+pub(crate) fn rank(cause: SendCause<'_>, producer: &Producer) -> u64
+    ensures { result ≡ rank cause.entry producer.now }
 {
-    match occasion {
-        Occasion::Due(_) | Occasion::DueBut(..) => producer.production.due.0,
-        Occasion::Change(..) => 0,
+    match cause {
+        SendCause::Due(_) | SendCause::DueBut(..) => producer.production.due.0,
+        SendCause::Change(..) => 0,
     }
 }

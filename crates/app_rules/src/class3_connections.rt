@@ -1,4 +1,4 @@
-//! The checks of a request to open a class 3 connection, from the top: 2 to 5, 7 to 9, 11, 15, 16. `admit_dialogue` lists
+//! The checks of a request to open a class 3 connection, from the top: 2 to 5, 7 to 9, 11, 15, 16. `admit_class3` lists
 //! them.
 
 ghost use Rattle.std.specs.Prelude.{◌≡◌, ◌+◌, IfOk, nat_le, nat_lt};
@@ -7,13 +7,14 @@ ghost use Rattle.cip_epath.specs.ElectronicKey.{view_key};
 ghost use Rattle.cip_epath.specs.Reading.{seen};
 ghost use Rattle.cip_fwdopen.specs.Open.{view_open};
 ghost use Rattle.adapter_table.specs.Checks.{is_point_to_point, key_check, segment_check};
-ghost use Rattle.adapter_table.specs.DialogueOpening.{are_enough, dialogue_refusal, message_path_check, named_key};
-ghost use Rattle.messaging.specs.Dialogues.{most_dialogues};
-ghost use Rattle.app_rules.specs.Stages.{IsPassed, dialogue_times};
-ghost use Rattle.app_rules.specs.Views.{seen_dialogues};
+ghost use Rattle.adapter_table.specs.Class3Opening.{are_enough, class3_refusal, message_path_check, named_key, node_places};
+ghost use Rattle.adapter_table.specs.Profiles.{class3_places};
+ghost use Rattle.messaging.specs.Class3Connections.{most_class3_connections};
+ghost use Rattle.app_rules.specs.Stages.{IsPassed, class3_times};
+ghost use Rattle.app_rules.specs.Views.{seen_class3_connections};
 
 use crate::questions::{is_below_least, is_unserved, refuse_if};
-use crate::view::DialogueView;
+use crate::view::Class3View;
 use cip_epath::{ElectronicKey, KeyFault, PathFault, check_key, read_message_path};
 use cip_fwdopen::OpenRequest;
 use cip_netparams::{ConnectionType, api_of, timeout_of};
@@ -22,11 +23,11 @@ use cip_types::limits::IDS_PER_INCARNATION;
 use cip_types::{Identity, Ms};
 
 /// The most class 3 connections of an adapter.
-const MOST_DIALOGUES: usize = 64;
+const MOST_CLASS3_CONNECTIONS: usize = 64;
 
 /// The times of a class 3 connection: its actual packet intervals in milliseconds, and the time-out of its watchdog.
 #[derive(Clone, Copy)]
-pub struct DialogueTimes {
+pub struct Class3Times {
     pub o_t_api_ms: u32,
     pub t_o_api_ms: u32,
     pub watchdog: Ms,
@@ -77,25 +78,35 @@ fn is_point_to_point(kind: ConnectionType) -> bool
 }
 
 /// Whether no id is left.
-fn has_no_id(view: &DialogueView<'_>) -> bool
+fn has_no_id(view: &Class3View<'_>) -> bool
     ensures { result ≡ nat_lt 16777216 (view.now.next_id + 1) }
 {
     view.next_id >= IDS_PER_INCARNATION
 }
 
 /// Whether there are 64 class 3 connections.
-fn is_full(view: &DialogueView<'_>) -> bool
-    ensures { result ≡ nat_le most_dialogues view.now.count }
+fn is_full(view: &Class3View<'_>) -> bool
+    ensures { result ≡ nat_le most_class3_connections view.now.count }
 {
-    view.count >= MOST_DIALOGUES
+    view.count >= MOST_CLASS3_CONNECTIONS
+}
+
+/// Whether there are as many class 3 connections as the maker states places for.
+fn has_no_place(view: &Class3View<'_>) -> bool
+    ensures { result ≡ are_enough (class3_places view.now.profile.now.limits.places) view.now.count }
+{
+    match view.profile.limits.class3_places() {
+        Some(most) => view.count >= usize::from(most),
+        None => false,
+    }
 }
 
 /// Whether the node has as many class 3 connections as one node can have.
-fn has_node_enough(view: &DialogueView<'_>) -> bool
-    ensures { result ≡ are_enough view.now.profile.now.limits.node_connections view.now.node_count }
+fn has_node_enough(view: &Class3View<'_>) -> bool
+    ensures { result ≡ are_enough (node_places view.now.profile.now.limits.node_connections) view.now.node_count }
 {
     match view.profile.limits.node_connections {
-        Some(most) => view.node_count >= usize::from(most),
+        Some(limits) => view.node_count >= usize::from(limits.connections),
         None => false,
     }
 }
@@ -116,16 +127,17 @@ fn has_node_enough(view: &DialogueView<'_>) -> bool
 /// 9. The path is that of the message router alone (0x0117).
 /// 11. The O->T size (0x0127) and the T->O size (0x0128) are not 0.
 /// 15. Ids are left, and there are fewer than 64 class 3 connections (0x0113).
-/// 16. The node has fewer of them than the maker states for one node (0x0113).
+/// 16. There are fewer of them than the maker states places for, the node has fewer of them than the maker states for
+///     one node, and has opened fewer connections in its second than the maker states (0x0113).
 ///
 /// Volume 1, chapter 3, Forward_Open service, transport class 3, and Connection Manager extended status codes.
-#[tactic(auto, unfolding(adapter_table::specs::DialogueOpening::dialogue_refusal))]
-pub fn admit_dialogue(
-    view: &DialogueView<'_>,
+#[tactic(auto, unfolding(adapter_table::specs::Class3Opening::class3_refusal))]
+pub fn admit_class3(
+    view: &Class3View<'_>,
     request: &OpenRequest<&[u8]>,
-) -> Result<DialogueTimes, Refusal>
-    ensures passed { IsPassed (dialogue_refusal (seen_dialogues view.now) (view_open request.now)) result }
-    ensures times { IfOk result (λ times. times ≡ dialogue_times (view_open request.now)) }
+) -> Result<Class3Times, Refusal>
+    ensures passed { IsPassed (class3_refusal (seen_class3_connections view.now) (view_open request.now)) result }
+    ensures times { IfOk result (λ times. times ≡ class3_times (view_open request.now)) }
 {
     // 2
     let path = read_message_path(request.path);
@@ -154,8 +166,10 @@ pub fn admit_dialogue(
     refuse_if(has_no_id(view), Refusal::OutOfConnections)?;
     refuse_if(is_full(view), Refusal::OutOfConnections)?;
     // 16
+    refuse_if(has_no_place(view), Refusal::OutOfConnections)?;
     refuse_if(has_node_enough(view), Refusal::OutOfConnections)?;
-    Ok(DialogueTimes {
+    refuse_if(view.opened_enough, Refusal::OutOfConnections)?;
+    Ok(Class3Times {
         o_t_api_ms,
         t_o_api_ms,
         // The multiplier is at most 7 by check 7, so there is a time-out.

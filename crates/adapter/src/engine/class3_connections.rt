@@ -8,15 +8,15 @@ ghost use Rattle.cip_router.specs.Requests.{view_router_request};
 ghost use Rattle.adapter_table.specs.Own.{own_of};
 ghost use Rattle.adapter_replies.specs.Routes.{peer_of, routed, view_request_header};
 ghost use Rattle.cip_events.specs.Outcomes.{Follows};
-ghost use Rattle.adapter_table.specs.DialogueOpening.{dialogue_view, served_dialogue, stream_open, stream_served};
+ghost use Rattle.adapter_table.specs.Class3Opening.{class3_view, served_class3, stream_open, stream_served};
 ghost use Rattle.adapter_table.specs.Encapsulation.{framed, request_handled, request_replied};
 ghost use Rattle.adapter_table.specs.MessagesSound.{IsCarried};
 ghost use Rattle.adapter_table.specs.Requests.{served_end};
-ghost use Rattle.app_rules.specs.Views.{seen_dialogues};
+ghost use Rattle.app_rules.specs.Views.{seen_class3_connections};
 
 use super::Adapter;
 use adapter_replies::{RequestHeader, Route};
-use app_rules::{DialogueView, admit_dialogue};
+use app_rules::{Class3View, admit_class3};
 use cip_fwdopen::{CloseRequest, OpenRequest, OpenService};
 use cip_netparams::is_message_trigger;
 use cip_tables::{Outcome, Reply, RouterRequest, Status, Stream};
@@ -28,23 +28,24 @@ use connection_list::ConnectionTable;
 impl<T: ConnectionTable> Adapter<T> {
     /// The state that the checks of a class 3 connection read, for a triad that a peer requests.
     #[tactic(auto, using(crate::proofs::Messaging::some_is_any))]
-    fn dialogue_view(&self, peer: Node, triad: Triad) -> DialogueView<'_>
-        ensures { seen_dialogues result ≡ dialogue_view self.now peer triad }
+    fn class3_view(&self, peer: Node, triad: Triad) -> Class3View<'_>
+        ensures { seen_class3_connections result ≡ class3_view self.now peer triad }
     {
         let in_use = self.state.connections().find(triad).is_some()
             || self.state.messaging().has_triad(triad);
-        DialogueView {
+        Class3View {
             profile: self.state.profile(),
             in_use,
             next_id: self.state.next_id(),
-            count: self.state.messaging().dialogues().len(),
-            node_count: self.state.messaging().dialogue_count(peer),
+            count: self.state.messaging().class3_connections().len(),
+            node_count: self.state.messaging().class3_count(peer),
+            opened_enough: self.state.has_opened_enough(peer),
         }
     }
 
     /// A Forward_Open of a class 3 connection.
-    #[tactic(auto, unfolding(adapter_table::specs::DialogueOpening::served_dialogue))]
-    fn forward_open_dialogue(
+    #[tactic(auto, unfolding(adapter_table::specs::Class3Opening::served_class3))]
+    fn forward_open_class3(
         &mut self,
         stream: &Stream,
         request_header: RequestHeader,
@@ -53,13 +54,13 @@ impl<T: ConnectionTable> Adapter<T> {
     ) -> Outcome
         requires { IsCarried self.old.streams stream.now.number }
         ensures { Follows (Ok (framed stream.now.number (view_request_header request_header)
-            (request_replied self.old (Some (served_dialogue self.old stream.now (is_large_open service)
+            (request_replied self.old (Some (served_class3 self.old stream.now (is_large_open service)
             (view_open request.now)))))) self.old result self.new }
     {
-        match admit_dialogue(&self.dialogue_view(stream.peer, request.triad), request) {
+        match admit_class3(&self.class3_view(stream.peer, request.triad), request) {
             Ok(times) => self
                 .state
-                .open_dialogue(stream, request_header, service, request, times),
+                .open_class3(stream, request_header, service, request, times),
             Err(why) => {
                 let route = Route::Stream(stream.number, stream.peer, request_header);
                 let reply = Reply::Refused(service.code(), why.fault(), Some(request.triad));
@@ -82,7 +83,7 @@ impl<T: ConnectionTable> Adapter<T> {
             (view_open request.now))))) self.old result self.new }
     {
         if is_message_trigger(request.trigger) {
-            return self.forward_open_dialogue(stream, request_header, service, request);
+            return self.forward_open_class3(stream, request_header, service, request);
         }
         let route = Route::Stream(stream.number, stream.peer, request_header);
         self.state.forward_open(route, service, request)
@@ -139,15 +140,15 @@ impl<T: ConnectionTable> Adapter<T> {
         ensures { Follows (Ok (routed self.old route (Some (served_end self.old (peer_of route)
             (view_close request.now))))) self.old result self.new }
     {
-        let Some(dialogue) = self.state.messaging().find_triad(request.triad) else {
+        let Some(class3) = self.state.messaging().find_triad(request.triad) else {
             return self.state.forward_close(route, request);
         };
         let limits = self.state.profile().limits;
-        let triad = dialogue.triad;
-        if limits.is_wrong_ender(route.peer(), dialogue) {
+        let triad = class3.triad;
+        if limits.is_wrong_ender(route.peer(), class3) {
             let fault = Status::PrivilegeViolation.fault();
             return self.state.refuse_close(route, request, fault);
         }
-        self.state.close_dialogue(route, triad)
+        self.state.close_class3(route, triad)
     }
 }
