@@ -13,7 +13,7 @@ use Rattle.trace_lines.specs.Kinds.{multicast_word}
 use Rattle.profile_faults.specs.declared.defects.LineName.TheVariants as name
 use Rattle.profile_faults.specs.declared.defects.ProfileReason.{ProfileReason}
 use Rattle.profile_faults.specs.Defects.{IsFailing}
-use Rattle.profile_faults.specs.Named.{NamesItemWord, NamesConfigWord, NamesDescribedWord, NamesLimitWord, NamesSlotWord, NamesWordOfSlots, NamesWord, NamesWordOfScanner}
+use Rattle.profile_faults.specs.Named.{IsOfSlot, NamesItemWord, NamesConfigWord, NamesDescribedWord, NamesLimitWord, NamesSlotWord, NamesWordOfSlots, NamesWord, NamesWordOfScanner}
 
 pub named_output : (profile : Profile) (reason : ProfileReason) → NamesItemWord name.Output output_words profile.outputs reason → NamesWord profile reason
 named_output profile reason is = rw is.0 is.1
@@ -38,6 +38,9 @@ named_node_connections profile reason is = rw is.0 is.1
 
 pub named_newer : (profile : Profile) (reason : ProfileReason) → NamesLimitWord name.Newer (option_map limit.Newer profile.limits.newer) reason → NamesWord profile reason
 named_newer profile reason is = rw is.0 is.1
+
+pub named_window : (profile : ScannerProfile) (reason : ProfileReason) → NamesLimitWord name.Newer (option_map limit.Newer profile.newer) reason → IsOfSlot reason.place.index reason.defect → NamesWordOfScanner profile reason
+named_window profile reason is slot = (rw is.0 is.1, slot)
 
 pub named_object : (profile : Profile) (reason : ProfileReason) → NamesItemWord name.Object object_words profile.objects reason → NamesWord profile reason
 named_object profile reason is = rw is.0 is.1

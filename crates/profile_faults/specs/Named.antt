@@ -46,6 +46,7 @@ adapter_line profile name.Slot index = []
 
 abbrev pub scanner_line : ScannerProfile → LineName → ℕ → List (List ℕ)
 scanner_line profile name.Scanner index = scanner_words profile
+scanner_line profile name.Newer index = line_of limit_words (option_map limit.Newer profile.newer)
 scanner_line profile name.Slot index = line_of slot_words (slice_get profile.slots index)
 scanner_line profile other index = []
 
@@ -86,6 +87,7 @@ IsWordOf (defect.Interval slot direction us) word = word ≡ decimal us
 IsWordOf (defect.Multiplier slot mult) word = word ≡ decimal mult
 IsWordOf (defect.CyclicInhibit slot ms) word = word ≡ decimal ms
 IsWordOf (defect.Inhibit slot ms api) word = word ≡ decimal ms
+IsWordOf (defect.NoPace slot) word = word ≡ decimal 0
 IsWordOf (defect.Waiting wait ms) word = word ≡ decimal ms
 IsWordOf (defect.Major major) word = word ≡ decimal major
 IsWordOf (defect.Minor minor) word = word ≡ decimal minor
@@ -94,7 +96,9 @@ IsWordOf (defect.AddressLen len) word = AreBytes word len
 IsWordOf (defect.Inactivity seconds) word = word ≡ decimal seconds
 IsWordOf (defect.LeastRpi us) word = word ≡ decimal us
 IsWordOf (defect.AllPlaces places) word = word ≡ codes "places"
+IsWordOf (defect.Class3Places places) word = word ≡ decimal places
 IsWordOf (defect.NodeConnections most) word = word ≡ decimal most
+IsWordOf (defect.NodeOpenings most) word = word ≡ decimal most
 IsWordOf (defect.Newer within) word = word ≡ decimal within
 IsWordOf (defect.ExtraClass class) word = word ≡ decimal class
 IsWordOf (defect.OtherClass class) word = word ≡ decimal class
@@ -114,6 +118,7 @@ IsOfSlot index (defect.Interval slot direction us) = slot ≡ index
 IsOfSlot index (defect.Multiplier slot mult) = slot ≡ index
 IsOfSlot index (defect.CyclicInhibit slot ms) = slot ≡ index
 IsOfSlot index (defect.Inhibit slot ms api) = slot ≡ index
+IsOfSlot index (defect.NoPace slot) = slot ≡ index
 IsOfSlot index other = Unit {0}
 
 -- REASONS

@@ -105,6 +105,8 @@ pub enum Defect {
     CyclicInhibit(usize, u8),
     /// The inhibit time of a slot, and its packet interval, in milliseconds.
     Inhibit(usize, u8, u32),
+    /// The inhibit time of a slot whose target's numbers are limited, and which is never held back: 0.
+    NoPace(usize),
     /// A waiting time in milliseconds.
     Waiting(WaitingTime, u64),
     /// The major revision.
@@ -121,8 +123,12 @@ pub enum Defect {
     LeastRpi(u32),
     /// The places of all application types.
     AllPlaces(u16),
+    /// The places of class 3 connections.
+    Class3Places(u8),
     /// The most connections of one node.
     NodeConnections(u8),
+    /// The most openings of one node in a second.
+    NodeOpenings(u16),
     /// The limit of how far ahead an accepted sequence number is.
     Newer(u32),
     /// A class of the maker's own that is one too many.
@@ -186,8 +192,11 @@ impl Defect {
             }
             Defect::LeastRpi(_)
             | Defect::AllPlaces(_)
+            | Defect::Class3Places(_)
             | Defect::NodeConnections(_)
-            | Defect::Newer(_) => ProfileFault::Limits,
+            | Defect::NodeOpenings(_)
+            | Defect::Newer(_)
+            | Defect::NoPace(_) => ProfileFault::Limits,
             Defect::ExtraClass(_) | Defect::OtherClass(_) | Defect::SameClass(_) => {
                 ProfileFault::Objects
             }

@@ -3,7 +3,7 @@
 ghost use Rattle.std.specs.Prelude.{◌≡◌, [], decimal, get_or, IfSome};
 ghost use Rattle.std.specs.List.{list_all};
 ghost use Rattle.cip_events.specs.declared.profile_fault.ProfileFault.TheVariants as fault;
-ghost use Rattle.scanner_table.specs.Profiles.{profile_fault, are_served, listens_to_group, shares_group, are_apart, is_out_len, is_config, has_lengths, is_inhibit, has_times, is_wait, keeps_time};
+ghost use Rattle.scanner_table.specs.Profiles.{profile_fault, are_served, listens_to_group, shares_group, are_apart, is_out_len, is_config, has_lengths, is_inhibit, has_times, is_wait, keeps_time, is_paced, has_pace, are_paced};
 ghost use Rattle.profile_faults.specs.Defects.{Explains, IsDefectOf, IsPassing, IsFailing, reason_at, reason_fault};
 ghost use Rattle.profile_faults.specs.Named.{IsWordOf, IsOfSlot, NamesSlotWord, NamesWordOfSlots, NamesWordOfScanner};
 ghost use Rattle.trace_words.specs.Words.{bytes_word};
@@ -11,6 +11,7 @@ ghost use Rattle.trace_lines.specs.Slots.{rate_words};
 
 use crate::adapter_defects::is_point_len;
 use crate::defects::{Defect, LineName, PacketDirection, ProfileReason, WaitingTime};
+use crate::limit_defects::newer_reason;
 use cip_netparams::{Trigger, api_of};
 use cip_productions::Kind;
 use cip_types::limits::{LONGEST_CONFIG, LONGEST_WAIT_MS, MOST_SLOTS};
@@ -37,7 +38,10 @@ pub fn scanner_reason(profile: &ScannerProfile) -> Option<ProfileReason>
     if let Some(reason) = length_reason(slots) {
         return Some(reason);
     }
-    time_reason(profile)
+    if let Some(reason) = time_reason(profile) {
+        return Some(reason);
+    }
+    number_reason(profile)
 }
 
 /// A defect at a word of the profile's first line.
@@ -258,5 +262,54 @@ fn inhibit_defect(index: usize, trigger: Trigger, inhibit: u8, api: u32) -> Opti
         Trigger::Cyclic => Some(Defect::CyclicInhibit(index, inhibit)),
         Trigger::ChangeOfState if u32::from(inhibit) <= api => None,
         Trigger::ChangeOfState => Some(Defect::Inhibit(index, inhibit, api)),
+    }
+}
+
+/// The limit of sequence numbers that is out of its range, or the first slot without a pace.
+#[tactic(auto, using(crate::proofs::Named::named_slot, crate::proofs::Named::named_window))]
+fn number_reason(profile: &ScannerProfile) -> Option<ProfileReason>
+    ensures fault { Explains result (are_paced profile.now.newer profile.now.slots) fault.Limits }
+    ensures named { IfSome result (NamesWordOfScanner profile.now) }
+{
+    if profile.newer.is_none() {
+        return None;
+    }
+    if let Some(reason) = newer_reason(profile.newer) {
+        return Some(reason);
+    }
+    pace_reason(profile.slots.as_slice())
+}
+
+/// The first slot of change of state that is never held back.
+#[tactic(auto, using(crate::proofs::Named::named_of_slots))]
+fn pace_reason(slots: &[SlotConfig]) -> Option<ProfileReason>
+    ensures fault { Explains result (list_all has_pace slots.now) fault.Limits }
+    ensures named { IfSome result (NamesWordOfSlots slots.now) }
+{
+    for (index, slot) in slots.iter().enumerate() {
+        if let Some(reason) = slot_pace(index, slot) {
+            return Some(reason);
+        }
+    }
+    None
+}
+
+fn slot_pace(index: usize, slot: &SlotConfig) -> Option<ProfileReason>
+    ensures fault { Explains result (has_pace slot.now) fault.Limits }
+    ensures named { IfSome result (NamesSlotWord index slot.now) }
+{
+    let defect = pace_defect(index, slot.trigger, slot.inhibit)?;
+    Some(ProfileReason::at(LineName::Slot, index, 16, defect))
+}
+
+/// What is wrong with a slot's inhibit time, if its target's numbers are limited.
+fn pace_defect(index: usize, trigger: Trigger, inhibit: u8) -> Option<Defect>
+    ensures fault { IsDefectOf result (is_paced trigger inhibit) fault.Limits }
+    ensures word { IfSome result (λ found. IsWordOf found (get_or (rate_words trigger inhibit) 1 [])) }
+    ensures slot { IfSome result (IsOfSlot index) }
+{
+    match trigger {
+        Trigger::ChangeOfState if inhibit == 0 => Some(Defect::NoPace(index)),
+        Trigger::ChangeOfState | Trigger::Cyclic => None,
     }
 }

@@ -11,8 +11,8 @@ use Rattle.cip_events.specs.declared.event.Verdict.TheVariants.{Delivered, Done}
 use Rattle.cip_events.specs.Answers.{plain_answer}
 use Rattle.trace_text.specs.Reading.{Entry}
 use Rattle.stream_names.specs.declared.renaming.StreamName.{StreamName}
-use Rattle.record_settling.specs.declared.account.Fate.TheVariants.{Cut, LeftOut, Whole}
-use Rattle.record_settling.specs.Accounts.{accounted, fate_of}
+use Rattle.record_settling.specs.declared.account.EventRole.TheVariants.{Cut, LeftOut, Whole}
+use Rattle.record_settling.specs.Accounts.{accounted, role_of}
 use Rattle.record_settling.specs.Senders.{is_bare}
 
 abbrev peer : Node
@@ -24,22 +24,22 @@ closing stream = record { frames = []; datagrams = []; verdict = Done; notices =
 
 -- FATES
 
-a_nop : fate_of (Frame 3 (0 ∷ 0 ∷ [])) (plain_answer Done) ≡ LeftOut
+a_nop : role_of (Frame 3 (0 ∷ 0 ∷ [])) (plain_answer Done) ≡ LeftOut
 a_nop = refl
 
-an_end : fate_of (Frame 3 (0x66 ∷ 0 ∷ [])) (closing 3) ≡ Cut
+an_end : role_of (Frame 3 (0x66 ∷ 0 ∷ [])) (closing 3) ≡ Cut
 an_end = refl
 
-another_end : fate_of (Frame 3 (0x66 ∷ 0 ∷ [])) (closing 4) ≡ Whole
+another_end : role_of (Frame 3 (0x66 ∷ 0 ∷ [])) (closing 4) ≡ Whole
 another_end = refl
 
-a_request : fate_of (Frame 3 (0x6F ∷ 0 ∷ [])) (plain_answer Done) ≡ Whole
+a_request : role_of (Frame 3 (0x6F ∷ 0 ∷ [])) (plain_answer Done) ≡ Whole
 a_request = refl
 
-for_nobody : fate_of (Datagram peer []) (plain_answer (Delivered UnknownId)) ≡ LeftOut
+for_nobody : role_of (Datagram peer []) (plain_answer (Delivered UnknownId)) ≡ LeftOut
 for_nobody = refl
 
-too_late : fate_of (Datagram peer []) (plain_answer (Delivered Old)) ≡ Whole
+too_late : role_of (Datagram peer []) (plain_answer (Delivered Old)) ≡ Whole
 too_late = refl
 
 -- HISTORIES: the station calls two streams 3, one after the other; a read is refused

@@ -13,8 +13,8 @@ use Rattle.cip_tables.specs.declared.table.Config.{Config}
 use Rattle.device_lock.specs.declared.receipt.Receipt.{Receipt}
 use Rattle.device_lock.specs.Histories.{HistoryValue}
 use Rattle.trace_text.specs.Reading.{Entry}
-use Rattle.record_settling.specs.declared.account.Fate.{Fate}
-use Rattle.record_settling.specs.declared.account.Fate.TheVariants.{Whole, LeftOut, Cut}
+use Rattle.record_settling.specs.declared.account.EventRole.{EventRole}
+use Rattle.record_settling.specs.declared.account.EventRole.TheVariants.{Whole, LeftOut, Cut}
 use Rattle.stream_names.specs.declared.renaming.StreamName.{StreamName}
 use Rattle.stream_names.specs.StationMessages.{is_of_station}
 use Rattle.stream_names.specs.Names.{named_answer, named_event, named_stream}
@@ -26,25 +26,25 @@ abbrev pub is_silent : Answer → Bool
 is_silent answer = length answer.frames == 0 && length answer.datagrams == 0
 
 -- A message that a station sent is left out if it is answered by nothing. One that ends the stream is taken as the cut of the stream.
-abbrev pub fate_by : ℕ → List Notice → Fate
-fate_by stream [] = LeftOut
-fate_by stream (StreamClosed closed ∷ []) = if closed == stream then Cut else Whole
-fate_by stream other = Whole
+abbrev pub role_by : ℕ → List Notice → EventRole
+role_by stream [] = LeftOut
+role_by stream (StreamClosed closed ∷ []) = if closed == stream then Cut else Whole
+role_by stream other = Whole
 
 -- a datagram that no connection takes is left out
-abbrev pub fate_of_datagram : Verdict → Fate
-fate_of_datagram (Delivered UnknownId) = LeftOut
-fate_of_datagram (Delivered Malformed) = LeftOut
-fate_of_datagram other = Whole
+abbrev pub role_of_datagram : Verdict → EventRole
+role_of_datagram (Delivered UnknownId) = LeftOut
+role_of_datagram (Delivered Malformed) = LeftOut
+role_of_datagram other = Whole
 
-abbrev pub fate_of_frame : ℕ → List ℕ → Answer → Fate
-fate_of_frame stream message answer = if is_of_station message && is_silent answer then fate_by stream answer.notices else Whole
+abbrev pub role_of_frame : ℕ → List ℕ → Answer → EventRole
+role_of_frame stream message answer = if is_of_station message && is_silent answer then role_by stream answer.notices else Whole
 
 -- what becomes of an event with this answer
-abbrev pub fate_of : Event → Answer → Fate
-fate_of (Datagram peer bytes) answer = fate_of_datagram answer.verdict
-fate_of (Frame stream message) answer = fate_of_frame stream message answer
-fate_of other answer = Whole
+abbrev pub role_of : Event → Answer → EventRole
+role_of (Datagram peer bytes) answer = role_of_datagram answer.verdict
+role_of (Frame stream message) answer = role_of_frame stream message answer
+role_of other answer = Whole
 
 -- STEPS: the events of a history with their answers
 
@@ -58,14 +58,14 @@ abbrev pub cut_of : List StreamName → Event → Event
 cut_of names (Frame stream message) = StreamCut (named_stream names stream)
 cut_of names other = StreamCut 0
 
-abbrev pub step_by : Fate → List StreamName → Event → Answer → Option Step
+abbrev pub step_by : EventRole → List StreamName → Event → Answer → Option Step
 step_by LeftOut names event answer = None
 step_by Cut names event answer = Some (cut_of names event, plain_answer Done)
 step_by Whole names event answer = Some (named_event names event, named_answer names answer)
 
 -- what a history has for an event with this answer, where these streams have begun
 abbrev pub step_of : List StreamName → Event → Answer → Option Step
-step_of names event answer = step_by (fate_of event answer) names event answer
+step_of names event answer = step_by (role_of event answer) names event answer
 
 -- how many streams have begun with an event, of so many
 abbrev pub next_seen : ℕ → Event → ℕ → ℕ

@@ -1,3 +1,4 @@
 pub mod Accounts
 pub mod Senders
 pub mod Settled
+pub mod Summed

@@ -12,6 +12,8 @@ use Rattle.trace_text.specs.declared.trace.Trace.{Trace}
 use Rattle.trace_text.specs.Reading.{Entry}
 use Rattle.stream_names.specs.declared.renaming.StreamName.{StreamName}
 use Rattle.record_settling.specs.declared.settled.SettledRecords.{SettledRecords}
+use Rattle.outcome_sums.specs.declared.sum.PlacedSum.{PlacedSum}
+use Rattle.record_settling.specs.Summed.{AllHaveSums}
 use Rattle.record_settling.specs.Accounts.{Step, account_history, accounted, event_in, receipts_from}
 
 -- WHOLE RECORDS
@@ -65,7 +67,9 @@ receipts_of_all (t ∷ ts) names = receipts_in t (first_names names) ++ receipts
 
 -- WHAT SETTLES
 
--- Each record is whole, and a schedule has all histories and all receipts.
-pub record HasSettledRecords (records : List Trace) (s : SettledRecords) : Type 0 where
+-- Each record is whole, each outcome in whose place a record has a sum has that sum, and a schedule has all histories and all
+-- receipts.
+pub record HasSettledRecords (records : List Trace) (sums : List (List PlacedSum)) (s : SettledRecords) : Type 0 where
   pub recorded : AllRecorded records
+  pub summed : AllHaveSums records sums
   pub settles : SettlesAll (histories_in records s.names.items) (receipts_of_all records s.names.items) s.schedule

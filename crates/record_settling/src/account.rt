@@ -2,7 +2,7 @@
 
 ghost use Rattle.std.specs.Prelude.{◌≡◌, ◌++◌, None, IfOk, OnOk, map, option_to_list, take};
 ghost use Rattle.cip_tables.specs.Step.{AcceptsAll, config_fault};
-ghost use Rattle.record_settling.specs.Accounts.{account_history, accounted, cut_of, event_in, fate_by, fate_of, fate_of_datagram, is_silent, next_seen, receipts_from, step_of};
+ghost use Rattle.record_settling.specs.Accounts.{account_history, accounted, cut_of, event_in, role_by, role_of, role_of_datagram, is_silent, next_seen, receipts_from, step_of};
 
 use cip_events::{Answer, Delivery, Event, Notice, Verdict};
 use cip_tables::{Config, Device};
@@ -16,7 +16,7 @@ use trace_text::Recorded;
 
 /// What becomes of an event that was answered.
 #[derive(Clone, Copy, PartialEq, Eq)]
-pub(crate) enum Fate {
+pub(crate) enum EventRole {
     /// It is part of the history.
     Whole,
     /// It changes nothing and is answered by nothing, and is left out.
@@ -33,41 +33,41 @@ fn is_silent(answer: &Answer) -> bool
 }
 
 /// What becomes of a message over a stream that its station sent, by the notices of its answer.
-fn fate_by(stream: u16, notices: &[Notice]) -> Fate
-    ensures { result ≡ fate_by stream notices.now }
+fn role_by(stream: u16, notices: &[Notice]) -> EventRole
+    ensures { result ≡ role_by stream notices.now }
 {
     match notices {
-        [] => Fate::LeftOut,
-        [Notice::StreamClosed(closed)] if *closed == stream => Fate::Cut,
-        _ => Fate::Whole,
+        [] => EventRole::LeftOut,
+        [Notice::StreamClosed(closed)] if *closed == stream => EventRole::Cut,
+        _ => EventRole::Whole,
     }
 }
 
 /// What becomes of a datagram, by its verdict: one that no connection takes is left out.
-fn fate_of_datagram(verdict: &Verdict) -> Fate
-    ensures { result ≡ fate_of_datagram verdict.now }
+fn role_of_datagram(verdict: &Verdict) -> EventRole
+    ensures { result ≡ role_of_datagram verdict.now }
 {
     match verdict {
-        Verdict::Delivered(Delivery::UnknownId) => Fate::LeftOut,
-        Verdict::Delivered(Delivery::Malformed) => Fate::LeftOut,
-        _ => Fate::Whole,
+        Verdict::Delivered(Delivery::UnknownId) => EventRole::LeftOut,
+        Verdict::Delivered(Delivery::Malformed) => EventRole::LeftOut,
+        _ => EventRole::Whole,
     }
 }
 
 /// What becomes of an event with this answer.
-pub(crate) fn fate_of(event: &Event, answer: &Answer) -> Fate
-    ensures { result ≡ fate_of event.now answer.now }
+pub(crate) fn role_of(event: &Event, answer: &Answer) -> EventRole
+    ensures { result ≡ role_of event.now answer.now }
 {
     match event {
-        Event::Datagram { .. } => fate_of_datagram(&answer.verdict),
+        Event::Datagram { .. } => role_of_datagram(&answer.verdict),
         Event::Frame { stream, bytes } => {
             if is_of_station(bytes.as_slice()) && is_silent(answer) {
-                fate_by(*stream, answer.notices.as_slice())
+                role_by(*stream, answer.notices.as_slice())
             } else {
-                Fate::Whole
+                EventRole::Whole
             }
         }
-        _ => Fate::Whole,
+        _ => EventRole::Whole,
     }
 }
 
@@ -115,10 +115,10 @@ fn step_of(
 ) -> Result<Option<(Event, Answer)>, OutOfMemory>
     ensures { IfOk result (λ step. step ≡ step_of names.now event.now answer.now) }
 {
-    match fate_of(event, answer) {
-        Fate::LeftOut => Ok(None),
-        Fate::Cut => Ok(Some((cut_of(names, event), Answer::plain(alloc, Verdict::Done)))),
-        Fate::Whole => Ok(Some((
+    match role_of(event, answer) {
+        EventRole::LeftOut => Ok(None),
+        EventRole::Cut => Ok(Some((cut_of(names, event), Answer::plain(alloc, Verdict::Done)))),
+        EventRole::Whole => Ok(Some((
             named_event(alloc, names, event)?,
             named_answer(alloc, names, answer)?,
         ))),
@@ -238,7 +238,7 @@ pub(crate) fn kept_place(entries: &[(Event, Recorded)], place: u64) -> usize {
 /// Whether a history has the event of an entry, or a cut in its place.
 fn is_kept(entry: &(Event, Recorded)) -> bool {
     match entry.1.get() {
-        Some(Ok(answer)) => fate_of(&entry.0, answer) != Fate::LeftOut,
+        Some(Ok(answer)) => role_of(&entry.0, answer) != EventRole::LeftOut,
         _ => false,
     }
 }

@@ -6,7 +6,8 @@ mod account;
 mod fault;
 mod senders;
 mod settled;
+mod summed;
 
 pub use fault::RecordsFault;
-pub use settled::{SettledRecords, settle_records};
+pub use settled::{SettledRecords, byte_of, settle_records};
 pub use stream_names::{EventPlace, StreamName};

@@ -4,7 +4,7 @@ ghost use Rattle.std.specs.Prelude.{◌≡◌, ◌↔◌, IsTrue};
 ghost use Rattle.cip_datagram.specs.Datagram.{view_datagram};
 ghost use Rattle.record_settling.specs.Senders.{AnySends, EntrySends, IsSentAs, WasSent, has_numbers, is_bare, peer_of};
 
-use crate::account::{Fate, fate_of};
+use crate::account::{EventRole, role_of};
 use crate::fault::RecordsFault;
 use cip_datagram::{Datagram, read_datagram};
 use cip_events::{Answer, Event, OutgoingDatagram};
@@ -155,7 +155,7 @@ fn check_event(
     let Event::Datagram { bytes, .. } = event else {
         return Ok(());
     };
-    let bare = fate_of(event, answer) == Fate::LeftOut;
+    let bare = role_of(event, answer) == EventRole::LeftOut;
     if is_found(records, from, sender, bytes.as_slice(), bare) {
         Ok(())
     } else {

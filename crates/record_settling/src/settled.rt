@@ -7,9 +7,11 @@ ghost use Rattle.record_settling.specs.Settled.{AllRecorded, HasSettledRecords, 
 use crate::account::{divide, history_of, kept_place, steps_of};
 use crate::fault::RecordsFault;
 use crate::senders::check_senders;
+use crate::summed::check_all_sums;
 use cip_tables::{Config, Device, Event};
 use cip_types::Items;
 use device_lock::{History, Receipt};
+use outcome_sums::PlacedSum;
 use segment_world::{Act, WorldFault};
 use settling::{Unsettled, check_configs, settle};
 use std::alloc::Global;
@@ -31,7 +33,7 @@ pub struct SettledRecords {
 // EACH RECORD FOR ITSELF
 
 /// The incarnation byte of a device.
-fn byte_of(config: &Config) -> u8
+pub fn byte_of(config: &Config) -> u8
     ensures { result ≡ byte_in config.now }
 {
     match config {
@@ -201,20 +203,23 @@ fn fault_of(records: &[Trace], unsettled: Unsettled) -> RecordsFault {
 /// A schedule for the records of several devices: its events are their histories, each with the recorded answer.
 ///
 /// A history has the events of a record that were answered, without those that change nothing (`accounted`), and each stream
-/// has one number at both its ends (`StreamName`). What is lost on the way is permitted, and what nobody sent is not.
+/// has one number at both its ends (`StreamName`). What is lost on the way is permitted, and what nobody sent is not. Of each
+/// record there may be sums, which it has in the place of outcomes: these are then to have them.
 ///
 /// The faults, in order: `SameIncarnation` and `SameNode`; `Unrecorded`, `Profile` and `Differs` of the first record that has
-/// one; `Outsider`, `Streamless` and `Unsent` of the first event; `UnsentFrame` and `Streams`; `Foreign`; `Uncaused`. And
+/// one; `Differs` of the first outcome that has not its sum; `Outsider`, `Streamless` and `Unsent` of the first event; `UnsentFrame` and `Streams`; `Foreign`; `Uncaused`. And
 /// `OutOfMemory` wherever an allocation is refused.
 pub fn settle_records<D: Device + Drop>(
     alloc: Global,
     records: &[Trace],
+    sums: &[Items<PlacedSum>],
 ) -> Result<SettledRecords, RecordsFault>
     requires accepts { AcceptsAll D.accepts }
-    ensures { IfOk result (HasSettledRecords records.now) }
+    ensures { IfOk result (HasSettledRecords records.now sums.now) }
 {
     check_devices(records)?;
     check_records::<D>(alloc, records)?;
+    check_all_sums(alloc, records, sums)?;
     check_senders(alloc, records)?;
     let names = name_streams(alloc, records)?;
     let mut receipts = Vec::new(alloc);

@@ -8,14 +8,14 @@ use Rattle.settle_command.specs.declared.fault.SettleFault.TheVariants as fault
 abbrev pub status_of : SettleFault → ℕ
 status_of fault.Unsettled = 1
 status_of fault.Write = 1
-status_of (fault.Unread place) = 3
+status_of (fault.Unread place why) = 3
 status_of fault.Middle = 3
 status_of (fault.Trace place why) = 3
 status_of fault.OutOfMemory = 7
 
 -- the file that the fault is of
 abbrev pub file_of : SettleFault → Option ℕ
-file_of (fault.Unread place) = Some place
+file_of (fault.Unread place why) = Some place
 file_of (fault.Trace place why) = Some place
 file_of fault.Middle = Some 0
 file_of other = None

@@ -3,16 +3,11 @@
 use crate::fault::SettleFault;
 use crate::files::{FileRecords, records_of};
 use crate::words::{NamedRecords, push_fault};
-use adapter_engine::FastAdapter;
-use cip_tables::AnyDevice;
+use fast_device::FastDevice;
 use record_settling::{RecordsFault, SettledRecords, settle_records};
-use scanner_engine::FastScanner;
 use std::alloc::Global;
 use std::io::Write;
 use std::rt::Files;
-
-/// The device of a profile of either kind.
-type FastDevice = AnyDevice<FastAdapter, FastScanner>;
 
 /// Settles the records of files, of which each file with a profile begins one and each other file continues the one before
 /// it. Prints a line: how much there is, or what is missing. It takes memory for all entries.
@@ -25,13 +20,17 @@ where
     O: Write + Drop,
 {
     let alloc = rt.alloc();
-    let FileRecords { firsts, traces } = records_of(rt, files)?;
+    let FileRecords {
+        firsts,
+        traces,
+        sums,
+    } = records_of(rt, files)?;
     let records = NamedRecords {
         files,
         firsts: firsts.as_slice(),
         traces: traces.as_slice(),
     };
-    match settle_records::<FastDevice>(alloc, records.traces) {
+    match settle_records::<FastDevice>(alloc, records.traces, sums.as_slice()) {
         Ok(settled) => print_settled(alloc, out, records.traces.len(), &settled),
         Err(RecordsFault::OutOfMemory) => Err(SettleFault::OutOfMemory),
         Err(fault) => print_fault(alloc, out, records, fault),

@@ -4,6 +4,7 @@ ghost use Rattle.std.specs.Prelude.{◌≡◌};
 ghost use Rattle.settle_command.specs.Faults.{file_of, status_of};
 
 use cip_types::OutOfMemory;
+use regular_files::FileFault;
 use std::alloc::{AllocError, AllocFailed};
 use thiserror::Error;
 use trace_text::TraceFault;
@@ -11,9 +12,9 @@ use trace_text::TraceFault;
 /// Why files are not settled.
 #[derive(Clone, Copy, Debug, PartialEq, Eq, Error)]
 pub enum SettleFault {
-    /// The file at this index cannot be read.
-    #[error("cannot be read")]
-    Unread(usize),
+    /// The file at this index is not read, for this reason.
+    #[error("{1}")]
+    Unread(usize, FileFault),
     /// The first file begins in the middle of a record.
     #[error("begins in the middle of a record: give the files before it too")]
     Middle,
@@ -40,7 +41,7 @@ impl SettleFault {
         match self {
             SettleFault::Unsettled => 1,
             SettleFault::Write => 1,
-            SettleFault::Unread(_) => 3,
+            SettleFault::Unread(_, _) => 3,
             SettleFault::Middle => 3,
             SettleFault::Trace(_, _) => 3,
             SettleFault::OutOfMemory => 7,
@@ -52,7 +53,7 @@ impl SettleFault {
         ensures { result ≡ file_of self }
     {
         match self {
-            SettleFault::Unread(place) => Some(place),
+            SettleFault::Unread(place, _) => Some(place),
             SettleFault::Trace(place, _) => Some(place),
             SettleFault::Middle => Some(0),
             _ => None,

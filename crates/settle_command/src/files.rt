@@ -1,17 +1,22 @@
 //! The records of files: a file with a profile begins one, and each other file continues the one before it.
 
 use crate::fault::SettleFault;
+use cip_types::Items;
+use cip_types::limits::LONGEST_TRACE;
+use fast_device::FastDevice;
+use outcome_sums::PlacedSum;
+use regular_files::{FileFault, read_regular};
 use std::alloc::Global;
-use std::fs;
-use std::io::ErrorKind;
 use std::rt::Files;
-use trace_text::{Trace, TraceFault, read_trace};
+use trace_files::{FilledRecord, read_record};
+use trace_text::{Trace, TraceFault};
 
-/// A record: the index of its first file, and its trace.
+/// The records: of each the index of its first file, its trace, and the sums that it has in place of outcomes.
 #[derive(Drop)]
 pub(crate) struct FileRecords {
     pub firsts: Vec<usize>,
     pub traces: Vec<Trace>,
+    pub sums: Vec<Items<PlacedSum>>,
 }
 
 /// The text of a record, and the index of its first file.
@@ -30,12 +35,13 @@ pub(crate) fn records_of<R: AllocGlobal + Files>(
     let mut records = FileRecords {
         firsts: Vec::new(alloc),
         traces: Vec::new(alloc),
+        sums: Vec::new(alloc),
     };
     let mut last: Option<RecordText> = None;
     for (place, path) in files.iter().enumerate() {
-        let bytes = match fs::read(rt, path.as_str()) {
+        let bytes = match read_regular(rt, path.as_str(), LONGEST_TRACE as u64) {
             Ok(bytes) => bytes,
-            Err(error) => return Err(unread(place, error.kind())),
+            Err(fault) => return Err(unread(place, fault)),
         };
         if begins_record(bytes.as_slice()) {
             add_record(alloc, &mut records, last.take())?;
@@ -54,15 +60,15 @@ pub(crate) fn records_of<R: AllocGlobal + Files>(
     Ok(records)
 }
 
-/// Why the file at an index is not read, by the kind of the system's error.
-fn unread(place: usize, kind: ErrorKind) -> SettleFault {
-    match kind {
-        ErrorKind::OutOfMemory => SettleFault::OutOfMemory,
-        _ => SettleFault::Unread(place),
+/// Why the file at an index is not read.
+fn unread(place: usize, fault: FileFault) -> SettleFault {
+    match fault {
+        FileFault::OutOfMemory => SettleFault::OutOfMemory,
+        other => SettleFault::Unread(place, other),
     }
 }
 
-/// Reads the trace of a record's text.
+/// Reads the trace of a record's text, and its sums.
 fn add_record(
     alloc: Global,
     records: &mut FileRecords,
@@ -71,10 +77,11 @@ fn add_record(
     let Some(record) = record else {
         return Ok(());
     };
-    match read_trace(alloc, record.text.as_slice()) {
-        Ok(trace) => {
+    match read_record::<FastDevice>(alloc, record.text.as_slice()) {
+        Ok(FilledRecord { trace, sums, .. }) => {
             records.firsts.push(record.first)?;
             records.traces.push(trace)?;
+            records.sums.push(sums)?;
             Ok(())
         }
         Err(TraceFault::OutOfMemory) => Err(SettleFault::OutOfMemory),

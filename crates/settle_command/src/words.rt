@@ -1,9 +1,9 @@
 //! What is missing, in words.
 
 use cip_events::Event;
-use cip_tables::Config;
 use cip_types::{Node, OutOfMemory};
-use record_settling::{EventPlace, RecordsFault};
+use record_settling::{EventPlace, RecordsFault, byte_of};
+use stream_names::node_of;
 use trace_text::Trace;
 use trace_words::{push_node, push_text};
 
@@ -50,20 +50,6 @@ impl NamedRecords<'_> {
             }
         }
         last
-    }
-}
-
-fn node_of(config: &Config) -> Node {
-    match config {
-        Config::Adapter(profile) => profile.node,
-        Config::Scanner(profile) => profile.node,
-    }
-}
-
-fn byte_of(config: &Config) -> u8 {
-    match config {
-        Config::Adapter(profile) => profile.incarnation,
-        Config::Scanner(profile) => profile.incarnation,
     }
 }
 
@@ -130,7 +116,7 @@ fn push_address(
 ) -> Result<(), OutOfMemory> {
     if let Some(trace) = records.traces.get(record) {
         push_text(out, "both are of ")?;
-        push_node(out, node_of(&trace.config))?;
+        push_node(out, node_of(trace))?;
         push_text(out, ", and a history is that of one life of a device")?;
     }
     Ok(())

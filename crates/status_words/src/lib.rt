@@ -1,8 +1,45 @@
-//! Statuses in the words of the standard: general and extended ones of the Connection Manager, and those of encapsulation.
+//! Statuses in the words of the standard: general and extended ones of the Connection Manager, and those of encapsulation; and
+//! why a slot of a scanner is not opened.
 #![tactic(auto)]
 
+mod statuses;
+
+use cip_events::{Notice, Outcome, Reason};
 use cip_types::{Fault, OutOfMemory};
+pub use statuses::status_name;
 use trace_words::push_text;
+
+/// Appends a comment for each slot that an outcome says is not opened: why, in words.
+pub fn push_refusals(out: &mut String, outcome: &Outcome) -> Result<(), OutOfMemory> {
+    let Ok(answer) = outcome else {
+        return Ok(());
+    };
+    for notice in answer.notices.as_slice() {
+        if let Notice::Refused(slot, reason) = notice {
+            push_text(out, "# ")?;
+            push_unopened(out, *slot, *reason)?;
+            push_text(out, "\n")?;
+        }
+    }
+    Ok(())
+}
+
+/// Why a slot is not opened, in words.
+pub fn push_unopened(out: &mut String, slot: u32, reason: Reason) -> Result<(), OutOfMemory> {
+    write!(out, "slot {slot} is not opened: ")?;
+    match reason {
+        Reason::Encap(status) => push_encap(out, status),
+        Reason::Unreadable => push_text(out, "no readable reply"),
+        Reason::Cip(fault) => push_fault(out, fault),
+        Reason::Mismatch(mismatch) => Ok(write!(out, "{mismatch}")?),
+    }
+}
+
+/// A status of an encapsulation message, with its number, in words.
+pub fn push_encap(out: &mut String, status: u32) -> Result<(), OutOfMemory> {
+    let words = encap_words(status);
+    Ok(write!(out, "encapsulation status {status:#06x} ({words})")?)
+}
 
 /// A general status, and an extended status of the Connection Manager, in words.
 ///
@@ -22,34 +59,8 @@ pub fn push_fault(out: &mut String, fault: Fault) -> Result<(), OutOfMemory> {
 
 /// A general status in words.
 pub fn push_general(out: &mut String, general: u8) -> Result<(), OutOfMemory> {
-    let words = general_words(general);
+    let words = status_name(general);
     Ok(write!(out, "general status {general:#04x} ({words})")?)
-}
-
-fn general_words(general: u8) -> &'static str {
-    match general {
-        0x00 => "success",
-        0x01 => "connection failure",
-        0x02 => "resource unavailable",
-        0x03 => "invalid parameter value",
-        0x04 => "path segment error",
-        0x05 => "path destination unknown",
-        0x08 => "service not supported",
-        0x09 => "invalid attribute value",
-        0x0C => "object state conflict",
-        0x0E => "attribute not settable",
-        0x0F => "privilege violation",
-        0x10 => "device state conflict",
-        0x11 => "reply data too large",
-        0x13 => "not enough data",
-        0x14 => "attribute not supported",
-        0x15 => "too much data",
-        0x16 => "object does not exist",
-        0x1F => "vendor specific error",
-        0x20 => "invalid parameter",
-        0x26 => "path size invalid",
-        _ => "another status",
-    }
 }
 
 fn extended_words(extended: u16) -> &'static str {

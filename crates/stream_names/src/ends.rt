@@ -84,10 +84,7 @@ fn unmatched(alloc: Global, lives: Vec<StreamLife>) -> Result<RecordStreams, Out
 pub fn node_of(trace: &Trace) -> Node
     ensures { result ≡ node_of_config trace.now.config }
 {
-    match &trace.config {
-        Config::Adapter(profile) => profile.node,
-        Config::Scanner(profile) => profile.node,
-    }
+    segment_world::node_of(&trace.config)
 }
 
 /// The record of an address.

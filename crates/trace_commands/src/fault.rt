@@ -1,9 +1,10 @@
 //! Why files are not played, written as a capture file or explained to their end.
 
 ghost use Rattle.std.specs.Prelude.{◌≡◌};
-ghost use Rattle.trace_commands.specs.Unread.{unread_fault};
+ghost use Rattle.trace_commands.specs.Unread.{broken_fault, traces_status, unread_fault};
 
 use cip_types::OutOfMemory;
+use regular_files::FileFault;
 use std::alloc::{AllocError, AllocFailed};
 use std::io::ErrorKind;
 use thiserror::Error;
@@ -13,9 +14,9 @@ use trace_text::TraceFault;
 /// Why files are not played, written as a capture file or explained to their end.
 #[derive(Clone, Copy, Debug, PartialEq, Eq, Error)]
 pub enum TracesFault {
-    /// The file at this index cannot be read.
-    #[error("cannot be read")]
-    Unread(usize),
+    /// The file at this index is not read, for this reason.
+    #[error("{1}")]
+    Unread(usize, FileFault),
     /// The files are no trace: a line is bad, counted over all files, or the profile is.
     #[error(transparent)]
     Trace(TraceFault),
@@ -37,6 +38,24 @@ pub enum TracesFault {
     /// An allocation was refused.
     #[error("no memory")]
     OutOfMemory,
+}
+
+impl TracesFault {
+    /// The status of the program.
+    pub fn status(self) -> u8
+        ensures { result ≡ traces_status self }
+    {
+        match self {
+            TracesFault::Unread(_, _) => 3,
+            TracesFault::Trace(_) => 3,
+            TracesFault::NoTrace => 3,
+            TracesFault::Events => 3,
+            TracesFault::Scanner => 3,
+            TracesFault::Differs => 1,
+            TracesFault::Write => 1,
+            TracesFault::OutOfMemory => 7,
+        }
+    }
 }
 
 impl From<TraceFault> for TracesFault {
@@ -81,12 +100,22 @@ impl<T: Drop> From<AllocFailed<T>> for TracesFault {
     }
 }
 
-/// Why the file at an index is not read to its end, by the kind of the system's error.
-pub(crate) fn unread(place: usize, kind: ErrorKind) -> TracesFault
-    ensures { result ≡ unread_fault place kind }
+/// Why the file at an index is not read.
+pub(crate) fn unread(place: usize, fault: FileFault) -> TracesFault
+    ensures { result ≡ unread_fault place fault }
+{
+    match fault {
+        FileFault::OutOfMemory => TracesFault::OutOfMemory,
+        other => TracesFault::Unread(place, other),
+    }
+}
+
+/// Why the file at an index, which was opened, is not read to its end, by the kind of the system's error.
+pub(crate) fn broken(place: usize, kind: ErrorKind) -> TracesFault
+    ensures { result ≡ broken_fault place kind }
 {
     match kind {
         ErrorKind::OutOfMemory => TracesFault::OutOfMemory,
-        _ => TracesFault::Unread(place),
+        _ => TracesFault::Unread(place, FileFault::Unread),
     }
 }

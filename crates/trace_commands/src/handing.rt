@@ -1,6 +1,7 @@
 //! The lines of files, which are read as one text, one behind another.
 
-use crate::fault::{TracesFault, unread};
+use crate::fault::{TracesFault, broken, unread};
+use regular_files::open_regular;
 use std::fs::File;
 use std::io::BufReader;
 use std::rt::Files;
@@ -25,9 +26,9 @@ where
 {
     let mut line = Vec::new(rt.alloc());
     for (place, path) in files.iter().enumerate() {
-        let file = match File::open(rt, path.as_str()) {
+        let file = match open_regular(rt, path.as_str()) {
             Ok(file) => file,
-            Err(error) => return Err(unread(place, error.kind())),
+            Err(fault) => return Err(unread(place, fault)),
         };
         let Ok(mut reader) = BufReader::new(rt.alloc(), file) else {
             return Err(TracesFault::OutOfMemory);
@@ -53,7 +54,7 @@ fn hand_out_file<T: LineTaker>(
                 line.clear();
             }
             Ok(other) => return Ok(other),
-            Err(error) => return Err(unread(place, error.kind())),
+            Err(error) => return Err(broken(place, error.kind())),
         }
     }
     Ok(LinePart::Rest)

@@ -2,13 +2,17 @@
 //! sheet of a profile.
 #![tactic(auto)]
 
+mod capturing;
 mod fault;
 mod handing;
+mod piped;
 mod replaying;
 mod sheet;
 mod whole;
 
+pub use capturing::pcap;
 pub use fault::TracesFault;
+pub use piped::PipedOutput;
 pub use replaying::replay;
 pub use sheet::data_sheet;
-pub use whole::{explain, pcap};
+pub use whole::explain;

@@ -2,18 +2,13 @@
 
 use crate::fault::TracesFault;
 use crate::handing::{LineTaker, hand_out};
-use adapter_engine::FastAdapter;
-use cip_tables::AnyDevice;
-use scanner_engine::FastScanner;
+use fast_device::FastDevice;
 use std::alloc::Global;
 use std::fs::File;
 use std::io::{BufWriter, Write};
 use std::rt::Files;
 use trace_files::{Player, TracePiece, TraceReader};
 use trace_stepper::write_text;
-
-/// The device of a profile of either kind.
-type FastDevice = AnyDevice<FastAdapter, FastScanner>;
 
 /// Plays the files at a fresh device of their profile: prints each outcome before the next step, and then the number of
 /// the first event whose outcome is not as recorded, if there is one. The files are read twice, so that nothing is printed

@@ -1,31 +1,21 @@
-//! The trace of files as a capture file, and in words.
+//! The trace of files in words.
 
 use crate::fault::{TracesFault, unread};
-use std::fs::{self, File};
+use cip_types::limits::LONGEST_TRACE;
+use fast_device::FastDevice;
+use regular_files::read_regular;
+use std::alloc::Global;
+use std::fs::File;
 use std::io::Write;
 use std::rt::Files;
 use trace_explain::explain_trace;
 use trace_faults::explain_fault;
-use trace_pcap::{recorded_from, write_pcap};
+use trace_files::{FilledRecord, read_record};
 use trace_stepper::write_text;
-use trace_text::{TraceFault, read_trace};
+use trace_text::{Trace, TraceFault, read_trace};
 
-/// Writes the capture file of the files' trace. Its first packet has the time of the record, if the first line has it. It
-/// takes memory for all entries.
-pub fn pcap<R, O>(rt: &R, files: &[String], out: O) -> Result<(), TracesFault>
-where
-    R: AllocGlobal + Files<File = File>,
-    O: Write + Drop,
-{
-    let alloc = rt.alloc();
-    let text = text_of(rt, files)?;
-    let trace = read_trace(alloc, text.as_slice())?;
-    let start_ms = recorded_from(first_line(text.as_slice())).unwrap_or(0);
-    let capture = write_pcap(alloc, &trace, start_ms)?;
-    print(out, capture.as_slice())
-}
-
-/// Explains the trace of the files in words, or why they are none. It takes memory for all entries.
+/// Explains the trace of the files in words, or why they are none. It takes memory for all entries, those of a record with the
+/// outcomes in whose place it has sums. If one has another sum, the number of the first such event is printed alone.
 pub fn explain<R, O>(rt: &R, files: &[String], out: O) -> Result<(), TracesFault>
 where
     R: AllocGlobal + Files<File = File>,
@@ -33,8 +23,8 @@ where
 {
     let alloc = rt.alloc();
     let text = text_of(rt, files)?;
-    match read_trace(alloc, text.as_slice()) {
-        Ok(trace) => print(out, explain_trace(alloc, &trace)?.as_bytes()),
+    match trace_in(alloc, text.as_slice()) {
+        Ok(whole) => explain_whole(alloc, &whole, out),
         Err(TraceFault::OutOfMemory) => Err(TracesFault::OutOfMemory),
         Err(fault) => {
             let words = explain_fault(alloc, text.as_slice(), fault)?;
@@ -44,28 +34,57 @@ where
     }
 }
 
-/// The bytes of the files, one behind another.
+/// Prints a trace in words, or the number of the first event that has another sum.
+fn explain_whole<O: Write + Drop>(
+    alloc: Global,
+    whole: &WholeTrace,
+    out: O,
+) -> Result<(), TracesFault> {
+    let Some(number) = whole.differs else {
+        return print(out, explain_trace(alloc, &whole.trace)?.as_bytes());
+    };
+    let line = format!(in alloc; "differs {number}\n")?;
+    print(out, line.as_bytes())?;
+    Err(TracesFault::Differs)
+}
+
+/// A trace with its outcomes, and the number of the first event of a record that has another sum than a device's outcome.
+#[derive(Drop)]
+struct WholeTrace {
+    trace: Trace,
+    differs: Option<u64>,
+}
+
+/// The trace of a text. One that has sums is a record: it is played at a fresh device, whose outcomes take the places of the
+/// sums.
+fn trace_in(alloc: Global, text: &[u8]) -> Result<WholeTrace, TraceFault> {
+    match read_trace(alloc, text) {
+        Ok(trace) => Ok(WholeTrace {
+            trace,
+            differs: None,
+        }),
+        Err(TraceFault::BadLine(_)) => {
+            let FilledRecord { trace, differs, .. } = read_record::<FastDevice>(alloc, text)?;
+            Ok(WholeTrace { trace, differs })
+        }
+        Err(fault) => Err(fault),
+    }
+}
+
+/// The bytes of the files, one behind another. A file has at most as many as a trace may have.
 pub(crate) fn text_of<R>(rt: &R, files: &[String]) -> Result<Vec<u8>, TracesFault>
 where
     R: AllocGlobal + Files<File = File>,
 {
     let mut text = Vec::new(rt.alloc());
     for (place, path) in files.iter().enumerate() {
-        let bytes = match fs::read(rt, path.as_str()) {
+        let bytes = match read_regular(rt, path.as_str(), LONGEST_TRACE as u64) {
             Ok(bytes) => bytes,
-            Err(error) => return Err(unread(place, error.kind())),
+            Err(fault) => return Err(unread(place, fault)),
         };
         text.extend_from_slice(bytes.as_slice())?;
     }
     Ok(text)
-}
-
-/// The bytes before the first LF.
-fn first_line(text: &[u8]) -> &[u8] {
-    match text.iter().position(|byte| *byte == b'\n') {
-        Some(end) => &text[..end],
-        None => text,
-    }
 }
 
 /// Prints a text.

@@ -4,13 +4,13 @@ use crate::datagrams::push_datagram;
 use crate::events::is_target;
 use crate::frames::push_message;
 use cip_events::{
-    Answer, Delivery, Event, Frame, Notice, Outcome, OutgoingDatagram, Reason, Recipient,
-    SlotPhase, StepFault, Unanswered, Verdict,
+    Answer, Delivery, Event, Frame, Notice, Outcome, OutgoingDatagram, Recipient, SlotPhase,
+    StepFault, Unanswered, Verdict,
 };
 use cip_tables::Config;
 use cip_types::{Fault, Node, OutOfMemory};
 use router_words::{push_data, push_id, push_object, push_reply, push_triad};
-use status_words::{encap_words, push_fault, push_general};
+use status_words::{push_encap, push_fault, push_general, push_unopened};
 use std::alloc::Global;
 use trace_words::{push_bytes, push_node, push_nodes, push_text};
 
@@ -131,18 +131,21 @@ fn message_words(delivery: Delivery) -> &'static str {
     }
 }
 
-/// A sequence number that is not accepted, with the limit of how far ahead it may be, if the maker states one.
+/// A sequence number that is not accepted, with the limit of how far ahead it may be, if the profile states one.
 fn push_old(out: &mut String, config: &Config) -> Result<(), OutOfMemory> {
     push_text(out, delivery_words(Delivery::Old))?;
     match config {
         Config::Adapter(profile) => push_within(out, profile.limits.newer),
-        Config::Scanner(_) => Ok(()),
+        Config::Scanner(profile) => push_within(out, profile.newer),
     }
 }
 
 fn push_within(out: &mut String, newer: Option<u32>) -> Result<(), OutOfMemory> {
     match newer {
-        Some(within) => Ok(write!(out, ", or is ahead of it by {within} or more")?),
+        Some(within) => Ok(write!(
+            out,
+            ", or is ahead of it by {within} or more, and two more for each packet interval since then"
+        )?),
         None => Ok(()),
     }
 }
@@ -287,11 +290,6 @@ fn push_unanswered(out: &mut String, why: Unanswered) -> Result<(), OutOfMemory>
     }
 }
 
-fn push_encap(out: &mut String, status: u32) -> Result<(), OutOfMemory> {
-    let words = encap_words(status);
-    Ok(write!(out, "encapsulation status {status:#06x} ({words})")?)
-}
-
 /// What a reset of this type is.
 ///
 /// Volume 1, chapter 5, Identity object, Reset service.
@@ -313,20 +311,8 @@ fn push_slot_notice(out: &mut String, notice: Notice) -> Result<(), OutOfMemory>
             out,
             "slot {slot} needs a connection id or a request number, and none is left"
         )?),
-        Notice::Refused(slot, reason) => {
-            write!(out, "slot {slot} is not opened: ")?;
-            push_reason(out, reason)
-        }
+        Notice::Refused(slot, reason) => push_unopened(out, slot, reason),
         _ => Ok(()),
-    }
-}
-
-fn push_reason(out: &mut String, reason: Reason) -> Result<(), OutOfMemory> {
-    match reason {
-        Reason::Encap(status) => push_encap(out, status),
-        Reason::Unreadable => push_text(out, "no readable reply"),
-        Reason::Cip(fault) => push_fault(out, fault),
-        Reason::Mismatch(mismatch) => Ok(write!(out, "{mismatch}")?),
     }
 }
 

@@ -1,7 +1,7 @@
 //! The events of a trace, each in a line with the lines of its outcome.
 
 ghost use Rattle.std.specs.Prelude.{◌≡◌, IfOk, map};
-ghost use Rattle.trace_explain.specs.Lines.{moment_of_line, moments, later, is_refused, time_after};
+ghost use Rattle.trace_explain.specs.Lines.{moment_of_line, moments};
 
 use crate::answers::push_outcome;
 use crate::events::push_event;
@@ -9,7 +9,7 @@ use cip_events::{Event, Outcome};
 use cip_tables::Config;
 use cip_types::OutOfMemory;
 use std::alloc::Global;
-use trace_text::{Recorded, Trace};
+use trace_text::{Recorded, Trace, time_after};
 
 /// An event in words: its number in the trace, from 1, its time in milliseconds, what happened, and what the device
 /// answered, if that is recorded.
@@ -51,37 +51,6 @@ fn lines_of(
         })?;
     }
     Ok(lines)
-}
-
-/// The time of a trace's clock after an event, with its outcome if that is recorded. A refused tick does not pass.
-fn time_after(time: u64, event: &Event, recorded: &Recorded) -> u64
-    ensures { result ≡ time_after time event.now recorded.now }
-{
-    match event {
-        Event::Tick { ms } => later(time, *ms, is_refused(recorded)),
-        _ => time,
-    }
-}
-
-/// The time, this number of milliseconds later if they are not refused.
-fn later(time: u64, ms: u32, refused: bool) -> u64
-    ensures { result ≡ later time ms refused }
-{
-    if refused {
-        time
-    } else {
-        time.wrapping_add(u64::from(ms))
-    }
-}
-
-/// Whether the recorded outcome is a fault.
-fn is_refused(recorded: &Recorded) -> bool
-    ensures { result ≡ is_refused recorded.now }
-{
-    match recorded.get() {
-        Some(Err(_)) => true,
-        _ => false,
-    }
 }
 
 /// An event, and its outcome if that is recorded.

@@ -2,7 +2,7 @@
 use Rattle.std.proofs.Common.{◌≡◌, refl, List, ◌∷◌, [], Option, Some, None, true, false, Bool, ℕ, ◌∙◌, subst}
 use Rattle.std.specs.Prelude.{is_some, if◌then◌else◌, option_map, option_and_then}
 use Rattle.trace_lines.specs.declared.shapes.WordKind.{WordKind}
-use Rattle.trace_lines.specs.declared.shapes.TheConstants.{ADAPTER, OUTPUT, POINT, DESCRIBE, PLACES, NODE_CONNECTIONS, CLOSERS, HEARTBEAT, SCANNER, SLOT, RATE, FROM_NODE, EXPLICIT, ANSWER, STREAM, FRAME, CUT, WRITE, NUMBER, MODE}
+use Rattle.trace_lines.specs.declared.shapes.TheConstants.{ADAPTER, OUTPUT, POINT, DESCRIBE, PLACES, CLASS3_PLACES, NODE_CONNECTIONS, NODE_OPENINGS, CLOSERS, HEARTBEAT, SCANNER, SLOT, RATE, FROM_NODE, EXPLICIT, ANSWER, STREAM, FRAME, CUT, WRITE, NUMBER, MODE}
 use Rattle.trace_lines.specs.Kinds.{ValueOf, value_of}
 use Rattle.cip_events.specs.declared.event.Event.{Event}
 use Rattle.adapter_table.specs.declared.profile.Description.{Description}
@@ -16,6 +16,7 @@ use Rattle.trace_lines.specs.declared.forms.Rate.{Rate}
 use Rattle.trace_lines.specs.declared.limit_lines.LimitLine.{LimitLine}
 use Rattle.trace_lines.specs.Profiles.{adapter_reader, output_reader, point_reader, description_reader, object_reader, heartbeat_reader}
 use Rattle.trace_lines.specs.Shapes.{Build, shaped, Shape, behind_kinds, is_shaped, is_end, may_go_on, line_shapes, shape_of}
+use Rattle.trace_lines.specs.Limits.{stated_class3_connections, class3_connections_reader, places_reader, stated_openings, openings_reader, node_connections_reader}
 use Rattle.trace_lines.specs.Slots.{scanner_reader, slot_reader, stated_rate, rate_reader}
 use Rattle.trace_text.specs.declared.forms.TraceLine.{TraceLine}
 use Rattle.trace_text.specs.declared.forms.TraceLine.TheVariants as line
@@ -119,11 +120,36 @@ rate_goes_on : (words : List (List ℕ)) → is_some (rate_reader words) ≡ may
 rate_goes_on [] = refl
 rate_goes_on (word ∷ words) = stated_shape (word ∷ words) ∙ end_only (behind_kinds RATE (word ∷ words))
 
+-- lines that may go on
+class3_connections_stated : IsOfShape (Option ℕ) stated_class3_connections (Some (CLASS3_PLACES, []))
+class3_connections_stated = of_shape (Option ℕ) [] CLASS3_PLACES _ (λ _. ends_at (Option ℕ) _)
+
+class3_connections_go_on : (words : List (List ℕ)) → is_some (class3_connections_reader words) ≡ may_go_on CLASS3_PLACES (Some words)
+class3_connections_go_on [] = refl
+class3_connections_go_on (word ∷ words) = class3_connections_stated (word ∷ words) ∙ end_only (behind_kinds CLASS3_PLACES (word ∷ words))
+
+places_shape : IsOfShape TraceLine (mapped line.Limit places_reader) (Some (PLACES, CLASS3_PLACES))
+places_shape =
+    mapped_shape LimitLine TraceLine line.Limit places_reader (PLACES, CLASS3_PLACES)
+    (of_shape LimitLine CLASS3_PLACES PLACES _ (λ _ _ _. λ words. some_mapped (Option ℕ) LimitLine _ (class3_connections_reader words) ∙ class3_connections_go_on words))
+
+openings_stated : IsOfShape (Option ℕ) stated_openings (Some (NODE_OPENINGS, []))
+openings_stated = of_shape (Option ℕ) [] NODE_OPENINGS _ (λ _ _. ends_at (Option ℕ) _)
+
+openings_go_on : (words : List (List ℕ)) → is_some (openings_reader words) ≡ may_go_on NODE_OPENINGS (Some words)
+openings_go_on [] = refl
+openings_go_on (word ∷ words) = openings_stated (word ∷ words) ∙ end_only (behind_kinds NODE_OPENINGS (word ∷ words))
+
+node_shape : IsOfShape TraceLine (mapped line.Limit node_connections_reader) (Some (NODE_CONNECTIONS, NODE_OPENINGS))
+node_shape =
+    mapped_shape LimitLine TraceLine line.Limit node_connections_reader (NODE_CONNECTIONS, NODE_OPENINGS)
+    (of_shape LimitLine NODE_OPENINGS NODE_CONNECTIONS _ (λ _. λ words. some_mapped (Option ℕ) LimitLine _ (openings_reader words) ∙ openings_go_on words))
+
 slot_shape : IsOfShape SlotConfig slot_reader (Some (SLOT, RATE))
 slot_shape = of_shape SlotConfig RATE SLOT _ (λ _ _ _ _ _ _ _ _ _ _ _ _ _. λ words. some_mapped Rate SlotConfig _ (rate_reader words) ∙ rate_goes_on words)
 
 lines_are_tied : AreTied TraceLine line_meanings line_shapes
-lines_are_tied = ((refl, mapped_shape _ _ line.Adapter adapter_reader (ADAPTER, []) adapter_shape), ((refl, mapped_shape _ _ line.Output output_reader (OUTPUT, []) output_shape), ((refl, mapped_shape _ _ line.Input point_reader (POINT, []) point_shape), ((refl, mapped_shape _ _ line.Config point_reader (POINT, []) point_shape), ((refl, mapped_shape _ _ line.Description description_reader (DESCRIBE, []) description_shape), ((refl, limit_shape NUMBER _ (λ _. ends_at LimitLine _)), ((refl, limit_shape PLACES _ (λ _ _ _. ends_at LimitLine _)), ((refl, limit_shape NODE_CONNECTIONS _ (λ _. ends_at LimitLine _)), ((refl, limit_shape CLOSERS _ (λ _. ends_at LimitLine _)), ((refl, limit_shape NUMBER _ (λ _. ends_at LimitLine _)), ((refl, mapped_shape _ _ line.Object object_reader (NUMBER, []) object_shape), ((refl, mapped_shape _ _ line.Heartbeat heartbeat_reader (HEARTBEAT, []) heartbeat_shape), ((refl, mapped_shape _ _ line.Scanner scanner_reader (SCANNER, []) scanner_shape), ((refl, mapped_shape _ _ line.Slot slot_reader (SLOT, RATE) slot_shape), ((refl, event_shape FROM_NODE _ (λ _ _. ends_at Event _)), ((refl, event_shape FROM_NODE _ (λ _ _. ends_at Event _)), ((refl, event_shape EXPLICIT _ (λ _ _ _. ends_at Event _)), ((refl, event_shape ANSWER _ (λ _ _ _. ends_at Event _)), ((refl, event_shape STREAM _ (λ _ _. ends_at Event _)), ((refl, event_shape FRAME _ (λ _ _. ends_at Event _)), ((refl, event_shape CUT _ (λ _. ends_at Event _)), ((refl, event_shape FROM_NODE _ (λ _ _. ends_at Event _)), ((refl, event_shape WRITE _ (λ _ _. ends_at Event _)), ((refl, event_shape NUMBER _ (λ _. ends_at Event _)), ((refl, event_shape NUMBER _ (λ _. ends_at Event _)), ((refl, event_shape MODE _ (λ _. ends_at Event _)), ((refl, event_shape NUMBER _ (λ _. ends_at Event _)), ((refl, event_shape NUMBER _ (λ _. ends_at Event _)), tt))))))))))))))))))))))))))))
+lines_are_tied = ((refl, mapped_shape _ _ line.Adapter adapter_reader (ADAPTER, []) adapter_shape), ((refl, mapped_shape _ _ line.Output output_reader (OUTPUT, []) output_shape), ((refl, mapped_shape _ _ line.Input point_reader (POINT, []) point_shape), ((refl, mapped_shape _ _ line.Config point_reader (POINT, []) point_shape), ((refl, mapped_shape _ _ line.Description description_reader (DESCRIBE, []) description_shape), ((refl, limit_shape NUMBER _ (λ _. ends_at LimitLine _)), ((refl, places_shape), ((refl, node_shape), ((refl, limit_shape CLOSERS _ (λ _. ends_at LimitLine _)), ((refl, limit_shape NUMBER _ (λ _. ends_at LimitLine _)), ((refl, mapped_shape _ _ line.Object object_reader (NUMBER, []) object_shape), ((refl, mapped_shape _ _ line.Heartbeat heartbeat_reader (HEARTBEAT, []) heartbeat_shape), ((refl, mapped_shape _ _ line.Scanner scanner_reader (SCANNER, []) scanner_shape), ((refl, mapped_shape _ _ line.Slot slot_reader (SLOT, RATE) slot_shape), ((refl, event_shape FROM_NODE _ (λ _ _. ends_at Event _)), ((refl, event_shape FROM_NODE _ (λ _ _. ends_at Event _)), ((refl, event_shape EXPLICIT _ (λ _ _ _. ends_at Event _)), ((refl, event_shape ANSWER _ (λ _ _ _. ends_at Event _)), ((refl, event_shape STREAM _ (λ _ _. ends_at Event _)), ((refl, event_shape FRAME _ (λ _ _. ends_at Event _)), ((refl, event_shape CUT _ (λ _. ends_at Event _)), ((refl, event_shape FROM_NODE _ (λ _ _. ends_at Event _)), ((refl, event_shape WRITE _ (λ _ _. ends_at Event _)), ((refl, event_shape NUMBER _ (λ _. ends_at Event _)), ((refl, event_shape NUMBER _ (λ _. ends_at Event _)), ((refl, event_shape MODE _ (λ _. ends_at Event _)), ((refl, event_shape NUMBER _ (λ _. ends_at Event _)), ((refl, event_shape NUMBER _ (λ _. ends_at Event _)), tt))))))))))))))))))))))))))))
 
 -- the words behind a first word are read as those of a line exactly if they have its shape
 pub line_tied : (word : List ℕ) (words : List (List ℕ)) (shape : Shape) → shape_of word ≡ Some shape → is_some (line_reader (word ∷ words)) ≡ is_shaped shape words

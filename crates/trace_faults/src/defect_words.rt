@@ -1,9 +1,7 @@
 //! The defects of profiles in words: what is wrong, its value, and what is allowed.
 
-use adapter_table::{
-    FARTHEST_NUMBER, LARGEST_CLASS, LONGEST_INACTIVITY, MOST_OWN_CLASSES, PHYSICAL_ADDRESS,
-};
-use cip_productions::Kind;
+use adapter_table::{LARGEST_CLASS, LONGEST_INACTIVITY, MOST_OWN_CLASSES, PHYSICAL_ADDRESS};
+use cip_productions::{FARTHEST_NUMBER, Kind};
 use cip_types::limits::{
     LONGEST_CONFIG, LONGEST_POINT, LONGEST_RPI_US, LONGEST_WAIT_MS, MOST_CONNECTIONS, MOST_POINTS,
     MOST_SLOTS,
@@ -63,10 +61,7 @@ pub fn push_defect(
         Defect::NameLen(_) | Defect::AddressLen(_) | Defect::Inactivity(_) => {
             push_described(out, defect)
         }
-        Defect::LeastRpi(_)
-        | Defect::AllPlaces(_)
-        | Defect::NodeConnections(_)
-        | Defect::Newer(_) => push_stated(out, defect),
+        _ if is_stated(defect) => push_stated(out, defect),
         Defect::ExtraClass(_) | Defect::OtherClass(_) | Defect::SameClass(_) => {
             push_class(out, defect)
         }
@@ -152,6 +147,19 @@ fn push_described(out: &mut String, defect: Defect) -> Result<(), OutOfMemory> {
     }
 }
 
+/// Whether the defect is one of a limit of the maker's.
+fn is_stated(defect: Defect) -> bool {
+    match defect {
+        Defect::LeastRpi(_)
+        | Defect::AllPlaces(_)
+        | Defect::Class3Places(_)
+        | Defect::NodeConnections(_)
+        | Defect::NodeOpenings(_)
+        | Defect::Newer(_) => true,
+        _ => false,
+    }
+}
+
 /// A limit of the maker's that is none.
 fn push_stated(out: &mut String, defect: Defect) -> Result<(), OutOfMemory> {
     match defect {
@@ -166,6 +174,17 @@ fn push_stated(out: &mut String, defect: Defect) -> Result<(), OutOfMemory> {
             out,
             "the places are {places} in all, and they are 1 to {MOST_CONNECTIONS}"
         )?),
+        Defect::Class3Places(places) => Ok(write!(
+            out,
+            "the places of class 3 connections are {places}, and they are at most {MOST_CONNECTIONS}"
+        )?),
+        Defect::NodeOpenings(most) => {
+            write!(
+                out,
+                "the openings of one node in a second are {most}, and they are 1 to "
+            )?;
+            push_limit(out, u64::from(u16::MAX))
+        }
         Defect::NodeConnections(most) => Ok(write!(
             out,
             "the most connections of one node are {most}, and they are 1 to {MOST_CONNECTIONS}"
@@ -318,6 +337,10 @@ fn push_time(out: &mut String, defect: Defect) -> Result<(), OutOfMemory> {
         Defect::Inhibit(slot, ms, api) => Ok(write!(
             out,
             "the inhibit time of slot {slot} is {ms} ms, and it is 0 to {api}, its T->O packet interval"
+        )?),
+        Defect::NoPace(slot) => Ok(write!(
+            out,
+            "the inhibit time of slot {slot} is 0 ms, and where numbers are limited it is at least 1"
         )?),
         _ => Ok(()),
     }

@@ -12,4 +12,5 @@ mod text_lines;
 
 pub use faults::explain_fault;
 pub use lexical::{Character, bad_character};
+pub use profile_draft::line_number;
 pub use reasons::{BadWord, LineReason, WordReason, reason_of};

@@ -1,6 +1,5 @@
 //! The profile at the front of a text, and the lines that it is in.
 
-use crate::text_lines::first_line;
 use adapter_table::{Description, InputPoint, MakerLimits, OutputPoint};
 use cip_tables::Config;
 use cip_types::{Items, OutOfMemory};
@@ -14,6 +13,7 @@ use trace_lines::{
     read_object, read_output, read_own_closers, read_places, read_point, read_scanner, read_slot,
     scanner_with, with_limit,
 };
+use trace_text::{first_line, is_skipped};
 use trace_words::{TextFault, Words};
 
 /// The name of a profile's line, by its first word.
@@ -139,7 +139,7 @@ impl ProfileDraft {
         let objects = Items::from_vec(self.objects);
         let slots = Items::from_vec(self.slots);
         if let Some(scanner) = self.scanner {
-            return Some(Config::Scanner(scanner_with(scanner, slots)));
+            return Some(Config::Scanner(scanner_with(scanner, self.limits.newer, slots)));
         }
         let profile = profile_with(
             self.adapter?,
@@ -175,12 +175,4 @@ pub fn profile_of(alloc: Global, text: &[u8]) -> Result<Option<Config>, OutOfMem
         }
     }
     Ok(draft.config())
-}
-
-/// Whether a line is empty or a comment.
-fn is_skipped(line: &[u8]) -> bool {
-    match line {
-        [] => true,
-        [first, ..] => *first == b'#',
-    }
 }

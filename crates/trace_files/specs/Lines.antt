@@ -78,7 +78,7 @@ pub record HandsOutLines (lines : List ℕ) (result : Result (Option TracePiece)
 pub record IsFirst (old : ProfileLines) (line : List ℕ) (result : Result (Option TracePiece) TraceFault) (new : EntryReader) (wrong : Option ℕ) : Type 0 where
   pub event : Event
   pub is : first_event line ≡ Some event
-  pub last : new ≡ record { number = 1; event = event; recorded = None }
+  pub last : new ≡ record { number = 1; event = event; recorded = None; sum = None }
   pub config : HandsOutLines old.text.items result wrong
 
 -- the line is not the first event

@@ -1,6 +1,6 @@
 //! Entries of a trace, played at a device.
 
-ghost use Rattle.std.specs.Prelude.{◌≡◌, ◌↔◌, None, Err, IsTrue, IfOk, IfErr, OnOk, string_bytes};
+ghost use Rattle.std.specs.Prelude.{◌≡◌, None, IfOk, IfErr, OnOk, string_bytes};
 ghost use Rattle.cip_tables.specs.Run.{outcome_of, table_of};
 ghost use Rattle.cip_tables.specs.Step.{config_fault, opening_table, step};
 ghost use Rattle.trace_outcomes.specs.WrittenOutcomes.{outcome_text};
@@ -9,12 +9,14 @@ ghost use Rattle.trace_files.specs.Playing.{JudgesOn, StepsTo, WritesOutcome};
 ghost use Rattle.trace_files.specs.Profile.{one_more};
 
 use crate::entry_reader::TraceEntry;
-use cip_tables::{Config, Device, Event, NewFault, Outcome, StepFault};
+use cip_tables::{Config, Device, Event, NewFault, Outcome};
 use cip_types::OutOfMemory;
+use outcome_sums::has_sum;
 use std::alloc::Global;
 use std::io::Write;
+use trace_outcomes::is_out_of_memory;
 use trace_stepper::{StepperFault, agrees, write_text};
-use trace_text::{Recorded, push_outcome};
+use trace_text::push_outcome;
 
 /// A device that takes the entries of a trace one by one; their number so far; and the number of the first one whose
 /// recorded outcome was not given.
@@ -65,20 +67,26 @@ impl<D: Device + Drop> Player<D> {
         ensures table { OnOk result (D.table self.new.device
             ≡ table_of (D.table self.old.device) (step (D.table self.old.device) entry.now.event)) }
         ensures count { OnOk result (self.new.count ≡ one_more self.old.count) }
-        ensures differs { OnOk result (JudgesOn self.old.differs entry.now.recorded
+        ensures differs { OnOk result (JudgesOn self.old.differs entry.now
             (outcome_of (step (D.table self.old.device) entry.now.event)) (one_more self.old.count) self.new.differs) }
     {
         let outcome = step_of(&mut self.device, &entry.event)?;
         self.count = self.count.saturating_add(1);
         write_outcome(&mut self.text, self.count, &outcome)?;
         write_text(out, self.text.as_bytes())?;
-        self.differs = judge(self.differs, &entry.recorded, &outcome, self.count);
+        self.differs = judge(
+            self.differs,
+            entry,
+            &outcome,
+            self.count,
+            self.text.as_bytes(),
+        );
         Ok(())
     }
 }
 
 /// The outcome of an event at a device. OutOfMemory is the only fault.
-fn step_of<D: Device>(device: &mut D, event: &Event) -> Result<Outcome, OutOfMemory>
+pub(crate) fn step_of<D: Device>(device: &mut D, event: &Event) -> Result<Outcome, OutOfMemory>
     ensures { StepsTo (step (D.table device.old) event.now) (D.table device.old) result (D.table device.new) }
 {
     let outcome = device.step(event);
@@ -90,33 +98,35 @@ fn step_of<D: Device>(device: &mut D, event: &Event) -> Result<Outcome, OutOfMem
 }
 
 /// Makes the text of an outcome.
-fn write_outcome(text: &mut String, number: u64, outcome: &Outcome) -> Result<(), OutOfMemory>
+pub(crate) fn write_outcome(
+    text: &mut String,
+    number: u64,
+    outcome: &Outcome,
+) -> Result<(), OutOfMemory>
     ensures { OnOk result (string_bytes text.new ≡ outcome_text number outcome.now) }
 {
     text.clear();
     push_outcome(text, number, outcome)
 }
 
-/// The number of the first entry whose recorded outcome was not given, with the entry of this number more.
-fn judge(differs: Option<u64>, recorded: &Recorded, outcome: &Outcome, number: u64) -> Option<u64>
-    ensures { JudgesOn differs recorded.now outcome.now number result }
+/// The number of the first entry whose recorded outcome was not given, with the entry of this number more. The text has the
+/// lines of the outcome.
+fn judge(
+    differs: Option<u64>,
+    entry: &TraceEntry,
+    outcome: &Outcome,
+    number: u64,
+    text: &[u8],
+) -> Option<u64>
+    requires { text.now ≡ outcome_text number outcome.now }
+    ensures { JudgesOn differs entry.now outcome.now number result }
 {
     if differs.is_some() {
         return differs;
     }
-    if agrees(recorded, Some(outcome)) {
+    if agrees(&entry.recorded, Some(outcome)) && has_sum(text, outcome, entry.sum) {
         None
     } else {
         Some(number)
-    }
-}
-
-/// Whether an allocation was refused.
-fn is_out_of_memory(outcome: &Outcome) -> bool
-    ensures { IsTrue result ↔ (outcome.now ≡ Err StepFault.OutOfMemory) }
-{
-    match outcome {
-        Err(StepFault::OutOfMemory) => true,
-        _ => false,
     }
 }

@@ -1,14 +1,14 @@
 //! The lines of a trace before its first event.
 
 ghost use Rattle.std.specs.Prelude.{◌≡◌, ◌++◌, [], OnOk, IfErr};
-ghost use Rattle.trace_text.specs.Reading.{is_skipped, trace_reading};
+ghost use Rattle.trace_text.specs.Reading.{trace_reading};
 ghost use Rattle.trace_files.specs.Profile.{config_of, kept_line, one_more, AnswersConfig, IsBadSoFar};
 
 use cip_tables::Config;
 use cip_types::OutOfMemory;
 use std::alloc::Global;
 use std::mem;
-use trace_text::{Trace, TraceFault, read_trace};
+use trace_text::{Trace, TraceFault, is_skipped, read_trace};
 
 /// The lines are read once they have so many bytes, so that a file that is no trace is soon found to be none.
 const FIRST_CHECK: usize = 65_536;
@@ -109,14 +109,4 @@ fn append(text: &mut Vec<u8>, more: &[u8]) -> Result<(), OutOfMemory>
 {
     text.extend_from_slice(more)?;
     Ok(())
-}
-
-/// Whether a line is skipped.
-pub fn is_skipped(line: &[u8]) -> bool
-    ensures { result ≡ is_skipped line.now }
-{
-    match line {
-        [] => true,
-        [first, ..] => *first == b'#',
-    }
 }

@@ -7,11 +7,11 @@ ghost use Rattle.trace_text.specs.Reading.{trace_reading};
 ghost use Rattle.trace_files.specs.Profile.{config_of, one_more};
 
 use crate::entry_reader::{EntryReader, TraceEntry};
-use crate::profile_lines::{ProfileLines, is_skipped};
+use crate::profile_lines::ProfileLines;
 use cip_tables::{Config, Event};
 use cip_types::OutOfMemory;
 use std::alloc::Global;
-use trace_text::{TraceFault, read_event_line};
+use trace_text::{TraceFault, is_skipped, read_event_line};
 use trace_words::TextFault;
 
 /// What the lines of a trace give, in this order: once the configuration, and then each entry.

@@ -6,6 +6,7 @@ use Rattle.std.proofs.lemmas.List.{append-nil}
 use Rattle.adapter_table.specs.declared.profile.Action.{Action}
 use Rattle.adapter_table.specs.declared.profile.Action.TheVariants.{Zero, Hold}
 use Rattle.adapter_table.specs.declared.maker_limits.MakerLimits.{MakerLimits}
+use Rattle.adapter_table.specs.declared.maker_limits.NodeLimits.{NodeLimits}
 use Rattle.adapter_table.specs.declared.maker_limits.Places.{Places}
 use Rattle.adapter_table.specs.declared.profile.Description.{Description}
 use Rattle.adapter_table.specs.declared.profile.InputPoint.{InputPoint}
@@ -13,12 +14,12 @@ use Rattle.adapter_table.specs.declared.profile.OutputPoint.{OutputPoint}
 use Rattle.adapter_table.specs.declared.profile.Profile.{Profile}
 use Rattle.adapter_table.specs.Profiles.{no_limits}
 use Rattle.cip_tables.specs.declared.table.Config.TheVariants as config
-use Rattle.trace_words.specs.Words.{number_of, action_word, line_text}
+use Rattle.trace_words.specs.Words.{number_of, line_text}
 use Rattle.trace_lines.specs.declared.forms.AdapterLine.{AdapterLine}
 use Rattle.trace_lines.specs.declared.forms.HeartbeatLine.{HeartbeatLine}
 use Rattle.trace_lines.specs.declared.limit_lines.LimitLine.{LimitLine}
 use Rattle.trace_lines.specs.declared.limit_lines.LimitLine.TheVariants as limit
-use Rattle.trace_lines.specs.Kinds.{closers_of}
+use Rattle.trace_lines.specs.Kinds.{action_word, closers_of, openings_of}
 use Rattle.trace_lines.specs.Limits.{closers_line, limit_words, limit_text, limits_text}
 use Rattle.trace_lines.specs.Profiles.{profile_with}
 use Rattle.trace_lines.specs.WrittenProfiles.{adapter_words, output_words, point_words, description_words, object_words, objects_text, heartbeat_words, config_text, description_text, profile_text}
@@ -28,7 +29,7 @@ use Rattle.trace_text.specs.declared.builder.TraceBuilder.TheVariants.{Empty, Po
 use Rattle.trace_text.specs.declared.forms.TraceLine.TheVariants as line
 use Rattle.trace_text.specs.Forms.{line_reader}
 use Rattle.trace_text.specs.Reading.{front_of, with_stated, with_object, with_profile, builder_with}
-use Rattle.trace_laws.specs.TraceBack.{OutputFits, InputFits, DescriptionFits, PlacesFit, LimitsFit, ClassFits, ProfileFits}
+use Rattle.trace_laws.specs.TraceBack.{OutputFits, InputFits, DescriptionFits, PlacesFit, NodeFits, LimitsFit, ClassFits, ProfileFits}
 use Rattle.trace_laws.proofs.WordLaws.{number_back, node_back, bytes_back, action_back}
 use Rattle.trace_laws.proofs.CleanWords.{decimal_clean, node_clean, bytes_clean}
 use Rattle.trace_laws.proofs.LineLaws.{is_clean, are_clean}
@@ -169,18 +170,33 @@ module _ (profile : Profile) (fits : ProfileFits profile) (settings : Option Inp
 
 -- LIMITS
 
-abbrev LimitFits : LimitLine → Type 0
+abbrev places_with : (owners readers listeners : ℕ) → Option ℕ → Places
+places_with owners readers listeners class3_connections = record { owners = owners; readers = readers; listeners = listeners; class3_connections = class3_connections }
+
+abbrev node_with : ℕ → Option ℕ → NodeLimits
+node_with connections openings = record { connections = connections; openings = openings }
+
+abbrev pub LimitFits : LimitLine → Type 0
 LimitFits (limit.LeastRpi us) = us < 2 ^ 32
 LimitFits (limit.Places places) = PlacesFit places
-LimitFits (limit.NodeConnections most) = most < 2 ^ 8
+LimitFits (limit.NodeConnections node) = NodeFits node
 LimitFits limit.OwnClosers = Unit {0}
 LimitFits (limit.Newer within) = within < 2 ^ 32
 
-limit_reads : (builder builder' : TraceBuilder) (given : LimitLine) → LimitFits given → builder_with builder (line.Limit given) ≡ Some builder' → Reads builder (line_text (limit_words given)) builder'
+places_read : (builder builder' : TraceBuilder) (owners readers listeners : ℕ) (class3_connections : Option ℕ) → PlacesFit (places_with owners readers listeners class3_connections) → builder_with builder (line.Limit (limit.Places (places_with owners readers listeners class3_connections))) ≡ Some builder' → Reads builder (line_text (limit_words (limit.Places (places_with owners readers listeners class3_connections)))) builder'
+places_read builder builder' owners readers listeners None fits built = line_reads builder builder' (codes "places") (decimal owners ∷ decimal readers ∷ decimal listeners ∷ []) (line.Limit (limit.Places (places_with owners readers listeners None))) refl refl (rw (c8 owners fits.0, c8 readers fits.1, c8 listeners fits.2) refl) (rw (n8 owners fits.0, n8 readers fits.1, n8 listeners fits.2) refl) built
+places_read builder builder' owners readers listeners (Some number) fits built = line_reads builder builder' (codes "places") (decimal owners ∷ decimal readers ∷ decimal listeners ∷ decimal number ∷ []) (line.Limit (limit.Places (places_with owners readers listeners (Some number)))) refl refl (rw (c8 owners fits.0, c8 readers fits.1, c8 listeners fits.2, c8 number fits.3) refl) (rw (n8 owners fits.0, n8 readers fits.1, n8 listeners fits.2, n8 number fits.3) refl) built
+
+node_read : (builder builder' : TraceBuilder) (connections : ℕ) (openings : Option ℕ) → NodeFits (node_with connections openings) → builder_with builder (line.Limit (limit.NodeConnections (node_with connections openings))) ≡ Some builder' → Reads builder (line_text (limit_words (limit.NodeConnections (node_with connections openings)))) builder'
+unfolding openings_of
+node_read builder builder' connections None fits built = line_reads builder builder' (codes "node-connections") (decimal connections ∷ []) (line.Limit (limit.NodeConnections (node_with connections None))) refl refl (rw (c8 connections fits.0) refl) (rw (n8 connections fits.0) refl) built
+node_read builder builder' connections (Some number) fits built = line_reads builder builder' (codes "node-connections") (decimal connections ∷ codes "openings" ∷ decimal number ∷ []) (line.Limit (limit.NodeConnections (node_with connections (Some number)))) refl refl (rw (c8 connections fits.0, c16 number fits.1) refl) (rw (n8 connections fits.0, n16 number fits.1) refl) built
+
+pub limit_reads : (builder builder' : TraceBuilder) (given : LimitLine) → LimitFits given → builder_with builder (line.Limit given) ≡ Some builder' → Reads builder (line_text (limit_words given)) builder'
 unfolding closers_of
 limit_reads builder builder' (limit.LeastRpi us) fits built = line_reads builder builder' (codes "least-rpi") (decimal us ∷ []) (line.Limit (limit.LeastRpi us)) refl refl (rw (c32 us fits) refl) (rw (n32 us fits) refl) built
-limit_reads builder builder' (limit.Places places) fits built = line_reads builder builder' (codes "places") (decimal places.owners ∷ decimal places.readers ∷ decimal places.listeners ∷ []) (line.Limit (limit.Places places)) refl refl (rw (c8 places.owners fits.0, c8 places.readers fits.1, c8 places.listeners fits.2) refl) (rw (n8 places.owners fits.0, n8 places.readers fits.1, n8 places.listeners fits.2) refl) built
-limit_reads builder builder' (limit.NodeConnections most) fits built = line_reads builder builder' (codes "node-connections") (decimal most ∷ []) (line.Limit (limit.NodeConnections most)) refl refl (rw (c8 most fits) refl) (rw (n8 most fits) refl) built
+limit_reads builder builder' (limit.Places places) fits built = places_read builder builder' places.owners places.readers places.listeners places.class3_connections fits built
+limit_reads builder builder' (limit.NodeConnections node) fits built = node_read builder builder' node.connections node.openings fits built
 limit_reads builder builder' limit.OwnClosers fits built = line_reads builder builder' (codes "closers") (codes "own" ∷ []) (line.Limit limit.OwnClosers) refl refl refl refl built
 limit_reads builder builder' (limit.Newer within) fits built = line_reads builder builder' (codes "newer") (decimal within ∷ []) (line.Limit (limit.Newer within)) refl refl (rw (c32 within fits) refl) (rw (n32 within fits) refl) built
 
@@ -198,7 +214,7 @@ behind_limits profile fits builder settings described limits (class ∷ more) on
     one_class profile fits settings described limits builder (Objects (front_with profile settings described limits) (class ∷ [])) (with_ends profile settings described limits (class ∷ more)) class more (first_of ClassFits class more fit) (on.2 class)
     (objects_read profile fits settings described limits (class ∷ []) more (rest_of ClassFits class more fit))
 
-abbrev limits_of : Option ℕ → Option Places → Option ℕ → Bool → Option ℕ → MakerLimits
+abbrev limits_of : Option ℕ → Option Places → Option NodeLimits → Bool → Option ℕ → MakerLimits
 limits_of rpi places node closers newer = record { least_rpi = rpi; places = places; node_connections = node; own_closers = closers; newer = newer }
 
 module _ (profile : Profile) (fits : ProfileFits profile) (settings : Option InputPoint) (described : Option Description) (objects : List ℕ) (objects_fit : All ClassFits objects) where
@@ -224,7 +240,7 @@ module _ (profile : Profile) (fits : ProfileFits profile) (settings : Option Inp
   abbrev newer_text : Option ℕ → List ℕ
   newer_text e = limit_text (option_map limit.Newer e)
 
-  newer_ends : (builder : TraceBuilder) (a : Option ℕ) (b : Option Places) (c : Option ℕ) (d : Bool) (e : Option ℕ) → GoesOn profile settings described (limits_of a b c d None) builder → IfSome e (λ within. within < 2 ^ 32) → Ends builder (newer_text e) (limits_of a b c d e)
+  newer_ends : (builder : TraceBuilder) (a : Option ℕ) (b : Option Places) (c : Option NodeLimits) (d : Bool) (e : Option ℕ) → GoesOn profile settings described (limits_of a b c d None) builder → IfSome e (λ within. within < 2 ^ 32) → Ends builder (newer_text e) (limits_of a b c d e)
   newer_ends builder a b c d None on fit = behind_limits profile fits builder settings described (limits_of a b c d None) objects on objects_fit
   newer_ends builder a b c d (Some within) on fit =
       reads_both builder (stated (limits_of a b c d (Some within))) (with_ends profile settings described (limits_of a b c d (Some within)) objects) (line_text (limit_words (limit.Newer within))) last_lines
@@ -234,31 +250,31 @@ module _ (profile : Profile) (fits : ProfileFits profile) (settings : Option Inp
   abbrev closers_text : Bool → Option ℕ → List ℕ
   closers_text d e = limit_text (closers_line d) ++ newer_text e
 
-  closers_ends : (builder : TraceBuilder) (a : Option ℕ) (b : Option Places) (c : Option ℕ) (d : Bool) (e : Option ℕ) → GoesOn profile settings described (limits_of a b c false None) builder → IfSome e (λ within. within < 2 ^ 32) → Ends builder (closers_text d e) (limits_of a b c d e)
+  closers_ends : (builder : TraceBuilder) (a : Option ℕ) (b : Option Places) (c : Option NodeLimits) (d : Bool) (e : Option ℕ) → GoesOn profile settings described (limits_of a b c false None) builder → IfSome e (λ within. within < 2 ^ 32) → Ends builder (closers_text d e) (limits_of a b c d e)
   closers_ends builder a b c false e on newer_fits = newer_ends builder a b c false e on newer_fits
   closers_ends builder a b c true e on newer_fits =
       one_limit builder limit.OwnClosers (limits_of a b c true None) (limits_of a b c true e) (newer_text e) tt (on.0 limit.OwnClosers)
       (newer_ends (stated (limits_of a b c true None)) a b c true e (goes_on_stated (limits_of a b c true None)) newer_fits)
 
-  abbrev node_text : Option ℕ → Bool → Option ℕ → List ℕ
+  abbrev node_text : Option NodeLimits → Bool → Option ℕ → List ℕ
   node_text c d e = limit_text (option_map limit.NodeConnections c) ++ closers_text d e
 
-  node_ends : (builder : TraceBuilder) (a : Option ℕ) (b : Option Places) (c : Option ℕ) (d : Bool) (e : Option ℕ) → GoesOn profile settings described (limits_of a b None false None) builder → IfSome c (λ most. most < 2 ^ 8) → IfSome e (λ within. within < 2 ^ 32) → Ends builder (node_text c d e) (limits_of a b c d e)
+  node_ends : (builder : TraceBuilder) (a : Option ℕ) (b : Option Places) (c : Option NodeLimits) (d : Bool) (e : Option ℕ) → GoesOn profile settings described (limits_of a b None false None) builder → IfSome c NodeFits → IfSome e (λ within. within < 2 ^ 32) → Ends builder (node_text c d e) (limits_of a b c d e)
   node_ends builder a b None d e on node_fits newer_fits = closers_ends builder a b None d e on newer_fits
   node_ends builder a b (Some most) d e on node_fits newer_fits =
       one_limit builder (limit.NodeConnections most) (limits_of a b (Some most) false None) (limits_of a b (Some most) d e) (closers_text d e) node_fits (on.0 (limit.NodeConnections most))
       (closers_ends (stated (limits_of a b (Some most) false None)) a b (Some most) d e (goes_on_stated (limits_of a b (Some most) false None)) newer_fits)
 
-  abbrev places_text : Option Places → Option ℕ → Bool → Option ℕ → List ℕ
+  abbrev places_text : Option Places → Option NodeLimits → Bool → Option ℕ → List ℕ
   places_text b c d e = limit_text (option_map limit.Places b) ++ node_text c d e
 
-  places_ends : (builder : TraceBuilder) (a : Option ℕ) (b : Option Places) (c : Option ℕ) (d : Bool) (e : Option ℕ) → GoesOn profile settings described (limits_of a None None false None) builder → IfSome b PlacesFit → IfSome c (λ most. most < 2 ^ 8) → IfSome e (λ within. within < 2 ^ 32) → Ends builder (places_text b c d e) (limits_of a b c d e)
+  places_ends : (builder : TraceBuilder) (a : Option ℕ) (b : Option Places) (c : Option NodeLimits) (d : Bool) (e : Option ℕ) → GoesOn profile settings described (limits_of a None None false None) builder → IfSome b PlacesFit → IfSome c NodeFits → IfSome e (λ within. within < 2 ^ 32) → Ends builder (places_text b c d e) (limits_of a b c d e)
   places_ends builder a None c d e on places_fit node_fits newer_fits = node_ends builder a None c d e on node_fits newer_fits
   places_ends builder a (Some places) c d e on places_fit node_fits newer_fits =
       one_limit builder (limit.Places places) (limits_of a (Some places) None false None) (limits_of a (Some places) c d e) (node_text c d e) places_fit (on.0 (limit.Places places))
       (node_ends (stated (limits_of a (Some places) None false None)) a (Some places) c d e (goes_on_stated (limits_of a (Some places) None false None)) node_fits newer_fits)
 
-  rpi_ends : (builder : TraceBuilder) (a : Option ℕ) (b : Option Places) (c : Option ℕ) (d : Bool) (e : Option ℕ) → GoesOn profile settings described no_limits builder → LimitsFit (limits_of a b c d e) → Ends builder (limits_text (limits_of a b c d e)) (limits_of a b c d e)
+  rpi_ends : (builder : TraceBuilder) (a : Option ℕ) (b : Option Places) (c : Option NodeLimits) (d : Bool) (e : Option ℕ) → GoesOn profile settings described no_limits builder → LimitsFit (limits_of a b c d e) → Ends builder (limits_text (limits_of a b c d e)) (limits_of a b c d e)
   rpi_ends builder None b c d e on fit = places_ends builder None b c d e on fit.places_fit fit.node_connections_fit fit.newer_fits
   rpi_ends builder (Some us) b c d e on fit =
       one_limit builder (limit.LeastRpi us) (limits_of (Some us) None None false None) (limits_of (Some us) b c d e) (places_text b c d e) fit.least_rpi_fits (on.0 (limit.LeastRpi us))

@@ -1,7 +1,7 @@
 -- A scanner's profile that is written is read as itself.
 use Rattle.std.proofs.Common.{◌≡◌, ℕ, zero, suc, ◌<◌, ◌+◌, ◌^◌, ◌%◌, Bool, true, false, List, [], ◌∷◌, ◌++◌, length, Option, Some, None, refl, sym, ap, subst, ◌∙◌, arith, eqb, append_assoc}
 use Rattle.std.proofs.Math.Bridge.{le_prop}
-use Rattle.std.specs.Prelude.{decimal, codes, drop, flat_map, nat_le, if◌then◌else◌, option_and_then, IfSome}
+use Rattle.std.specs.Prelude.{decimal, codes, drop, flat_map, nat_le, if◌then◌else◌, option_map, option_and_then, IfSome}
 use Rattle.std.specs.List.{All}
 use Rattle.std.specs.Str.{all_ascii_digits}
 use Rattle.std.specs.Str.Parse.{digits_value}
@@ -26,6 +26,8 @@ use Rattle.trace_words.specs.Reader.{Reader, ◌>>=◌, next_word, gives}
 use Rattle.trace_lines.specs.declared.forms.Rate.{Rate}
 use Rattle.trace_lines.specs.declared.forms.ScannerLine.{ScannerLine}
 use Rattle.trace_lines.specs.Kinds.{kind_of, multicast_of, trigger_of, key_of_bytes, key_of, key_with, kind_word, multicast_word, instance_word, key_word}
+use Rattle.trace_lines.specs.declared.limit_lines.LimitLine.TheVariants as limit
+use Rattle.trace_lines.specs.Limits.{limit_text}
 use Rattle.trace_lines.specs.Slots.{rate_reader, slot_reader, rate_words, slot_words, scanner_words, scanner_text}
 use Rattle.trace_text.specs.declared.builder.TraceBuilder.TheVariants.{Empty, Slots}
 use Rattle.trace_text.specs.declared.forms.TraceLine.TheVariants as line
@@ -34,7 +36,7 @@ use Rattle.trace_laws.specs.TraceBack.{KeyFits, SlotFits, ScannerFits}
 use Rattle.trace_laws.proofs.WordLaws.{node_back, bytes_back}
 use Rattle.trace_laws.proofs.CleanWords.{decimal_clean, node_clean, bytes_clean}
 use Rattle.trace_laws.proofs.LineLaws.{is_clean, are_clean, both, and_both}
-use Rattle.trace_laws.proofs.ProfileLaws.{n8, n16, n32, n64, c8, c16, c32}
+use Rattle.trace_laws.proofs.ProfileLaws.{n8, n16, n32, n64, c8, c16, c32, limit_reads}
 use Rattle.trace_laws.proofs.TextLaws.{first_of, rest_of, Reads, reads_none, reads_both, line_reads, next_reads, then_reads}
 
 -- WORDS
@@ -255,15 +257,20 @@ scanner_clean profile fits =
 
 -- ONE AFTER THE OTHER
 
-slots_read : (scanner : ScannerLine) (before slots : List SlotConfig) → All SlotFits slots → Reads (Slots scanner before) (flat_map (λ slot. line_text (slot_words slot)) slots) (Slots scanner (before ++ slots))
-slots_read scanner before [] fit = subst (λ all. Reads (Slots scanner before) [] (Slots scanner all)) (sym (append-nil before)) (reads_none (Slots scanner before))
-slots_read scanner before (slot ∷ slots) fit =
+slots_read : (scanner : ScannerLine) (newer : Option ℕ) (before slots : List SlotConfig) → All SlotFits slots → Reads (Slots scanner newer before) (flat_map (λ slot. line_text (slot_words slot)) slots) (Slots scanner newer (before ++ slots))
+slots_read scanner newer before [] fit = subst (λ all. Reads (Slots scanner newer before) [] (Slots scanner newer all)) (sym (append-nil before)) (reads_none (Slots scanner newer before))
+slots_read scanner newer before (slot ∷ slots) fit =
     let fits : SlotFits slot = first_of SlotFits slot slots fit in
-    let one : Reads (Slots scanner before) (line_text (slot_words slot)) (Slots scanner (before ++ slot ∷ [])) = line_reads _ _ (codes "slot") (behind_slot slot) (line.Slot slot) refl refl (slot_clean slot fits) (slot_line_read slot fits) refl in
-    let more : Reads (Slots scanner (before ++ slot ∷ [])) (flat_map (λ s. line_text (slot_words s)) slots) (Slots scanner (before ++ slot ∷ slots)) = subst (λ all. Reads (Slots scanner (before ++ slot ∷ [])) (flat_map (λ s. line_text (slot_words s)) slots) (Slots scanner all)) (append_assoc before (slot ∷ []) slots) (slots_read scanner (before ++ slot ∷ []) slots (rest_of SlotFits slot slots fit)) in
+    let one : Reads (Slots scanner newer before) (line_text (slot_words slot)) (Slots scanner newer (before ++ slot ∷ [])) = line_reads _ _ (codes "slot") (behind_slot slot) (line.Slot slot) refl refl (slot_clean slot fits) (slot_line_read slot fits) refl in
+    let more : Reads (Slots scanner newer (before ++ slot ∷ [])) (flat_map (λ s. line_text (slot_words s)) slots) (Slots scanner newer (before ++ slot ∷ slots)) = subst (λ all. Reads (Slots scanner newer (before ++ slot ∷ [])) (flat_map (λ s. line_text (slot_words s)) slots) (Slots scanner newer all)) (append_assoc before (slot ∷ []) slots) (slots_read scanner newer (before ++ slot ∷ []) slots (rest_of SlotFits slot slots fit)) in
     reads_both _ _ _ _ _ one more
 
-pub scanner_read : (profile : ScannerProfile) → ScannerFits profile → Reads Empty (scanner_text profile) (Slots (scanner_line profile) profile.slots)
+-- the line of the limit on numbers, if there is one
+newer_read : (scanner : ScannerLine) (newer : Option ℕ) → IfSome newer (λ within. within < 2 ^ 32) → Reads (Slots scanner None []) (limit_text (option_map limit.Newer newer)) (Slots scanner newer [])
+newer_read scanner None fit = reads_none (Slots scanner None [])
+newer_read scanner (Some within) fit = limit_reads (Slots scanner None []) (Slots scanner (Some within) []) (limit.Newer within) fit refl
+
+pub scanner_read : (profile : ScannerProfile) → ScannerFits profile → Reads Empty (scanner_text profile) (Slots (scanner_line profile) profile.newer profile.slots)
 scanner_read profile fits =
-    let one : Reads Empty (line_text (scanner_words profile)) (Slots (scanner_line profile) []) = line_reads _ _ (codes "scanner") (drop 1 (scanner_words profile)) (line.Scanner (scanner_line profile)) refl refl (scanner_clean profile fits) (scanner_line_read profile fits) refl in
-    reads_both _ _ _ _ _ one (slots_read (scanner_line profile) [] profile.slots fits.slots_fit)
+    let one : Reads Empty (line_text (scanner_words profile)) (Slots (scanner_line profile) None []) = line_reads _ _ (codes "scanner") (drop 1 (scanner_words profile)) (line.Scanner (scanner_line profile)) refl refl (scanner_clean profile fits) (scanner_line_read profile fits) refl in
+    reads_both _ _ _ _ _ one (reads_both _ _ _ _ _ (newer_read (scanner_line profile) profile.newer fits.newer_fits) (slots_read (scanner_line profile) profile.newer [] profile.slots fits.slots_fit))

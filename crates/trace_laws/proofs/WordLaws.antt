@@ -21,7 +21,8 @@ use Rattle.cip_types.specs.declared.names.Node.{Node}
 use Rattle.cip_types.specs.declared.names.ConnId.{ConnId}
 use Rattle.adapter_table.specs.declared.profile.Action.{Action}
 use Rattle.adapter_table.specs.declared.profile.Action.TheVariants.{Zero, Hold}
-use Rattle.trace_words.specs.Words.{number_of, is_short_form, node_word, node_of, bytes_word, bytes_of, is_dash, digits_of, id_word, id_of, general_word, general_of, extended_word, extended_of, action_word, action_of}
+use Rattle.trace_words.specs.Words.{number_of, is_short_form, node_word, node_of, bytes_word, bytes_of, is_dash, digits_of, id_word, id_of, general_word, general_of, extended_word, extended_of}
+use Rattle.trace_lines.specs.Kinds.{action_word, action_of}
 
 -- NUMBERS
 

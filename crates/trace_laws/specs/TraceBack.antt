@@ -11,6 +11,7 @@ use Rattle.cip_types.specs.declared.names.Mismatch.{Mismatch}
 use Rattle.cip_types.specs.declared.names.Mismatch.TheVariants as mismatch
 use Rattle.cip_types.specs.declared.names.Triad.{Triad}
 use Rattle.adapter_table.specs.declared.maker_limits.MakerLimits.{MakerLimits}
+use Rattle.adapter_table.specs.declared.maker_limits.NodeLimits.{NodeLimits}
 use Rattle.adapter_table.specs.declared.maker_limits.Places.{Places}
 use Rattle.adapter_table.specs.declared.profile.Description.{Description}
 use Rattle.adapter_table.specs.declared.profile.InputPoint.{InputPoint}
@@ -61,12 +62,15 @@ pub record DescriptionFits (described : Description) : Type 0 where
   pub inactivity_fits : described.inactivity < 2 ^ 16
 
 abbrev pub PlacesFit : Places → Type 0
-PlacesFit places = (places.owners < 2 ^ 8) × (places.readers < 2 ^ 8) × (places.listeners < 2 ^ 8)
+PlacesFit places = (places.owners < 2 ^ 8) × (places.readers < 2 ^ 8) × (places.listeners < 2 ^ 8) × IfSome places.class3_connections (λ number. number < 2 ^ 8)
+
+abbrev pub NodeFits : NodeLimits → Type 0
+NodeFits node = (node.connections < 2 ^ 8) × IfSome node.openings (λ number. number < 2 ^ 16)
 
 pub record LimitsFit (limits : MakerLimits) : Type 0 where
   pub least_rpi_fits : IfSome limits.least_rpi (λ us. us < 2 ^ 32)
   pub places_fit : IfSome limits.places PlacesFit
-  pub node_connections_fit : IfSome limits.node_connections (λ most. most < 2 ^ 8)
+  pub node_connections_fit : IfSome limits.node_connections NodeFits
   pub newer_fits : IfSome limits.newer (λ within. within < 2 ^ 32)
 
 -- a class of the maker's own objects
@@ -114,6 +118,7 @@ pub record ScannerFits (profile : ScannerProfile) : Type 0 where
   pub serial_fits : profile.serial < 2 ^ 32
   pub open_timeout_fits : profile.open_timeout < 2 ^ 64
   pub retry_fits : profile.retry < 2 ^ 64
+  pub newer_fits : IfSome profile.newer (λ within. within < 2 ^ 32)
   pub slots_fit : All SlotFits profile.slots
 
 -- EVENTS

@@ -6,7 +6,8 @@ use Rattle.hex.specs.Hex.{IsBytes}
 use Rattle.cip_types.specs.declared.names.Node.{Node}
 use Rattle.cip_types.specs.declared.names.ConnId.{ConnId}
 use Rattle.adapter_table.specs.declared.profile.Action.{Action}
-use Rattle.trace_words.specs.Words.{number_of, node_word, node_of, nodes_word, nodes_of, bytes_word, bytes_of, id_word, id_of, general_word, general_of, extended_word, extended_of, action_word, action_of}
+use Rattle.trace_words.specs.Words.{number_of, node_word, node_of, nodes_word, nodes_of, bytes_word, bytes_of, id_word, id_of, general_word, general_of, extended_word, extended_of}
+use Rattle.trace_lines.specs.Kinds.{action_word, action_of}
 
 -- a number of at most so many bits
 abbrev pub NumbersReadBack : Type 0

@@ -8,13 +8,16 @@ use Rattle.trace_words.specs.Words.{words_of, number_of}
 use Rattle.trace_words.specs.Reader.{Reader}
 use Rattle.trace_lines.specs.declared.limit_lines.LimitLine.{LimitLine}
 use Rattle.trace_lines.specs.declared.limit_lines.LimitLine.TheVariants.{LeastRpi, Places, NodeConnections, OwnClosers, Newer}
-use Rattle.trace_lines.specs.Kinds.{closers_of}
+use Rattle.trace_lines.specs.Kinds.{closers_of, openings_of}
 use Rattle.trace_lines.specs.Limits.{least_rpi_reader, places_reader, node_connections_reader, closers_reader, newer_reader, with_limit, limit_lines, limits_text}
 
 abbrev limited : Reader LimitLine → List ℕ → Option LimitLine
 limited read line = option_map (λ got. got.0) (read (words_of line))
 
 -- ---- lines
+
+abbrev four : Option ℕ → LimitLine
+four openings = NodeConnections (record { connections = 4; openings = openings })
 
 intervals_are_read : map (limited least_rpi_reader) (codes "1000" ∷ codes "4294967295" ∷ codes "0" ∷ []) ≡ Some (LeastRpi 1000) ∷ Some (LeastRpi 4294967295) ∷ Some (LeastRpi 0) ∷ []
 unfolding number_of
@@ -25,19 +28,28 @@ other_intervals_are_bad : map (limited least_rpi_reader) (codes "" ∷ codes "42
 unfolding number_of
 other_intervals_are_bad = refl
 
-places_are_read : limited places_reader (codes "2 30 0") ≡ Some (Places (record { owners = 2; readers = 30; listeners = 0 }))
+places_are_read : map (limited places_reader) (codes "2 30 0" ∷ codes "2 30 0 8" ∷ codes "2 30 0 0" ∷ [])
+    ≡ Some (Places (record { owners = 2; readers = 30; listeners = 0; class3_connections = None }))
+    ∷ Some (Places (record { owners = 2; readers = 30; listeners = 0; class3_connections = Some 8 }))
+    ∷ Some (Places (record { owners = 2; readers = 30; listeners = 0; class3_connections = Some 0 }))
+    ∷ []
 unfolding number_of
 places_are_read = refl
 
--- two numbers, four, one past 8 bits, and a dash
-other_places_are_bad : map (limited places_reader) (codes "2 30" ∷ codes "2 30 0 0" ∷ codes "2 256 0" ∷ codes "2 30 -" ∷ []) ≡ None ∷ None ∷ None ∷ None ∷ []
+-- two numbers, five, one past 8 bits, and a dash
+other_places_are_bad : map (limited places_reader) (codes "2 30" ∷ codes "2 30 0 8 0" ∷ codes "2 30 0 256" ∷ codes "2 30 -" ∷ []) ≡ None ∷ None ∷ None ∷ None ∷ []
 unfolding number_of
 other_places_are_bad = refl
 
--- connections of one node: four, and one past 8 bits
-nodes_are_read : map (limited node_connections_reader) (codes "4" ∷ codes "256" ∷ []) ≡ Some (NodeConnections 4) ∷ None ∷ []
-unfolding number_of
+-- connections of one node: four, 20 openings in a second beside them, and one past 8 bits
+nodes_are_read : map (limited node_connections_reader) (codes "4" ∷ codes "4 openings 20" ∷ codes "256" ∷ []) ≡ Some (four None) ∷ Some (four (Some 20)) ∷ None ∷ []
+unfolding number_of openings_of
 nodes_are_read = refl
+
+-- the word alone, another word, a number alone, one past 16 bits, and a word too many
+other_openings_are_bad : map (limited node_connections_reader) (codes "4 openings" ∷ codes "4 opens 20" ∷ codes "4 20" ∷ codes "4 openings 65536" ∷ codes "4 openings 20 1" ∷ []) ≡ None ∷ None ∷ None ∷ None ∷ None ∷ []
+unfolding number_of openings_of
+other_openings_are_bad = refl
 
 -- own closers, any closers, no word, and a word too many
 closers_are_read : map (limited closers_reader) (codes "own" ∷ codes "any" ∷ codes "" ∷ codes "own 1" ∷ []) ≡ Some OwnClosers ∷ None ∷ None ∷ None ∷ []
@@ -51,16 +63,16 @@ newer_is_read = refl
 -- ---- their order
 
 abbrev all : MakerLimits
-all = record { least_rpi = Some 1000; places = Some (record { owners = 2; readers = 30; listeners = 0 }); node_connections = Some 4; own_closers = true; newer = Some 1000 }
+all = record { least_rpi = Some 1000; places = Some (record { owners = 2; readers = 30; listeners = 0; class3_connections = Some 8 }); node_connections = Some (record { connections = 4; openings = Some 20 }); own_closers = true; newer = Some 1000 }
 
 abbrev with_all : Option MakerLimits → List LimitLine → Option MakerLimits
 with_all limits [] = limits
 with_all limits (line ∷ lines) = with_all (option_and_then (λ so_far. with_limit so_far line) limits) lines
 
 abbrev places : LimitLine
-places = Places (record { owners = 2; readers = 30; listeners = 0 })
+places = Places (record { owners = 2; readers = 30; listeners = 0; class3_connections = Some 8 })
 
-limits_are_made_of_lines : with_all (Some no_limits) (LeastRpi 1000 ∷ places ∷ NodeConnections 4 ∷ OwnClosers ∷ Newer 1000 ∷ []) ≡ Some all
+limits_are_made_of_lines : with_all (Some no_limits) (LeastRpi 1000 ∷ places ∷ four (Some 20) ∷ OwnClosers ∷ Newer 1000 ∷ []) ≡ Some all
 limits_are_made_of_lines = refl
 
 one_alone_is_enough : with_all (Some no_limits) (OwnClosers ∷ []) ≡ Some (record no_limits { own_closers = true })
@@ -71,12 +83,12 @@ others_are_misplaced :
     map (with_all (Some no_limits)) (
     (LeastRpi 1000 ∷ LeastRpi 1000 ∷ [])
     ∷ (places ∷ places ∷ [])
-    ∷ (NodeConnections 4 ∷ NodeConnections 5 ∷ [])
+    ∷ (four None ∷ four (Some 20) ∷ [])
     ∷ (OwnClosers ∷ OwnClosers ∷ [])
     ∷ (Newer 2 ∷ Newer 2 ∷ [])
     ∷ (places ∷ LeastRpi 1000 ∷ [])
-    ∷ (NodeConnections 4 ∷ places ∷ [])
-    ∷ (OwnClosers ∷ NodeConnections 4 ∷ [])
+    ∷ (four None ∷ places ∷ [])
+    ∷ (OwnClosers ∷ four None ∷ [])
     ∷ (Newer 2 ∷ OwnClosers ∷ [])
     ∷ (Newer 2 ∷ LeastRpi 1000 ∷ [])
     ∷ []
@@ -84,15 +96,15 @@ others_are_misplaced :
     ≡ None ∷ None ∷ None ∷ None ∷ None ∷ None ∷ None ∷ None ∷ None ∷ None ∷ []
 others_are_misplaced = refl
 
-all_have_lines : limit_lines all ≡ LeastRpi 1000 ∷ places ∷ NodeConnections 4 ∷ OwnClosers ∷ Newer 1000 ∷ []
+all_have_lines : limit_lines all ≡ LeastRpi 1000 ∷ places ∷ four (Some 20) ∷ OwnClosers ∷ Newer 1000 ∷ []
 all_have_lines = refl
 
 -- ---- as they are written
 
 limits_are_written :
-    map limits_text (all ∷ record no_limits { places = Some (record { owners = 1; readers = 2; listeners = 3 }); newer = Some 2 } ∷ no_limits ∷ [])
-    ≡ codes "least-rpi 1000\nplaces 2 30 0\nnode-connections 4\nclosers own\nnewer 1000\n"
-    ∷ codes "places 1 2 3\nnewer 2\n"
+    map limits_text (all ∷ record no_limits { places = Some (record { owners = 1; readers = 2; listeners = 3; class3_connections = None }); node_connections = Some (record { connections = 4; openings = None }); newer = Some 2 } ∷ no_limits ∷ [])
+    ≡ codes "least-rpi 1000\nplaces 2 30 0 8\nnode-connections 4 openings 20\nclosers own\nnewer 1000\n"
+    ∷ codes "places 1 2 3\nnode-connections 4\nnewer 2\n"
     ∷ []
     ∷ []
 unfolding digits

@@ -13,12 +13,24 @@ use Rattle.cip_netparams.specs.declared.Trigger.TheVariants.{Cyclic, ChangeOfSta
 use Rattle.cip_productions.specs.declared.kind.Kind.{Kind}
 use Rattle.cip_productions.specs.declared.kind.Kind.TheVariants.{ExclusiveOwner, InputOnly, ListenOnly}
 use Rattle.adapter_table.specs.declared.profile.Action.{Action}
+use Rattle.adapter_table.specs.declared.profile.Action.TheVariants.{Zero, Hold}
 use Rattle.trace_lines.specs.declared.shapes.WordKind.{WordKind}
 use Rattle.trace_lines.specs.declared.shapes.WordKind.TheVariants as word
-use Rattle.trace_words.specs.Words.{number_of, node_of, nodes_of, bytes_of, instance_of, action_of, general_of, node_word, nodes_word, bytes_word, action_word, general_word}
+use Rattle.trace_words.specs.Words.{number_of, node_of, nodes_of, bytes_of, instance_of, general_of, node_word, nodes_word, bytes_word, general_word}
 use Rattle.trace_words.specs.Reader.{Meanings, meaning}
 
 -- NAMES
+
+-- an action for an output
+abbrev pub action_meanings : Meanings (Option Action)
+action_meanings = (codes "zero", Some Zero) ∷ (codes "hold", Some Hold) ∷ []
+
+unfoldable pub action_of : List ℕ → Option Action
+action_of word = meaning action_meanings None word
+
+abbrev pub action_word : Action → List ℕ
+action_word Zero = codes "zero"
+action_word Hold = codes "hold"
 
 -- the kind of a connection
 abbrev pub kind_meanings : Meanings (Option Kind)
@@ -79,6 +91,16 @@ closers_of word = meaning closers_meanings None word
 abbrev pub closers_word : Unit {0} → List ℕ
 closers_word own = codes "own"
 
+-- the word before the number of openings
+abbrev pub openings_meanings : Meanings (Option (Unit {0}))
+openings_meanings = (codes "openings", Some tt) ∷ []
+
+unfoldable pub openings_of : List ℕ → Option (Unit {0})
+openings_of word = meaning openings_meanings None word
+
+abbrev pub openings_word : Unit {0} → List ℕ
+openings_word said = codes "openings"
+
 -- INSTANCES AND KEYS
 
 -- an instance; a dash for none
@@ -136,6 +158,7 @@ ValueOf word.ApplicationType = Kind
 ValueOf word.ConnectionType = Bool
 ValueOf word.Trigger = Trigger
 ValueOf word.Closers = Unit {0}
+ValueOf word.Openings = Unit {0}
 
 -- the value that a word writes, if it is of this kind
 abbrev pub value_of : (kind : WordKind) → List ℕ → Option (ValueOf kind)
@@ -155,6 +178,7 @@ value_of word.ApplicationType = kind_of
 value_of word.ConnectionType = multicast_of
 value_of word.Trigger = trigger_of
 value_of word.Closers = closers_of
+value_of word.Openings = openings_of
 
 -- the word of a value
 abbrev pub word_of : (kind : WordKind) → ValueOf kind → List ℕ
@@ -174,3 +198,4 @@ word_of word.ApplicationType = kind_word
 word_of word.ConnectionType = multicast_word
 word_of word.Trigger = trigger_word
 word_of word.Closers = closers_word
+word_of word.Openings = openings_word

@@ -2,7 +2,7 @@
 -- written and why it is bad are made of these tables of the code.
 use Rattle.std.specs.Prelude.{ℕ, Bool, true, false, List, [], ◌∷◌, ◌++◌, codes, option_map, option_and_then, ◌≡◌, Option, Some, None, Result, Ok, Err}
 use Rattle.trace_lines.specs.declared.shapes.WordKind.{WordKind}
-use Rattle.trace_lines.specs.declared.shapes.TheConstants.{ADAPTER, OUTPUT, POINT, DESCRIBE, PLACES, NODE_CONNECTIONS, CLOSERS, HEARTBEAT, SCANNER, SLOT, RATE, FROM_NODE, EXPLICIT, ANSWER, STREAM, FRAME, CUT, WRITE, NUMBER, MODE, SEND, VALUE, REPLIED, OWN_REQUEST}
+use Rattle.trace_lines.specs.declared.shapes.TheConstants.{ADAPTER, OUTPUT, POINT, DESCRIBE, PLACES, CLASS3_PLACES, NODE_CONNECTIONS, NODE_OPENINGS, CLOSERS, HEARTBEAT, SCANNER, SLOT, RATE, FROM_NODE, EXPLICIT, ANSWER, STREAM, FRAME, CUT, WRITE, NUMBER, MODE, SEND, VALUE, REPLIED, OWN_REQUEST}
 use Rattle.trace_words.specs.declared.words.TextFault.{TextFault}
 use Rattle.trace_words.specs.declared.words.TextFault.TheVariants.{Bad, OutOfMemory}
 use Rattle.trace_words.specs.Reader.{Reader, next_word, Meanings, meaning, ◌>>=◌}
@@ -79,8 +79,8 @@ line_shapes =
     ∷ (codes "config", alone POINT)
     ∷ (codes "describe", alone DESCRIBE)
     ∷ (codes "least-rpi", alone NUMBER)
-    ∷ (codes "places", alone PLACES)
-    ∷ (codes "node-connections", alone NODE_CONNECTIONS)
+    ∷ (codes "places", Some (PLACES, CLASS3_PLACES))
+    ∷ (codes "node-connections", Some (NODE_CONNECTIONS, NODE_OPENINGS))
     ∷ (codes "closers", alone CLOSERS)
     ∷ (codes "newer", alone NUMBER)
     ∷ (codes "object", alone NUMBER)

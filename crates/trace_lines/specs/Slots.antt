@@ -1,13 +1,15 @@
 -- The lines of a scanner's profile: how they are read behind their keywords, and how they are written. Their last two
 -- words, the trigger and the inhibit time of the target, are left out if it produces cyclically without inhibit time.
-use Rattle.std.specs.Prelude.{ℕ, ◌==◌, if◌then◌else◌, List, [], ◌∷◌, ◌++◌, codes, flat_map, Some}
+use Rattle.std.specs.Prelude.{ℕ, ◌==◌, if◌then◌else◌, List, [], ◌∷◌, ◌++◌, codes, flat_map, option_map, Option, Some}
 use Rattle.cip_netparams.specs.declared.Trigger.{Trigger}
 use Rattle.cip_netparams.specs.declared.Trigger.TheVariants.{Cyclic, ChangeOfState}
 use Rattle.scanner_table.specs.declared.profile.SlotConfig.{SlotConfig}
 use Rattle.scanner_table.specs.declared.profile.ScannerProfile.{ScannerProfile}
 use Rattle.trace_lines.specs.declared.forms.Rate.{Rate}
 use Rattle.trace_lines.specs.declared.forms.ScannerLine.{ScannerLine}
+use Rattle.trace_lines.specs.declared.limit_lines.LimitLine.TheVariants.{Newer}
 use Rattle.trace_lines.specs.declared.shapes.TheConstants.{SCANNER, SLOT, RATE}
+use Rattle.trace_lines.specs.Limits.{limit_text}
 use Rattle.trace_words.specs.Words.{line_text}
 use Rattle.trace_words.specs.Reader.{Reader, gives, ends, ◌>>=◌}
 use Rattle.trace_lines.specs.Shapes.{shaped, spelled}
@@ -48,14 +50,15 @@ slot_reader = shaped SLOT (λ target kind config consumed produced out_len in_le
 }))
 
 -- the profile with the values of its lines
-abbrev pub scanner_with : ScannerLine → List SlotConfig → ScannerProfile
-scanner_with scanner slots = record {
+abbrev pub scanner_with : ScannerLine → Option ℕ → List SlotConfig → ScannerProfile
+scanner_with scanner newer slots = record {
   incarnation = scanner.incarnation;
   node = scanner.node;
   vendor = scanner.vendor;
   serial = scanner.serial;
   open_timeout = scanner.open_timeout;
   retry = scanner.retry;
+  newer = newer;
   slots = slots;
 }
 
@@ -72,5 +75,9 @@ slot_words slot = spelled (codes "slot" ∷ []) SLOT slot.target slot.kind slot.
 abbrev pub scanner_words : ScannerProfile → List (List ℕ)
 scanner_words profile = spelled (codes "scanner" ∷ []) SCANNER profile.incarnation profile.node profile.vendor profile.serial profile.open_timeout profile.retry
 
+abbrev pub slots_text : ScannerProfile → List ℕ
+slots_text profile = flat_map (λ slot. line_text (slot_words slot)) profile.slots
+
+-- the line of the limit on numbers, if there is one, goes before the slots
 abbrev pub scanner_text : ScannerProfile → List ℕ
-scanner_text profile = line_text (scanner_words profile) ++ flat_map (λ slot. line_text (slot_words slot)) profile.slots
+scanner_text profile = line_text (scanner_words profile) ++ (limit_text (option_map Newer profile.newer) ++ slots_text profile)

@@ -73,8 +73,12 @@ pub fn profile_with(
 }
 
 /// The profile of a scanner with the values of its lines.
-pub fn scanner_with(scanner: ScannerLine, slots: Items<SlotConfig>) -> ScannerProfile
-    ensures { result ≡ scanner_with scanner slots }
+pub fn scanner_with(
+    scanner: ScannerLine,
+    newer: Option<u32>,
+    slots: Items<SlotConfig>,
+) -> ScannerProfile
+    ensures { result ≡ scanner_with scanner newer slots }
 {
     ScannerProfile {
         incarnation: scanner.incarnation,
@@ -83,6 +87,7 @@ pub fn scanner_with(scanner: ScannerLine, slots: Items<SlotConfig>) -> ScannerPr
         serial: scanner.serial,
         open_timeout: scanner.open_timeout,
         retry: scanner.retry,
+        newer,
         slots,
     }
 }

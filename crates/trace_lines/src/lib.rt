@@ -15,14 +15,15 @@ pub use limit_lines::{
     LimitLine, read_least_rpi, read_newer, read_node_connections, read_own_closers, read_places,
     with_limit,
 };
-pub use names::read_mode;
+pub use names::{kind_name, read_mode};
 pub use profile_lines::{
     read_adapter, read_description, read_heartbeat, read_object, read_output, read_point,
 };
 pub use shapes::{
-    ADAPTER, ANSWER, CLOSERS, CUT, DESCRIBE, EXPLICIT, FRAME, FROM_NODE, HEARTBEAT, MODE,
-    NODE_CONNECTIONS, NUMBER, OUTPUT, OWN_REQUEST, PLACES, POINT, RATE, REPLIED, SCANNER, SEND,
-    SLOT, STREAM, Shape, VALUE, WRITE, WordKind, part_shape_of, shape_of, skip_word,
+    ADAPTER, ANSWER, CLASS3_PLACES, CLOSERS, CUT, DESCRIBE, EXPLICIT, FRAME, FROM_NODE, HEARTBEAT,
+    MODE, NODE_CONNECTIONS, NODE_OPENINGS, NUMBER, OUTPUT, OWN_REQUEST, PLACES, POINT, RATE,
+    REPLIED, SCANNER, SEND, SLOT, STREAM, Shape, VALUE, WRITE, WordKind, part_shape_of, shape_of,
+    skip_word,
 };
 pub use slot_lines::{read_scanner, read_slot};
 pub use written_profiles::push_profile;

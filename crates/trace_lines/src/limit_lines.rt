@@ -2,10 +2,11 @@
 
 ghost use Rattle.std.specs.Prelude.{◌≡◌, ◌++◌, OnOk, string_bytes, option_map};
 ghost use Rattle.trace_words.specs.Reader.{unread_words, Takes};
-ghost use Rattle.trace_lines.specs.Limits.{least_rpi_reader, places_reader, node_connections_reader, closers_reader, newer_reader, none_from_newer, none_from_closers, none_from_node, none_from_places, none_from_rpi, with_limit, closers_line, limit_text, limits_text};
+ghost use Rattle.trace_words.specs.Words.{line_text};
+ghost use Rattle.trace_lines.specs.Limits.{least_rpi_reader, places_reader, node_connections_reader, closers_reader, newer_reader, stated_class3_connections, stated_openings, none_from_newer, none_from_closers, none_from_node, none_from_places, none_from_rpi, with_limit, closers_line, limit_text, limit_words, limits_text};
 
-use crate::names::read_closers;
-use adapter_table::{MakerLimits, Places};
+use crate::names::{read_closers, read_openings};
+use adapter_table::{MakerLimits, NodeLimits, Places};
 use cip_types::OutOfMemory;
 use trace_words::{TextFault, Words};
 
@@ -14,10 +15,10 @@ use trace_words::{TextFault, Words};
 pub enum LimitLine {
     /// The least requested packet interval that is admitted, in microseconds.
     LeastRpi(u32),
-    /// How many connections of each application type can be established at one time.
+    /// How many connections of each application type can be established at one time, and of class 3.
     Places(Places),
-    /// The most established connections of one node.
-    NodeConnections(u8),
+    /// What one node can have.
+    NodeConnections(NodeLimits),
     /// Only the node that opened a connection can close it.
     OwnClosers,
     /// A connection accepts sequence numbers that are ahead of its newest by less than this.
@@ -32,7 +33,7 @@ pub fn read_least_rpi(words: &mut Words<'_>) -> Result<LimitLine, TextFault>
     words.last(LimitLine::LeastRpi(us))
 }
 
-/// What follows `places`: `OWNERS READERS LISTENERS`.
+/// What follows `places`: `OWNERS READERS LISTENERS`, and `CLASS3` or nothing.
 pub fn read_places(words: &mut Words<'_>) -> Result<LimitLine, TextFault>
     ensures { Takes (places_reader (unread_words words.old)) result (unread_words words.new) }
 {
@@ -40,16 +41,51 @@ pub fn read_places(words: &mut Words<'_>) -> Result<LimitLine, TextFault>
         owners: words.u8()?,
         readers: words.u8()?,
         listeners: words.u8()?,
+        class3_connections: None,
     };
-    words.last(LimitLine::Places(places))
+    if words.is_done() {
+        return Ok(LimitLine::Places(places));
+    }
+    let class3_connections = read_class3_connections(words)?;
+    Ok(LimitLine::Places(Places {
+        class3_connections,
+        ..places
+    }))
 }
 
-/// What follows `node-connections`: `N`.
+/// The number of class 3 connections at the end of a line.
+fn read_class3_connections(words: &mut Words<'_>) -> Result<Option<u8>, TextFault>
+    ensures { Takes (stated_class3_connections (unread_words words.old)) result (unread_words words.new) }
+{
+    let number = words.u8()?;
+    words.last(Some(number))
+}
+
+/// What follows `node-connections`: `N`, and `openings M` or nothing.
 pub fn read_node_connections(words: &mut Words<'_>) -> Result<LimitLine, TextFault>
     ensures { Takes (node_connections_reader (unread_words words.old)) result (unread_words words.new) }
 {
-    let most = words.u8()?;
-    words.last(LimitLine::NodeConnections(most))
+    let connections = words.u8()?;
+    if words.is_done() {
+        return Ok(LimitLine::NodeConnections(NodeLimits {
+            connections,
+            openings: None,
+        }));
+    }
+    let openings = read_node_openings(words)?;
+    Ok(LimitLine::NodeConnections(NodeLimits {
+        connections,
+        openings,
+    }))
+}
+
+/// The number of openings in a second at the end of a line.
+fn read_node_openings(words: &mut Words<'_>) -> Result<Option<u16>, TextFault>
+    ensures { Takes (stated_openings (unread_words words.old)) result (unread_words words.new) }
+{
+    read_openings(words)?;
+    let number = words.u16()?;
+    words.last(Some(number))
 }
 
 /// What follows `closers`: `own`.
@@ -81,8 +117,8 @@ pub fn with_limit(limits: MakerLimits, limit: LimitLine) -> Option<MakerLimits>
             places: Some(places),
             ..limits
         }),
-        LimitLine::NodeConnections(most) => none_from_node(&limits).then_some(MakerLimits {
-            node_connections: Some(most),
+        LimitLine::NodeConnections(node) => none_from_node(&limits).then_some(MakerLimits {
+            node_connections: Some(node),
             ..limits
         }),
         LimitLine::OwnClosers => none_from_closers(&limits).then_some(MakerLimits {
@@ -158,22 +194,50 @@ fn push_places(out: &mut String, places: Option<Places>) -> Result<(), OutOfMemo
         (string_bytes out.new ≡ string_bytes out.old ++ limit_text (option_map LimitLine.Places places)) }
 {
     match places {
-        Some(places) => Ok(write!(
-            out,
-            "places {} {} {}\n",
-            places.owners, places.readers, places.listeners
-        )?),
+        Some(places) => push_stated_places(out, places),
         None => Ok(()),
     }
 }
 
-fn push_node_connections(out: &mut String, most: Option<u8>) -> Result<(), OutOfMemory>
+fn push_stated_places(out: &mut String, places: Places) -> Result<(), OutOfMemory>
     ensures { OnOk result
-        (string_bytes out.new ≡ string_bytes out.old ++ limit_text (option_map LimitLine.NodeConnections most)) }
+        (string_bytes out.new ≡ string_bytes out.old ++ line_text (limit_words (LimitLine.Places places))) }
 {
-    match most {
-        Some(most) => Ok(write!(out, "node-connections {most}\n")?),
+    match places.class3_connections {
+        Some(number) => Ok(write!(
+            out,
+            "places {} {} {} {number}\n",
+            places.owners, places.readers, places.listeners
+        )?),
+        None => Ok(write!(
+            out,
+            "places {} {} {}\n",
+            places.owners, places.readers, places.listeners
+        )?),
+    }
+}
+
+fn push_node_connections(out: &mut String, node: Option<NodeLimits>) -> Result<(), OutOfMemory>
+    ensures { OnOk result
+        (string_bytes out.new ≡ string_bytes out.old ++ limit_text (option_map LimitLine.NodeConnections node)) }
+{
+    match node {
+        Some(node) => push_stated_node(out, node),
         None => Ok(()),
+    }
+}
+
+fn push_stated_node(out: &mut String, node: NodeLimits) -> Result<(), OutOfMemory>
+    ensures { OnOk result
+        (string_bytes out.new ≡ string_bytes out.old ++ line_text (limit_words (LimitLine.NodeConnections node))) }
+{
+    match node.openings {
+        Some(number) => Ok(write!(
+            out,
+            "node-connections {} openings {number}\n",
+            node.connections
+        )?),
+        None => Ok(write!(out, "node-connections {}\n", node.connections)?),
     }
 }
 
@@ -188,7 +252,7 @@ fn push_own_closers(out: &mut String, own_closers: bool) -> Result<(), OutOfMemo
     }
 }
 
-fn push_newer(out: &mut String, newer: Option<u32>) -> Result<(), OutOfMemory>
+pub(crate) fn push_newer(out: &mut String, newer: Option<u32>) -> Result<(), OutOfMemory>
     ensures { OnOk result
         (string_bytes out.new ≡ string_bytes out.old ++ limit_text (option_map LimitLine.Newer newer)) }
 {

@@ -1,11 +1,35 @@
 //! The names that are words.
 
+ghost use Rattle.std.specs.Prelude.{◌≡◌};
 ghost use Rattle.trace_words.specs.Reader.{unread_words, Takes, next_word};
-ghost use Rattle.trace_lines.specs.Kinds.{kind_of, multicast_of, trigger_of, mode_of, closers_of};
+ghost use Rattle.trace_lines.specs.Kinds.{action_of, action_word, kind_of, kind_word, multicast_of, trigger_of, mode_of, closers_of, openings_of};
 
+use adapter_table::Action;
 use cip_netparams::Trigger;
 use cip_productions::Kind;
 use trace_words::{TextFault, Words};
+
+/// An action for an output, by its word.
+#[tactic(auto, unfolding(crate::specs::Kinds::action_of))]
+pub fn read_action(words: &mut Words<'_>) -> Result<Action, TextFault>
+    ensures { Takes (next_word action_of (unread_words words.old)) result (unread_words words.new) }
+{
+    match words.word()? {
+        "zero" => Ok(Action::Zero),
+        "hold" => Ok(Action::Hold),
+        _ => Err(TextFault::Bad),
+    }
+}
+
+/// The word of an action for an output.
+pub fn action_name(action: Action) -> &'static str
+    ensures { result.now ≡ action_word action }
+{
+    match action {
+        Action::Zero => "zero",
+        Action::Hold => "hold",
+    }
+}
 
 /// The kind of a connection, by its word.
 #[tactic(auto, unfolding(crate::specs::Kinds::kind_of))]
@@ -17,6 +41,17 @@ pub fn read_kind(words: &mut Words<'_>) -> Result<Kind, TextFault>
         "input" => Ok(Kind::InputOnly),
         "listen" => Ok(Kind::ListenOnly),
         _ => Err(TextFault::Bad),
+    }
+}
+
+/// The word of the kind of a connection.
+pub fn kind_name(kind: Kind) -> &'static str
+    ensures { result.now ≡ kind_word kind }
+{
+    match kind {
+        Kind::ExclusiveOwner => "exclusive",
+        Kind::InputOnly => "input",
+        Kind::ListenOnly => "listen",
     }
 }
 
@@ -63,6 +98,17 @@ pub fn read_closers(words: &mut Words<'_>) -> Result<(), TextFault>
 {
     match words.word()? {
         "own" => Ok(()),
+        _ => Err(TextFault::Bad),
+    }
+}
+
+/// The word before the number of openings.
+#[tactic(auto, unfolding(crate::specs::Kinds::openings_of))]
+pub fn read_openings(words: &mut Words<'_>) -> Result<(), TextFault>
+    ensures { Takes (next_word openings_of (unread_words words.old)) result (unread_words words.new) }
+{
+    match words.word()? {
+        "openings" => Ok(()),
         _ => Err(TextFault::Bad),
     }
 }

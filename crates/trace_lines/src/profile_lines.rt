@@ -4,6 +4,7 @@ ghost use Rattle.trace_words.specs.Reader.{unread_words, Takes};
 ghost use Rattle.trace_lines.specs.Profiles.{adapter_reader, output_reader, point_reader, description_reader, object_reader, heartbeat_reader};
 
 use crate::forms::{AdapterLine, HeartbeatLine};
+use crate::names::read_action;
 use adapter_table::{Description, InputPoint, OutputPoint};
 use cip_types::Identity;
 use std::alloc::Global;
@@ -35,8 +36,8 @@ pub fn read_output(words: &mut Words<'_>) -> Result<OutputPoint, TextFault>
     let point = OutputPoint {
         instance: words.u32()?,
         len: words.u64()?,
-        idle: words.action()?,
-        fault: words.action()?,
+        idle: read_action(words)?,
+        fault: read_action(words)?,
     };
     words.last(point)
 }

@@ -5,7 +5,9 @@ ghost use Rattle.std.specs.Prelude.{◌≡◌, option_map};
 ghost use Rattle.trace_words.specs.Reader.{unread_words};
 ghost use Rattle.trace_lines.specs.Shapes.{behind_word, shape_of, part_shape_of, skipped, Skips};
 
-use crate::names::{read_closers, read_kind, read_mode, read_multicast, read_trigger};
+use crate::names::{
+    read_action, read_closers, read_kind, read_mode, read_multicast, read_openings, read_trigger,
+};
 use crate::slot_lines::read_key;
 use std::alloc::Global;
 use trace_words::{TextFault, Words};
@@ -35,6 +37,8 @@ pub enum WordKind {
     Trigger,
     /// Which nodes close a connection: its own.
     Closers,
+    /// The word before the number of openings.
+    Openings,
 }
 
 /// The kinds of the words of a line, and of those that may follow.
@@ -77,8 +81,14 @@ pub const DESCRIBE: [WordKind; 7] = [
 /// Owners, input-only and listen-only connections.
 pub const PLACES: [WordKind; 3] = [WordKind::U8, WordKind::U8, WordKind::U8];
 
+/// Class 3 connections.
+pub const CLASS3_PLACES: [WordKind; 1] = [WordKind::U8];
+
 /// Connections of one node.
 pub const NODE_CONNECTIONS: [WordKind; 1] = [WordKind::U8];
+
+/// Openings of one node in a second.
+pub const NODE_OPENINGS: [WordKind; 2] = [WordKind::Openings, WordKind::U16];
 
 /// Which nodes close a connection.
 pub const CLOSERS: [WordKind; 1] = [WordKind::Closers];
@@ -178,8 +188,8 @@ pub fn shape_of(first: &str) -> Option<Shape>
         "input" | "config" => Some((&POINT, &[])),
         "describe" => Some((&DESCRIBE, &[])),
         "least-rpi" | "newer" | "object" => Some((&NUMBER, &[])),
-        "places" => Some((&PLACES, &[])),
-        "node-connections" => Some((&NODE_CONNECTIONS, &[])),
+        "places" => Some((&PLACES, &CLASS3_PLACES)),
+        "node-connections" => Some((&NODE_CONNECTIONS, &NODE_OPENINGS)),
         "closers" => Some((&CLOSERS, &[])),
         "heartbeat" => Some((&HEARTBEAT, &[])),
         "scanner" => Some((&SCANNER, &[])),
@@ -230,12 +240,13 @@ pub fn skip_word(alloc: Global, kind: WordKind, words: &mut Words<'_>) -> Result
         WordKind::Hex => skipped(words.bytes(alloc)),
         WordKind::ElectronicKey => skipped(read_key(alloc, words)),
         WordKind::GeneralStatus => skipped(words.general(alloc)),
-        WordKind::Action => skipped(words.action()),
+        WordKind::Action => skipped(read_action(words)),
         WordKind::Mode => skipped(read_mode(words)),
         WordKind::ApplicationType => skipped(read_kind(words)),
         WordKind::ConnectionType => skipped(read_multicast(words)),
         WordKind::Trigger => skipped(read_trigger(words)),
         WordKind::Closers => skipped(read_closers(words)),
+        WordKind::Openings => skipped(read_openings(words)),
     }
 }
 

@@ -1,11 +1,12 @@
 //! Profiles as they are written.
 
 ghost use Rattle.std.specs.Prelude.{◌≡◌, ◌++◌, OnOk, string_bytes, flat_map, codes, drop};
-ghost use Rattle.trace_words.specs.Words.{action_word, line_text};
+ghost use Rattle.trace_words.specs.Words.{line_text};
 ghost use Rattle.trace_lines.specs.WrittenProfiles.{adapter_words, output_words, point_words, description_words, heartbeat_words, config_text, description_text, objects_text, profile_text};
 
 use crate::limit_lines::push_limits;
-use adapter_table::{Action, Description, InputPoint, OutputPoint, Profile};
+use crate::names::action_name;
+use adapter_table::{Description, InputPoint, OutputPoint, Profile};
 use cip_types::{Node, OutOfMemory};
 use trace_words::{push_bytes, push_node};
 
@@ -63,15 +64,6 @@ fn push_outputs(out: &mut String, outputs: &[OutputPoint]) -> Result<(), OutOfMe
         )?;
     }
     Ok(())
-}
-
-fn action_name(action: Action) -> &'static str
-    ensures { result.now ≡ action_word action }
-{
-    match action {
-        Action::Zero => "zero",
-        Action::Hold => "hold",
-    }
 }
 
 fn push_inputs(out: &mut String, inputs: &[InputPoint]) -> Result<(), OutOfMemory>

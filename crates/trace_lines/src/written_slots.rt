@@ -3,12 +3,13 @@
 ghost use Rattle.std.specs.Prelude.{◌≡◌, ◌++◌, OnOk, string_bytes, flat_map, codes, take, drop};
 ghost use Rattle.std.specs.List.{join_with_byte};
 ghost use Rattle.trace_words.specs.Words.{line_text};
-ghost use Rattle.trace_lines.specs.Kinds.{kind_word, multicast_word, key_word};
+ghost use Rattle.trace_lines.specs.Kinds.{multicast_word, key_word};
 ghost use Rattle.trace_lines.specs.Slots.{slot_words, scanner_words, scanner_text};
 
+use crate::limit_lines::push_newer;
+use crate::names::kind_name;
 use cip_epath::ElectronicKey;
 use cip_netparams::Trigger;
-use cip_productions::Kind;
 use cip_types::OutOfMemory;
 use scanner_table::{ScannerProfile, SlotConfig};
 use trace_words::{push_bytes, push_digits, push_node, push_text};
@@ -18,7 +19,9 @@ pub fn push_scanner(out: &mut String, profile: &ScannerProfile) -> Result<(), Ou
     ensures { OnOk result (string_bytes out.new ≡ string_bytes out.old ++ scanner_text profile.now) }
 {
     push_first(out, profile)?;
-    push_slots(out, profile.slots.as_slice())
+    push_newer(out, profile.newer)?;
+    push_slots(out, profile.slots.as_slice())?;
+    Ok(())
 }
 
 fn push_first(out: &mut String, profile: &ScannerProfile) -> Result<(), OutOfMemory>
@@ -65,16 +68,6 @@ fn push_purpose(out: &mut String, slot: &SlotConfig) -> Result<(), OutOfMemory>
     match slot.config {
         Some(instance) => Ok(write!(out, "{instance}")?),
         None => Ok(out.push_str("-")?),
-    }
-}
-
-fn kind_name(kind: Kind) -> &'static str
-    ensures { result.now ≡ kind_word kind }
-{
-    match kind {
-        Kind::ExclusiveOwner => "exclusive",
-        Kind::InputOnly => "input",
-        Kind::ListenOnly => "listen",
     }
 }
 

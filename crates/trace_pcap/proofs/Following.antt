@@ -3,11 +3,8 @@ use Rattle.std.proofs.Common.{◌≡◌, ℕ, ◌<◌, ◌+◌, List, ◌++◌, 
 use Rattle.std.proofs.lemmas.List.{append_assoc, drop_more}
 use Rattle.cip_events.specs.declared.event.Frame.{Frame}
 use Rattle.cip_events.specs.declared.event.Notice.{Notice}
-use Rattle.trace_text.specs.Reading.{Entry}
-use Rattle.trace_pcap.specs.declared.ends.Side.{Side}
 use Rattle.trace_pcap.specs.declared.traffic.Moment.{Moment}
 use Rattle.trace_pcap.specs.Traffic.{Streams, frame_records, frame_streams, frames_records, frames_streams, notice_records, notice_streams, notices_records, notices_streams}
-use Rattle.trace_pcap.specs.Written.{time_after, moment_of, entry_records, entry_streams, entries_records}
 
 pub frames_more : (moment : Moment) (out new : List ℕ) (streams after : Streams) (frames : List Frame) (i : ℕ) (frame : Frame) → i < length frames → frame ≡ get_or frames i frame → new ≡ out ++ frame_records moment frame streams → after ≡ frame_streams frame streams → new ++ frames_records moment (drop (i + 1) frames) after ≡ out ++ frames_records moment (drop i frames) streams
 frames_more moment out new streams after frames i frame lt is new_is after_is =
@@ -22,9 +19,3 @@ notices_more moment out new streams after notices i d lt new_is after_is =
 
 pub notice_streams_more : (streams after : Streams) (notices : List Notice) (i : ℕ) (d : Notice) → i < length notices → after ≡ notice_streams (get_or notices i d) streams → notices_streams (drop (i + 1) notices) after ≡ notices_streams (drop i notices) streams
 notice_streams_more streams after notices i d lt after_is = rw (after_is, drop_more notices i d lt) refl
-
--- the event at a moment, and those behind it
-pub entries_more : (side : Side) (time later : ℕ) (out new : List ℕ) (streams after : Streams) (entries : List Entry) (i : ℕ) (entry : Entry) → i < length entries → entry ≡ get_or entries i entry → later ≡ time_after time entry.0 entry.1 → new ≡ out ++ entry_records (record { side = side; time = later; number = i }) entry.0 entry.1 streams → after ≡ entry_streams (record { side = side; time = later; number = i }) entry.0 entry.1 streams → new ++ entries_records side later (i + 1) after (drop (i + 1) entries) ≡ out ++ entries_records side time i streams (drop i entries)
-entries_more side time later out new streams after entries i entry lt is later_is new_is after_is =
-    let moment : Moment = moment_of side time i entry in
-    rw (new_is, after_is, later_is, drop_more entries i entry lt, ← is) (append_assoc out (entry_records moment entry.0 entry.1 streams) (entries_records side moment.time (i + 1) (entry_streams moment entry.0 entry.1 streams) (drop (i + 1) entries)))

@@ -1,7 +1,9 @@
+pub mod Capturing
 pub mod Checksum
 pub mod Ends
 pub mod Headers
 pub mod Packets
 pub mod Traffic
 pub mod WallClock
+pub mod Whole
 pub mod Written

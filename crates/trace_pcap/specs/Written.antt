@@ -1,27 +1,18 @@
--- A trace as a capture file.
-use Rattle.std.specs.Prelude.{ℕ, ◌+◌, ◌%◌, ◌^◌, if◌then◌else◌, Bool, true, false, List, [], ◌∷◌, ◌++◌, Option, Some, None, Ok, Err}
+-- A trace as a capture file: its header, and behind it the packets of each event, a piece for each. A piece is what the event,
+-- its recorded outcome and little more say: the traced device, the time, the number of the event, and the open streams.
+use Rattle.std.specs.Prelude.{ℕ, ◌+◌, ◌%◌, ◌^◌, List, [], ◌∷◌, ◌++◌, Option, Some, None, Ok, Err}
 use Rattle.cip_events.specs.declared.event.Event.{Event}
-use Rattle.cip_events.specs.declared.event.Event.TheVariants.{Tick}
 use Rattle.cip_events.specs.Outcomes.{Outcome}
 use Rattle.trace_text.specs.declared.trace.Trace.{Trace}
+use Rattle.trace_text.specs.Clock.{time_after}
 use Rattle.trace_text.specs.Reading.{Entry}
+use Rattle.cip_tables.specs.declared.table.Config.{Config}
+use Rattle.trace_pcap.specs.declared.capture.Capture.{Capture}
 use Rattle.trace_pcap.specs.declared.ends.Side.{Side}
 use Rattle.trace_pcap.specs.declared.traffic.Moment.{Moment}
 use Rattle.trace_pcap.specs.Ends.{side_of}
 use Rattle.trace_pcap.specs.Packets.{file_header}
 use Rattle.trace_pcap.specs.Traffic.{Streams, event_records, event_streams, replies_records, answer_records, answer_streams}
-
-abbrev pub is_refused : Option Outcome → Bool
-is_refused (Some (Err fault)) = true
-is_refused _ = false
-
-abbrev pub later : ℕ → ℕ → Bool → ℕ
-later time ms refused = if refused then time else (time + ms) % 2 ^ 64
-
--- the time after an event; a refused tick does not pass
-abbrev pub time_after : ℕ → Event → Option Outcome → ℕ
-time_after time (Tick ms) outcome = later time ms (is_refused outcome)
-time_after time _ outcome = time
 
 -- what arrives, and what is answered if that is recorded; nothing if the device refused the event
 abbrev pub entry_records : Moment → Event → Option Outcome → Streams → List ℕ
@@ -36,17 +27,53 @@ entry_streams moment event None streams = event_streams moment event streams
 entry_streams moment event (Some (Ok answer)) streams = answer_streams answer (event_streams moment event streams)
 entry_streams moment event (Some (Err fault)) streams = streams
 
-abbrev pub moment_of : Side → ℕ → ℕ → Entry → Moment
-moment_of side time number entry = record { side = side; time = time_after time entry.0 entry.1; number = number }
+-- PIECES
 
--- the packets of events, the first of this number, from this time on and with these open streams
-abbrev pub entries_records : Side → ℕ → ℕ → Streams → List Entry → List ℕ
-entries_records side time number streams [] = []
-entries_records side time number streams (entry ∷ entries) =
-    let moment = moment_of side time number entry in
-    entry_records moment entry.0 entry.1 streams
-    ++ entries_records side moment.time (number + 1) (entry_streams moment entry.0 entry.1 streams) entries
+-- What a capture file knows between two events: the traced device, the time, the number of the next event, and the open streams.
+pub record Captured : Type 0 where
+  pub side : Side
+  pub time : ℕ
+  pub number : ℕ
+  pub streams : Streams
+
+abbrev pub view_capture : Capture → Captured
+view_capture capture = record { side = capture.side; time = capture.time; number = capture.number; streams = capture.streams.items }
+
+-- before the first event of a trace that begins at this time, in milliseconds since 1970
+abbrev pub begun : ℕ → Config → Captured
+begun start config = record { side = side_of config; time = start; number = 0; streams = [] }
+
+-- events are counted modulo 2^64
+abbrev pub number_after : ℕ → ℕ
+number_after number = (number + 1) % 2 ^ 64
+
+-- where and when the next event happens
+abbrev pub moment_of : Captured → Entry → Moment
+moment_of captured entry = record { side = captured.side; time = time_after captured.time entry.0 entry.1; number = captured.number }
+
+-- the packets of the next event
+abbrev pub piece_of : Captured → Entry → List ℕ
+piece_of captured entry = entry_records (moment_of captured entry) entry.0 entry.1 captured.streams
+
+-- what is known behind it
+abbrev pub captured_with : Captured → Entry → Captured
+captured_with captured entry = record {
+  side = captured.side;
+  time = time_after captured.time entry.0 entry.1;
+  number = number_after captured.number;
+  streams = entry_streams (moment_of captured entry) entry.0 entry.1 captured.streams;
+}
+
+-- the packets of events, a piece for each
+abbrev pub pieces_of : Captured → List Entry → List ℕ
+pieces_of captured [] = []
+pieces_of captured (entry ∷ entries) = piece_of captured entry ++ pieces_of (captured_with captured entry) entries
+
+-- what is known behind events
+abbrev pub captured_after : Captured → List Entry → Captured
+captured_after captured [] = captured
+captured_after captured (entry ∷ entries) = captured_after (captured_with captured entry) entries
 
 -- the file of a trace that begins at this time, in milliseconds since 1970
 unfoldable pub pcap_text : ℕ → Trace → List ℕ
-pcap_text start trace = file_header ++ entries_records (side_of trace.config) start 0 [] trace.events
+pcap_text start trace = file_header ++ pieces_of (begun start trace.config) trace.events

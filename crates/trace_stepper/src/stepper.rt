@@ -1,14 +1,15 @@
 //! A device that is stepped by the events of a trace.
 
-ghost use Rattle.std.specs.Prelude.{◌≡◌, ◌↔◌, true, None, Err, IsTrue, IfOk, IfErr, drop};
+ghost use Rattle.std.specs.Prelude.{◌≡◌, true, None, IfOk, IfErr, drop};
 ghost use Rattle.cip_tables.specs.Step.{opening_table, config_fault};
 ghost use Rattle.trace_stepper.specs.Stepping.{outcomes_of_trace, MovesOn, IsRefused};
 
 use crate::writing::NotTaken;
-use cip_tables::{Device, NewFault, Outcome, StepFault};
+use cip_tables::{Device, NewFault, Outcome};
 use cip_types::{Items, OutOfMemory};
 use std::alloc::{AllocFailed, Global};
 use thiserror::Error;
+use trace_outcomes::is_out_of_memory;
 use trace_text::Trace;
 
 /// Why a trace was not played to its end. A new fault gets a number behind these.
@@ -113,16 +114,6 @@ impl<'a, D: Device> Stepper<'a, D> {
         }
         self.place += 1;
         Ok(Some(outcome))
-    }
-}
-
-/// Whether an allocation was refused.
-fn is_out_of_memory(outcome: &Outcome) -> bool
-    ensures { IsTrue result ↔ (outcome.now ≡ Err StepFault.OutOfMemory) }
-{
-    match outcome {
-        Err(StepFault::OutOfMemory) => true,
-        _ => false,
     }
 }
 

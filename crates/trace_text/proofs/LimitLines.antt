@@ -2,6 +2,7 @@
 use Rattle.std.proofs.Common.{◌≡◌, ℕ, Bool, true, false, cond, List, [], ◌∷◌, ◌++◌, Option, Some, None, refl, sym, ap, ◌∙◌, append_assoc}
 use Rattle.std.specs.Prelude.{option_to_list, option_map}
 use Rattle.adapter_table.specs.declared.maker_limits.MakerLimits.{MakerLimits}
+use Rattle.adapter_table.specs.declared.maker_limits.NodeLimits.{NodeLimits}
 use Rattle.adapter_table.specs.declared.maker_limits.Places.{Places}
 use Rattle.trace_lines.specs.declared.limit_lines.LimitLine.{LimitLine}
 use Rattle.trace_lines.specs.declared.limit_lines.LimitLine.TheVariants as limit
@@ -15,37 +16,37 @@ newer_on e = option_to_list (option_map limit.Newer e)
 abbrev closers_on : Bool → Option ℕ → List LimitLine
 closers_on d e = option_to_list (closers_line d) ++ newer_on e
 
-abbrev node_on : Option ℕ → Bool → Option ℕ → List LimitLine
+abbrev node_on : Option NodeLimits → Bool → Option ℕ → List LimitLine
 node_on c d e = option_to_list (option_map limit.NodeConnections c) ++ closers_on d e
 
-abbrev places_on : Option Places → Option ℕ → Bool → Option ℕ → List LimitLine
+abbrev places_on : Option Places → Option NodeLimits → Bool → Option ℕ → List LimitLine
 places_on b c d e = option_to_list (option_map limit.Places b) ++ node_on c d e
 
-abbrev rpi_on : Option ℕ → Option Places → Option ℕ → Bool → Option ℕ → List LimitLine
+abbrev rpi_on : Option ℕ → Option Places → Option NodeLimits → Bool → Option ℕ → List LimitLine
 rpi_on a b c d e = option_to_list (option_map limit.LeastRpi a) ++ places_on b c d e
 
-abbrev limits_of : Option ℕ → Option Places → Option ℕ → Bool → Option ℕ → MakerLimits
+abbrev limits_of : Option ℕ → Option Places → Option NodeLimits → Bool → Option ℕ → MakerLimits
 limits_of rpi places node closers newer = record { least_rpi = rpi; places = places; node_connections = node; own_closers = closers; newer = newer }
 
 -- WHERE NONE IS STATED, THERE ARE NO LINES
 
-no_newer : (a : Option ℕ) (b : Option Places) (c : Option ℕ) (d : Bool) (e : Option ℕ) → none_from_newer (limits_of a b c d e) ≡ true → newer_on e ≡ []
+no_newer : (a : Option ℕ) (b : Option Places) (c : Option NodeLimits) (d : Bool) (e : Option ℕ) → none_from_newer (limits_of a b c d e) ≡ true → newer_on e ≡ []
 no_newer a b c d None none = refl
 no_newer a b c d (Some within) none = absurd (cc)
 
-no_closers : (a : Option ℕ) (b : Option Places) (c : Option ℕ) (d : Bool) (e : Option ℕ) → none_from_closers (limits_of a b c d e) ≡ true → closers_on d e ≡ []
+no_closers : (a : Option ℕ) (b : Option Places) (c : Option NodeLimits) (d : Bool) (e : Option ℕ) → none_from_closers (limits_of a b c d e) ≡ true → closers_on d e ≡ []
 no_closers a b c false e none = no_newer a b c false e none
 no_closers a b c true e none = absurd (cc)
 
-no_node : (a : Option ℕ) (b : Option Places) (c : Option ℕ) (d : Bool) (e : Option ℕ) → none_from_node (limits_of a b c d e) ≡ true → node_on c d e ≡ []
+no_node : (a : Option ℕ) (b : Option Places) (c : Option NodeLimits) (d : Bool) (e : Option ℕ) → none_from_node (limits_of a b c d e) ≡ true → node_on c d e ≡ []
 no_node a b None d e none = no_closers a b None d e none
 no_node a b (Some most) d e none = absurd (cc)
 
-no_places : (a : Option ℕ) (b : Option Places) (c : Option ℕ) (d : Bool) (e : Option ℕ) → none_from_places (limits_of a b c d e) ≡ true → places_on b c d e ≡ []
+no_places : (a : Option ℕ) (b : Option Places) (c : Option NodeLimits) (d : Bool) (e : Option ℕ) → none_from_places (limits_of a b c d e) ≡ true → places_on b c d e ≡ []
 no_places a None c d e none = no_node a None c d e none
 no_places a (Some places) c d e none = absurd (cc)
 
-no_rpi : (a : Option ℕ) (b : Option Places) (c : Option ℕ) (d : Bool) (e : Option ℕ) → none_from_rpi (limits_of a b c d e) ≡ true → rpi_on a b c d e ≡ []
+no_rpi : (a : Option ℕ) (b : Option Places) (c : Option NodeLimits) (d : Bool) (e : Option ℕ) → none_from_rpi (limits_of a b c d e) ≡ true → rpi_on a b c d e ≡ []
 no_rpi None b c d e none = no_places None b c d e none
 no_rpi (Some us) b c d e none = absurd (cc)
 
@@ -68,23 +69,23 @@ behind_others : (others more so_far : List LimitLine) (line : LimitLine) → mor
 behind_others others more so_far line is = ap (λ t. others ++ t) is ∙ sym (append_assoc others so_far (line ∷ []))
 
 -- where none is stated of a line on, none is stated of the next one on
-next_none_rpi : (a : Option ℕ) (b : Option Places) (c : Option ℕ) (d : Bool) (e : Option ℕ) → none_from_rpi (limits_of a b c d e) ≡ true → none_from_places (limits_of a b c d e) ≡ true
+next_none_rpi : (a : Option ℕ) (b : Option Places) (c : Option NodeLimits) (d : Bool) (e : Option ℕ) → none_from_rpi (limits_of a b c d e) ≡ true → none_from_places (limits_of a b c d e) ≡ true
 next_none_rpi None b c d e none = none
 next_none_rpi (Some us) b c d e none = absurd (cc)
 
-next_none_places : (a : Option ℕ) (b : Option Places) (c : Option ℕ) (d : Bool) (e : Option ℕ) → none_from_places (limits_of a b c d e) ≡ true → none_from_node (limits_of a b c d e) ≡ true
+next_none_places : (a : Option ℕ) (b : Option Places) (c : Option NodeLimits) (d : Bool) (e : Option ℕ) → none_from_places (limits_of a b c d e) ≡ true → none_from_node (limits_of a b c d e) ≡ true
 next_none_places a None c d e none = none
 next_none_places a (Some places) c d e none = absurd (cc)
 
-next_none_node : (a : Option ℕ) (b : Option Places) (c : Option ℕ) (d : Bool) (e : Option ℕ) → none_from_node (limits_of a b c d e) ≡ true → none_from_closers (limits_of a b c d e) ≡ true
+next_none_node : (a : Option ℕ) (b : Option Places) (c : Option NodeLimits) (d : Bool) (e : Option ℕ) → none_from_node (limits_of a b c d e) ≡ true → none_from_closers (limits_of a b c d e) ≡ true
 next_none_node a b None d e none = none
 next_none_node a b (Some most) d e none = absurd (cc)
 
-next_none_closers : (a : Option ℕ) (b : Option Places) (c : Option ℕ) (d : Bool) (e : Option ℕ) → none_from_closers (limits_of a b c d e) ≡ true → none_from_newer (limits_of a b c d e) ≡ true
+next_none_closers : (a : Option ℕ) (b : Option Places) (c : Option NodeLimits) (d : Bool) (e : Option ℕ) → none_from_closers (limits_of a b c d e) ≡ true → none_from_newer (limits_of a b c d e) ≡ true
 next_none_closers a b c false e none = none
 next_none_closers a b c true e none = absurd (cc)
 
-module _ (a : Option ℕ) (b : Option Places) (c : Option ℕ) (d : Bool) (e : Option ℕ) where
+module _ (a : Option ℕ) (b : Option Places) (c : Option NodeLimits) (d : Bool) (e : Option ℕ) where
   abbrev IsMore : LimitLine → MakerLimits → Type 0
   IsMore line more = limit_lines more ≡ limit_lines (limits_of a b c d e) ++ line ∷ []
 
@@ -96,7 +97,7 @@ module _ (a : Option ℕ) (b : Option Places) (c : Option ℕ) (d : Bool) (e : O
       behind_others (option_to_list (option_map limit.LeastRpi a)) (limit.Places places ∷ node_on c d e) (places_on b c d e) (limit.Places places)
       (in_place (places_on b c d e) (node_on c d e) (limit.Places places) (no_places a b c d e none) (no_node a b c d e (next_none_places a b c d e none)))
 
-  node_more : (most : ℕ) → none_from_node (limits_of a b c d e) ≡ true → IsMore (limit.NodeConnections most) (limits_of a b (Some most) d e)
+  node_more : (most : NodeLimits) → none_from_node (limits_of a b c d e) ≡ true → IsMore (limit.NodeConnections most) (limits_of a b (Some most) d e)
   node_more most none =
       behind_others (option_to_list (option_map limit.LeastRpi a)) (option_to_list (option_map limit.Places b) ++ limit.NodeConnections most ∷ closers_on d e) (places_on b c d e) (limit.NodeConnections most)
       (behind_others (option_to_list (option_map limit.Places b)) (limit.NodeConnections most ∷ closers_on d e) (node_on c d e) (limit.NodeConnections most)

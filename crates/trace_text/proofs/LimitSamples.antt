@@ -10,17 +10,17 @@ use Rattle.adapter_table.specs.declared.maker_limits.MakerLimits.{MakerLimits}
 use Rattle.adapter_table.specs.declared.profile.Profile.{Profile}
 use Rattle.cip_tables.specs.declared.table.Config.TheVariants.{Adapter}
 use Rattle.trace_words.specs.Words.{number_of, node_of, bytes_of, general_of, line_text}
-use Rattle.trace_lines.specs.Kinds.{closers_of}
+use Rattle.trace_lines.specs.Kinds.{closers_of, openings_of}
 use Rattle.trace_text.specs.declared.trace.TraceFault.TheVariants.{BadLine, BadProfile}
 use Rattle.trace_text.specs.Forms.{line_of, event_of}
 use Rattle.trace_text.specs.Reading.{builder_after, trace_reading}
 use Rattle.trace_text.specs.Written.{event_words, config_lines}
 use Rattle.trace_text.proofs.DescribedSamples.{rack}
 
--- a least interval of 1 ms, places for one owner, two readers and no listener, four connections of one node, own closers, and
--- sequence numbers that are ahead by less than 1000
+-- a least interval of 1 ms, places for one owner, two readers, no listener and eight class 3 connections, four connections of one
+-- node and 20 openings in a second, own closers, and sequence numbers that are ahead by less than 1000
 abbrev limits : MakerLimits
-limits = record { least_rpi = Some 1000; places = Some (record { owners = 1; readers = 2; listeners = 0 }); node_connections = Some 4; own_closers = true; newer = Some 1000 }
+limits = record { least_rpi = Some 1000; places = Some (record { owners = 1; readers = 2; listeners = 0; class3_connections = Some 8 }); node_connections = Some (record { connections = 4; openings = Some 20 }); own_closers = true; newer = Some 1000 }
 
 abbrev profile : Profile
 profile = record {
@@ -45,7 +45,7 @@ abbrev describe : List ℕ
 describe = codes "describe 7 5237 44818 100 15 02005e100007 120\n"
 
 abbrev limited : List ℕ
-limited = codes "least-rpi 1000\nplaces 1 2 0\nnode-connections 4\nclosers own\nnewer 1000\n"
+limited = codes "least-rpi 1000\nplaces 1 2 0 8\nnode-connections 4 openings 20\nclosers own\nnewer 1000\n"
 
 abbrev heartbeat : List ℕ
 heartbeat = codes "heartbeat 152 153\n"
@@ -61,7 +61,7 @@ limits_are_read :
     ∷ Ok (record { config = Adapter (record profile { config = Some (record { instance = 151; len = 2 }); description = Some rack }); events = [] })
     ∷ Ok (record { config = Adapter (record profile { config = Some (record { instance = 151; len = 2 }); limits = record no_limits { own_closers = true } }); events = [] })
     ∷ []
-unfolding trace_reading builder_after line_of profile_fault number_of node_of bytes_of closers_of decode_pairs read_ipv4 read_octet read_number lib.Count.ones
+unfolding trace_reading builder_after line_of profile_fault number_of node_of bytes_of closers_of openings_of decode_pairs read_ipv4 read_octet read_number lib.Count.ones
 limits_are_read = refl
 
 -- before the description, twice, before the configuration, and behind the heartbeats
@@ -73,12 +73,19 @@ misplaced : map trace_reading (
     ∷ []
     )
     ≡ Err (BadLine 4) ∷ Err (BadLine 4) ∷ Err (BadLine 4) ∷ Err (BadLine 4) ∷ []
-unfolding trace_reading builder_after line_of profile_fault number_of node_of bytes_of closers_of decode_pairs read_ipv4 read_octet read_number lib.Count.ones
+unfolding trace_reading builder_after line_of profile_fault number_of node_of bytes_of closers_of openings_of decode_pairs read_ipv4 read_octet read_number lib.Count.ones
 misplaced = refl
 
--- no connection of one node
-no_connection : trace_reading (front ++ (codes "node-connections 0\n" ++ heartbeat)) ≡ Err (BadProfile 9)
-unfolding trace_reading builder_after line_of profile_fault number_of node_of bytes_of decode_pairs read_ipv4 read_octet read_number lib.Count.ones
+-- no connection of one node, no opening in a second, and 65 class 3 connections
+no_connection :
+    map trace_reading (
+    (front ++ (codes "node-connections 0\n" ++ heartbeat))
+    ∷ (front ++ (codes "node-connections 4 openings 0\n" ++ heartbeat))
+    ∷ (front ++ (codes "places 1 2 0 65\n" ++ heartbeat))
+    ∷ []
+    )
+    ≡ Err (BadProfile 9) ∷ Err (BadProfile 9) ∷ Err (BadProfile 9) ∷ []
+unfolding trace_reading builder_after line_of profile_fault number_of node_of bytes_of openings_of decode_pairs read_ipv4 read_octet read_number lib.Count.ones
 no_connection = refl
 
 limits_are_written : config_lines (Adapter profile) ≡ front ++ (limited ++ heartbeat)

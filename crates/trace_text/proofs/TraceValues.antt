@@ -1,11 +1,12 @@
 -- What was read so far, as the lines that were read: each line that is allowed adds itself, each beginning can be
 -- completed, and the lines of a trace lead to that trace.
-use Rattle.std.proofs.Common.{◌≡◌, ℕ, ◌+◌, Bool, true, false, cond, eqb, List, [], ◌∷◌, ◌++◌, length, map, Option, Some, None, Ok, Err, refl, sym, ap, ◌∙◌, arith, append_assoc}
+use Rattle.std.proofs.Common.{◌≡◌, ℕ, ◌+◌, Bool, true, false, cond, is_none, ◌&&◌, eqb, List, [], ◌∷◌, ◌++◌, length, map, Option, Some, None, Ok, Err, refl, sym, ap, ◌∙◌, arith, append_assoc}
 use Rattle.std.specs.Prelude.{option_to_list, option_map, option_and_then}
 use Rattle.std.proofs.lemmas.Bool.Decides.{nat_tests}
 use Rattle.std.proofs.lemmas.List.{append-nil, length-append}
 use Rattle.adapter_table.specs.declared.profile.Description.{Description}
 use Rattle.adapter_table.specs.declared.maker_limits.MakerLimits.{MakerLimits}
+use Rattle.adapter_table.specs.declared.maker_limits.NodeLimits.{NodeLimits}
 use Rattle.adapter_table.specs.declared.maker_limits.Places.{Places}
 use Rattle.adapter_table.specs.Profiles.{no_limits}
 use Rattle.adapter_table.specs.declared.profile.Profile.{Profile}
@@ -40,7 +41,7 @@ use Rattle.trace_text.specs.declared.forms.TraceLine.{TraceLine}
 use Rattle.trace_text.specs.declared.forms.TraceLine.TheVariants as line
 use Rattle.trace_text.specs.declared.trace.Trace.{Trace}
 use Rattle.trace_text.proofs.LimitLines.{some_is, limit_added}
-use Rattle.trace_text.specs.Reading.{Entry, front_of, with_stated, builder_with, parsed, judged_by}
+use Rattle.trace_text.specs.Reading.{Entry, front_of, with_stated, with_newer, builder_with, parsed, judged_by}
 use Rattle.trace_text.specs.Texts.{adapter_line_of, heartbeat_line_of, scanner_line_of, config_values, outcome_parts, recorded_parts, entry_values, entries_values, trace_values}
 
 -- LISTS AND OPTIONS
@@ -87,7 +88,7 @@ so_far (Points adapter outputs inputs) = line.Adapter adapter ∷ (map line.Outp
 so_far (Configured adapter outputs inputs point) = line.Adapter adapter ∷ (map line.Output outputs ++ (map line.Input inputs ++ line.Config point ∷ []))
 so_far (Stated front) = line.Adapter front.adapter ∷ (map line.Output front.outputs ++ (map line.Input front.inputs ++ (map line.Config (option_to_list front.config) ++ (map line.Description (option_to_list front.description) ++ map line.Limit (limit_lines front.limits)))))
 so_far (Objects front objects) = line.Adapter front.adapter ∷ (map line.Output front.outputs ++ (map line.Input front.inputs ++ (map line.Config (option_to_list front.config) ++ (map line.Description (option_to_list front.description) ++ (map line.Limit (limit_lines front.limits) ++ map line.Object objects)))))
-so_far (Slots scanner slots) = line.Scanner scanner ∷ map line.Slot slots
+so_far (Slots scanner newer slots) = line.Scanner scanner ∷ (map line.Limit (option_to_list (option_map limit.Newer newer)) ++ map line.Slot slots)
 so_far (Events made_of entries last) = config_values made_of ++ entries_values 1 (entries ++ option_to_list last)
 
 so_far_is : (one other : TraceBuilder) → Some one ≡ Some other → so_far other ≡ so_far one
@@ -218,6 +219,17 @@ behind_stated front last = stated_last front.adapter (map line.Output front.outp
 behind_objects : (front : ProfileFront) (objects : List ℕ) (last : TraceLine) → line.Adapter front.adapter ∷ (map line.Output front.outputs ++ (map line.Input front.inputs ++ (map line.Config (option_to_list front.config) ++ (map line.Description (option_to_list front.description) ++ (map line.Limit (limit_lines front.limits) ++ (map line.Object objects ++ last ∷ [])))))) ≡ so_far (Objects front objects) ++ last ∷ []
 behind_objects front objects last = objects_last front.adapter (map line.Output front.outputs) (map line.Input front.inputs) (map line.Config (option_to_list front.config)) (map line.Description (option_to_list front.description)) (map line.Limit (limit_lines front.limits)) (map line.Object objects) last
 
+newer_here : (scanner : ScannerLine) (newer : Option ℕ) (slots : List SlotConfig) (within : ℕ) → (is_none newer && eqb (length slots) 0) ≡ true → so_far (Slots scanner (Some within) slots) ≡ so_far (Slots scanner newer slots) ++ line.Limit (limit.Newer within) ∷ []
+newer_here scanner (Some other) slots within first = absurd (cc)
+newer_here scanner None [] within first = refl
+newer_here scanner None (slot ∷ slots) within first = absurd (let none = no_elements (slot ∷ slots) (is_zero (length (slot ∷ slots)) first) in cc)
+
+newer_added : (scanner : ScannerLine) (newer : Option ℕ) (slots : List SlotConfig) (value : LimitLine) (next : TraceBuilder) → with_newer scanner newer slots value ≡ Some next → so_far next ≡ so_far (Slots scanner newer slots) ++ line.Limit value ∷ []
+newer_added scanner newer slots (limit.Newer within) next is =
+    let pair = passed (is_none newer && eqb (length slots) 0) (Some (Slots scanner (Some within) slots)) next is in
+    so_far_is _ _ pair.1 ∙ newer_here scanner newer slots within pair.0
+newer_added scanner newer slots other next is = absurd (cc)
+
 limit_added_to : (front : ProfileFront) (limit : LimitLine) (next : TraceBuilder) → with_stated front limit ≡ Some next → so_far next ≡ so_far (Stated front) ++ line.Limit limit ∷ []
 limit_added_to front limit next is =
     let (more, (from, made)) = mapped_from (λ more. Stated (record front { limits = more })) (with_limit front.limits limit) next is in
@@ -292,18 +304,18 @@ added (Objects front objects) (line.Scanner value) next is = absurd (cc)
 added (Objects front objects) (line.Slot value) next is = absurd (cc)
 added (Objects front objects) (line.Event value) next is = absurd (cc)
 added (Objects front objects) (line.Recorded number value) next is = absurd (cc)
-added (Slots scanner slots) (line.Adapter value) next is = absurd (cc)
-added (Slots scanner slots) (line.Output value) next is = absurd (cc)
-added (Slots scanner slots) (line.Input value) next is = absurd (cc)
-added (Slots scanner slots) (line.Config value) next is = absurd (cc)
-added (Slots scanner slots) (line.Description value) next is = absurd (cc)
-added (Slots scanner slots) (line.Limit value) next is = absurd (cc)
-added (Slots scanner slots) (line.Object value) next is = absurd (cc)
-added (Slots scanner slots) (line.Heartbeat value) next is = absurd (cc)
-added (Slots scanner slots) (line.Scanner value) next is = absurd (cc)
-added (Slots scanner slots) (line.Slot value) next is = so_far_is _ _ is ∙ ap (λ t. line.Scanner scanner ∷ t) (map_last line.Slot slots value)
-added (Slots scanner slots) (line.Event value) next is = so_far_is _ _ is
-added (Slots scanner slots) (line.Recorded number value) next is = absurd (cc)
+added (Slots scanner newer slots) (line.Adapter value) next is = absurd (cc)
+added (Slots scanner newer slots) (line.Output value) next is = absurd (cc)
+added (Slots scanner newer slots) (line.Input value) next is = absurd (cc)
+added (Slots scanner newer slots) (line.Config value) next is = absurd (cc)
+added (Slots scanner newer slots) (line.Description value) next is = absurd (cc)
+added (Slots scanner newer slots) (line.Limit value) next is = newer_added scanner newer slots value next is
+added (Slots scanner newer slots) (line.Object value) next is = absurd (cc)
+added (Slots scanner newer slots) (line.Heartbeat value) next is = absurd (cc)
+added (Slots scanner newer slots) (line.Scanner value) next is = absurd (cc)
+added (Slots scanner newer slots) (line.Slot value) next is = so_far_is _ _ is ∙ ap (λ t. line.Scanner scanner ∷ (map line.Limit (option_to_list (option_map limit.Newer newer)) ++ t)) (map_last line.Slot slots value) ∙ ap (λ t. line.Scanner scanner ∷ t) (sym (append_assoc (map line.Limit (option_to_list (option_map limit.Newer newer))) (map line.Slot slots) (line.Slot value ∷ [])))
+added (Slots scanner newer slots) (line.Event value) next is = so_far_is _ _ is
+added (Slots scanner newer slots) (line.Recorded number value) next is = absurd (cc)
 added (Events made_of entries None) (line.Adapter value) next is = absurd (cc)
 added (Events made_of entries None) (line.Output value) next is = absurd (cc)
 added (Events made_of entries None) (line.Input value) next is = absurd (cc)
@@ -359,7 +371,7 @@ run_adds builder (Some value ∷ lines) end is =
 -- WHAT IS READ CAN BE COMPLETED
 
 abbrev no_scanner : ScannerProfile
-no_scanner = record { incarnation = 0; node = record { 0 = 0 }; vendor = 0; serial = 0; open_timeout = 0; retry = 0; slots = [] }
+no_scanner = record { incarnation = 0; node = record { 0 = 0 }; vendor = 0; serial = 0; open_timeout = 0; retry = 0; newer = None; slots = [] }
 
 abbrev no_points : HeartbeatLine
 no_points = record { input_only = 0; listen_only = 0 }
@@ -378,7 +390,7 @@ completed (Stated front) =
     (record { config = config.Adapter (whole_of front [] no_points); events = [] }, (line.Heartbeat no_points ∷ [], sym (added (Stated front) (line.Heartbeat no_points) _ refl)))
 completed (Objects front objects) =
     (record { config = config.Adapter (whole_of front objects no_points); events = [] }, (line.Heartbeat no_points ∷ [], sym (added (Objects front objects) (line.Heartbeat no_points) _ refl)))
-completed (Slots scanner slots) = (record { config = config.Scanner (scanner_with scanner slots); events = [] }, ([], refl))
+completed (Slots scanner newer slots) = (record { config = config.Scanner (scanner_with scanner newer slots); events = [] }, ([], refl))
 completed (Events made_of entries last) = (record { config = made_of; events = entries ++ option_to_list last }, ([], append-nil _))
 
 -- THE LINES OF A TRACE LEAD TO IT
@@ -418,7 +430,7 @@ stated_run : (front : ProfileFront) (points : HeartbeatLine) (more : List ℕ) �
 stated_run front points [] = refl
 stated_run front points (class ∷ more) = objects_run front points (class ∷ []) more
 
-abbrev limits_of : Option ℕ → Option Places → Option ℕ → Bool → Option ℕ → MakerLimits
+abbrev limits_of : Option ℕ → Option Places → Option NodeLimits → Bool → Option ℕ → MakerLimits
 limits_of rpi places node closers newer = record { least_rpi = rpi; places = places; node_connections = node; own_closers = closers; newer = newer }
 
 module _ (adapter : AdapterLine) (outputs : List OutputPoint) (inputs : List InputPoint) (settings : Option InputPoint) (described : Option Description) (classes : List ℕ) (points : HeartbeatLine) where
@@ -431,23 +443,23 @@ module _ (adapter : AdapterLine) (outputs : List OutputPoint) (inputs : List Inp
   abbrev behind : List TraceLine
   behind = objects_end points classes
 
-  newer_run : (a : Option ℕ) (b : Option Places) (c : Option ℕ) (d : Bool) (e : Option ℕ) → run (stated (limits_of a b c d None)) (limits_end behind (option_to_list (option_map limit.Newer e))) ≡ whole (limits_of a b c d e)
+  newer_run : (a : Option ℕ) (b : Option Places) (c : Option NodeLimits) (d : Bool) (e : Option ℕ) → run (stated (limits_of a b c d None)) (limits_end behind (option_to_list (option_map limit.Newer e))) ≡ whole (limits_of a b c d e)
   newer_run a b c d None = stated_run (record (front_of adapter outputs inputs settings described) { limits = limits_of a b c d None }) points classes
   newer_run a b c d (Some within) = stated_run (record (front_of adapter outputs inputs settings described) { limits = limits_of a b c d (Some within) }) points classes
 
-  closers_run : (a : Option ℕ) (b : Option Places) (c : Option ℕ) (d : Bool) (e : Option ℕ) → run (stated (limits_of a b c false None)) (limits_end behind (option_to_list (closers_line d) ++ option_to_list (option_map limit.Newer e))) ≡ whole (limits_of a b c d e)
+  closers_run : (a : Option ℕ) (b : Option Places) (c : Option NodeLimits) (d : Bool) (e : Option ℕ) → run (stated (limits_of a b c false None)) (limits_end behind (option_to_list (closers_line d) ++ option_to_list (option_map limit.Newer e))) ≡ whole (limits_of a b c d e)
   closers_run a b c false e = newer_run a b c false e
   closers_run a b c true e = newer_run a b c true e
 
-  node_run : (a : Option ℕ) (b : Option Places) (c : Option ℕ) (d : Bool) (e : Option ℕ) → run (stated (limits_of a b None false None)) (limits_end behind (option_to_list (option_map limit.NodeConnections c) ++ (option_to_list (closers_line d) ++ option_to_list (option_map limit.Newer e)))) ≡ whole (limits_of a b c d e)
+  node_run : (a : Option ℕ) (b : Option Places) (c : Option NodeLimits) (d : Bool) (e : Option ℕ) → run (stated (limits_of a b None false None)) (limits_end behind (option_to_list (option_map limit.NodeConnections c) ++ (option_to_list (closers_line d) ++ option_to_list (option_map limit.Newer e)))) ≡ whole (limits_of a b c d e)
   node_run a b None d e = closers_run a b None d e
   node_run a b (Some most) d e = closers_run a b (Some most) d e
 
-  places_run : (a : Option ℕ) (b : Option Places) (c : Option ℕ) (d : Bool) (e : Option ℕ) → run (stated (limits_of a None None false None)) (limits_end behind (option_to_list (option_map limit.Places b) ++ (option_to_list (option_map limit.NodeConnections c) ++ (option_to_list (closers_line d) ++ option_to_list (option_map limit.Newer e))))) ≡ whole (limits_of a b c d e)
+  places_run : (a : Option ℕ) (b : Option Places) (c : Option NodeLimits) (d : Bool) (e : Option ℕ) → run (stated (limits_of a None None false None)) (limits_end behind (option_to_list (option_map limit.Places b) ++ (option_to_list (option_map limit.NodeConnections c) ++ (option_to_list (closers_line d) ++ option_to_list (option_map limit.Newer e))))) ≡ whole (limits_of a b c d e)
   places_run a None c d e = node_run a None c d e
   places_run a (Some places) c d e = node_run a (Some places) c d e
 
-  rpi_run : (a : Option ℕ) (b : Option Places) (c : Option ℕ) (d : Bool) (e : Option ℕ) → run (stated no_limits) (limits_end behind (limit_lines (limits_of a b c d e))) ≡ whole (limits_of a b c d e)
+  rpi_run : (a : Option ℕ) (b : Option Places) (c : Option NodeLimits) (d : Bool) (e : Option ℕ) → run (stated no_limits) (limits_end behind (limit_lines (limits_of a b c d e))) ≡ whole (limits_of a b c d e)
   rpi_run None b c d e = places_run None b c d e
   rpi_run (Some us) b c d e = places_run (Some us) b c d e
 
@@ -477,9 +489,18 @@ adapter_run profile =
     (both_run (Points (adapter_line_of profile) profile.outputs []) (Points (adapter_line_of profile) profile.outputs profile.inputs) (map line.Input profile.inputs) _ _ (inputs_run (adapter_line_of profile) profile.outputs [] profile.inputs)
     (ends_run (adapter_line_of profile) profile.outputs profile.inputs profile.config profile.description profile.limits profile.objects (heartbeat_line_of profile)))
 
-slots_run : (scanner : ScannerLine) (before slots : List SlotConfig) → run (Slots scanner before) (map Some (map line.Slot slots)) ≡ Some (Slots scanner (before ++ slots))
-slots_run scanner before [] = ap (λ t. Some (Slots scanner t)) (sym (append-nil before))
-slots_run scanner before (slot ∷ slots) = slots_run scanner (before ++ slot ∷ []) slots ∙ ap (λ t. Some (Slots scanner t)) (append_assoc before (slot ∷ []) slots)
+slots_run : (scanner : ScannerLine) (newer : Option ℕ) (before slots : List SlotConfig) → run (Slots scanner newer before) (map Some (map line.Slot slots)) ≡ Some (Slots scanner newer (before ++ slots))
+slots_run scanner newer before [] = ap (λ t. Some (Slots scanner newer t)) (sym (append-nil before))
+slots_run scanner newer before (slot ∷ slots) = slots_run scanner newer (before ++ slot ∷ []) slots ∙ ap (λ t. Some (Slots scanner newer t)) (append_assoc before (slot ∷ []) slots)
+
+slot_limit_run : (scanner : ScannerLine) (newer : Option ℕ) → run (Slots scanner None []) (map Some (map line.Limit (option_to_list (option_map limit.Newer newer)))) ≡ Some (Slots scanner newer [])
+slot_limit_run scanner None = refl
+slot_limit_run scanner (Some within) = refl
+
+scanner_run : (profile : ScannerProfile) → run Empty (map Some (config_values (config.Scanner profile))) ≡ Some (Slots (scanner_line_of profile) profile.newer profile.slots)
+scanner_run profile =
+    both_run (Slots (scanner_line_of profile) None []) (Slots (scanner_line_of profile) profile.newer []) (map line.Limit (option_to_list (option_map limit.Newer profile.newer))) (map line.Slot profile.slots) _
+    (slot_limit_run (scanner_line_of profile) profile.newer) (slots_run (scanner_line_of profile) profile.newer [] profile.slots)
 
 abbrev answer_of : Verdict → List Frame → List OutgoingDatagram → List Notice → Answer
 answer_of verdict frames datagrams notices = record { frames = frames; datagrams = datagrams; verdict = verdict; notices = notices }
@@ -560,10 +581,10 @@ of_entries made_of values entries last n events all begun number are =
 pub trace_run : (made_of : Config) (events : List Entry) → TraceRun made_of events
 trace_run (config.Adapter profile) events = of_entries (config.Adapter profile) (config_values (config.Adapter profile)) [] None 1 events events (adapter_run profile) refl refl
 trace_run (config.Scanner profile) [] =
-    (Slots (scanner_line_of profile) profile.slots, (ap (λ t. run Empty (map Some t)) (append-nil (config_values (config.Scanner profile))) ∙ slots_run (scanner_line_of profile) [] profile.slots, λ place. refl))
+    (Slots (scanner_line_of profile) profile.newer profile.slots, (ap (λ t. run Empty (map Some t)) (append-nil (config_values (config.Scanner profile))) ∙ scanner_run profile, λ place. refl))
 trace_run (config.Scanner profile) ((event, recorded) ∷ events) =
-    let slots : run Empty (map Some (config_values (config.Scanner profile))) ≡ Some (Slots (scanner_line_of profile) profile.slots) = slots_run (scanner_line_of profile) [] profile.slots in
-    let one : run (Slots (scanner_line_of profile) profile.slots) (map Some (entry_values 1 (event, recorded))) ≡ Some (Events (config.Scanner profile) [] (Some (event, recorded))) = recorded_run (config.Scanner profile) [] event 1 refl recorded in
-    let front : run Empty (map Some (config_values (config.Scanner profile) ++ entry_values 1 (event, recorded))) ≡ Some (Events (config.Scanner profile) [] (Some (event, recorded))) = both_run Empty (Slots (scanner_line_of profile) profile.slots) (config_values (config.Scanner profile)) (entry_values 1 (event, recorded)) _ slots one in
+    let slots : run Empty (map Some (config_values (config.Scanner profile))) ≡ Some (Slots (scanner_line_of profile) profile.newer profile.slots) = scanner_run profile in
+    let one : run (Slots (scanner_line_of profile) profile.newer profile.slots) (map Some (entry_values 1 (event, recorded))) ≡ Some (Events (config.Scanner profile) [] (Some (event, recorded))) = recorded_run (config.Scanner profile) [] event 1 refl recorded in
+    let front : run Empty (map Some (config_values (config.Scanner profile) ++ entry_values 1 (event, recorded))) ≡ Some (Events (config.Scanner profile) [] (Some (event, recorded))) = both_run Empty (Slots (scanner_line_of profile) profile.newer profile.slots) (config_values (config.Scanner profile)) (entry_values 1 (event, recorded)) _ slots one in
     let (end, (runs, ends)) = of_entries (config.Scanner profile) (config_values (config.Scanner profile) ++ entry_values 1 (event, recorded)) [] (Some (event, recorded)) 2 events ((event, recorded) ∷ events) front refl refl in
     (end, (ap (λ t. run Empty (map Some t)) (sym (append_assoc (config_values (config.Scanner profile)) (entry_values 1 (event, recorded)) (entries_values 2 events))) ∙ runs, ends))

@@ -1,3 +1,4 @@
+pub mod Clock
 pub mod Forms
 pub mod Reading
 pub mod Recorded

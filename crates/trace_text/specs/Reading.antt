@@ -1,6 +1,6 @@
 -- How a text is read as a trace, line by line. LF ends a line. Empty lines and lines that begin with `#` are skipped,
 -- and counted.
-use Rattle.std.specs.Prelude.{ℕ, ◌+◌, ◌≡◌, ◌==◌, if◌then◌else◌, Bool, true, List, [], ◌∷◌, ◌++◌, length, option_map, option_and_then, option_to_list, ok_or, Option, Some, None, Result, Ok, Err}
+use Rattle.std.specs.Prelude.{ℕ, ◌+◌, ◌≡◌, ◌==◌, ◌&&◌, if◌then◌else◌, Bool, true, List, [], ◌∷◌, ◌++◌, length, is_none, option_map, option_and_then, option_to_list, ok_or, Option, Some, None, Result, Ok, Err}
 use Rattle.std.specs.List.{slice_split}
 use Rattle.adapter_table.specs.declared.profile.OutputPoint.{OutputPoint}
 use Rattle.adapter_table.specs.declared.profile.InputPoint.{InputPoint}
@@ -13,9 +13,12 @@ use Rattle.cip_events.specs.declared.event.Event.{Event}
 use Rattle.cip_tables.specs.Step.{config_fault}
 use Rattle.cip_events.specs.Faults.{fault_number}
 use Rattle.cip_events.specs.Outcomes.{Outcome}
+use Rattle.scanner_table.specs.declared.profile.SlotConfig.{SlotConfig}
 use Rattle.trace_lines.specs.declared.forms.AdapterLine.{AdapterLine}
+use Rattle.trace_lines.specs.declared.forms.ScannerLine.{ScannerLine}
 use Rattle.trace_lines.specs.declared.forms.HeartbeatLine.{HeartbeatLine}
 use Rattle.trace_lines.specs.declared.limit_lines.LimitLine.{LimitLine}
+use Rattle.trace_lines.specs.declared.limit_lines.LimitLine.TheVariants.{Newer}
 use Rattle.trace_lines.specs.Limits.{with_limit}
 use Rattle.trace_text.specs.declared.forms.TraceLine.{TraceLine}
 use Rattle.trace_text.specs.declared.forms.TraceLine.TheVariants as line
@@ -66,6 +69,11 @@ with_object front objects class = Some (Objects front (objects ++ class ∷ []))
 abbrev pub with_profile : ProfileFront → List ℕ → HeartbeatLine → Option TraceBuilder
 with_profile front objects heartbeat = Some (Events (config.Adapter (profile_with front.adapter front.outputs front.inputs front.config front.description front.limits objects heartbeat)) [] None)
 
+-- a scanner's limit on numbers, which comes once and before all slots
+abbrev pub with_newer : ScannerLine → Option ℕ → List SlotConfig → LimitLine → Option TraceBuilder
+with_newer scanner newer slots (Newer within) = if is_none newer && length slots == 0 then Some (Slots scanner (Some within) slots) else None
+with_newer scanner newer slots other = None
+
 -- a part of the outcome of the event that came last, whose number it has
 abbrev pub with_part : Config → List Entry → Entry → ℕ → Part → Option TraceBuilder
 with_part made_of entries last number parsed = if number == length entries + 1 then option_map (λ outcome. Events made_of entries (Some (last.0, Some outcome))) (recorded_with last.1 parsed) else None
@@ -73,7 +81,7 @@ with_part made_of entries last number parsed = if number == length entries + 1 t
 -- the part that was read so far, with one line more; None if the line is not allowed there
 abbrev pub builder_with : TraceBuilder → TraceLine → Option TraceBuilder
 builder_with Empty (line.Adapter adapter) = Some (Points adapter [] [])
-builder_with Empty (line.Scanner scanner) = Some (Slots scanner [])
+builder_with Empty (line.Scanner scanner) = Some (Slots scanner None [])
 builder_with (Points adapter outputs inputs) (line.Output output) = with_output adapter outputs inputs output
 builder_with (Points adapter outputs inputs) (line.Input input) = Some (Points adapter outputs (inputs ++ input ∷ []))
 builder_with (Points adapter outputs inputs) (line.Config point) = Some (Configured adapter outputs inputs point)
@@ -90,8 +98,9 @@ builder_with (Stated front) (line.Object class) = with_object front [] class
 builder_with (Stated front) (line.Heartbeat heartbeat) = with_profile front [] heartbeat
 builder_with (Objects front objects) (line.Object class) = with_object front objects class
 builder_with (Objects front objects) (line.Heartbeat heartbeat) = with_profile front objects heartbeat
-builder_with (Slots scanner slots) (line.Slot slot) = Some (Slots scanner (slots ++ slot ∷ []))
-builder_with (Slots scanner slots) (line.Event event) = Some (Events (config.Scanner (scanner_with scanner slots)) [] (Some (event, None)))
+builder_with (Slots scanner newer slots) (line.Limit limit) = with_newer scanner newer slots limit
+builder_with (Slots scanner newer slots) (line.Slot slot) = Some (Slots scanner newer (slots ++ slot ∷ []))
+builder_with (Slots scanner newer slots) (line.Event event) = Some (Events (config.Scanner (scanner_with scanner newer slots)) [] (Some (event, None)))
 builder_with (Events made_of entries last) (line.Event event) = Some (Events made_of (entries ++ option_to_list last) (Some (event, None)))
 builder_with (Events made_of entries (Some last)) (line.Recorded number parsed) = with_part made_of entries last number parsed
 builder_with builder parsed = None
@@ -131,7 +140,7 @@ judged_by made_of entries = judged (record { config = made_of; events = entries 
 
 -- the trace at the end of the text; the end is a bad line if the profile is not complete
 abbrev pub parsed : ℕ → TraceBuilder → Result Trace TraceFault
-parsed number (Slots scanner slots) = judged_by (config.Scanner (scanner_with scanner slots)) []
+parsed number (Slots scanner newer slots) = judged_by (config.Scanner (scanner_with scanner newer slots)) []
 parsed number (Events made_of entries last) = judged_by made_of (entries ++ option_to_list last)
 parsed number builder = Err (fault.BadLine number)
 

@@ -1,6 +1,6 @@
 -- Which texts write a trace: the lines of its profile, and then for each event its line and the lines of its recorded
 -- outcome. LF ends each line. Empty lines and lines that begin with `#` are skipped, and counted.
-use Rattle.std.specs.Prelude.{ℕ, ◌+◌, ◌≡◌, ◌≢◌, ◌⊎◌, if◌then◌else◌, false, List, [], ◌∷◌, ◌++◌, length, map, flat_map, option_to_list, Option, Some, None, Result, Ok, Err}
+use Rattle.std.specs.Prelude.{ℕ, ◌+◌, ◌≡◌, ◌≢◌, ◌⊎◌, if◌then◌else◌, false, List, [], ◌∷◌, ◌++◌, length, map, flat_map, option_map, option_to_list, Option, Some, None, Result, Ok, Err}
 use Rattle.std.specs.List.{All}
 use Rattle.adapter_table.specs.declared.profile.Profile.{Profile}
 use Rattle.scanner_table.specs.declared.profile.ScannerProfile.{ScannerProfile}
@@ -13,6 +13,7 @@ use Rattle.cip_tables.specs.Step.{config_fault}
 use Rattle.trace_lines.specs.declared.forms.AdapterLine.{AdapterLine}
 use Rattle.trace_lines.specs.declared.forms.HeartbeatLine.{HeartbeatLine}
 use Rattle.trace_lines.specs.declared.forms.ScannerLine.{ScannerLine}
+use Rattle.trace_lines.specs.declared.limit_lines.LimitLine.TheVariants.{Newer}
 use Rattle.trace_lines.specs.Limits.{limit_lines}
 use Rattle.trace_outcomes.specs.declared.part.Part.{Part}
 use Rattle.trace_outcomes.specs.declared.part.Part.TheVariants as part
@@ -38,7 +39,7 @@ abbrev pub scanner_line_of : ScannerProfile → ScannerLine
 scanner_line_of profile = record { incarnation = profile.incarnation; node = profile.node; vendor = profile.vendor; serial = profile.serial; open_timeout = profile.open_timeout; retry = profile.retry }
 
 -- a profile: an adapter's outputs, inputs, configuration, description, limits, own classes and heartbeats, or a scanner's
--- slots
+-- limit on numbers and its slots
 abbrev pub config_values : Config → List TraceLine
 config_values (config.Adapter profile) =
     line.Adapter (adapter_line_of profile)
@@ -49,7 +50,9 @@ config_values (config.Adapter profile) =
     ++ (map line.Limit (limit_lines profile.limits)
     ++ (map line.Object profile.objects
     ++ line.Heartbeat (heartbeat_line_of profile) ∷ []))))))
-config_values (config.Scanner profile) = line.Scanner (scanner_line_of profile) ∷ map line.Slot profile.slots
+config_values (config.Scanner profile) =
+    line.Scanner (scanner_line_of profile)
+    ∷ (map line.Limit (option_to_list (option_map Newer profile.newer)) ++ map line.Slot profile.slots)
 
 -- an outcome: the verdict, the frames, the datagrams and the notices, or the fault
 abbrev pub outcome_parts : Outcome → List Part

@@ -3,7 +3,7 @@
 ghost use Rattle.std.specs.Prelude.{◌≡◌, ◌==◌, ◌+◌, [], length, ◌++◌, OnOk, option_to_list, Some};
 ghost use Rattle.trace_words.specs.Reader.{Finds};
 ghost use Rattle.cip_tables.specs.declared.table.Config.{Config};
-ghost use Rattle.trace_text.specs.Reading.{front_of, with_stated, with_object, with_profile, builder_with, Leaves};
+ghost use Rattle.trace_text.specs.Reading.{front_of, with_stated, with_object, with_profile, with_newer, builder_with, Leaves};
 
 use crate::forms::TraceLine;
 use crate::kept::Recorded;
@@ -53,9 +53,10 @@ pub enum TraceBuilder {
     Stated(ProfileFront),
     /// A profile up to the classes of its maker's own objects.
     Objects(ProfileFront, Items<u32>),
-    /// A scanner's profile up to its slots.
+    /// A scanner's profile up to its slots, with the limit on numbers, if it has one.
     Slots {
         scanner: ScannerLine,
+        newer: Option<u32>,
         slots: Items<SlotConfig>,
     },
     /// The configuration of a device, and events with their recorded outcomes. The last outcome may get more parts.
@@ -110,7 +111,11 @@ fn builder_with(
         } => after_config(alloc, adapter, outputs, inputs, config, parsed),
         TraceBuilder::Stated(front) => after_stated(alloc, front, parsed),
         TraceBuilder::Objects(front, objects) => after_objects(alloc, front, objects, parsed),
-        TraceBuilder::Slots { scanner, slots } => after_slots(alloc, scanner, slots, parsed),
+        TraceBuilder::Slots {
+            scanner,
+            newer,
+            slots,
+        } => after_slots(alloc, scanner, newer, slots, parsed),
         TraceBuilder::Events {
             config,
             entries,
@@ -130,6 +135,7 @@ fn after_nothing(alloc: Global, parsed: TraceLine) -> Result<TraceBuilder, TextF
         }),
         TraceLine::Scanner(scanner) => Ok(TraceBuilder::Slots {
             scanner,
+            newer: None,
             slots: Items::new(alloc),
         }),
         _ => Err(TextFault::Bad),
@@ -318,19 +324,43 @@ fn after_objects(
 fn after_slots(
     alloc: Global,
     scanner: ScannerLine,
+    newer: Option<u32>,
     slots: Items<SlotConfig>,
     parsed: TraceLine,
 ) -> Result<TraceBuilder, TextFault>
-    ensures { Finds (builder_with (TraceBuilder.Slots scanner slots) parsed) result }
+    ensures { Finds (builder_with (TraceBuilder.Slots scanner newer slots) parsed) result }
 {
     match parsed {
+        TraceLine::Limit(limit) => with_newer(scanner, newer, slots, limit),
         TraceLine::Slot(slot) => Ok(TraceBuilder::Slots {
             scanner,
+            newer,
             slots: with_item(slots, slot)?,
         }),
         TraceLine::Event(event) => {
-            let config = Config::Scanner(scanner_with(scanner, slots));
+            let config = Config::Scanner(scanner_with(scanner, newer, slots));
             Ok(after_profile(alloc, config, Some((event, None))))
+        }
+        _ => Err(TextFault::Bad),
+    }
+}
+
+/// The limit on numbers, before all slots and once.
+fn with_newer(
+    scanner: ScannerLine,
+    newer: Option<u32>,
+    slots: Items<SlotConfig>,
+    limit: LimitLine,
+) -> Result<TraceBuilder, TextFault>
+    ensures { Finds (with_newer scanner newer slots limit) result }
+{
+    match limit {
+        LimitLine::Newer(within) if newer.is_none() && slots.as_slice().is_empty() => {
+            Ok(TraceBuilder::Slots {
+                scanner,
+                newer: Some(within),
+                slots,
+            })
         }
         _ => Err(TextFault::Bad),
     }

@@ -100,7 +100,7 @@ pub fn has_one_reading()
 {}
 
 /// The first line, without the LF that ends it, and the text behind that. None if no LF is left.
-fn first_line(text: &[u8]) -> Option<(&[u8], &[u8])>
+pub fn first_line(text: &[u8]) -> Option<(&[u8], &[u8])>
     ensures line { IfSome result (λ got. parts_of text.now ≡ got.0.now ∷ parts_of got.1.now) }
     ensures shorter { IfSome result (λ got. length got.1.now < length text.now) }
     ensures last { IfNone result (parts_of text.now ≡ text.now ∷ []) }
@@ -129,8 +129,8 @@ fn add_text(alloc: Global, builder: &mut TraceBuilder, line: &[u8]) -> Result<()
     add_line(alloc, builder, parsed)
 }
 
-/// Whether a line is skipped.
-fn is_skipped(line: &[u8]) -> bool
+/// Whether a line is skipped: it is empty, or a comment.
+pub fn is_skipped(line: &[u8]) -> bool
     ensures { result ≡ is_skipped line.now }
 {
     match line {
@@ -144,8 +144,12 @@ fn parsed(alloc: Global, builder: TraceBuilder, number: u64) -> Result<Trace, Tr
     ensures { Answers (parsed number builder) result }
 {
     match builder {
-        TraceBuilder::Slots { scanner, slots } => judged(Trace {
-            config: Config::Scanner(scanner_with(scanner, slots)),
+        TraceBuilder::Slots {
+            scanner,
+            newer,
+            slots,
+        } => judged(Trace {
+            config: Config::Scanner(scanner_with(scanner, newer, slots)),
             events: Items::new(alloc),
         }),
         TraceBuilder::Events {

@@ -12,8 +12,6 @@ use Rattle.std.specs.List.{slice_split, join_with_byte}
 use Rattle.hex.specs.Hex.{encode_lower, decode_of}
 use Rattle.cip_types.specs.declared.names.Node.{Node}
 use Rattle.cip_types.specs.declared.names.ConnId.{ConnId}
-use Rattle.adapter_table.specs.declared.profile.Action.{Action}
-use Rattle.adapter_table.specs.declared.profile.Action.TheVariants.{Zero, Hold}
 
 -- WHAT IS WRITTEN
 
@@ -43,11 +41,6 @@ general_word general = encode_lower (general ∷ [])
 abbrev pub extended_word : Option ℕ → List ℕ
 extended_word None = codes "-"
 extended_word (Some extended) = encode_lower (to_be_bytes w16 extended)
-
--- an action for an output
-abbrev pub action_word : Action → List ℕ
-action_word Zero = codes "zero"
-action_word Hold = codes "hold"
 
 -- the line of these words
 abbrev pub line_text : List (List ℕ) → List ℕ
@@ -90,10 +83,6 @@ address_bytes_only read = if length read.1 == 0 then Some (record { 0 = from_be_
 -- the address that a word writes, and nothing behind it
 unfoldable pub node_of : List ℕ → Option Node
 node_of word = option_and_then address_bytes_only (read_ipv4 word)
-
--- the action for an output that a word names
-unfoldable pub action_of : List ℕ → Option Action
-action_of word = if is_word (codes "zero") word then Some Zero else (if is_word (codes "hold") word then Some Hold else None)
 
 -- the bytes that digits of either case spell; no digits spell none
 abbrev pub digits_of : List ℕ → Option (List ℕ)

@@ -3,10 +3,9 @@
 ghost use Rattle.std.specs.Prelude.{◌≡◌, ◌↔◌, ◌==◌, [], IsOk, IsTrue, IfErr};
 ghost use Rattle.std.specs.Result.{result_ok};
 ghost use Rattle.hex.specs.Hex.{hex_digit_value, pair_value};
-ghost use Rattle.trace_words.specs.Words.{is_short_form, is_dash, number_of, node_of, nodes_of, action_of, bytes_of, digits_of, id_of, general_of, extended_of, instance_of};
+ghost use Rattle.trace_words.specs.Words.{is_short_form, is_dash, number_of, node_of, nodes_of, bytes_of, digits_of, id_of, general_of, extended_of, instance_of};
 ghost use Rattle.trace_words.specs.Reader.{Finds};
 
-use adapter_table::Action;
 use cip_types::{ConnId, Items, Node, OutOfMemory};
 use std::alloc::{AllocError, AllocFailed, Global};
 use std::net::Ipv4Addr;
@@ -140,18 +139,6 @@ impl<'a> Words<'a> {
         ensures { Takes (next_word nodes_of (unread_words self.old)) result (unread_words self.new) }
     {
         read_nodes(alloc, self.word()?)
-    }
-
-    /// The next word as an action for an output.
-    #[tactic(auto, unfolding(crate::specs::Words::action_of))]
-    pub fn action(&mut self) -> Result<Action, TextFault>
-        ensures { Takes (next_word action_of (unread_words self.old)) result (unread_words self.new) }
-    {
-        match self.word()? {
-            "zero" => Ok(Action::Zero),
-            "hold" => Ok(Action::Hold),
-            _ => Err(TextFault::Bad),
-        }
     }
 
     /// The next word as a connection id: eight hexadecimal digits of either case.

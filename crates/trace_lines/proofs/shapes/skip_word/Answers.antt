@@ -33,7 +33,7 @@ pub returns-in-GeneralStatus : goal.returns-in-GeneralStatus
 returns-in-GeneralStatus c = rw (c.in-GeneralStatus.is, c.skipped-in-GeneralStatus.ensures) (skips word.GeneralStatus _ _ _ c.general.ensures)
 
 pub returns-in-Action : goal.returns-in-Action
-returns-in-Action c = rw (c.in-Action.is, c.skipped-in-Action.ensures) (skips word.Action _ _ _ c.action.ensures)
+returns-in-Action c = rw (c.in-Action.is, c.skipped-in-Action.ensures) (skips word.Action _ _ _ c.read_action.ensures)
 
 pub returns-in-Mode : goal.returns-in-Mode
 returns-in-Mode c = rw (c.in-Mode.is, c.skipped-in-Mode.ensures) (skips word.Mode _ _ _ c.read_mode.ensures)
@@ -49,3 +49,6 @@ returns-in-Trigger c = rw (c.in-Trigger.is, c.skipped-in-Trigger.ensures) (skips
 
 pub returns-in-Closers : goal.returns-in-Closers
 returns-in-Closers c = rw (c.in-Closers.is, c.skipped-in-Closers.ensures) (skips word.Closers _ _ _ c.read_closers.ensures)
+
+pub returns-in-Openings : goal.returns-in-Openings
+returns-in-Openings c = rw (c.in-Openings.is, c.skipped-in-Openings.ensures) (skips word.Openings _ _ _ c.read_openings.ensures)

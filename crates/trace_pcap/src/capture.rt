@@ -1,19 +1,21 @@
-//! A trace as a capture file.
+//! A capture file that is written event by event.
 
-ghost use Rattle.std.specs.Prelude.{◌≡◌, ◌++◌, [], IfOk, OnOk};
+ghost use Rattle.std.specs.Prelude.{◌≡◌, ◌++◌, IfOk, OnOk};
+ghost use Rattle.trace_pcap.specs.Packets.{file_header};
 ghost use Rattle.trace_pcap.specs.Traffic.{event_records, event_streams, replies_records, answer_records, answer_streams};
-ghost use Rattle.trace_pcap.specs.Written.{later, is_refused, time_after, entry_records, entry_streams, entries_records, pcap_text};
+ghost use Rattle.trace_pcap.specs.Written.{begun, captured_with, entry_records, entry_streams, number_after, piece_of, view_capture};
 
 use crate::ends::{CapturedStream, Side, side_of};
 use crate::packets::push_file_header;
 use crate::traffic::{Moment, push_answer, push_event, push_replies};
 use cip_events::{Answer, Event};
+use cip_tables::Config;
 use cip_types::OutOfMemory;
 use std::alloc::Global;
-use trace_text::{Recorded, Trace};
+use trace_text::{Recorded, time_after};
 
-/// The bytes of a capture file with the packets of a trace: a classic pcap file of raw IPv4 packets, in the order of
-/// the trace. OutOfMemory is the only fault.
+/// A capture file with the packets of a trace, between two of its events: a classic pcap file of raw IPv4 packets, in the order
+/// of the trace. It has the memory of the streams that are open, however long the trace is.
 ///
 /// The clock begins at the given milliseconds since 1970 (0 if the time is not known), and each `tick` moves it on. A stream
 /// is a TCP connection with the end that does not open it at port 44818, a datagram a UDP datagram from port 2222 to port
@@ -21,67 +23,62 @@ use trace_text::{Recorded, Trace};
 /// where the outcome is recorded. An event with a recorded fault shows nothing, and a request without a stream shows nothing.
 ///
 /// RFC 791, 768 and 9293 for IPv4, UDP and TCP.
-#[tactic(auto, unfolding(crate::specs::Written::pcap_text))]
-pub fn write_pcap(alloc: Global, trace: &Trace, start_ms: u64) -> Result<Vec<u8>, OutOfMemory>
-    ensures { IfOk result (λ file. file.items ≡ pcap_text start_ms trace.now) }
-{
-    let mut out = Vec::new(alloc);
-    push_file_header(&mut out)?;
-    let side = side_of(&trace.config);
-    push_entries(alloc, &mut out, side, start_ms, trace.events.as_slice())?;
-    Ok(out)
-}
-
-/// Appends the packets of events, from this time on, and with no stream open.
-fn push_entries(
-    alloc: Global,
-    out: &mut Vec<u8>,
+#[derive(Drop)]
+pub struct Capture {
     side: Side,
-    start_ms: u64,
-    entries: &[(Event, Recorded)],
-) -> Result<(), OutOfMemory>
-    ensures { OnOk result (out.new.items ≡ out.old.items ++ entries_records side start_ms 0 [] entries.now) }
-{
-    let mut streams = Vec::new(alloc);
-    let mut time = start_ms;
-    for (index, entry) in entries.iter().enumerate() {
-        time = time_after(time, &entry.0, &entry.1);
-        let number = index as u64;
+    time: u64,
+    number: u64,
+    streams: Vec<CapturedStream>,
+}
+
+impl Capture {
+    /// Appends what the capture file of a trace with this configuration begins with. OutOfMemory is the only fault.
+    pub fn begin(
+        alloc: Global,
+        config: &Config,
+        start_ms: u64,
+        out: &mut Vec<u8>,
+    ) -> Result<Capture, OutOfMemory>
+        ensures written { OnOk result (out.new.items ≡ out.old.items ++ file_header) }
+        ensures begun { IfOk result (λ capture. view_capture capture ≡ begun start_ms config.now) }
+    {
+        push_file_header(out)?;
+        Ok(Capture {
+            side: side_of(config),
+            time: start_ms,
+            number: 0,
+            streams: Vec::new(alloc),
+        })
+    }
+
+    /// Appends the packets of the next event, and of its outcome if that is recorded. OutOfMemory is the only fault: behind it
+    /// the capture file is of no use.
+    pub fn push(
+        &mut self,
+        out: &mut Vec<u8>,
+        event: &Event,
+        recorded: &Recorded,
+    ) -> Result<(), OutOfMemory>
+        ensures written { OnOk result
+            (out.new.items ≡ out.old.items ++ piece_of (view_capture self.old) (event.now, recorded.now)) }
+        ensures next { OnOk result
+            (view_capture self.new ≡ captured_with (view_capture self.old) (event.now, recorded.now)) }
+    {
+        let (side, number) = (self.side, self.number);
+        let time = time_after(self.time, event, recorded);
         let moment = Moment { side, time, number };
-        push_entry(out, &mut streams, moment, &entry.0, &entry.1)?;
-    }
-    Ok(())
-}
-
-/// The time of a trace's clock after an event, with its outcome if that is recorded. A refused tick does not pass.
-fn time_after(time: u64, event: &Event, recorded: &Recorded) -> u64
-    ensures { result ≡ time_after time event.now recorded.now }
-{
-    match event {
-        Event::Tick { ms } => later(time, *ms, is_refused(recorded)),
-        _ => time,
+        push_entry(out, &mut self.streams, moment, event, recorded)?;
+        self.time = time;
+        self.number = number_after(number);
+        Ok(())
     }
 }
 
-/// The time, this number of milliseconds later if they are not refused.
-fn later(time: u64, ms: u32, refused: bool) -> u64
-    ensures { result ≡ later time ms refused }
+/// The number of the event behind the one of this number, modulo 2^64.
+fn number_after(number: u64) -> u64
+    ensures { result ≡ number_after number }
 {
-    if refused {
-        time
-    } else {
-        time.wrapping_add(u64::from(ms))
-    }
-}
-
-/// Whether the recorded outcome is a fault.
-fn is_refused(recorded: &Recorded) -> bool
-    ensures { result ≡ is_refused recorded.now }
-{
-    match recorded.get() {
-        Some(Err(_)) => true,
-        _ => false,
-    }
+    number.wrapping_add(1)
 }
 
 /// Appends the packets of an event and of its recorded answer.
