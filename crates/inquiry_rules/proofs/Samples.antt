@@ -3,7 +3,7 @@
 use Rattle.std.proofs.Common.{◌≡◌, ℕ, ◌≤◌, ◌++◌, List, [], ◌∷◌, replicate, Some, None, refl, arith}
 use Rattle.std.proofs.Math.Nat.{mod-eq_of_lt}
 use Rattle.std.specs.Prelude.{length, position}
-use Rattle.cip_types.specs.declared.names.Node.{Node}
+use Rattle.std.specs.declared.net.socket_addr.SocketAddr.TheVariants.{V4}
 use Rattle.inquiry_rules.specs.declared.asking.Asker.{Asker}
 use Rattle.inquiry_rules.specs.declared.asking.InquirySocket.TheVariants.{Own, Everybody, Network}
 use Rattle.inquiry_rules.specs.declared.budget.InquiryBudget.{InquiryBudget}
@@ -36,17 +36,23 @@ from_500_on_itself = refl
 little_endian : longest_delay (request 0xF5 1) ≡ 501
 little_endian = refl
 
-the_high_byte_alone : longest_delay (request 0 8) ≡ 2048
+the_high_byte_alone : longest_delay (request 0 4) ≡ 1024
 the_high_byte_alone = refl
 
-at_most_16_bits : longest_delay (request 0xFF 0xFF) ≡ 65535
-at_most_16_bits = refl
+up_to_2000_itself : longest_delay (request 0xCF 7) ≡ 1999
+up_to_2000_itself = refl
+
+from_2000_on_2000 : longest_delay (request 0xD1 7) ≡ 2000
+from_2000_on_2000 = refl
+
+a_minute_is_2000 : longest_delay (request 0xFF 0xFF) ≡ 2000
+a_minute_is_2000 = refl
 
 -- one that ends before them names none
 too_short : longest_delay (replicate 13 9) ≡ 2000
 too_short = refl
 
-long_enough : longest_delay (replicate 14 9) ≡ 2313
+long_enough : longest_delay (replicate 14 3) ≡ 771
 long_enough = refl
 
 -- THE DRAWN DELAY
@@ -69,41 +75,72 @@ each_is_drawn delay longest fits = mod-eq_of_lt (omega arith)
 
 -- INQUIRIES THAT WAIT
 
-abbrev node : Node
-node = record { 0 = 2130706452 }
-
 abbrev first_hold : InquiriesHeld
 first_hold = record { words = 1234567; waiting = [] }
 
--- one within 500 ms and one within 2,000 ms
-abbrev both : Asker → InquiriesHeld
-both asker = held_after (held_after first_hold 1000 asker (request 1 0)) 1010 asker (request 0 0)
+-- a peer of an address, at a port
+abbrev peer : ℕ → ℕ → Asker
+peer address port = record { node = record { 0 = address }; at = V4 (record { ip = record { octets = 10 ∷ 0 ∷ 0 ∷ address ∷ [] }; port = port }) }
 
-both_wait : (asker : Asker) → (both asker).waiting ≡
-    record { asker = asker; bytes = request 1 0; due_ms = 1297 } ∷ record { asker = asker; bytes = request 0 0; due_ms = 2451 } ∷ []
-both_wait asker = refl
+-- one within 500 ms of a peer, and one within 2,000 ms of another one
+abbrev both : InquiriesHeld
+both = held_after (held_after first_hold 1000 (peer 1 5000) (request 1 0)) 1010 (peer 2 5000) (request 0 0)
 
-not_due_before : (asker : Asker) → position (is_inquiry_due 1296) (both asker).waiting ≡ None
-not_due_before asker = refl
+both_wait : both.waiting ≡
+    record { asker = peer 1 5000; bytes = request 1 0; due_ms = 1297 } ∷ record { asker = peer 2 5000; bytes = request 0 0; due_ms = 2451 } ∷ []
+both_wait = refl
 
-due_at_its_time : (asker : Asker) → position (is_inquiry_due 1297) (both asker).waiting ≡ Some 0
-due_at_its_time asker = refl
+not_due_before : position (is_inquiry_due 1296) both.waiting ≡ None
+not_due_before = refl
 
-the_wait_ends_with_the_first : (asker : Asker) → inquiry_wait 1010 5000 (both asker).waiting ≡ 287
-the_wait_ends_with_the_first asker = refl
+due_at_its_time : position (is_inquiry_due 1297) both.waiting ≡ Some 0
+due_at_its_time = refl
 
-at_most_the_length_given : (asker : Asker) → inquiry_wait 1010 286 (both asker).waiting ≡ 286
-at_most_the_length_given asker = refl
+the_wait_ends_with_the_first : inquiry_wait 1010 5000 both.waiting ≡ 287
+the_wait_ends_with_the_first = refl
 
-no_wait_when_due : (asker : Asker) → inquiry_wait 1298 5000 (both asker).waiting ≡ 0
-no_wait_when_due asker = refl
+at_most_the_length_given : inquiry_wait 1010 286 both.waiting ≡ 286
+at_most_the_length_given = refl
+
+no_wait_when_due : inquiry_wait 1298 5000 both.waiting ≡ 0
+no_wait_when_due = refl
+
+-- a newer one of the same peer takes the place of the older one, and is not due later than that: 1010 + 1441 is behind 1297
+inquired_again : (held_after (held_after first_hold 1000 (peer 1 5000) (request 1 0)) 1010 (peer 1 5000) (request 0 0)).waiting ≡
+    record { asker = peer 1 5000; bytes = request 0 0; due_ms = 1297 } ∷ []
+inquired_again = refl
+
+-- .. but due earlier, if it is: the second word draws 3203168211198807973 % 501, which is 358
+inquired_again_sooner : (held_after (held_after first_hold 1000 (peer 1 5000) (request 0 0)) 1010 (peer 1 5000) (request 1 0)).waiting ≡
+    record { asker = peer 1 5000; bytes = request 1 0; due_ms = 1360 } ∷ []
+inquired_again_sooner = refl
+
+-- another port of the address is another peer
+another_port : length (held_after (held_after first_hold 1000 (peer 1 5000) (request 1 0)) 1010 (peer 1 5001) (request 0 0)).waiting ≡ 2
+another_port = refl
+
+-- four of one address wait, and a fifth port takes the place of the first
+abbrev waits : ℕ → HeldInquiry
+waits port = record { asker = peer 1 port; bytes = request 0 0; due_ms = 1300 }
+
+abbrev four : InquiriesHeld
+four = record { words = 1234567; waiting = waits 1 ∷ waits 2 ∷ waits 3 ∷ waits 4 ∷ [] }
+
+a_fifth_port : (held_after four 1200 (peer 1 5) (request 1 0)).waiting ≡ waits 2 ∷ waits 3 ∷ waits 4 ∷ record { asker = peer 1 5; bytes = request 1 0; due_ms = 1300 } ∷ []
+a_fifth_port = refl
+
+one_of_them_again : (held_after four 1200 (peer 1 3) (request 1 0)).waiting ≡ waits 1 ∷ waits 2 ∷ waits 4 ∷ record { asker = peer 1 3; bytes = request 1 0; due_ms = 1300 } ∷ []
+one_of_them_again = refl
+
+another_address_beside_them : length (held_after four 1200 (peer 2 1) (request 1 0)).waiting ≡ 5
+another_address_beside_them = refl
 
 -- a 65th is lost, and draws nothing
-abbrev full : HeldInquiry → InquiriesHeld
-full held = record { words = 1234567; waiting = replicate 64 held }
+abbrev full : InquiriesHeld
+full = record { words = 1234567; waiting = replicate 64 (waits 1) }
 
-one_too_many : (held : HeldInquiry) (asker : Asker) → held_after (full held) 1000 asker (request 0 0) ≡ full held
-one_too_many held asker = refl
+one_too_many : held_after full 1000 (peer 2 1) (request 0 0) ≡ full
+one_too_many = refl
 
 -- AT ONCE, OR LATER
 

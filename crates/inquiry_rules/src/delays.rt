@@ -10,16 +10,17 @@ use cip_types::fields::u16_in;
 /// Volume 2, chapter 2, encapsulation header.
 const CONTEXT_AT: usize = 12;
 
-/// The longest delay of a request that names none, in milliseconds.
+/// The longest delay of a request that names none, in milliseconds. A longer one counts as this one, so that no request holds
+/// a place for longer.
 ///
 /// Volume 2, chapter 2, ListIdentity.
-const USUAL_MS: u16 = 2_000;
+const MOST_MS: u16 = 2_000;
 
 /// A shorter longest delay counts as this one.
 const LEAST_MS: u16 = 500;
 
 /// The longest delay of the answer to a request that came by broadcast, in milliseconds: the first two bytes of its sender
-/// context; 2,000 where they are 0, 500 where they are less. A request that ends before them names none.
+/// context; 2,000 where they are 0 or more, 500 where they are less. A request that ends before them names none.
 pub fn longest_delay(request: &[u8]) -> u16
     ensures { result ≡ longest_delay request.now }
 {
@@ -42,9 +43,9 @@ fn longest_of(named_ms: u16) -> u16
     ensures { result ≡ longest_of named_ms }
 {
     if named_ms == 0 {
-        USUAL_MS
+        MOST_MS
     } else {
-        named_ms.max(LEAST_MS)
+        named_ms.max(LEAST_MS).min(MOST_MS)
     }
 }
 

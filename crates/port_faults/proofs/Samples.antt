@@ -1,9 +1,9 @@
--- Words, fates and holds, worked outside this code. The words of seed 1234567 are those that the authors' program prints.
+-- Words, impairments and holds, worked outside this code. The words of seed 1234567 are those that the authors' program prints.
 use Rattle.std.proofs.Common.{◌≡◌, ℕ, List, [], ◌∷◌, Some, None, true, false, refl}
 use Rattle.std.specs.Prelude.{position}
 use Rattle.cip_types.specs.declared.names.Node.{Node}
 use Rattle.port_faults.specs.declared.rates.FaultRates.{FaultRates}
-use Rattle.port_faults.specs.Fates.{fate_of, word_at}
+use Rattle.port_faults.specs.Impairments.{impairment_of, word_at}
 use Rattle.port_faults.specs.Holds.{HoldValue, given, is_due, taken, wait_of}
 
 -- WORDS
@@ -17,21 +17,21 @@ second_word = refl
 fifth_word : word_at 1234567 4 ≡ 16408922859458223821
 fifth_word = refl
 
--- FATES: the words draw 45, 64, 71 and 10; then 5, 12, 72 and 18; then 63, 70, 57 and 18 (of 21)
+-- IMPAIRMENTS: the words draw 45, 64, 71 and 10; then 5, 12, 72 and 18; then 63, 70, 57 and 18 (of 21)
 
 abbrev rates_of : ℕ → ℕ → ℕ → ℕ → FaultRates
 rates_of lose repeat reorder delay = record { lose = lose; repeat = repeat; reorder = reorder; delay_ms = delay; seed = 1234567 }
 
-lost_and_repeated : fate_of (rates_of 50 70 0 20) 0 ≡ record { lost = true; repeated = true; overtaken = false; delay_ms = 10 }
+lost_and_repeated : impairment_of (rates_of 50 70 0 20) 0 ≡ record { lost = true; repeated = true; overtaken = false; delay_ms = 10 }
 lost_and_repeated = refl
 
-neither : fate_of (rates_of 50 70 0 20) 2 ≡ record { lost = false; repeated = false; overtaken = false; delay_ms = 18 }
+neither : impairment_of (rates_of 50 70 0 20) 2 ≡ record { lost = false; repeated = false; overtaken = false; delay_ms = 18 }
 neither = refl
 
-never_at_0 : fate_of (rates_of 0 0 0 0) 1 ≡ record { lost = false; repeated = false; overtaken = false; delay_ms = 0 }
+never_at_0 : impairment_of (rates_of 0 0 0 0) 1 ≡ record { lost = false; repeated = false; overtaken = false; delay_ms = 0 }
 never_at_0 = refl
 
-always_at_100 : fate_of (rates_of 100 100 100 0) 2 ≡ record { lost = true; repeated = true; overtaken = true; delay_ms = 0 }
+always_at_100 : impairment_of (rates_of 100 100 100 0) 2 ≡ record { lost = true; repeated = true; overtaken = true; delay_ms = 0 }
 always_at_100 = refl
 
 -- HOLDS: of these the first datagram is overtaken by the second one

@@ -2,9 +2,9 @@
 use Rattle.std.specs.Prelude.{◌≡◌, ℕ, ◌+◌, ◌-◌, ◌^◌, ◌||◌, ◌&&◌, not, nat_le, nat_lt, min, if◌then◌else◌, Bool, true, false, List, [], ◌∷◌, ◌++◌, length, option_map, option_to_list, position, remove, slice_get, Option, Some, None}
 use Rattle.cip_types.specs.declared.names.Node.{Node}
 use Rattle.port_faults.specs.declared.hold.HeldDatagram.{HeldDatagram}
-use Rattle.port_faults.specs.declared.rates.DatagramFate.{DatagramFate}
+use Rattle.port_faults.specs.declared.rates.DatagramImpairment.{DatagramImpairment}
 use Rattle.port_faults.specs.declared.rates.FaultRates.{FaultRates}
-use Rattle.port_faults.specs.Fates.{fate_of}
+use Rattle.port_faults.specs.Impairments.{impairment_of}
 
 -- the rates, how many datagrams have arrived, and those that wait, in the order in which they came
 pub record HoldValue : Type 0 where
@@ -18,21 +18,21 @@ pub record HoldValue : Type 0 where
 abbrev pub has_room : List HeldDatagram → Bool
 has_room waiting = nat_le (length waiting) 62
 
--- a datagram waits by its fate
-abbrev pub is_late : DatagramFate → Bool
-is_late fate = fate.overtaken || nat_lt 0 fate.delay_ms
+-- a datagram waits by its impairment
+abbrev pub is_late : DatagramImpairment → Bool
+is_late impairment = impairment.overtaken || nat_lt 0 impairment.delay_ms
 
 -- within 64 bits
 abbrev pub fit : ℕ → ℕ
 fit n = min n (2 ^ 64 - 1)
 
 -- it waits until this time; for a datagram that is to overtake it at most 1,000 ms
-abbrev pub due_of : DatagramFate → ℕ → ℕ
-due_of fate now = if fate.overtaken then fit (now + 1000) else fit (now + fate.delay_ms)
+abbrev pub due_of : DatagramImpairment → ℕ → ℕ
+due_of impairment now = if impairment.overtaken then fit (now + 1000) else fit (now + impairment.delay_ms)
 
 -- .. or until so many have arrived, where so many came before it
-abbrev pub behind_of : DatagramFate → ℕ → ℕ
-behind_of fate arrived = if fate.overtaken then fit (arrived + 2) else 2 ^ 64 - 1
+abbrev pub behind_of : DatagramImpairment → ℕ → ℕ
+behind_of impairment arrived = if impairment.overtaken then fit (arrived + 2) else 2 ^ 64 - 1
 
 abbrev pub copied_if : Bool → List ℕ → Option (List ℕ)
 copied_if requested bytes = if requested then Some bytes else None
@@ -50,20 +50,20 @@ abbrev pub given_if : Bool → Bool → List ℕ → Option (List ℕ)
 given_if arrives late bytes = if arrives && not late then Some bytes else None
 
 -- what becomes of the next datagram
-abbrev pub next_fate : HoldValue → DatagramFate
-next_fate hold = fate_of hold.rates hold.arrived
+abbrev pub next_impairment : HoldValue → DatagramImpairment
+next_impairment hold = impairment_of hold.rates hold.arrived
 
 -- Of the next datagram: its bytes, if it goes on at once. Where there is no room it is lost or goes on.
 abbrev pub given : HoldValue → List ℕ → Option (List ℕ)
-given hold bytes = given_if (not (next_fate hold).lost) (has_room hold.waiting && is_late (next_fate hold)) bytes
+given hold bytes = given_if (not (next_impairment hold).lost) (has_room hold.waiting && is_late (next_impairment hold)) bytes
 
-abbrev pub kept_by : DatagramFate → ℕ → ℕ → Node → List ℕ → List HeldDatagram
-kept_by fate arrived now peer bytes = kept_of (not fate.lost) (is_late fate) (record { peer = peer; bytes = bytes; due_ms = due_of fate now; behind = behind_of fate arrived }) (option_map (copy_at peer now) (copied_if (fate.repeated && not fate.lost) bytes))
+abbrev pub kept_by : DatagramImpairment → ℕ → ℕ → Node → List ℕ → List HeldDatagram
+kept_by impairment arrived now peer bytes = kept_of (not impairment.lost) (is_late impairment) (record { peer = peer; bytes = bytes; due_ms = due_of impairment now; behind = behind_of impairment arrived }) (option_map (copy_at peer now) (copied_if (impairment.repeated && not impairment.lost) bytes))
 
 -- the hold after it
 abbrev pub waiting_after : Bool → HoldValue → ℕ → Node → List ℕ → List HeldDatagram
 waiting_after false hold now peer bytes = hold.waiting
-waiting_after true hold now peer bytes = hold.waiting ++ kept_by (next_fate hold) hold.arrived now peer bytes
+waiting_after true hold now peer bytes = hold.waiting ++ kept_by (next_impairment hold) hold.arrived now peer bytes
 
 abbrev pub taken : HoldValue → ℕ → Node → List ℕ → HoldValue
 taken hold now peer bytes = record hold { arrived = fit (hold.arrived + 1); waiting = waiting_after (has_room hold.waiting) hold now peer bytes }

@@ -1,3 +1,3 @@
-pub mod Fates
+pub mod Impairments
 pub mod Holds
 pub mod Passing

@@ -3,7 +3,7 @@
 ghost use Rattle.std.specs.Prelude.{◌≡◌, ◌+◌, ◌≤◌, ◌++◌, [], None, IfOk, OnOk, IfErr, OnErr, IfSome, IfNone, length, option_map, position, vec_len, vec_capacity};
 ghost use Rattle.port_faults.specs.Holds.{GivesDue, behind_of, copied_if, copy_at, due_of, given, given_if, has_room, is_due, is_late, kept_of, taken, time_to, wait_of};
 
-use crate::rates::{DatagramFate, FaultRates};
+use crate::rates::{DatagramImpairment, FaultRates};
 use cip_types::{Items, Node, OutOfMemory};
 use std::alloc::Global;
 use std::marker::Model;
@@ -70,12 +70,16 @@ impl DatagramHold {
         ensures refused { IfErr result (λ back. back ≡ bytes) }
         ensures same { OnErr result (self.new ≡ self.old) }
     {
-        let fate = self.rates.fate_of(self.arrived);
+        let impairment = self.rates.impairment_of(self.arrived);
         if !self.has_room() {
             self.arrived = self.arrived.saturating_add(1);
-            return Ok(if fate.lost { None } else { Some(bytes) });
+            return Ok(if impairment.lost { None } else { Some(bytes) });
         }
-        let Ok(copy) = copy_if(self.alloc, fate.repeated && !fate.lost, bytes.as_slice()) else {
+        let Ok(copy) = copy_if(
+            self.alloc,
+            impairment.repeated && !impairment.lost,
+            bytes.as_slice(),
+        ) else {
             return Err(bytes);
         };
         if self.waiting.reserve(2).is_err() {
@@ -84,12 +88,18 @@ impl DatagramHold {
         let held = HeldDatagram {
             peer,
             bytes,
-            due_ms: due_of(fate, now_ms),
-            behind: behind_of(fate, self.arrived),
+            due_ms: due_of(impairment, now_ms),
+            behind: behind_of(impairment, self.arrived),
         };
         self.arrived = self.arrived.saturating_add(1);
         let copy = copy_at(peer, now_ms, copy);
-        Ok(keep(&mut self.waiting, !fate.lost, is_late(fate), held, copy))
+        Ok(keep(
+            &mut self.waiting,
+            !impairment.lost,
+            is_late(impairment),
+            held,
+            copy,
+        ))
     }
 
     /// Whether two more datagrams can wait.
@@ -155,29 +165,29 @@ fn time_to(now_ms: u64, arrived: u64, held: &HeldDatagram) -> u64
     held.due_ms.saturating_sub(now_ms)
 }
 
-/// Whether a datagram waits by its fate.
-fn is_late(fate: DatagramFate) -> bool
-    ensures { result ≡ is_late fate }
+/// Whether a datagram waits by its impairment.
+fn is_late(impairment: DatagramImpairment) -> bool
+    ensures { result ≡ is_late impairment }
 {
-    fate.overtaken || fate.delay_ms > 0
+    impairment.overtaken || impairment.delay_ms > 0
 }
 
 /// Until when a datagram waits that arrives at this time.
-fn due_of(fate: DatagramFate, now_ms: u64) -> u64
-    ensures { result ≡ due_of fate now_ms }
+fn due_of(impairment: DatagramImpairment, now_ms: u64) -> u64
+    ensures { result ≡ due_of impairment now_ms }
 {
-    if fate.overtaken {
+    if impairment.overtaken {
         now_ms.saturating_add(LONGEST_MS)
     } else {
-        now_ms.saturating_add(fate.delay_ms)
+        now_ms.saturating_add(impairment.delay_ms)
     }
 }
 
 /// Until how many datagrams have arrived a datagram waits, behind which there are so many.
-fn behind_of(fate: DatagramFate, arrived: u64) -> u64
-    ensures { result ≡ behind_of fate arrived }
+fn behind_of(impairment: DatagramImpairment, arrived: u64) -> u64
+    ensures { result ≡ behind_of impairment arrived }
 {
-    if fate.overtaken {
+    if impairment.overtaken {
         arrived.saturating_add(2)
     } else {
         u64::MAX

@@ -8,4 +8,4 @@ mod rates;
 
 pub use hold::{DatagramHold, HeldDatagram, MOST_WAITING};
 pub use port::FaultyPort;
-pub use rates::{DatagramFate, FaultRates};
+pub use rates::{DatagramImpairment, FaultRates};

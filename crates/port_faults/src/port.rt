@@ -8,6 +8,7 @@ use crate::hold::DatagramHold;
 use crate::rates::FaultRates;
 use cip_events::Arrival;
 use cip_types::{Items, Node};
+use port_groups::{DataGroup, GroupPort};
 use std::alloc::Global;
 use std::time::Duration;
 use udp_runner::{Clock, KeptPort, Output, Port, PortFault, PortReport};
@@ -120,6 +121,17 @@ impl<P: Port, C: Clock> Port for FaultyPort<P, C> {
         }
     }
 
+    fn next_datagram(&mut self) -> Result<Option<Arrival>, PortFault> {
+        let Some(hold) = &mut self.hold else {
+            return self.port.next_datagram();
+        };
+        self.now_ms = self.now_ms.saturating_add(self.clock.passed());
+        match self.port.next_datagram() {
+            Ok(Some(arrival)) => Ok(pass(hold, self.now_ms, arrival)),
+            other => other,
+        }
+    }
+
     fn wait(&mut self, most: Duration) {
         let most = match &self.hold {
             Some(hold) => wait_length(hold, self.now_ms, most),
@@ -146,8 +158,8 @@ impl<P: KeptPort, C: Clock> KeptPort for FaultyPort<P, C> {
         self.port.next_report()
     }
 
-    fn keep(&mut self, peers: &[Node]) {
-        self.port.keep(peers);
+    fn keep(&mut self, peers: &[Node], owners: &[Node]) {
+        self.port.keep(peers, owners);
     }
 
     fn renew(&mut self, target: Node) {
@@ -156,5 +168,15 @@ impl<P: KeptPort, C: Clock> KeptPort for FaultyPort<P, C> {
 
     fn succeed(&mut self, target: Node) {
         self.port.succeed(target);
+    }
+}
+
+impl<P: GroupPort, C: Clock> GroupPort for FaultyPort<P, C> {
+    fn receive_groups(&mut self, groups: &[DataGroup]) {
+        self.port.receive_groups(groups);
+    }
+
+    fn next_unbound(&mut self) -> Option<DataGroup> {
+        self.port.next_unbound()
     }
 }

@@ -1,7 +1,7 @@
 //! What becomes of a datagram.
 
 ghost use Rattle.std.specs.Prelude.{◌≡◌};
-ghost use Rattle.port_faults.specs.Fates.{are_none, delay_of, fate_of, is_drawn, state_at, word_at};
+ghost use Rattle.port_faults.specs.Impairments.{are_none, delay_of, impairment_of, is_drawn, state_at, word_at};
 
 use rand_core::SeedableRng;
 use rand_core::utils::NextWord;
@@ -27,7 +27,7 @@ pub struct FaultRates {
 
 /// What becomes of a datagram.
 #[derive(Clone, Copy, PartialEq, Eq)]
-pub struct DatagramFate {
+pub struct DatagramImpairment {
     pub lost: bool,
     pub repeated: bool,
     pub overtaken: bool,
@@ -43,11 +43,11 @@ impl FaultRates {
     }
 
     /// What becomes of the datagram of this number, from 0.
-    pub fn fate_of(&self, number: u64) -> DatagramFate
-        ensures { result ≡ fate_of self.now number }
+    pub fn impairment_of(&self, number: u64) -> DatagramImpairment
+        ensures { result ≡ impairment_of self.now number }
     {
         let word = word_at(self.seed, number);
-        DatagramFate {
+        DatagramImpairment {
             lost: is_drawn(word, self.lose),
             repeated: is_drawn(word / 65_536, self.repeat),
             overtaken: is_drawn(word / 4_294_967_296, self.reorder),

@@ -6,6 +6,7 @@ use crate::marks::StreamMarks;
 use crate::order::{OrderedPort, PortOrder};
 use cip_events::Arrival;
 use cip_types::{Items, Node, OutOfMemory};
+use port_groups::{DataGroup, GroupPort};
 use std::alloc::Global;
 use std::rt::Clock as System;
 use std::thread;
@@ -98,6 +99,10 @@ impl<P: Port, R: System> Port for OrderPort<P, R> {
         Ok(came)
     }
 
+    fn next_datagram(&mut self) -> Result<Option<Arrival>, PortFault> {
+        self.port.next_datagram()
+    }
+
     fn wait(&mut self, most: Duration) {
         if self.raw.is_empty() && !self.marks.any_to_cut() {
             self.port.wait(most);
@@ -123,8 +128,8 @@ impl<P: KeptPort, R: System> KeptPort for OrderPort<P, R> {
         self.port.next_report()
     }
 
-    fn keep(&mut self, peers: &[Node]) {
-        self.port.keep(peers);
+    fn keep(&mut self, peers: &[Node], owners: &[Node]) {
+        self.port.keep(peers, owners);
     }
 
     fn renew(&mut self, target: Node) {
@@ -133,6 +138,16 @@ impl<P: KeptPort, R: System> KeptPort for OrderPort<P, R> {
 
     fn succeed(&mut self, target: Node) {
         self.port.succeed(target);
+    }
+}
+
+impl<P: GroupPort, R: System> GroupPort for OrderPort<P, R> {
+    fn receive_groups(&mut self, groups: &[DataGroup]) {
+        self.port.receive_groups(groups);
+    }
+
+    fn next_unbound(&mut self) -> Option<DataGroup> {
+        self.port.next_unbound()
     }
 }
 

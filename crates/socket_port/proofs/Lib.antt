@@ -1,2 +1,1 @@
-mod Samples
 pub mod Unsent

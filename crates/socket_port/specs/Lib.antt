@@ -1,3 +1,2 @@
 pub mod Outcomes
-pub mod Time
 pub mod Ways

@@ -1,14 +1,15 @@
 //! The system's clock.
 
-use crate::owed_time::{OwedTime, passed_ns};
 use cip_types::Ms;
 use std::rt::Clock as System;
 use std::time::{Duration, Instant};
+use turn_times::{OwedTime, passed_ns};
 use udp_runner::Clock;
 
 /// Whole milliseconds of the system's clock, in answers of at most the longest tick. What an answer does not give is
-/// owed, and the next answers give it: a pause of any length reaches the device whole. A reading before the last one
-/// adds no time, and the next reading counts from it.
+/// owed, and the next answers give it: a pause of any length reaches the device whole. What a device was told ahead, up to
+/// the millisecond that has begun, no later answer gives again. A reading before the last one adds no time, and the next
+/// reading counts from it.
 #[derive(Drop)]
 pub struct SystemClock<R: System + Drop> {
     rt: R,
@@ -53,6 +54,15 @@ impl<R: System + Drop> Clock for SystemClock<R> {
     fn passed(&mut self) -> u64 {
         self.read();
         self.owed.give()
+    }
+
+    fn begun(&mut self) -> u64 {
+        self.read();
+        self.owed.begun()
+    }
+
+    fn bring_up(&mut self, ms: u64) {
+        self.owed.bring_up(ms);
     }
 
     fn time_to(&self, ms: Ms) -> Duration {

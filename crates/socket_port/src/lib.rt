@@ -5,7 +5,6 @@ mod addresses;
 mod calls;
 mod clock;
 mod outcomes;
-mod owed_time;
 mod port;
 mod sending;
 mod sockets;

@@ -1,5 +1,5 @@
 -- What a station's port does with socket address items, by its place.
-use Rattle.std.specs.Prelude.{if◌then◌else◌}
+use Rattle.std.specs.Prelude.{◌&&◌, ◌==◌, not, if◌then◌else◌}
 use Rattle.item_ports.specs.declared.ports.ItemUse.{ItemUse}
 use Rattle.item_ports.specs.declared.ports.ItemUse.TheVariants.{Unused, Named, Honoured}
 use Rattle.station_port.specs.declared.place.StationPlace.{StationPlace}
@@ -8,6 +8,6 @@ use Rattle.station_port.specs.declared.place.StationPlace.{StationPlace}
 abbrev pub target_use : StationPlace → ItemUse
 target_use place = if place.item_ports then Honoured else Unused
 
--- a scanner's, which names its own port
+-- a scanner's, which names its own port, unless that is the standard's
 abbrev pub originator_use : StationPlace → ItemUse
-originator_use place = if place.item_ports then Named place.udp else Unused
+originator_use place = if place.item_ports && not (place.udp == 2222) then Named place.udp else Unused

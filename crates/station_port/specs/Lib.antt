@@ -3,4 +3,3 @@ pub mod Closes
 pub mod Finding
 pub mod Items
 pub mod Reaching
-pub mod Waits

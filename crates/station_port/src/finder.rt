@@ -12,7 +12,7 @@ use inquiry_rules::{Asker, InquiryGate, InquirySocket, has_length};
 use mio::net::UdpSocket;
 use mio::{Interest, Registry};
 use socket_port::{node_of, received};
-use station_streams::{FINDER, address_of, broadcast_socket};
+use station_streams::{FINDER, address_of, shared_socket};
 use std::alloc::Global;
 use std::net::{Net, SocketAddr};
 use udp_runner::PortFault;
@@ -58,11 +58,11 @@ impl Finder {
         let network = Node(place.address.0 | !place.mask);
         Ok(Finder {
             own,
-            everybody: broadcast_socket(rt, EVERYBODY, place.tcp),
+            everybody: shared_socket(rt, EVERYBODY, place.tcp),
             network: if network.0 == EVERYBODY.0 {
                 None
             } else {
-                broadcast_socket(rt, network, place.tcp)
+                shared_socket(rt, network, place.tcp)
             },
             gate: InquiryGate::new(alloc, u64::from(place.address.0)),
         })

@@ -1,11 +1,13 @@
 //! Where a station is, where it sends, and when it ends a silent stream.
 
-ghost use Rattle.std.specs.Prelude.{◌≡◌, false};
+ghost use Rattle.std.specs.Prelude.{◌≡◌, None, true};
+ghost use Rattle.port_groups.specs.GroupUse.{uses_groups};
 ghost use Rattle.station_port.specs.Items.{originator_use, target_use};
 
 use cip_types::Node;
 use cip_types::limits::{TCP_PORT, UDP_PORT};
 use item_ports::ItemUse;
+use port_groups::uses_groups;
 
 /// The encapsulation inactivity time-out, in seconds.
 ///
@@ -27,19 +29,21 @@ pub struct StationPlace {
     pub udp: u16,
     /// The UDP port of its peers' class 1 datagrams.
     pub peer_udp: u16,
-    /// Whether a datagram of a multicast connection is sent once, to the group's address, and not to each consumer.
+    /// Whether it uses groups: a datagram of a multicast connection is sent once, to the group's address, and not to each
+    /// consumer, and a scanner receives what is sent to the groups of its slots.
     pub multicast: bool,
     /// An adapter ends a stream over which no whole message came for so many seconds; 0: none.
     pub inactivity_s: u16,
-    /// Whether a scanner names its UDP port in its requests to open a connection, and an adapter sends the datagrams of a
-    /// connection to the port that its originator has named.
+    /// Whether a scanner names its UDP port in its requests to open a connection, if it is another one than the standard's, and
+    /// an adapter sends the datagrams of a connection to the port that its originator has named.
     pub item_ports: bool,
 }
 
 impl StationPlace {
-    /// A station at this address, with the standard's ports and its time-out, which sends a copy to each consumer.
+    /// A station at this address, with the standard's ports and its time-out, which does what its replies say: it uses groups,
+    /// unless its address is one of this host alone, and the ports that originators name.
     pub fn at(address: Node) -> StationPlace
-        ensures { result ≡ record { address = address; mask = 4294967295; tcp = 44818; udp = 2222; peer_udp = 2222; multicast = false; inactivity_s = 120; item_ports = false } }
+        ensures { result ≡ record { address = address; mask = 4294967295; tcp = 44818; udp = 2222; peer_udp = 2222; multicast = uses_groups None address; inactivity_s = 120; item_ports = true } }
     {
         StationPlace {
             address,
@@ -47,9 +51,9 @@ impl StationPlace {
             tcp: TCP_PORT,
             udp: UDP_PORT,
             peer_udp: UDP_PORT,
-            multicast: false,
+            multicast: uses_groups(None, address),
             inactivity_s: INACTIVITY_S,
-            item_ports: false,
+            item_ports: true,
         }
     }
 
@@ -68,7 +72,7 @@ impl StationPlace {
     pub(crate) fn originator_use(&self) -> ItemUse
         ensures { result ≡ originator_use self.now }
     {
-        if self.item_ports {
+        if self.item_ports && self.udp != UDP_PORT {
             ItemUse::Named(self.udp)
         } else {
             ItemUse::Unused

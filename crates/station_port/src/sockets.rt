@@ -8,12 +8,14 @@ ghost use Rattle.station_streams.specs.Waits.{streams_wait};
 use crate::bind::made;
 use crate::fault::{StationFault, StationSocket};
 use crate::finder::{Finder, NextInquiry};
+use crate::groups::GroupSockets;
 use cip_events::Arrival;
 use cip_types::limits::MOST_STREAMS;
 use cip_types::{Items, Node, OutOfMemory};
 use item_ports::ItemPorts;
 use mio::net::{TcpListener, TcpStream, UdpSocket};
 use mio::{Interest, Registry};
+use port_groups::{DataGroup, sent_port};
 use port_streams::{PollOrder, SpareBytes};
 use socket_port::{ReadOutcome, accepted, node_of, received};
 use station_streams::{
@@ -43,6 +45,9 @@ pub(crate) struct StationSockets {
     alloc: Global,
     listener: Option<TcpListener>,
     udp: UdpSocket,
+    pub(crate) groups: GroupSockets,
+    /// Whether the next datagram is that of a group, if there is one: they and the others take turns.
+    groups_first: bool,
     finder: Option<Finder>,
     /// A connection that waits until a stream has ended.
     newcomer: Option<Newcomer>,
@@ -62,6 +67,7 @@ impl StationSockets {
         alloc: Global,
         listener: Option<TcpListener>,
         udp: UdpSocket,
+        groups: GroupSockets,
         finder: Option<Finder>,
         streams: KeptStreams,
         targets: Targets,
@@ -71,6 +77,8 @@ impl StationSockets {
             alloc,
             listener,
             udp,
+            groups,
+            groups_first: false,
             finder,
             newcomer: None,
             streams,
@@ -107,7 +115,7 @@ impl StationSockets {
     }
 
     /// Opens the streams that are due, ends those that are overdue (silent ones, and those without a session in time), and
-    /// sends NOP if it is due. A stream that does not take it has ended.
+    /// sends NOP if it is due. A stream that does not take it has ended. Tries a group again that could not be bound.
     pub(crate) fn advance<R: Net>(&mut self, rt: &R, registry: &Registry, now_ms: u64) {
         self.targets
             .advance(rt, registry, &mut self.streams, now_ms);
@@ -121,6 +129,19 @@ impl StationSockets {
             self.targets.send_nop(&mut self.streams);
             self.ready.streams = true;
         }
+        self.ready.datagrams |= self.groups.try_again(rt, registry, now_ms);
+    }
+
+    /// From now on the datagrams of these groups are received, and of no others.
+    pub(crate) fn receive_groups<R: Net>(
+        &mut self,
+        rt: &R,
+        registry: &Registry,
+        groups: &[DataGroup],
+        now_ms: u64,
+    ) {
+        self.groups.receive_groups(rt, registry, groups, now_ms);
+        self.ready.datagrams = true;
     }
 
     /// The milliseconds until a stream is to be opened or ended, or an inquiry that waits is due, at most so many.
@@ -281,6 +302,12 @@ impl StationSockets {
         }
     }
 
+    /// The datagram that waits at the socket, whether it was reported or not.
+    pub(crate) fn waiting_datagram(&mut self) -> Result<Option<Arrival>, PortFault> {
+        self.ready.datagrams = true;
+        self.poll_datagrams()
+    }
+
     /// The inquiry that is there now, if the device may be given one.
     fn poll_inquiries(&mut self, now_ms: u64) -> Result<Option<Arrival>, PortFault> {
         match self.next_inquiry(now_ms)? {
@@ -302,9 +329,20 @@ impl StationSockets {
         }
     }
 
-    /// The next datagram in the buffer: the number of its bytes, and its sender.
+    /// The next datagram in the buffer: the number of its bytes, and its sender. The station's own socket and those of its groups
+    /// take turns.
     fn next_datagram(&mut self) -> Result<Option<(usize, SocketAddr)>, PortFault> {
-        received(self.udp.recv_from(&mut self.buffer))
+        self.groups_first = !self.groups_first;
+        if self.groups_first {
+            if let Some(came) = self.groups.receive(&mut self.buffer)? {
+                return Ok(Some(came));
+            }
+            return received(self.udp.recv_from(&mut self.buffer));
+        }
+        if let Some(came) = received(self.udp.recv_from(&mut self.buffer))? {
+            return Ok(Some(came));
+        }
+        self.groups.receive(&mut self.buffer)
     }
 
     /// Takes back the bytes of a datagram.
@@ -445,9 +483,10 @@ impl StationSockets {
         }
     }
 
-    /// Sends a datagram to a node or a group, at the port that an originator has named for it or at the usual one.
+    /// Sends a datagram to a node, at the port that an originator has named for it or at the usual one; or to a group, at the port
+    /// that replies name.
     fn send_datagram(&self, node: Node, bytes: &[u8]) {
-        let port = self.items.port_for(node, bytes);
+        let port = sent_port(node, self.items.port_for(node, bytes));
         let _ = self.udp.send_to(bytes, address_of(node, port));
     }
 }

@@ -5,21 +5,24 @@ ghost use Rattle.std.specs.Prelude.{◌≡◌, IfOk};
 use crate::bind::{datagrams, listen, made};
 use crate::fault::{StationFault, StationSocket};
 use crate::finder::Finder;
+use crate::groups::GroupSockets;
 use crate::place::StationPlace;
 use crate::sockets::StationSockets;
-use crate::waits::{wait_length, whole_ms};
 use cip_events::Arrival;
 use cip_types::{Items, Node};
 use item_ports::ItemPorts;
 use mio::{Events, Poll, Waker};
 use port_alarm::Alarm;
+use port_groups::{DataGroup, GroupPort};
 use port_streams::Destination;
 use station_streams::{KeptStreams, Targets, WAKER, address_of};
 use std::alloc::Global;
 use std::net::Net;
 use std::rt::Clock as System;
 use std::sync::Wait;
+use std::thread;
 use std::time::{Duration, Instant};
+use turn_times::{BusyTime, wait_length, whole_ms};
 use udp_runner::{KeptPort, Output, Port, PortFault, PortReport};
 
 /// A wait reports at most so many sockets at once; others are reported by the next one.
@@ -40,6 +43,7 @@ pub struct StationPort<R: System + Drop> {
     sockets: StationSockets,
     /// Ends a wait at its time, between two milliseconds.
     alarm: Option<Alarm>,
+    busy: BusyTime,
     multicast: bool,
     failures: u64,
 }
@@ -59,6 +63,7 @@ impl<R: System + Net + Drop> StationPort<R> {
             alloc,
             Some(listener),
             udp,
+            GroupSockets::none(alloc, place)?,
             Some(finder),
             streams,
             targets,
@@ -82,7 +87,8 @@ impl<R: System + Net + Drop> StationPort<R> {
         let streams = KeptStreams::new(alloc, 0)?;
         let targets = Targets::new(alloc, place.address, targets, open_ms)?;
         let items = ItemPorts::new(alloc, place.originator_use(), place.peer_udp)?;
-        let sockets = StationSockets::new(alloc, None, udp, None, streams, targets, items)?;
+        let groups = GroupSockets::none(alloc, place)?;
+        let sockets = StationSockets::new(alloc, None, udp, groups, None, streams, targets, items)?;
         StationPort::begin(alloc, rt, sockets, place.multicast)
     }
 
@@ -108,6 +114,7 @@ impl<R: System + Net + Drop> StationPort<R> {
             events,
             sockets,
             alarm: None,
+            busy: BusyTime::begin(0),
             multicast,
             failures: 0,
         })
@@ -158,12 +165,39 @@ impl<R: System + Drop> StationPort<R> {
     fn now_ms(&mut self) -> u64
         ensures { self.new.failures ≡ self.old.failures }
     {
+        self.now_ns() / NANOSECONDS
+    }
+
+    /// The nanoseconds that have passed at the port.
+    fn now_ns(&mut self) -> u64
+        ensures { self.new.failures ≡ self.old.failures }
+    {
         if let Ok(now) = Instant::now(&self.rt) {
             let ns = u64::try_from(now.duration_since(self.last).as_nanos()).unwrap_or(0);
             self.passed_ns = self.passed_ns.saturating_add(ns);
             self.last = now;
         }
-        self.passed_ns / NANOSECONDS
+        self.passed_ns
+    }
+
+    /// Rests, if the port was busy for too long without waiting.
+    fn rest(&mut self)
+        ensures { self.new.failures ≡ self.old.failures }
+    {
+        let from_ns = self.now_ns();
+        let rest_ns = self.busy.rest_ns(from_ns);
+        if rest_ns > 0 {
+            thread::sleep(&self.rt, Duration::from_nanos(rest_ns));
+            self.note_wait(from_ns);
+        }
+    }
+
+    /// A wait or a rest that began at this time has ended.
+    fn note_wait(&mut self, from_ns: u64)
+        ensures { self.new.failures ≡ self.old.failures }
+    {
+        let to_ns = self.now_ns();
+        self.busy.note_wait(from_ns, to_ns);
     }
 
     /// Waits until a socket is reported, at most so long, and marks what is reported. Whether the system has answered.
@@ -217,12 +251,23 @@ impl<R: System + Net + Drop> Port for StationPort<R> {
         self.failures
     }
 
+    fn next_datagram(&mut self) -> Result<Option<Arrival>, PortFault> {
+        let came = self.sockets.waiting_datagram();
+        if came.is_err() {
+            self.failures += 1;
+        }
+        came
+    }
+
     fn wait(&mut self, most: Duration) {
+        self.rest();
         if self.sockets.ready.any() {
             return;
         }
         let length = self.length_of(most);
+        let from_ns = self.passed_ns;
         self.wait_for(length);
+        self.note_wait(from_ns);
     }
 
     fn receive(&mut self) -> Result<Option<Arrival>, PortFault> {
@@ -253,8 +298,8 @@ impl<R: System + Net + Drop> KeptPort for StationPort<R> {
         self.sockets.streams.next_report()
     }
 
-    fn keep(&mut self, peers: &[Node]) {
-        self.sockets.streams.keep(peers);
+    fn keep(&mut self, peers: &[Node], owners: &[Node]) {
+        self.sockets.streams.keep(peers, owners);
     }
 
     fn renew(&mut self, target: Node) {
@@ -264,5 +309,17 @@ impl<R: System + Net + Drop> KeptPort for StationPort<R> {
 
     fn succeed(&mut self, target: Node) {
         self.sockets.succeed(target);
+    }
+}
+
+impl<R: System + Net + Drop> GroupPort for StationPort<R> {
+    fn receive_groups(&mut self, groups: &[DataGroup]) {
+        let now_ms = self.now_ms();
+        self.sockets
+            .receive_groups(&self.rt, self.poll.registry(), groups, now_ms);
+    }
+
+    fn next_unbound(&mut self) -> Option<DataGroup> {
+        self.sockets.groups.next_unbound()
     }
 }

@@ -10,7 +10,6 @@ use crate::sessions::{SessionAnswer, session_answer};
 use crate::stream_options::{abort, watch_peer};
 use crate::targets::Targets;
 use cip_events::Arrival;
-use cip_types::limits::MOST_CONNECTIONS;
 use cip_types::{Node, OutOfMemory};
 use mio::net::TcpStream;
 use port_streams::PortStreams;
@@ -20,6 +19,9 @@ use std::io::Read;
 use stream_rules::{Place, StreamKeeper};
 use udp_runner::{EndCause, PortReport, RefusalCause};
 
+/// So many peers can have connections: 64 of class 1, and 64 of class 3.
+const MOST_PEERS: usize = 128;
+
 /// The streams of a station, why those end that it ends, and what it reports of them.
 #[derive(Drop)]
 pub struct KeptStreams {
@@ -27,8 +29,9 @@ pub struct KeptStreams {
     keeper: StreamKeeper,
     causes: EndCauses,
     reports: Reports,
-    /// The peers that have connections.
+    /// The peers that have connections, of whatever class, and those that own outputs.
     connected: Vec<Node>,
+    owners: Vec<Node>,
 }
 
 /// What becomes of a new connection.
@@ -47,7 +50,8 @@ impl KeptStreams {
             keeper: StreamKeeper::new(alloc, inactivity_s)?,
             causes: EndCauses::new(alloc)?,
             reports: Reports::new(alloc)?,
-            connected: Vec::with_capacity(alloc, MOST_CONNECTIONS)?,
+            connected: Vec::with_capacity(alloc, MOST_PEERS)?,
+            owners: Vec::with_capacity(alloc, MOST_PEERS)?,
         })
     }
 
@@ -68,7 +72,9 @@ impl KeptStreams {
     /// Adds a stream that a peer opened over a prepared socket, if there is a place for it. It waits if a stream makes
     /// room for it, or one is being ended already, and is closed if there is no place.
     pub fn welcome(&mut self, peer: Node, socket: TcpStream, now_ms: u64) -> Welcome {
-        let place = self.keeper.place_for(peer, self.connected.as_slice());
+        let place = self
+            .keeper
+            .place_for(peer, self.connected.as_slice(), self.owners.as_slice());
         if place == Place::Free {
             let _ = self.add(peer, socket, now_ms);
             return Welcome::Done;
@@ -187,14 +193,10 @@ impl KeptStreams {
         self.forget(number);
     }
 
-    /// From now on these peers have connections, as far as there is room for them.
-    pub fn keep(&mut self, peers: &[Node]) {
-        self.connected.clear();
-        for peer in peers {
-            if self.connected.len() < MOST_CONNECTIONS {
-                let _ = self.connected.push(*peer);
-            }
-        }
+    /// From now on these peers have connections, and these own outputs, as far as there is room for them.
+    pub fn keep(&mut self, peers: &[Node], owners: &[Node]) {
+        put_all(&mut self.connected, peers);
+        put_all(&mut self.owners, owners);
     }
 
     /// Adds a report.
@@ -205,6 +207,16 @@ impl KeptStreams {
     /// Takes the oldest report.
     pub fn next_report(&mut self) -> Option<PortReport> {
         self.reports.next()
+    }
+}
+
+/// Puts these peers in place of those that were there, as far as there is room for them.
+fn put_all(list: &mut Vec<Node>, peers: &[Node]) {
+    list.clear();
+    for peer in peers {
+        if list.len() < MOST_PEERS {
+            let _ = list.push(*peer);
+        }
     }
 }
 

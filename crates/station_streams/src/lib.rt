@@ -3,7 +3,6 @@
 #![tactic(auto)]
 
 mod address;
-mod broadcasts;
 mod causes;
 mod dial;
 mod kept_streams;
@@ -11,13 +10,14 @@ mod nop;
 mod ready;
 mod reports;
 mod sessions;
+mod shared_sockets;
 mod stream_options;
 mod targets;
 
 pub use address::address_of;
-pub use broadcasts::broadcast_socket;
 pub use kept_streams::{KeptStreams, Welcome, wait_for_streams};
 pub use nop::NopTimer;
 pub use ready::{DATAGRAMS, FINDER, LISTENER, OPENINGS, Ready, STREAMS, WAKER};
 pub use sessions::{SessionAnswer, session_answer};
+pub use shared_sockets::shared_socket;
 pub use targets::{DialOutcome, Targets};

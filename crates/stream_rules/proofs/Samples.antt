@@ -27,32 +27,48 @@ abbrev everybody : List Node
 everybody = node 1 ∷ node 2 ∷ node 3 ∷ node 4 ∷ node 5 ∷ node 6 ∷ node 7 ∷ node 8 ∷ node 9 ∷ []
 
 -- a place is free
-pub free_place : place_of (node 5) [] (session 1 0 ∷ None ∷ []) ≡ Free
+pub free_place : place_of (node 5) [] [] (session 1 0 ∷ None ∷ []) ≡ Free
 free_place = refl
 
 -- the ninth stream of an address takes the place of its own that was silent longest, the lower number of two; others are
 -- silent longer, and it has a connection
-pub ninth_of_one : place_of (node 1) everybody (eight ++ others) ≡ Instead 2
+pub ninth_of_one : place_of (node 1) everybody [] (eight ++ others) ≡ Instead 2
 ninth_of_one = refl
 
 -- even if numbers are free
-pub ninth_beside_free : place_of (node 1) [] (eight ++ (None ∷ [])) ≡ Instead 2
+pub ninth_beside_free : place_of (node 1) [] [] (eight ++ (None ∷ [])) ≡ Instead 2
 ninth_beside_free = refl
 
 -- one of its own without a session comes first, though its message is the newest
-pub ninth_without_session : place_of (node 1) everybody (open_only 1 90 ∷ eight) ≡ Instead 0
+pub ninth_without_session : place_of (node 1) everybody [] (open_only 1 90 ∷ eight) ≡ Instead 0
 ninth_without_session = refl
 
 -- all are taken: one without a session makes room, though others are silent longer
-pub without_session : place_of (node 77) [] (session 1 0 ∷ open_only 2 30 ∷ open_only 3 20 ∷ session 4 1 ∷ []) ≡ Instead 2
+pub without_session : place_of (node 77) [] [] (session 1 0 ∷ open_only 2 30 ∷ open_only 3 20 ∷ session 4 1 ∷ []) ≡ Instead 2
 without_session = refl
 
 -- each has a session: one whose peer has no connection makes room, though others are silent longer
-pub without_connection : place_of (node 77) (node 6 ∷ node 5 ∷ node 7 ∷ []) others ≡ Instead 2
+pub without_connection : place_of (node 77) (node 6 ∷ node 5 ∷ node 7 ∷ []) [] others ≡ Instead 2
 without_connection = refl
 
--- each has a session, and each peer a connection: there is no place
-pub no_place : place_of (node 77) everybody (eight ++ others) ≡ Refused
+-- even for a further stream of an address; one whose peer owns an output does not
+pub owner_without_connection : place_of (node 9) (node 5 ∷ node 7 ∷ []) (node 6 ∷ []) others ≡ Instead 2
+owner_without_connection = refl
+
+-- each has a session, and each peer a connection: the first stream of an address takes the place of the one that is silent
+-- longest, and whose peer owns no output
+pub without_output : place_of (node 77) everybody (node 6 ∷ node 5 ∷ []) others ≡ Instead 5
+without_output = refl
+
+pub without_output_of_one : place_of (node 77) everybody (node 2 ∷ []) (eight ++ others) ≡ Instead 12
+without_output_of_one = refl
+
+-- a further one of an address has no place
+pub no_place_for_more : place_of (node 9) everybody (node 6 ∷ []) others ≡ Refused
+no_place_for_more = refl
+
+-- neither has the first one, if each peer owns an output
+pub no_place : place_of (node 77) everybody everybody others ≡ Refused
 no_place = refl
 
 -- a stream is silent once the time-out has passed, and not before

@@ -5,10 +5,12 @@
 -- 1. One address has at most 8 streams. Its ninth takes the place of the one of its own that has been silent longest
 --    among those without a session, or else among all of its own.
 -- 2. If all 16 are taken, a new one takes the place of the one that has been silent longest among those without a
---    session, or else among those whose peer has no connection. If there is none, the new one is refused.
+--    session, or else among those whose peer has no connection, of whatever class.
+-- 3. If there is none, and no other stream is of its address, it takes the place of the one that has been silent longest
+--    among those whose peer owns no output. If there is none, or its address has a stream, the new one is refused.
 --
 -- So a peer that cuts its power again and again takes only its own places, streams that only stay open keep nobody out,
--- and no stranger ends the stream of an owner.
+-- connections that strangers keep open keep no owner out, and no stranger ends the stream of an owner.
 use Rattle.std.specs.Prelude.{ℕ, ◌+◌, ◌-◌, ◌&&◌, min, nat_le, nat_eq, not, Bool, true, false, if◌then◌else◌, List, [], ◌∷◌, position, Option, Some, None}
 use Rattle.std.specs.List.{list_any}
 use Rattle.std.specs.Option.{is_none}
@@ -17,7 +19,7 @@ use Rattle.stream_rules.specs.declared.keeper.KeptStream.{KeptStream}
 use Rattle.stream_rules.specs.declared.keeper.Place.{Place}
 use Rattle.stream_rules.specs.declared.keeper.Place.TheVariants.{Free, Instead, Refused}
 use Rattle.stream_rules.specs.declared.choice.Candidates.{Candidates}
-use Rattle.stream_rules.specs.declared.choice.Candidates.TheVariants.{OwnWithoutSession, Own, WithoutSession, WithoutConnection}
+use Rattle.stream_rules.specs.declared.choice.Candidates.TheVariants.{OwnWithoutSession, Own, WithoutSession, WithoutConnection, WithoutOutput}
 
 -- a keeper: the time-out in milliseconds (0: none), and the stream of each number from 0 on
 pub record Keeper : Type 0 where
@@ -71,17 +73,18 @@ is_of peer stream = nat_eq stream.peer.0 peer.0
 abbrev pub is_among : List Node → KeptStream → Bool
 is_among nodes stream = list_any (λ node. nat_eq node.0 stream.peer.0) nodes
 
--- it is one of the group, for a new stream of this peer, while these nodes have connections
-abbrev pub is_in : Candidates → Node → List Node → KeptStream → Bool
-is_in OwnWithoutSession peer connected stream = is_of peer stream && not stream.registered
-is_in Own peer connected stream = is_of peer stream
-is_in WithoutSession peer connected stream = not stream.registered
-is_in WithoutConnection peer connected stream = not (is_among connected stream)
+-- it is one of the group, for a new stream of this peer, while the first nodes have connections, and the others own outputs
+abbrev pub is_in : Candidates → Node → List Node → List Node → KeptStream → Bool
+is_in OwnWithoutSession peer connected owners stream = is_of peer stream && not stream.registered
+is_in Own peer connected owners stream = is_of peer stream
+is_in WithoutSession peer connected owners stream = not stream.registered
+is_in WithoutConnection peer connected owners stream = not (is_among connected stream) && not (is_among owners stream)
+is_in WithoutOutput peer connected owners stream = not (is_among owners stream)
 
 -- when the last message of the stream came, if it is one of the group
-abbrev pub last_in : Candidates → Node → List Node → Option KeptStream → Option ℕ
-last_in group peer connected None = None
-last_in group peer connected (Some stream) = if is_in group peer connected stream then Some stream.last_ms else None
+abbrev pub last_in : Candidates → Node → List Node → List Node → Option KeptStream → Option ℕ
+last_in group peer connected owners None = None
+last_in group peer connected owners (Some stream) = if is_in group peer connected owners stream then Some stream.last_ms else None
 
 -- the earlier of two times
 abbrev pub earlier : Option ℕ → Option ℕ → Option ℕ
@@ -103,9 +106,9 @@ first_at last None streams = None
 first_at last (Some ms) streams = position (λ stream. is_at ms (last stream)) streams
 
 -- the first stream of the group whose last message came at the earliest time of the group
-abbrev pub longest_silent : Candidates → Node → List Node → List (Option KeptStream) → Option ℕ
-longest_silent group peer connected streams =
-    first_at (last_in group peer connected) (earliest (last_in group peer connected) None streams) streams
+abbrev pub longest_silent : Candidates → Node → List Node → List Node → List (Option KeptStream) → Option ℕ
+longest_silent group peer connected owners streams =
+    first_at (last_in group peer connected owners) (earliest (last_in group peer connected owners) None streams) streams
 
 -- how many streams are of this address
 abbrev pub one_of : Node → Option KeptStream → ℕ
@@ -126,12 +129,19 @@ instead_of None place = place
 instead_of (Some number) place = Instead number
 
 -- the place of one of the first group, or else of one of the second
-abbrev pub place_among : Candidates → Candidates → Node → List Node → List (Option KeptStream) → Place
-place_among first second peer connected streams =
-    instead_of (longest_silent first peer connected streams) (instead_of (longest_silent second peer connected streams) Refused)
+abbrev pub place_among : Candidates → Candidates → Node → List Node → List Node → List (Option KeptStream) → Place
+place_among first second peer connected owners streams =
+    instead_of (longest_silent first peer connected owners streams) (instead_of (longest_silent second peer connected owners streams) Refused)
 
--- the place for a new stream of this peer, while these nodes have connections
-abbrev pub place_of : Node → List Node → List (Option KeptStream) → Place
-place_of peer connected streams =
-    if nat_le most_of_one (count_of peer 0 streams) then place_among OwnWithoutSession Own peer connected streams
-    else (if list_any is_free streams then Free else place_among WithoutSession WithoutConnection peer connected streams)
+-- the place of a stream without a session, or else of one without a connection, or else of one of this group
+abbrev pub place_of_others : Candidates → Node → List Node → List Node → List (Option KeptStream) → Place
+place_of_others last peer connected owners streams =
+    instead_of (longest_silent WithoutSession peer connected owners streams) (place_among WithoutConnection last peer connected owners streams)
+
+-- the place for a new stream of this peer, while the first nodes have connections, and the others own outputs
+abbrev pub place_of : Node → List Node → List Node → List (Option KeptStream) → Place
+place_of peer connected owners streams =
+    if nat_le most_of_one (count_of peer 0 streams) then place_among OwnWithoutSession Own peer connected owners streams
+    else (if list_any is_free streams then Free
+    else (if nat_eq (count_of peer 0 streams) 0 then place_of_others WithoutOutput peer connected owners streams
+    else place_of_others WithoutConnection peer connected owners streams))

@@ -15,8 +15,10 @@ pub enum Candidates {
     Own,
     /// Those without a session.
     WithoutSession,
-    /// Those whose peer has no connection.
+    /// Those whose peer has no connection, and owns no output.
     WithoutConnection,
+    /// Those whose peer owns no output.
+    WithoutOutput,
 }
 
 /// Whether it is a stream of this address.
@@ -33,15 +35,24 @@ fn is_among(stream: &KeptStream, nodes: &[Node]) -> bool
     nodes.iter().any(|node| node.0 == stream.peer.0)
 }
 
-/// Whether it is one of the group, for a new stream of this peer, while these nodes have connections.
-fn is_in(stream: &KeptStream, group: Candidates, peer: Node, connected: &[Node]) -> bool
-    ensures { result ≡ is_in group peer connected.now stream.now }
+/// Whether it is one of the group, for a new stream of this peer, while these nodes have connections, and these own outputs.
+fn is_in(
+    stream: &KeptStream,
+    group: Candidates,
+    peer: Node,
+    connected: &[Node],
+    owners: &[Node],
+) -> bool
+    ensures { result ≡ is_in group peer connected.now owners.now stream.now }
 {
     match group {
         Candidates::OwnWithoutSession => is_of(stream, peer) && !stream.registered,
         Candidates::Own => is_of(stream, peer),
         Candidates::WithoutSession => !stream.registered,
-        Candidates::WithoutConnection => !is_among(stream, connected),
+        Candidates::WithoutConnection => {
+            !is_among(stream, connected) && !is_among(stream, owners)
+        }
+        Candidates::WithoutOutput => !is_among(stream, owners),
     }
 }
 
@@ -51,13 +62,14 @@ fn last_in(
     group: Candidates,
     peer: Node,
     connected: &[Node],
+    owners: &[Node],
 ) -> Option<u64>
-    ensures { result ≡ last_in group peer connected.now stream.now }
+    ensures { result ≡ last_in group peer connected.now owners.now stream.now }
 {
     let Some(stream) = stream else {
         return None;
     };
-    if is_in(stream, group, peer, connected) {
+    if is_in(stream, group, peer, connected, owners) {
         Some(stream.last_ms)
     } else {
         None
@@ -83,12 +95,13 @@ fn earliest(
     group: Candidates,
     peer: Node,
     connected: &[Node],
+    owners: &[Node],
 ) -> Option<u64>
-    ensures { result ≡ earliest (last_in group peer connected.now) None streams.now }
+    ensures { result ≡ earliest (last_in group peer connected.now owners.now) None streams.now }
 {
     let mut best = None;
     for stream in streams {
-        best = earlier(best, last_in(stream, group, peer, connected));
+        best = earlier(best, last_in(stream, group, peer, connected, owners));
     }
     best
 }
@@ -109,11 +122,12 @@ pub(crate) fn longest_silent(
     group: Candidates,
     peer: Node,
     connected: &[Node],
+    owners: &[Node],
 ) -> Option<usize>
-    ensures { result ≡ longest_silent group peer connected.now streams.now }
+    ensures { result ≡ longest_silent group peer connected.now owners.now streams.now }
 {
-    match earliest(streams, group, peer, connected) {
-        Some(ms) => first_at(streams, group, peer, connected, ms),
+    match earliest(streams, group, peer, connected, owners) {
+        Some(ms) => first_at(streams, group, peer, connected, owners, ms),
         None => None,
     }
 }
@@ -124,11 +138,12 @@ fn first_at(
     group: Candidates,
     peer: Node,
     connected: &[Node],
+    owners: &[Node],
     ms: u64,
 ) -> Option<usize>
-    ensures { result ≡ position (λ stream. is_at ms (last_in group peer connected.now stream)) streams.now }
+    ensures { result ≡ position (λ stream. is_at ms (last_in group peer connected.now owners.now stream)) streams.now }
 {
-    streams.iter().position(|stream| is_at(last_in(stream, group, peer, connected), ms))
+    streams.iter().position(|stream| is_at(last_in(stream, group, peer, connected, owners), ms))
 }
 
 /// How many streams are of this address.

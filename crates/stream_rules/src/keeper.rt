@@ -2,7 +2,7 @@
 
 ghost use Rattle.std.specs.Prelude.{◌≡◌, ◌*◌, replicate, slice_index_or, slice_set, position, Some, None, IfOk};
 ghost use Rattle.std.specs.List.{list_any};
-ghost use Rattle.stream_rules.specs.Keeping.{begun, received_at, is_free, is_silent, least_wait, place_of, place_among, registered, silent_of, wait_for, wait_of};
+ghost use Rattle.stream_rules.specs.Keeping.{begun, received_at, is_free, is_silent, least_wait, place_of, place_among, place_of_others, registered, silent_of, wait_for, wait_of};
 
 use crate::choice::{Candidates, count_of, longest_silent};
 use cip_types::limits::MOST_STREAMS;
@@ -156,27 +156,44 @@ impl StreamKeeper {
         least_wait(self.streams.as_slice(), self.limit_ms, now_ms, most_ms)
     }
 
-    /// The place for a new stream of this peer, while these nodes have connections. Takes no memory.
-    pub fn place_for(&self, peer: Node, connected: &[Node]) -> Place
-        ensures { result ≡ place_of peer connected.now self.now.streams }
+    /// The place for a new stream of this peer, while these nodes have connections, and these own outputs. Takes no memory.
+    pub fn place_for(&self, peer: Node, connected: &[Node], owners: &[Node]) -> Place
+        ensures { result ≡ place_of peer connected.now owners.now self.now.streams }
     {
-        if count_of(self.streams.as_slice(), peer) >= MOST_OF_ONE {
+        let count = count_of(self.streams.as_slice(), peer);
+        if count >= MOST_OF_ONE {
             return self.place_among(
                 Candidates::OwnWithoutSession,
                 Candidates::Own,
                 peer,
                 connected,
+                owners,
             );
         }
         if has_free(self.streams.as_slice()) {
             return Place::Free;
         }
-        self.place_among(
-            Candidates::WithoutSession,
-            Candidates::WithoutConnection,
-            peer,
-            connected,
-        )
+        if count == 0 {
+            return self.place_of_others(Candidates::WithoutOutput, peer, connected, owners);
+        }
+        self.place_of_others(Candidates::WithoutConnection, peer, connected, owners)
+    }
+
+    /// The place of a stream without a session, or else of one without a connection, or else of one of this group.
+    fn place_of_others(
+        &self,
+        last: Candidates,
+        peer: Node,
+        connected: &[Node],
+        owners: &[Node],
+    ) -> Place
+        ensures { result ≡ place_of_others last peer connected.now owners.now self.now.streams }
+    {
+        let streams = self.streams.as_slice();
+        match longest_silent(streams, Candidates::WithoutSession, peer, connected, owners) {
+            Some(index) => Place::Instead(index as u16),
+            None => self.place_among(Candidates::WithoutConnection, last, peer, connected, owners),
+        }
     }
 
     /// The place of one of the first group, or else of one of the second.
@@ -186,14 +203,15 @@ impl StreamKeeper {
         second: Candidates,
         peer: Node,
         connected: &[Node],
+        owners: &[Node],
     ) -> Place
-        ensures { result ≡ place_among first second peer connected.now self.now.streams }
+        ensures { result ≡ place_among first second peer connected.now owners.now self.now.streams }
     {
         let streams = self.streams.as_slice();
-        if let Some(index) = longest_silent(streams, first, peer, connected) {
+        if let Some(index) = longest_silent(streams, first, peer, connected, owners) {
             return Place::Instead(index as u16);
         }
-        match longest_silent(streams, second, peer, connected) {
+        match longest_silent(streams, second, peer, connected, owners) {
             Some(index) => Place::Instead(index as u16),
             None => Place::Refused,
         }

@@ -3,3 +3,4 @@ mod SentOutputs
 mod Handed
 mod Driven
 mod AtPorts
+mod TakenInTime

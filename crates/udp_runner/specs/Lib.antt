@@ -2,4 +2,5 @@ pub mod Tape
 pub mod Outputs
 pub mod Turns
 pub mod Handing
+pub mod InTime
 pub mod Driving

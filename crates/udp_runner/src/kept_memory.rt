@@ -10,7 +10,7 @@ impl KeptPort for MemoryPort {
         None
     }
 
-    fn keep(&mut self, _peers: &[Node]) {}
+    fn keep(&mut self, _peers: &[Node], _owners: &[Node]) {}
 
     fn renew(&mut self, _target: Node) {}
 

@@ -14,8 +14,9 @@ pub trait KeptPort: Port {
         ensures kept { Self.is_scripted ≡ true → Self.tape self.new ≡ Self.tape self.old }
         ensures worked { Self.failed self.new ≡ Self.failed self.old };
 
-    /// From now on these peers have connections, and no others: their streams make room last.
-    fn keep(&mut self, peers: &[Node])
+    /// From now on these peers have connections, and no others, and these own outputs: the streams of the first ones make room
+    /// last, and those of owners for no other peer.
+    fn keep(&mut self, peers: &[Node], owners: &[Node])
         ensures kept { Self.is_scripted ≡ true → Self.tape self.new ≡ Self.tape self.old }
         ensures worked { Self.failed self.new ≡ Self.failed self.old };
 

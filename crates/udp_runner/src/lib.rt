@@ -4,6 +4,7 @@
 #![tactic(auto)]
 
 mod fault;
+mod in_time;
 mod kept_memory;
 mod kept_port;
 mod memory;
@@ -15,6 +16,7 @@ mod report;
 mod runner;
 
 pub use fault::{PortFault, RunFault};
+pub use in_time::turn_in_time;
 pub use kept_port::KeptPort;
 pub use memory::{MemoryPort, SteppedClock};
 pub use observer::{Observer, Unobserved};

@@ -34,6 +34,18 @@ pub trait Port {
         ensures worked { OnOk result (failed self.new ≡ failed self.old) }
         ensures counted { OnErr result (failed self.new ≡ failed self.old + 1) };
 
+    /// The next datagram that waits at the port, before all else that does; None if there is none now. A scripted port, and
+    /// one that tells datagrams from nothing else, has none here. The faults: `Receive`, `Memory`.
+    fn next_datagram(&mut self) -> Result<Option<Arrival>, PortFault>
+        requires { failed self.old < 2 ^ 64 - 1 }
+        ensures none { IfOk result (λ arrival. is_scripted ≡ true → arrival ≡ None) }
+        ensures kept { is_scripted ≡ true → tape self.new ≡ tape self.old }
+        ensures worked { OnOk result (failed self.new ≡ failed self.old) }
+        ensures counted { OnErr result (failed self.new ≡ failed self.old + 1) }
+    {
+        Ok(None)
+    }
+
     /// Waits until something may have arrived, at most for this long. It may end at once: a scripted port, and one whose
     /// `receive` waits by itself, do not wait.
     fn wait(&mut self, _most: Duration)
@@ -75,6 +87,19 @@ pub trait Clock {
     fn passed(&mut self) -> u64
         ensures answer { is_scripted ≡ true → result ≡ first_or 0 (coming self.old) }
         ensures rest { is_scripted ≡ true → coming self.new ≡ rest_of (coming self.old) };
+
+    /// The whole milliseconds up to the one that has begun, of which no answer told. None at a clock that knows no better.
+    fn begun(&mut self) -> u64
+        ensures answer { is_scripted ≡ true → result ≡ 0 }
+        ensures rest { is_scripted ≡ true → coming self.new ≡ coming self.old }
+    {
+        0
+    }
+
+    /// The device was told of so many of these milliseconds: no later answer tells of them.
+    fn bring_up(&mut self, _ms: u64)
+        ensures { is_scripted ≡ true → coming self.new ≡ coming self.old }
+    {}
 
     /// The time until the next answer can be this many milliseconds. A clock that knows no better answers so many.
     fn time_to(&self, ms: Ms) -> Duration {

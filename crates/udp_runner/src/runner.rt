@@ -92,7 +92,7 @@ pub fn turn_waiting<P: Port, D: Device, C: Clock, O: Observer>(
 }
 
 /// The time that a turn waits at most: until something is due at the device, and no longer than this. Takes no memory.
-fn longest_wait<D: Device>(device: &D, most: Ms) -> Ms
+pub(crate) fn longest_wait<D: Device>(device: &D, most: Ms) -> Ms
     ensures { result.0 ≡ min (due_in (D.table device.now)) most.0 }
 {
     Ms(device.next_wake().0.min(most.0))
@@ -119,7 +119,7 @@ fn turn<P: Port, D: Device, C: Clock, O: Observer>(
 }
 
 /// Steps the device by the tick of a turn, if time passed.
-fn tick<P: Port, D: Device, O: Observer>(
+pub(crate) fn tick<P: Port, D: Device, O: Observer>(
     port: &mut P,
     device: &mut D,
     observer: &mut O,
@@ -160,7 +160,7 @@ fn receive<P: Port, D: Device, O: Observer>(
 }
 
 /// Steps the device by an arrival. A datagram takes no memory.
-fn act_on<P: Port, D: Device, O: Observer>(
+pub(crate) fn act_on<P: Port, D: Device, O: Observer>(
     port: &mut P,
     device: &mut D,
     observer: &mut O,

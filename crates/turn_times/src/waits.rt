@@ -2,13 +2,13 @@
 
 ghost use Rattle.std.specs.Prelude.{◌≡◌, ◌*◌, min};
 ghost use Rattle.std.specs.Duration.{as_nanos};
-ghost use Rattle.station_port.specs.Waits.{whole_ms};
+ghost use Rattle.turn_times.specs.Waits.{whole_ms};
 
 use std::time::Duration;
 
 /// The length of a wait of at most so long, if a stream is to be opened or ended, or an inquiry is due, after so many
 /// milliseconds.
-pub(crate) fn wait_length(most: Duration, due_ms: u64) -> Duration
+pub fn wait_length(most: Duration, due_ms: u64) -> Duration
     ensures { as_nanos result ≡ min (as_nanos most) (due_ms * 1000000) }
 {
     shorter(most, Duration::from_millis(due_ms))
@@ -26,7 +26,7 @@ fn shorter(one: Duration, other: Duration) -> Duration
 }
 
 /// The whole milliseconds of a duration: at most 2^64 - 1.
-pub(crate) fn whole_ms(length: Duration) -> u64
+pub fn whole_ms(length: Duration) -> u64
     ensures { result ≡ whole_ms (as_nanos length) }
 {
     length.as_millis().min(u128::from(u64::MAX)) as u64

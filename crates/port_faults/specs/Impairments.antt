@@ -1,7 +1,7 @@
 -- What becomes of a datagram: by a word that is drawn for its number. The words are those of SplitMix64 (Steele, Lea and Flood).
 use Rattle.std.specs.Prelude.{ℕ, ◌+◌, ◌*◌, ◌/◌, ◌%◌, ◌^◌, ◌==◌, ◌&&◌, nat_lt, Bool}
 use Rattle.rand_xoshiro.specs.SplitMix64.{mix_u64}
-use Rattle.port_faults.specs.declared.rates.DatagramFate.{DatagramFate}
+use Rattle.port_faults.specs.declared.rates.DatagramImpairment.{DatagramImpairment}
 use Rattle.port_faults.specs.declared.rates.FaultRates.{FaultRates}
 
 -- nothing becomes of any datagram
@@ -24,15 +24,15 @@ is_drawn word percent = nat_lt (word % 65536 % 100) percent
 abbrev pub delay_of : ℕ → ℕ → ℕ
 delay_of word most_ms = word % 65536 % (most_ms + 1)
 
--- the fate that a word draws: each 16 bits of it one part
-abbrev pub drawn_fate : FaultRates → ℕ → DatagramFate
-drawn_fate rates word = record {
+-- the impairment that a word draws: each 16 bits of it one part
+abbrev pub drawn_impairment : FaultRates → ℕ → DatagramImpairment
+drawn_impairment rates word = record {
   lost = is_drawn word rates.lose;
   repeated = is_drawn (word / 65536) rates.repeat;
   overtaken = is_drawn (word / 4294967296) rates.reorder;
   delay_ms = delay_of (word / 281474976710656) rates.delay_ms;
 }
 
--- the fate of the datagram of this number, from 0
-abbrev pub fate_of : FaultRates → ℕ → DatagramFate
-fate_of rates number = drawn_fate rates (word_at rates.seed number)
+-- the impairment of the datagram of this number, from 0
+abbrev pub impairment_of : FaultRates → ℕ → DatagramImpairment
+impairment_of rates number = drawn_impairment rates (word_at rates.seed number)

@@ -1,4 +1,4 @@
-//! Sockets of broadcast addresses, which the stations of a host share.
+//! Sockets of addresses of several hosts, broadcast addresses and those of groups, which the stations of a host share.
 
 use crate::stream_options::{ADDRESS_BYTES, INT_BYTES, int};
 use cip_types::Node;
@@ -10,9 +10,10 @@ use std::net::Net;
 /// The number of a family of addresses in C's `sockaddr_in`: those of IPv4.
 const IN_FAMILY: u16 = 2;
 
-/// A socket that receives what is sent to a broadcast address, and does not wait. Others of the host may share the address: the
-/// system hands a broadcast to each of them. None if the system does not bind it, as where another program does not share.
-pub fn broadcast_socket<R: Net>(_rt: &R, address: Node, port: u16) -> Option<UdpSocket> {
+/// A socket that receives what is sent to a broadcast address or to a group that the host has joined, and does not wait. Others of
+/// the host may share the address: the system hands each datagram to each of them. None if the system does not bind it, as where
+/// another program does not share.
+pub fn shared_socket<R: Net>(_rt: &R, address: Node, port: u16) -> Option<UdpSocket> {
     let kind = c::SOCK_DGRAM | c::SOCK_NONBLOCK | c::SOCK_CLOEXEC;
     let fd = unsafe { c::socket(c::AF_INET, kind, 0) };
     if fd < 0 {

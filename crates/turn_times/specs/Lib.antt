@@ -1,0 +1,4 @@
+pub mod Time
+pub mod Timeouts
+pub mod Rests
+pub mod Waits
