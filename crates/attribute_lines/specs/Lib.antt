@@ -3,5 +3,4 @@ pub mod Calls
 pub mod Lemmas
 pub mod Names
 pub mod Replies
-pub mod Statuses
 pub mod Values

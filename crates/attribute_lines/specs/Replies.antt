@@ -14,7 +14,7 @@ use Rattle.attribute_lines.specs.declared.requested.TargetAttribute.{TargetAttri
 use Rattle.attribute_lines.specs.declared.replies.ReplyMoment.{ReplyMoment}
 use Rattle.attribute_lines.specs.Requested.{requested_at, requested_without}
 use Rattle.attribute_lines.specs.Names.{Known, known_attribute}
-use Rattle.attribute_lines.specs.Statuses.{status_name}
+use Rattle.status_words.specs.Statuses.{status_name}
 use Rattle.attribute_lines.specs.Values.{raw_text, value_text}
 
 -- WHICH ATTRIBUTE

@@ -7,7 +7,6 @@ mod kind;
 mod names;
 mod replies;
 mod requested;
-mod statuses;
 mod texts;
 mod values;
 mod waiting;

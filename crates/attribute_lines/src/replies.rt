@@ -5,11 +5,11 @@ ghost use Rattle.attribute_lines.specs.Replies.{requested_text, attribute_text, 
 
 use crate::names::known_attribute;
 use crate::requested::{AttributeService, RequestedAttribute, TargetAttribute};
-use crate::statuses::status_name;
 use crate::texts::push_raw;
 use crate::values::push_value;
 use cip_events::Unanswered;
 use cip_types::OutOfMemory;
+use status_words::status_name;
 use trace_words::{push_bytes, push_digits, push_node, push_text};
 
 /// When a request ended: at the event of this number, at this time in milliseconds.

@@ -1,5 +1,8 @@
 //! Why a search finds nothing.
 
+ghost use Rattle.std.specs.Prelude.{◌≡◌};
+ghost use Rattle.identity_search.specs.Statuses.{search_status};
+
 use cip_types::OutOfMemory;
 use std::alloc::{AllocError, AllocFailed};
 use thiserror::Error;
@@ -19,6 +22,20 @@ pub enum SearchFault {
     /// An allocation was refused.
     #[error("no memory")]
     OutOfMemory,
+}
+
+impl SearchFault {
+    /// The status of the program.
+    pub fn status(self) -> u8
+        ensures { result ≡ search_status self }
+    {
+        match self {
+            SearchFault::NoAnswer => 1,
+            SearchFault::Output => 1,
+            SearchFault::Socket => 5,
+            SearchFault::OutOfMemory => 7,
+        }
+    }
 }
 
 impl From<OutOfMemory> for SearchFault {

@@ -1,1 +1,2 @@
+mod NeverLost
 mod Samples

@@ -1,2 +1,4 @@
 pub mod Queues
 pub mod Outlets
+pub mod Reported
+pub mod StateLaw

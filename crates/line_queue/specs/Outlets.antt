@@ -1,19 +1,22 @@
--- The lines of an output, of which those that do not fit are counted.
-use Rattle.std.specs.Prelude.{ℕ, ◌≡◌, ◌+◌, ◌==◌, ◌&&◌, if◌then◌else◌, Bool, true, false, List, [], ◌∷◌, ◌++◌, codes, decimal, Option, Some, None}
+-- The lines of an output: events, of which those that do not fit are counted, and state, which is offered until it is taken.
+use Rattle.std.specs.Prelude.{ℕ, ◌≡◌, ◌+◌, ◌==◌, ◌&&◌, nat_le, not, if◌then◌else◌, Bool, true, false, List, [], ◌∷◌, ◌++◌, codes, decimal, Option, Some, None}
 use Rattle.line_queue.specs.Queues.{Queue, empty_queue, has_room, is_empty, up_to_end, with_pushed, without_first}
 use Rattle.line_queue.specs.declared.outlet.NoticeForm.{NoticeForm}
 use Rattle.line_queue.specs.declared.outlet.NoticeForm.TheVariants.{Comment, Report}
 use Rattle.line_queue.specs.declared.outlet.Offer.{Offer}
 use Rattle.line_queue.specs.declared.outlet.Offer.TheVariants as offer
+use Rattle.line_queue.specs.declared.queue.PushFault.{PushFault}
+use Rattle.line_queue.specs.declared.queue.PushFault.TheVariants as push
 
--- the texts on their way, and the number of lines that were lost behind them
+-- the texts on their way, the number of lines that were lost behind them, and whether state was offered last and found no room
 pub record QueueOutlet : Type 0 where
   pub form : NoticeForm
   pub queue : Queue
   pub lost : ℕ
+  pub owed : Bool
 
 abbrev pub new_outlet : NoticeForm → ℕ → ℕ → QueueOutlet
-new_outlet form most_bytes most_pieces = record { form = form; queue = empty_queue most_bytes most_pieces; lost = 0 }
+new_outlet form most_bytes most_pieces = record { form = form; queue = empty_queue most_bytes most_pieces; lost = 0; owed = false }
 
 -- nothing is on its way, and no line is lost that was not told
 abbrev pub is_idle : QueueOutlet → Bool
@@ -55,12 +58,43 @@ with_text outlet text = record outlet { queue = with_pushed outlet.queue (offere
 abbrev pub with_lost : QueueOutlet → List ℕ → QueueOutlet
 with_lost outlet text = record outlet { lost = up_to_end (outlet.lost + lines_of text) }
 
--- What became of a text that was offered: it is taken only if it fits with its notice, and for want of room it is lost only
--- if it does not.
+-- what a fault of the queue means for lines that were offered
+abbrev pub offer_of : PushFault → Offer
+offer_of push.Full = offer.Full
+offer_of push.OutOfMemory = offer.OutOfMemory
+
+-- a text of events is taken: it fits, and no state waits for room
+abbrev pub takes_events : QueueOutlet → List ℕ → Bool
+takes_events outlet text = not outlet.owed && has_room outlet.queue text
+
+-- What became of a text of events that was offered: it is taken only if it fits with its notice and no state waits for room,
+-- and for want of room it is lost only if not.
 abbrev pub Dealt : QueueOutlet → List ℕ → Offer → QueueOutlet → Type 0
-Dealt old text offer.Taken new = (has_room old.queue (offered_text old text) ≡ true) × (new ≡ with_text old text)
-Dealt old text offer.Full new = (has_room old.queue (offered_text old text) ≡ false) × (new ≡ with_lost old text)
+Dealt old text offer.Taken new = (takes_events old (offered_text old text) ≡ true) × (new ≡ with_text old text)
+Dealt old text offer.Full new = (takes_events old (offered_text old text) ≡ false) × (new ≡ with_lost old text)
 Dealt old text offer.OutOfMemory new = new ≡ with_lost old text
+
+-- a text of state is taken: it fits, and so does one of 4,096 bytes
+abbrev pub takes_state : QueueOutlet → List ℕ → Bool
+takes_state outlet text = nat_le 4096 outlet.queue.free_bytes && has_room outlet.queue text
+
+-- it is taken whole, and none waits
+abbrev pub with_state : QueueOutlet → List ℕ → QueueOutlet
+with_state outlet text = record (with_text outlet text) { owed = false }
+
+-- it waits for room
+abbrev pub with_owed : QueueOutlet → QueueOutlet
+with_owed outlet = record outlet { owed = true }
+
+-- none waits for room any more
+abbrev pub without_owed : QueueOutlet → QueueOutlet
+without_owed outlet = record outlet { owed = false }
+
+-- What became of a text of state that was offered.
+abbrev pub DealtState : QueueOutlet → List ℕ → Offer → QueueOutlet → Type 0
+DealtState old text offer.Taken new = (takes_state old (offered_text old text) ≡ true) × (new ≡ with_state old text)
+DealtState old text offer.Full new = (takes_state old (offered_text old text) ≡ false) × (new ≡ with_owed old)
+DealtState old text offer.OutOfMemory new = new ≡ with_owed old
 
 -- TAKING
 

@@ -55,6 +55,13 @@ impl LineQueue {
         self.pieces.is_empty()
     }
 
+    /// How many bytes more it may take.
+    pub fn free_bytes(&self) -> usize
+        ensures { result ≡ self.now.free_bytes }
+    {
+        self.free_bytes
+    }
+
     /// Appends a whole piece, or nothing.
     ///
     /// The faults, in order: `Full` exactly if the piece does not fit, `OutOfMemory`.

@@ -2,8 +2,6 @@
 use Rattle.std.specs.Prelude.{ℕ, Bool, true, false, List, ◌++◌, codes, decimal, Option, Some, None}
 use Rattle.cip_productions.specs.declared.age.Age.{Age}
 use Rattle.cip_productions.specs.declared.age.Age.TheVariants.{SinceOpening, SinceAccepted}
-use Rattle.cip_productions.specs.declared.kind.Kind.{Kind}
-use Rattle.cip_productions.specs.declared.kind.Kind.TheVariants.{ExclusiveOwner, InputOnly, ListenOnly}
 use Rattle.adapter_table.specs.declared.report.ConnectionReport.{ConnectionReport}
 use Rattle.adapter_table.specs.declared.row.Mode.{Mode}
 use Rattle.adapter_table.specs.declared.row.Mode.TheVariants as mode
@@ -11,11 +9,7 @@ use Rattle.scanner_table.specs.declared.report.SlotReport.{SlotReport}
 use Rattle.scanner_table.specs.declared.report.SlotReport.TheVariants as slot
 use Rattle.scanner_table.specs.declared.report.TargetReport.{TargetReport}
 use Rattle.trace_words.specs.Words.{node_word}
-
-abbrev pub kind_word : Kind → List ℕ
-kind_word ExclusiveOwner = codes "exclusive"
-kind_word InputOnly = codes "input"
-kind_word ListenOnly = codes "listen"
+use Rattle.trace_lines.specs.Kinds.{kind_word}
 
 -- the mode of the newest data
 abbrev pub mode_word : Option Mode → List ℕ

@@ -2,9 +2,9 @@
 use Rattle.std.specs.Prelude.{ℕ, List, ◌++◌, codes, decimal}
 use Rattle.page_feed.specs.declared.facts.StationFacts.{StationFacts}
 
--- the number of the last event, and its time
+-- The number of the last event, and its time. Its page opens the object, with the wall's time.
 abbrev pub moment_text : StationFacts → List ℕ
-moment_text facts = codes "{\"number\":" ++ (decimal facts.number ++ (codes ",\"ms\":" ++ decimal facts.ms))
+moment_text facts = codes "\"number\":" ++ (decimal facts.number ++ (codes ",\"ms\":" ++ decimal facts.ms))
 
 -- what was counted of the datagrams
 abbrev pub counts_text : StationFacts → List ℕ

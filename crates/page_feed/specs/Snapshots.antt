@@ -94,9 +94,9 @@ in_use_text totals =
 abbrev pub totals_text : DeviceTotals → List ℕ
 totals_text totals =
     in_use_text totals
-    ++ (codes ",\"class_3\":" ++ (decimal totals.dialogues
+    ++ (codes ",\"class_3\":" ++ (decimal totals.class3_connections
     ++ (codes ",\"ids_left\":" ++ (decimal totals.ids_left ++ codes "}"))))
 
--- what a device of a configuration is at a moment, without the events and the end of the object
+-- what a device of a configuration is at a moment, without the events, the beginning and the end of the object
 abbrev pub device_text : Config → DeviceTable → StationFacts → List ℕ
 device_text given table facts = moment_text facts ++ (parts_text given table ++ (totals_text (totals_of table) ++ counts_text facts))

@@ -1,12 +1,13 @@
 //! Connections and slots in a snapshot.
 
 ghost use Rattle.std.specs.Prelude.{◌≡◌, ◌++◌, OnOk, string_bytes};
-ghost use Rattle.page_feed.specs.Connections.{age_ms, bool_word, connection_head, connection_rest, connection_text, established_text, has_data, kind_text, kind_word, mode_text, mode_word, owner_text, state_text, target_text};
+ghost use Rattle.page_feed.specs.Connections.{age_ms, bool_word, connection_head, connection_rest, connection_text, established_text, has_data, kind_text, mode_text, mode_word, owner_text, state_text, target_text};
 
 use adapter_table::{ConnectionReport, Mode};
-use cip_productions::{Age, Kind};
+use cip_productions::Age;
 use cip_types::OutOfMemory;
 use scanner_table::{SlotReport, TargetReport};
+use trace_lines::kind_name;
 use trace_words::{push_node, push_text};
 
 /// Appends the owner of an output; null if it has none.
@@ -49,7 +50,7 @@ fn push_connection_rest(out: &mut String, report: ConnectionReport) -> Result<()
 fn push_kind(out: &mut String, report: ConnectionReport) -> Result<(), OutOfMemory>
     ensures { OnOk result (string_bytes out.new ≡ string_bytes out.old ++ kind_text report) }
 {
-    let kind = kind_word(report.kind);
+    let kind = kind_name(report.kind);
     let (consumed, produced) = (report.consumed, report.produced);
     write!(
         out,
@@ -78,17 +79,6 @@ fn push_mode(out: &mut String, report: ConnectionReport) -> Result<(), OutOfMemo
         "{o_t},\"t_o_ms\":{t_o},\"mode\":\"{mode}\",\"age_ms\":{age},\"has_data\":{data}}}"
     )?;
     Ok(())
-}
-
-/// The word of a kind.
-fn kind_word(kind: Kind) -> &'static str
-    ensures { result.now ≡ kind_word kind }
-{
-    match kind {
-        Kind::ExclusiveOwner => "exclusive",
-        Kind::InputOnly => "input",
-        Kind::ListenOnly => "listen",
-    }
 }
 
 /// The word of a mode.

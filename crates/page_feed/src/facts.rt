@@ -22,12 +22,12 @@ pub struct StationFacts {
     pub lost: u64,
 }
 
-/// Appends the number of the last event, and its time.
+/// Appends the number of the last event, and its time. They are the first members of an object that another one opens.
 pub fn push_moment(out: &mut String, facts: StationFacts) -> Result<(), OutOfMemory>
     ensures { OnOk result (string_bytes out.new ≡ string_bytes out.old ++ moment_text facts) }
 {
     let (number, ms) = (facts.number, facts.ms);
-    write!(out, "{{\"number\":{number},\"ms\":{ms}")?;
+    write!(out, "\"number\":{number},\"ms\":{ms}")?;
     Ok(())
 }
 

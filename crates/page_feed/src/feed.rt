@@ -1,17 +1,16 @@
 //! What a station tells its page.
 
 use crate::facts::StationFacts;
-use crate::last_events::LastEvents;
+use crate::last_events::{LastEvents, changes_state};
+use crate::pauses::{owner_code, pause_between, rest_until};
 use crate::place::FeedEnd;
 use crate::snapshots::push_device;
 use cip_events::{Event, Outcome};
 use cip_tables::{Config, Device};
 use cip_types::OutOfMemory;
+use cip_types::limits::MOST_POINTS;
 use std::alloc::Global;
 use trace_words::push_text;
-
-/// A page gets a snapshot at most so often, in milliseconds.
-const PAUSE_MS: u64 = 200;
 
 /// Makes snapshots of a device for its page, and notes its events. It never waits, and what has no memory is left out.
 #[derive(Drop)]
@@ -20,7 +19,13 @@ pub struct PageFeed {
     end: FeedEnd,
     events: LastEvents,
     text: String,
-    next_ms: u64,
+    /// The moment of the last snapshot.
+    shown_number: u64,
+    shown_ms: u64,
+    /// Whether an owner, a mode or a state has changed since then.
+    has_changed: bool,
+    /// Who owns each output (`owner_code`).
+    owners: [u8; MOST_POINTS],
 }
 
 impl PageFeed {
@@ -31,24 +36,61 @@ impl PageFeed {
             end,
             events: LastEvents::none(alloc),
             text: String::new(alloc),
-            next_ms: 0,
+            shown_number: 0,
+            shown_ms: 0,
+            has_changed: true,
+            owners: [0; MOST_POINTS],
         }
     }
 
     /// Notes an event that a device has taken.
     pub fn note(&mut self, facts: StationFacts, event: &Event, outcome: &Outcome) {
+        self.has_changed |= changes_state(event, outcome);
         // (an event for which there is no memory is left out)
         let _ = self.events.note(&self.config, facts, event, outcome);
     }
 
-    /// Hands a snapshot of the device to the page, if a browser looks and the last one is 200 ms old.
+    /// Hands a snapshot of the device to the page, if a browser looks and one is due.
     pub fn show<D: Device>(&mut self, device: &D, facts: StationFacts) {
-        if facts.ms < self.next_ms || !self.end.is_watched() {
+        if !self.end.is_watched() {
+            return;
+        }
+        self.note_owners(device);
+        if self.passed_ms(facts) < self.pause_ms(facts) {
             return;
         }
         // (a snapshot for which there is no memory is left out)
         if self.write(device, facts).is_ok() && self.end.offer(&mut self.text) {
-            self.next_ms = facts.ms.saturating_add(PAUSE_MS);
+            self.shown_number = facts.number;
+            self.shown_ms = facts.ms;
+            self.has_changed = false;
+        }
+    }
+
+    /// The milliseconds from the last snapshot to the next.
+    fn pause_ms(&self, facts: StationFacts) -> u64 {
+        pause_between(self.has_changed, facts.number != self.shown_number)
+    }
+
+    /// The milliseconds since the last snapshot.
+    fn passed_ms(&self, facts: StationFacts) -> u64 {
+        facts.ms.saturating_sub(self.shown_ms)
+    }
+
+    /// Notes whether an owner's mode has changed.
+    fn note_owners<D: Device>(&mut self, device: &D) {
+        let Config::Adapter(profile) = &self.config else {
+            return;
+        };
+        for place in 0..MOST_POINTS {
+            let Some(output) = profile.outputs.as_slice().get(place) else {
+                return;
+            };
+            let now = owner_code(device.owner(output.instance));
+            if let Some(code) = self.owners.get_mut(place) {
+                self.has_changed |= now != *code;
+                *code = now;
+            }
         }
     }
 
@@ -58,5 +100,15 @@ impl PageFeed {
         push_device(&mut self.text, &self.config, device, facts)?;
         self.events.push(&mut self.text)?;
         push_text(&mut self.text, "}")
+    }
+}
+
+/// How long a turn may wait, in milliseconds, so that a browser that looks at the page gets the next snapshot in time.
+pub fn page_wait_ms(page: &Option<PageFeed>, facts: StationFacts, most_ms: u64) -> u64 {
+    match page {
+        Some(page) if page.end.is_watched() => {
+            most_ms.min(rest_until(page.pause_ms(facts), page.passed_ms(facts)))
+        }
+        _ => most_ms,
     }
 }

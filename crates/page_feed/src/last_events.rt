@@ -77,6 +77,15 @@ fn is_shown(event: &Event, outcome: &Outcome) -> bool {
     }
 }
 
+/// Whether an event changes who owns an output, the state of a connection or of a slot, or a scanner's mode. The mode of an owner is
+/// not among these: its data bring it.
+pub(crate) fn changes_state(event: &Event, outcome: &Outcome) -> bool {
+    match event {
+        Event::Mode { .. } => true,
+        _ => has_notice(outcome),
+    }
+}
+
 /// Whether a device notes something at an event.
 fn has_notice(outcome: &Outcome) -> bool {
     match outcome {

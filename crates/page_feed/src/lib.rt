@@ -6,10 +6,11 @@ mod connections;
 mod facts;
 mod feed;
 mod last_events;
+mod pauses;
 mod place;
 mod points;
 mod snapshots;
 
 pub use facts::StationFacts;
-pub use feed::PageFeed;
+pub use feed::{PageFeed, page_wait_ms};
 pub use place::{FeedEnd, PageEnd, page_place};

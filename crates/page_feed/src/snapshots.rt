@@ -16,7 +16,7 @@ use trace_words::push_text;
 /// An adapter has at most so many connections.
 const MOST_PLACES: u32 = 64;
 
-/// Appends what a device of a configuration is at a moment, without the end of the object.
+/// Appends what a device of a configuration is at a moment, without the beginning and the end of the object.
 pub fn push_device<D: Device>(
     out: &mut String,
     config: &Config,
@@ -228,12 +228,15 @@ fn push_device_totals(out: &mut String, totals: DeviceTotals) -> Result<(), OutO
     ensures { OnOk result (string_bytes out.new ≡ string_bytes out.old ++ totals_text totals) }
 {
     let (streams, sessions) = (totals.streams, totals.sessions);
-    let (connections, dialogues) = (totals.connections, totals.dialogues);
+    let (connections, class3_connections) = (totals.connections, totals.class3_connections);
     write!(
         out,
         ",\"totals\":{{\"streams\":{streams},\"sessions\":{sessions},\"connections\":{connections}"
     )?;
     let ids_left = totals.ids_left;
-    write!(out, ",\"class_3\":{dialogues},\"ids_left\":{ids_left}}}")?;
+    write!(
+        out,
+        ",\"class_3\":{class3_connections},\"ids_left\":{ids_left}}}"
+    )?;
     Ok(())
 }

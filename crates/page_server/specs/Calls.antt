@@ -1,5 +1,6 @@
 -- The calls that a page hands on.
-use Rattle.std.specs.Prelude.{ℕ, ◌+◌, ◌==◌, Bool, true, false, List, [], drop, position, Option, Some, None}
+use Rattle.std.specs.Prelude.{ℕ, ◌+◌, ◌==◌, ◌||◌, Bool, true, false, List, [], drop, position, Option, Some, None}
+use Rattle.std.specs.List.{list_any}
 use Rattle.cip_events.specs.declared.event.Event.{Event}
 use Rattle.cip_events.specs.declared.event.Event.TheVariants as event
 
@@ -15,6 +16,16 @@ writes other = false
 abbrev pub is_page_call : Option Event → Bool
 is_page_call (Some call) = writes call
 is_page_call None = false
+
+-- LINES
+
+-- LF or CR
+abbrev pub is_line_break : ℕ → Bool
+is_line_break byte = (byte == 10) || (byte == 13)
+
+-- a call is several lines of the input
+abbrev pub has_line_break : List ℕ → Bool
+has_line_break call = list_any is_line_break call
 
 -- A CALL AT A DEVICE OF A PLANT
 

@@ -2,7 +2,7 @@
 
 ghost use Rattle.std.specs.Prelude.{◌≡◌, ◌<◌, length, position, IfOk, IfSome};
 ghost use Rattle.station_lines.specs.Calls.{call_of};
-ghost use Rattle.page_server.specs.Calls.{behind_name, is_page_call, is_space, writes};
+ghost use Rattle.page_server.specs.Calls.{behind_name, has_line_break, is_line_break, is_page_call, is_space, writes};
 
 use cip_events::Event;
 use cip_types::OutOfMemory;
@@ -19,6 +19,20 @@ pub(crate) fn is_page_call(alloc: Global, line: &[u8]) -> Result<bool, OutOfMemo
         Err(TextFault::Bad) => Ok(false),
         Err(TextFault::OutOfMemory) => Err(OutOfMemory),
     }
+}
+
+/// Whether a call has a line break, and so would be several lines of the input.
+pub(crate) fn has_line_break(call: &[u8]) -> bool
+    ensures { result ≡ has_line_break call.now }
+{
+    call.iter().any(|byte| is_line_break(*byte))
+}
+
+/// Whether a byte is LF or CR.
+fn is_line_break(byte: u8) -> bool
+    ensures { result ≡ is_line_break byte }
+{
+    byte == b'\n' || byte == b'\r'
 }
 
 /// A call at a device without the name in front, which ends with the first space; nothing if there is no space.

@@ -1,7 +1,7 @@
-//! Answers on their way to a browser. Each write has a time, and so has the whole answer.
+//! Answers on their way to a browser. Each write has a time, and so has the whole answer; or, of a file, each piece.
 
 ghost use Rattle.std.specs.Prelude.{◌≡◌};
-ghost use Rattle.page_server.specs.Waits.{write_wait_ms};
+ghost use Rattle.page_server.specs.Waits.{piece_wait_ms, write_wait_ms};
 
 use crate::talk::Unheard;
 use std::io::{ErrorKind, Write};
@@ -17,6 +17,13 @@ const ANSWER_MS: u64 = 5_000;
 
 /// It may take a millisecond more for each so many bytes that the system has taken.
 const BYTES_PER_MS: u64 = 100;
+
+/// Each piece of a file has so many milliseconds.
+const PIECE_MS: u64 = 10_000;
+
+/// A thread of the page pauses so long behind each piece of its work, in milliseconds, so that a station that shares its
+/// processor has its time.
+pub(crate) const PAUSE_MS: u64 = 1;
 
 /// A whole answer that is being sent.
 #[derive(Drop)]
@@ -57,12 +64,7 @@ impl SentAnswer {
 
     /// How long the next write may wait. The fault: the answer's time is over.
     fn wait<R: Clock>(&self, rt: &R) -> Result<Duration, Unheard> {
-        let Ok(now) = Instant::now(rt) else {
-            return Err(Unheard::Left);
-        };
-        let passed = now.saturating_duration_since(self.begin).as_millis();
-        let passed = u64::try_from(passed).unwrap_or(u64::MAX);
-        match write_wait_ms(passed, self.sent) {
+        match write_wait_ms(passed_ms(rt, self.begin)?, self.sent) {
             0 => Err(Unheard::Left),
             ms => Ok(Duration::from_millis(ms)),
         }
@@ -76,6 +78,47 @@ pub(crate) fn write_wait_ms(passed_ms: u64, sent: u64) -> u64
 {
     let whole = ANSWER_MS + sent / BYTES_PER_MS;
     WRITE_MS.min(whole.saturating_sub(passed_ms))
+}
+
+/// Sends a piece of a file whole. The fault: the browser has left, or does not read the piece in time.
+pub(crate) fn send_piece<R: Clock>(
+    rt: &R,
+    stream: &mut TcpStream,
+    bytes: &[u8],
+) -> Result<(), Unheard> {
+    let Ok(begin) = Instant::now(rt) else {
+        return Err(Unheard::Left);
+    };
+    let mut rest = bytes;
+    for _ in 0..u64::MAX {
+        if rest.is_empty() {
+            return Ok(());
+        }
+        let ms = piece_wait_ms(passed_ms(rt, begin)?);
+        if ms == 0 {
+            break;
+        }
+        let count = write_within(stream, rest, Duration::from_millis(ms))?;
+        rest = rest.get(count..).unwrap_or(&[]);
+    }
+    Err(Unheard::Left)
+}
+
+/// How long a write of a piece may wait, in milliseconds, if so many have passed since the piece began: 0 if its time is over,
+/// which is 10,000.
+fn piece_wait_ms(passed_ms: u64) -> u64
+    ensures { result ≡ piece_wait_ms passed_ms }
+{
+    PIECE_MS.saturating_sub(passed_ms)
+}
+
+/// The whole milliseconds that have passed since a moment. The fault: the clock could not be read.
+fn passed_ms<R: Clock>(rt: &R, begin: Instant) -> Result<u64, Unheard> {
+    let Ok(now) = Instant::now(rt) else {
+        return Err(Unheard::Left);
+    };
+    let passed = now.saturating_duration_since(begin).as_millis();
+    Ok(u64::try_from(passed).unwrap_or(u64::MAX))
 }
 
 /// Writes what the system takes, and waits for it at most so long. Answers how many bytes it took.

@@ -1,6 +1,8 @@
 //! The page of a station, which threads of its own serve. A station waits for none of them.
 
+use crate::sent_answer::PAUSE_MS;
 use crate::talk::{refuse_at_once, talk};
+use cip_tables::Device;
 use cip_types::OutOfMemory;
 use page_feed::{FeedEnd, PageEnd, page_place};
 use serde_json::Value;
@@ -61,32 +63,34 @@ fn quoted(alloc: Global, name: &str) -> Result<String, OutOfMemory> {
 
 /// What the threads of a page share.
 #[derive(Drop)]
-pub(crate) struct Desk {
+pub(crate) struct PageContext {
     pub(crate) alloc: Global,
     pub(crate) names: OwnNames,
     pub(crate) allowed: Allowed,
     pub(crate) greeting: String,
     pub(crate) record: Option<String>,
     pub(crate) is_plant: bool,
+    /// Whether a file is being sent: at most one is.
+    pub(crate) is_sending: Mutex<bool>,
     pub(crate) texts: PageEnd,
     pub(crate) input: SharedInput,
 }
 
-/// A desk that several threads use.
-type SharedDesk = Arc<Desk, Global>;
+/// A context that several threads use.
+type SharedContext = Arc<PageContext, Global>;
 
 /// A browser that is to be served.
 #[derive(Drop)]
-struct Visit {
-    desk: SharedDesk,
+struct Browser {
+    context: SharedContext,
     stream: TcpStream,
 }
 
 /// The threads that wait for a browser, and the browsers for which one of them waits.
 #[derive(Drop)]
-struct Visits {
+struct Browsers {
     idle: usize,
-    visits: Vec<Visit>,
+    browsers: Vec<Browser>,
 }
 
 /// The places where a page's threads find its setting, and the browsers.
@@ -94,7 +98,7 @@ struct Visits {
 struct PageOpening {
     setting: Mutex<Option<PageSetting>>,
     more: Condvar,
-    visits: Mutex<Visits>,
+    browsers: Mutex<Browsers>,
     came: Condvar,
 }
 
@@ -112,9 +116,9 @@ impl SharedPage {
         let opening = PageOpening {
             setting: Mutex::new(None),
             more: Condvar::new(),
-            visits: Mutex::new(Visits {
+            browsers: Mutex::new(Browsers {
                 idle: 0,
-                visits: Vec::new(alloc),
+                browsers: Vec::new(alloc),
             }),
             came: Condvar::new(),
         };
@@ -155,75 +159,84 @@ impl SharedPage {
 
     /// Accepts browsers without end, once the page is open, for the threads that serve them. An extra browser is refused.
     pub fn accept<R: Wait + Clock>(&self, rt: &R, input: SharedInput) {
-        let Some((listener, desk)) = self.desk(rt, input) else {
+        let Some((listener, context)) = self.context(rt, input) else {
             return;
         };
         for _ in rt.forever() {
             match listener.accept() {
                 Ok((stream, _)) => {
-                    if let Some(stream) = self.hand(rt, &desk, stream) {
+                    if let Some(stream) = self.hand(rt, &context, stream) {
                         refuse_at_once(stream, PageRefusal::Busy);
                     }
                 }
                 // (as where too many files are open)
                 Err(_) => thread::sleep(rt, Duration::from_millis(10)),
             }
+            // (browsers that come in crowds get no more of the processor than this)
+            thread::sleep(rt, Duration::from_millis(PAUSE_MS));
         }
     }
 
-    /// Serves browsers without end, one at a time.
-    pub fn serve<R>(&self, rt: &R)
+    /// Serves browsers without end, one at a time. A device of kind D fills the sums of a record that is sent as a capture file.
+    pub fn serve<R, D>(&self, rt: &R)
     where
         R: Wait + Clock + AllocGlobal + Files<File = File>,
+        D: Device + Drop,
     {
         for _ in rt.forever() {
-            if let Some(visit) = self.next_visit(rt) {
-                talk(rt, &visit.desk, visit.stream);
+            if let Some(browser) = self.next_browser(rt) {
+                talk::<R, D>(rt, &browser.context, browser.stream);
             }
         }
     }
 
     /// Waits for the setting of the page: its listener, and what its threads share. None without memory.
-    fn desk<R: Wait>(&self, rt: &R, input: SharedInput) -> Option<(TcpListener, SharedDesk)> {
+    fn context<R: Wait>(&self, rt: &R, input: SharedInput) -> Option<(TcpListener, SharedContext)> {
         let setting = self.setting(rt)?;
-        let desk = Desk {
+        let context = PageContext {
             alloc: self.alloc,
             names: setting.names,
             allowed: setting.allowed,
             greeting: setting.greeting,
             record: setting.record,
             is_plant: setting.is_plant,
+            is_sending: Mutex::new(false),
             texts: self.texts.share().ok()?,
             input,
         };
-        let desk = Arc::new(self.alloc, desk).ok()?;
-        Some((setting.listener, desk))
+        let context = Arc::new(self.alloc, context).ok()?;
+        Some((setting.listener, context))
     }
 
     /// Hands a browser to a thread that waits for one. Gives it back if none does.
-    fn hand<R: Wait>(&self, rt: &R, desk: &SharedDesk, stream: TcpStream) -> Option<TcpStream> {
-        let mut visits = self.opening.visits.lock(rt);
-        if visits.visits.len() >= visits.idle || visits.visits.reserve(1).is_err() {
+    fn hand<R: Wait>(
+        &self,
+        rt: &R,
+        context: &SharedContext,
+        stream: TcpStream,
+    ) -> Option<TcpStream> {
+        let mut browsers = self.opening.browsers.lock(rt);
+        if browsers.browsers.len() >= browsers.idle || browsers.browsers.reserve(1).is_err() {
             return Some(stream);
         }
-        let Ok(desk) = Arc::try_clone(desk) else {
+        let Ok(context) = Arc::try_clone(context) else {
             return Some(stream);
         };
-        let _ = visits.visits.push(Visit { desk, stream });
+        let _ = browsers.browsers.push(Browser { context, stream });
         self.opening.came.notify_one();
         None
     }
 
     /// Waits for a browser.
-    fn next_visit<R: Wait>(&self, rt: &R) -> Option<Visit> {
-        let mut visits = self.opening.visits.lock(rt);
-        visits.idle = visits.idle.saturating_add(1);
-        let mut visits = self
+    fn next_browser<R: Wait>(&self, rt: &R) -> Option<Browser> {
+        let mut browsers = self.opening.browsers.lock(rt);
+        browsers.idle = browsers.idle.saturating_add(1);
+        let mut browsers = self
             .opening
             .came
-            .wait_while(rt, visits, |visits| visits.visits.is_empty());
-        visits.idle = visits.idle.saturating_sub(1);
-        visits.visits.pop()
+            .wait_while(rt, browsers, |browsers| browsers.browsers.is_empty());
+        browsers.idle = browsers.idle.saturating_sub(1);
+        browsers.browsers.pop()
     }
 
     /// Waits for the setting of the page.

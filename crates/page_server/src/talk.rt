@@ -1,14 +1,15 @@
 //! What is said to one browser. Each read and each write has a time, and so have the whole request and the whole answer, if it
-//! is no event stream.
+//! is no event stream and no file.
 
-use crate::calls::{behind_name, is_page_call};
-use crate::files::{send_capture, send_record};
-use crate::sent_answer::SentAnswer;
-use crate::server::Desk;
+use crate::calls::{behind_name, has_line_break, is_page_call};
+use crate::files::send_download;
+use crate::sent_answer::{PAUSE_MS, SentAnswer};
+use crate::server::PageContext;
+use cip_tables::Device;
 use cip_types::OutOfMemory;
+use page_text::{PAGE_FRONT, PAGE_REST};
 use station_page::{
-    Body, PAGE, PageAnswer, PageRefusal, PageRequest, RequestReading, answer_to, head_of,
-    read_request,
+    Body, PageAnswer, PageRefusal, PageRequest, RequestReading, answer_to, head_of, read_request,
 };
 use std::alloc::AllocError;
 use std::fs::File;
@@ -16,7 +17,8 @@ use std::io::{ErrorKind, Read, Write};
 use std::net::{Shutdown, TcpStream};
 use std::rt::{Clock, Files};
 use std::sync::Wait;
-use std::time::{Duration, Instant};
+use std::thread;
+use std::time::{Duration, Instant, SystemTime};
 
 /// A request has at most so many bytes, its body included.
 const MOST_BYTES: usize = 12_288;
@@ -58,15 +60,16 @@ impl From<AllocError> for Unheard {
 }
 
 /// Reads a request of a browser, and answers it.
-pub(crate) fn talk<R>(rt: &R, desk: &Desk, stream: TcpStream)
+pub(crate) fn talk<R, D>(rt: &R, context: &PageContext, stream: TcpStream)
 where
     R: Wait + Clock + AllocGlobal + Files<File = File>,
+    D: Device + Drop,
 {
     let mut stream = stream;
     let _ = stream.set_nodelay(true);
-    let mut bytes = Vec::new(desk.alloc);
-    let answered = match read_whole(rt, desk, &mut stream, &mut bytes) {
-        Ok((request, head)) => answer(rt, desk, &mut stream, &bytes, request, head),
+    let mut bytes = Vec::new(context.alloc);
+    let answered = match read_whole(rt, context, &mut stream, &mut bytes) {
+        Ok((request, head)) => answer::<R, D>(rt, context, &mut stream, &bytes, request, head),
         Err(unheard) => Err(unheard),
     };
     if let Err(Unheard::Refused(refusal)) = answered {
@@ -78,7 +81,7 @@ where
 /// Reads until a head is whole, and behind it the body that it announces.
 fn read_whole<R: Clock>(
     rt: &R,
-    desk: &Desk,
+    context: &PageContext,
     stream: &mut TcpStream,
     bytes: &mut Vec<u8>,
 ) -> Result<(PageRequest, usize), Unheard> {
@@ -86,7 +89,7 @@ fn read_whole<R: Clock>(
         return Err(Unheard::Left);
     };
     for _ in 0..u64::MAX {
-        match read_request(bytes.as_slice(), &desk.names) {
+        match read_request(bytes.as_slice(), &context.names) {
             RequestReading::Whole(request, head) if is_whole(request, head, bytes.len()) => {
                 return Ok((request, head));
             }
@@ -95,6 +98,10 @@ fn read_whole<R: Clock>(
         }
         if bytes.len() >= MOST_BYTES {
             return Err(Unheard::Refused(PageRefusal::TooLarge));
+        }
+        if !bytes.is_empty() {
+            // (a request that comes byte by byte is not read as often)
+            thread::sleep(rt, Duration::from_millis(PAUSE_MS));
         }
         read_more(rt, begin, stream, bytes)?;
     }
@@ -140,9 +147,9 @@ fn read_more<R: Clock>(
 }
 
 /// Answers a request.
-fn answer<R>(
+fn answer<R, D>(
     rt: &R,
-    desk: &Desk,
+    context: &PageContext,
     stream: &mut TcpStream,
     bytes: &[u8],
     request: PageRequest,
@@ -150,27 +157,31 @@ fn answer<R>(
 ) -> Result<(), Unheard>
 where
     R: Wait + Clock + AllocGlobal + Files<File = File>,
+    D: Device + Drop,
 {
-    let answer = answer_to(request, desk.allowed);
+    let answer = answer_to(request, context.allowed);
     match answer {
         PageAnswer::Page => {
             let mut sent = SentAnswer::begin(rt)?;
             sent.send(rt, stream, head_of(answer).as_bytes())?;
-            sent.send(rt, stream, PAGE.as_bytes())
+            sent.send(rt, stream, PAGE_FRONT.as_bytes())?;
+            sent.send(rt, stream, context.names.word())?;
+            sent.send(rt, stream, PAGE_REST.as_bytes())
         }
         PageAnswer::Events => {
-            desk.texts.watch();
-            let sent = send_events(rt, desk, stream);
-            desk.texts.leave();
+            context.texts.watch();
+            let sent = send_events(rt, context, stream);
+            context.texts.leave();
             sent
         }
         PageAnswer::Call(count) => {
             let body = bytes.get(head..).unwrap_or(&[]);
-            hand_on(rt, desk, body.get(..count).unwrap_or(&[]))?;
+            hand_on(rt, context, body.get(..count).unwrap_or(&[]))?;
             send(rt, stream, head_of(answer))
         }
-        PageAnswer::Record => send_record(rt, desk, stream),
-        PageAnswer::Capture => send_capture(rt, desk, stream),
+        PageAnswer::Record | PageAnswer::Capture => send_download::<R, D>(
+            rt, context, stream, answer,
+        ),
         PageAnswer::Refused(refusal) => Err(Unheard::Refused(refusal)),
     }
 }
@@ -191,50 +202,64 @@ fn send_part(stream: &mut TcpStream, bytes: &[u8]) -> Result<(), Unheard> {
 /// Sends each new snapshot, as long as the browser reads.
 fn send_events<R: Wait + Clock>(
     rt: &R,
-    desk: &Desk,
+    context: &PageContext,
     stream: &mut TcpStream,
 ) -> Result<(), Unheard> {
     let _ = stream.set_write_timeout(Some(Duration::from_millis(EVENT_WRITE_MS)));
     send_part(stream, head_of(PageAnswer::Events).as_bytes())?;
     send_part(stream, b"event: station\ndata: ")?;
-    send_part(stream, desk.greeting.as_bytes())?;
+    send_part(stream, context.greeting.as_bytes())?;
     send_part(stream, b"\n\n")?;
-    let mut seen = desk.texts.numbers(rt)?;
+    let mut seen = context.texts.numbers(rt)?;
     // (a station that waits for its peers makes a turn, and with it a snapshot)
-    desk.input.wake(rt);
-    let mut text = Vec::new(desk.alloc);
+    context.input.wake(rt);
+    let mut text = Vec::new(context.alloc);
     let mut from = 0;
     for _ in rt.forever() {
         text.clear();
-        match desk.texts.wait_for(rt, seen.as_slice(), from, BEAT_MS) {
+        match context.texts.wait_for(rt, seen.as_slice(), from, BEAT_MS) {
             None => text.extend_from_slice(b":\n\n")?,
             Some(device) => {
-                let number = push_event(rt, desk, device, &mut text)?;
+                let number = push_event(rt, context, device, &mut text)?;
                 note_seen(&mut seen, device, number);
                 from = device.saturating_add(1);
             }
         }
         send_part(stream, text.as_slice())?;
+        thread::sleep(rt, Duration::from_millis(PAUSE_MS));
     }
     Ok(())
 }
 
-/// Writes the newest snapshot of a device as an event, whose id is the number of the device in its plant. Answers the
-/// number of the snapshot.
+/// Writes the newest snapshot of a device as an event, whose id is the number of the device in its plant. The time of the wall
+/// goes before what the station says of its device. Answers the number of the snapshot.
 fn push_event<R: Wait + Clock>(
     rt: &R,
-    desk: &Desk,
+    context: &PageContext,
     device: usize,
     text: &mut Vec<u8>,
 ) -> Result<u64, Unheard> {
-    if desk.is_plant {
-        let id = format!(in desk.alloc; "id: {device}\n")?;
+    if context.is_plant {
+        let id = format!(in context.alloc; "id: {device}\n")?;
         text.extend_from_slice(id.as_bytes())?;
     }
-    text.extend_from_slice(b"data: ")?;
-    let number = desk.texts.take(rt, device, text)?;
+    text.extend_from_slice(b"data: {")?;
+    if let Some(ms) = wall_ms(rt) {
+        let wall = format!(in context.alloc; "\"wall_ms\":{ms},")?;
+        text.extend_from_slice(wall.as_bytes())?;
+    }
+    let number = context.texts.take(rt, device, text)?;
     text.extend_from_slice(b"\n\n")?;
     Ok(number)
+}
+
+/// The time of the wall, in milliseconds since 1970; none if the system has none.
+fn wall_ms<R: Clock>(rt: &R) -> Option<u64> {
+    let passed = SystemTime::now(rt)
+        .ok()?
+        .duration_since(SystemTime::UNIX_EPOCH)
+        .ok()?;
+    u64::try_from(passed.as_millis()).ok()
 }
 
 /// Notes which snapshot of a device was seen.
@@ -245,18 +270,18 @@ fn note_seen(seen: &mut Vec<u64>, device: usize, number: u64) {
 }
 
 /// Hands a call on to the station, as if it was typed.
-fn hand_on<R: Wait>(rt: &R, desk: &Desk, call: &[u8]) -> Result<(), Unheard> {
-    let own = if desk.is_plant {
+fn hand_on<R: Wait>(rt: &R, context: &PageContext, call: &[u8]) -> Result<(), Unheard> {
+    let own = if context.is_plant {
         behind_name(call)
     } else {
         call
     };
-    if !is_page_call(desk.alloc, own)? {
+    if has_line_break(call) || !is_page_call(context.alloc, own)? {
         return Err(Unheard::Refused(PageRefusal::Bad));
     }
-    let mut line = Vec::from_slice(desk.alloc, call)?;
+    let mut line = Vec::from_slice(context.alloc, call)?;
     line.extend_from_slice(b"\n")?;
-    if desk.input.offer(rt, line.as_slice()) {
+    if context.input.offer(rt, line.as_slice()) {
         Ok(())
     } else {
         Err(Unheard::Refused(PageRefusal::Busy))

@@ -1,5 +1,5 @@
 pub mod Endings
 pub mod Lives
 pub mod Paths
-pub mod Seats
+pub mod Setups
 pub mod Statuses

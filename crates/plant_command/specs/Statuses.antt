@@ -1,7 +1,7 @@
 -- Why a plant fails, and the status of the program then.
 use Rattle.std.specs.Prelude.{ℕ, Bool, true, false}
-use Rattle.std.specs.declared.io.ErrorKind.{ErrorKind}
-use Rattle.std.specs.declared.io.ErrorKind.TheVariants as kind
+use Rattle.regular_files.specs.declared.fault.FileFault.{FileFault}
+use Rattle.regular_files.specs.declared.fault.FileFault.TheVariants as file
 use Rattle.plant_rim.specs.declared.failure.DeviceFailure.{DeviceFailure}
 use Rattle.plant_rim.specs.declared.failure.DeviceFailure.TheVariants as device
 use Rattle.station_port.specs.declared.fault.SocketCause.TheVariants.{NoAddress}
@@ -19,7 +19,7 @@ device_status device.Profile = 3
 device_status device.OutOfMemory = 7
 
 abbrev pub status_of : PlantFailure → ℕ
-status_of failure.Unread = 3
+status_of (failure.Unread why) = 3
 status_of failure.Bad = 3
 status_of failure.Folder = 6
 status_of (failure.Device why) = device_status why
@@ -32,7 +32,7 @@ is_reported failure.Bad = true
 is_reported (failure.Device why) = true
 is_reported other = false
 
--- why the file of a plant is not read to its end
-abbrev pub unread_plant : ErrorKind → PlantFailure
-unread_plant kind.OutOfMemory = failure.OutOfMemory
-unread_plant _ = failure.Unread
+-- why the file of a plant is not read
+abbrev pub unread_plant : FileFault → PlantFailure
+unread_plant file.OutOfMemory = failure.OutOfMemory
+unread_plant other = failure.Unread other

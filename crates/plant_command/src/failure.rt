@@ -5,6 +5,7 @@ ghost use Rattle.plant_command.specs.Statuses.{device_status, is_reported, statu
 
 use cip_types::OutOfMemory;
 use plant_rim::DeviceFailure;
+use regular_files::FileFault;
 use station_port::SocketCause;
 use std::alloc::{AllocError, AllocFailed};
 use thiserror::Error;
@@ -12,9 +13,9 @@ use thiserror::Error;
 /// Why a plant fails.
 #[derive(Clone, Copy, Debug, PartialEq, Eq, Error)]
 pub enum PlantFailure {
-    /// The file of the plant cannot be read.
-    #[error("cannot be read")]
-    Unread,
+    /// The file of the plant is not read, for this reason.
+    #[error("{0}")]
+    Unread(FileFault),
     /// The file of the plant or a profile is bad, of which a line has told.
     #[error("is bad")]
     Bad,
@@ -38,7 +39,7 @@ impl PlantFailure {
         ensures { result ≡ status_of self }
     {
         match self {
-            PlantFailure::Unread => 3,
+            PlantFailure::Unread(_) => 3,
             PlantFailure::Bad => 3,
             PlantFailure::Folder => 6,
             PlantFailure::Device(failure) => device_status(failure),

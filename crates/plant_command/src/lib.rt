@@ -7,7 +7,7 @@ mod lives;
 mod opening;
 mod paths;
 mod running;
-mod seats;
+mod setups;
 
 pub use failure::PlantFailure;
 pub use lives::work;

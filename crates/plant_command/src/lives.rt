@@ -7,18 +7,19 @@ use crate::paths::record_path;
 use cip_tables::{Config, Device};
 use cip_types::{Node, OutOfMemory};
 use command_lines::Options;
+use fast_device::FastDevice;
 use page_feed::PageFeed;
 use plant_rim::{
-    DeviceFailure, DeviceLines, DeviceSeat, LifeEnd, NameForm, NamedLines, PlantJob, SharedPlant,
+    DeviceFailure, DeviceLines, DeviceSetup, LifeEnd, NameForm, NamedLines, PlantJob, SharedPlant,
     incarnation_behind,
 };
 use plant_script::ScriptRun;
 use port_faults::FaultyPort;
 use port_orders::OrderPort;
 use socket_port::SystemClock;
-use station::{Station, StationObserver, Voice};
+use station::{Reporting, Station, StationObserver};
 use station_lines::LineSink;
-use station_opening::{FastDevice, OpenedPort, open_port, recorder_in, with_incarnation};
+use station_opening::{OpenedPort, open_port, recorder_in, with_incarnation};
 use station_port::{StationFault, StationPort};
 use station_record::Recorder;
 use station_rim::{Entries, LineEntrance, SharedRecord};
@@ -49,7 +50,7 @@ where
 {
     for _ in rt.forever() {
         match plant.next_job(&rt) {
-            Some(PlantJob::Serve(seat)) => serve(rt, plant, &seat),
+            Some(PlantJob::Serve(setup)) => serve(rt, plant, &setup),
             Some(PlantJob::Write(record)) => {
                 record.write_files(&rt);
                 plant.leave_record(&rt, record.has_failed(&rt));
@@ -60,28 +61,28 @@ where
 }
 
 /// A device lives, one life after another. Reports why it fails, if it does.
-fn serve<R>(rt: R, plant: &SharedPlant, seat: &DeviceSeat)
+fn serve<R>(rt: R, plant: &SharedPlant, setup: &DeviceSetup)
 where
     R: AllocGlobal + Files<File = File> + Net + Clock + Wait + Copy + Drop,
 {
     let mut lives = 0;
-    let ended = live_all(rt, plant, seat, &mut lives);
+    let ended = live_all(rt, plant, setup, &mut lives);
     let failure = match ended {
         Ok(()) => None,
         Err(failure) => {
-            report(rt, plant, seat, failure);
+            report(rt, plant, setup, failure);
             Some(failure)
         }
     };
-    plant.leave(&rt, seat.scanner, failure, failure.is_some() && lives == 0);
+    plant.leave(&rt, setup.scanner, failure, failure.is_some() && lives == 0);
 }
 
 /// Reports why a device fails.
-fn report<R>(rt: R, plant: &SharedPlant, seat: &DeviceSeat, failure: DeviceFailure)
+fn report<R>(rt: R, plant: &SharedPlant, setup: &DeviceSetup, failure: DeviceFailure)
 where
     R: AllocGlobal + Wait + Copy + Drop,
 {
-    let name = seat.name.as_str();
+    let name = setup.name.as_str();
     let Ok(mut err) = plant.err.sink(rt) else {
         return;
     };
@@ -95,23 +96,23 @@ where
 fn live_all<R>(
     rt: R,
     plant: &SharedPlant,
-    seat: &DeviceSeat,
+    setup: &DeviceSetup,
     lives: &mut u32,
 ) -> Result<(), DeviceFailure>
 where
     R: AllocGlobal + Files<File = File> + Net + Clock + Wait + Copy + Drop,
 {
     let origin = now(&rt)?;
-    forget_lives(&rt, seat)?;
+    forget_lives(&rt, setup)?;
     let mut run = ScriptRun::new();
-    let mut incarnation = seat.span.first;
+    let mut incarnation = setup.span.first;
     for life in 1..MOST_LIVES {
-        let config = config_of(rt.alloc(), seat, incarnation)?;
-        let opened = opened(rt, seat, &config, life)?;
+        let config = config_of(rt.alloc(), setup, incarnation)?;
+        let opened = opened(rt, setup, &config, life)?;
         let begun_ms = passed_ms(&rt, origin);
         let life = Life {
             plant,
-            seat,
+            setup,
             config: &config,
             number: life,
             begun_ms,
@@ -119,7 +120,7 @@ where
         match life.live(rt, opened, &mut run, lives)? {
             LifeEnd::Over => return Ok(()),
             LifeEnd::Restart { same } => {
-                incarnation = incarnation_behind(seat.span, incarnation, same);
+                incarnation = incarnation_behind(setup.span, incarnation, same);
             }
         }
     }
@@ -143,15 +144,15 @@ fn passed_ms<R: Clock>(rt: &R, origin: Instant) -> u64 {
 }
 
 /// Removes the records of an earlier run's lives behind the first one, so that none of them is taken for one of this run.
-fn forget_lives<R>(rt: &R, seat: &DeviceSeat) -> Result<(), OutOfMemory>
+fn forget_lives<R>(rt: &R, setup: &DeviceSetup) -> Result<(), OutOfMemory>
 where
     R: AllocGlobal + Files<File = File>,
 {
-    let Some(folder) = &seat.folder else {
+    let Some(folder) = &setup.folder else {
         return Ok(());
     };
     for life in 2..MOST_LIVES {
-        let path = record_path(rt.alloc(), folder.as_str(), seat.name.as_str(), life)?;
+        let path = record_path(rt.alloc(), folder.as_str(), setup.name.as_str(), life)?;
         if fs::remove_file(rt, path.as_str()).is_err() {
             break;
         }
@@ -160,12 +161,12 @@ where
 }
 
 /// The configuration of a life with this incarnation. OutOfMemory is the only fault.
-fn config_of(alloc: Global, seat: &DeviceSeat, incarnation: u8) -> Result<Config, OutOfMemory>
+fn config_of(alloc: Global, setup: &DeviceSetup, incarnation: u8) -> Result<Config, OutOfMemory>
     ensures { IfOk result (λ config.
-        config ≡ life_config seat.now.config seat.now.options (string_bytes seat.now.name) incarnation) }
+        config ≡ life_config setup.now.config setup.now.options (string_bytes setup.now.name) incarnation) }
 {
-    let config = with_incarnation(seat.config.copy(alloc)?, incarnation);
-    described(alloc, config, &seat.options, seat.name.as_bytes())
+    let config = with_incarnation(setup.config.copy(alloc)?, incarnation);
+    described(alloc, config, &setup.options, setup.name.as_bytes())
 }
 
 /// A configuration, in which an adapter has a description, so that inquiries find it: without one of its own, it has this name,
@@ -191,7 +192,7 @@ fn described(
 /// The port of a life. That of a later life is tried again for a while: the system may not have given up the earlier one.
 fn opened<R>(
     rt: R,
-    seat: &DeviceSeat,
+    setup: &DeviceSetup,
     config: &Config,
     life: u32,
 ) -> Result<OpenedPort<R>, StationFault>
@@ -200,20 +201,20 @@ where
 {
     if life > 1 {
         for _ in 0..MOST_TRIES {
-            if let Ok(opened) = open_port(rt, &seat.options, config) {
+            if let Ok(opened) = open_port(rt, &setup.options, config) {
                 return Ok(opened);
             }
             thread::sleep(&rt, Duration::from_millis(RETRY_MS));
         }
     }
-    open_port(rt, &seat.options, config)
+    open_port(rt, &setup.options, config)
 }
 
 /// A life of a device.
 #[derive(Clone, Copy)]
 struct Life<'a> {
     plant: &'a SharedPlant,
-    seat: &'a DeviceSeat,
+    setup: &'a DeviceSetup,
     config: &'a Config,
     number: u32,
     /// When it began, in milliseconds since its plant began.
@@ -235,6 +236,7 @@ impl Life<'_> {
         let record = SharedRecord::new(rt.alloc())?;
         let ended = self.live_recorded(rt, opened, run, &record, lives);
         record.end(&rt);
+        self.plant.out.release(&rt);
         ended
     }
 
@@ -248,13 +250,14 @@ impl Life<'_> {
         R: AllocGlobal + Files<File = File> + Clock + Wait + Copy + Drop,
     {
         let alloc = rt.alloc();
-        let Some(folder) = &self.seat.folder else {
+        let Some(folder) = &self.setup.folder else {
             return Ok(Recorder::idle(alloc));
         };
-        let name = self.seat.name.as_str();
+        let name = self.setup.name.as_str();
         let path = record_path(alloc, folder.as_str(), name, self.number)?;
         self.plant.write(&rt, record.share()?)?;
-        Ok(recorder_in(rt, record, self.config, path)?)
+        let most = self.setup.options.record_bytes;
+        Ok(recorder_in(rt, record, self.config, path, most)?)
     }
 
     /// What a device of the life says on an output.
@@ -267,7 +270,7 @@ impl Life<'_> {
     where
         R: AllocGlobal + Wait + Copy + Drop,
     {
-        NamedLines::new(rt.alloc(), form, self.seat.name.as_str(), sink)
+        NamedLines::new(rt.alloc(), form, self.setup.name.as_str(), sink)
     }
 
     /// Says which device begins to live, and where.
@@ -275,12 +278,12 @@ impl Life<'_> {
     where
         R: AllocGlobal + Clock + Wait + Copy + Drop,
     {
-        if self.seat.options.quiet {
+        if self.setup.options.quiet {
             return Ok(());
         }
-        let (name, place) = (self.seat.name.as_str(), &opened.place);
+        let (name, place) = (self.setup.name.as_str(), &opened.place);
         let mut line = format!(in rt.alloc(); "eip_station: {name}: ")?;
-        line.push_str(if self.seat.scanner {
+        line.push_str(if self.setup.scanner {
             "scanner at "
         } else {
             "adapter at "
@@ -316,22 +319,22 @@ impl Life<'_> {
         let out = self.named(rt, NameForm::Result, self.plant.out.sink(rt)?)?;
         let err = self.named(rt, NameForm::Report, self.plant.err.sink(rt)?)?;
         let mut observer = StationObserver::new(alloc, self.config, recorder, out, err)?;
-        if let Some(page) = &self.seat.page {
+        if let Some(page) = &self.setup.page {
             observer.feed(PageFeed::new(alloc, self.config.copy(alloc)?, page.share()?));
         }
         let device = FastDevice::new(alloc, self.config.copy(alloc)?)?;
-        let voice = Voice {
-            quiet: self.seat.options.quiet,
+        let reports = Reporting {
+            quiet: self.setup.options.quiet,
             silent_s: place.inactivity_s,
         };
-        let rates = rates_of(&self.seat.options);
+        let rates = rates_of(&self.setup.options);
         let port = FaultyPort::new(alloc, port, SystemClock::new(rt), rates);
         let port: PlantPort<R> = OrderPort::new(alloc, rt, port)?;
         let clock = SystemClock::new(rt);
-        let mut station = Station::new(alloc, self.config, port, clock, device, observer, voice)?;
+        let mut station = Station::new(alloc, self.config, port, clock, device, observer, reports)?;
         *lives = self.number;
-        let typed = self.seat.input.share()?.lines(rt, waker);
-        let script = self.seat.script.as_slice();
+        let typed = self.setup.input.share()?.lines(rt, waker);
+        let script = self.setup.script.as_slice();
         let mut lines = DeviceLines::new(alloc, script, *run, typed, self.begun_ms);
         let lived = station.live(&mut lines, slots);
         *run = lines.run();

@@ -1,16 +1,17 @@
 //! The file of a plant.
 
-ghost use Rattle.std.specs.Prelude.{◌≡◌};
+ghost use Rattle.std.specs.Prelude.{◌≡◌, ◌≤◌, length};
 ghost use Rattle.plant_command.specs.Statuses.{unread_plant};
 
 use crate::failure::PlantFailure;
 use cip_types::OutOfMemory;
+use cip_types::limits::LONGEST_TRACE;
 use command_lines::Options;
 use page_server::SharedPage;
 use plant_file::{PlantFault, PlantFile, push_fault, read_plant};
+use regular_files::{FileFault, read_regular};
 use station_rim::{Rim, report_line};
-use std::fs;
-use std::io::ErrorKind;
+use std::alloc::Global;
 use std::rt::Files;
 use std::sync::Wait;
 
@@ -44,15 +45,25 @@ pub fn names_in<R: Files + AllocGlobal>(rt: &R, file: &str) -> Result<Vec<String
     Ok(names)
 }
 
+/// A plant, and the numbers of its devices' lines, from 1 and in their order.
+#[derive(Drop)]
+pub(crate) struct NumberedPlant {
+    pub(crate) plant: PlantFile,
+    pub(crate) lines: Vec<u64>,
+}
+
 /// The plant of a file. Reports the first bad line.
-pub(crate) fn plant_of<R>(rt: R, rim: &Rim, file: &str) -> Result<PlantFile, PlantFailure>
+pub(crate) fn plant_of<R>(rt: R, rim: &Rim, file: &str) -> Result<NumberedPlant, PlantFailure>
 where
     R: Files + AllocGlobal + Wait + Copy + Drop,
 {
     let alloc = rt.alloc();
     let text = text_of(&rt, file)?;
     match read_plant(alloc, text.as_slice()) {
-        Ok(plant) => Ok(plant),
+        Ok(plant) => Ok(NumberedPlant {
+            plant,
+            lines: device_lines(alloc, text.as_slice())?,
+        }),
         Err(PlantFault::OutOfMemory) => Err(PlantFailure::OutOfMemory),
         Err(PlantFault::BadLine(number, fault)) => {
             let mut line = format!(in alloc; "eip_station: {file}: ")?;
@@ -64,20 +75,48 @@ where
     }
 }
 
-/// The text of a file. The faults: `OutOfMemory` if it is not read for want of memory, else `Unread`.
-fn text_of<R: Files + AllocGlobal>(rt: &R, file: &str) -> Result<Vec<u8>, PlantFailure> {
-    match fs::read(rt, file) {
-        Ok(text) => Ok(text),
-        Err(error) => Err(unread_plant(error.kind())),
+/// The numbers of the lines of devices in the text of a plant. OutOfMemory is the only fault.
+fn device_lines(alloc: Global, text: &[u8]) -> Result<Vec<u64>, OutOfMemory> {
+    let mut numbers = Vec::new(alloc);
+    let mut rest = text;
+    for number in 1..u64::MAX {
+        let end = line_end(rest);
+        let (line, after) = rest.split_at(end);
+        if line.trim_ascii().starts_with(b"device ") {
+            numbers.push(number)?;
+        }
+        match after {
+            [_, behind @ ..] => rest = behind,
+            [] => break,
+        }
+    }
+    Ok(numbers)
+}
+
+/// Where the first line of a text ends.
+fn line_end(text: &[u8]) -> usize
+    ensures { result ≤ length text.now }
+{
+    match text.iter().position(|byte| *byte == b'\n') {
+        Some(end) => end,
+        None => text.len(),
     }
 }
 
-/// Why the file of a plant is not read to its end, by the kind of the system's error.
-fn unread_plant(kind: ErrorKind) -> PlantFailure
-    ensures { result ≡ unread_plant kind }
+/// The text of a file. The faults: `OutOfMemory` if it is not read for want of memory, else `Unread`.
+fn text_of<R: Files + AllocGlobal>(rt: &R, file: &str) -> Result<Vec<u8>, PlantFailure> {
+    match read_regular(rt, file, LONGEST_TRACE as u64) {
+        Ok(text) => Ok(text),
+        Err(fault) => Err(unread_plant(fault)),
+    }
+}
+
+/// Why the file of a plant is not read.
+fn unread_plant(fault: FileFault) -> PlantFailure
+    ensures { result ≡ unread_plant fault }
 {
-    match kind {
-        ErrorKind::OutOfMemory => PlantFailure::OutOfMemory,
-        _ => PlantFailure::Unread,
+    match fault {
+        FileFault::OutOfMemory => PlantFailure::OutOfMemory,
+        other => PlantFailure::Unread(other),
     }
 }

@@ -2,9 +2,9 @@
 
 use crate::endings::{end_of, ends, is_late};
 use crate::failure::PlantFailure;
-use crate::opening::{PlantSetting, plant_of};
+use crate::opening::{NumberedPlant, PlantSetting, plant_of};
 use crate::paths::path_beside;
-use crate::seats::{Member, Seated, seats_of};
+use crate::setups::{Member, MemberSetup, setups_of};
 use plant_file::PlantFile;
 use plant_rim::{PlantPhase, PlantView, SharedPlant, TypedLine, next_phase, read_typed};
 use station_lines::NextLine;
@@ -46,15 +46,15 @@ fn run_file<R>(
 where
     R: AllocGlobal + Files + Clock + Wait + Copy + Drop,
 {
-    let said = plant_of(rt, rim, setting.file)?;
+    let NumberedPlant { plant: said, lines } = plant_of(rt, rim, setting.file)?;
     let seconds = setting.options.seconds.or(said.seconds);
     let folder = folder_of(rt, setting, &said)?;
     let folder = match &folder {
         Some(folder) => Some(folder.as_str()),
         None => None,
     };
-    let seats = seats_of(rt, rim, setting, said, folder)?;
-    let members = begin_all(rt, plant, seats)?;
+    let setups = setups_of(rt, rim, setting, said, lines.as_slice(), folder)?;
+    let members = begin_all(rt, plant, setups)?;
     let mut console = Console {
         rt,
         rim,
@@ -75,22 +75,26 @@ where
 }
 
 /// Has all devices begin to live, the adapters first, so that scanners find their targets.
-fn begin_all<R>(rt: R, plant: &SharedPlant, seats: Vec<Seated>) -> Result<Vec<Member>, PlantFailure>
+fn begin_all<R>(
+    rt: R,
+    plant: &SharedPlant,
+    setups: Vec<MemberSetup>,
+) -> Result<Vec<Member>, PlantFailure>
 where
     R: AllocGlobal + Wait + Copy + Drop,
 {
     let mut members = Vec::new(rt.alloc());
     let mut scanners = Vec::new(rt.alloc());
-    for Seated { seat, member } in seats {
+    for MemberSetup { setup, member } in setups {
         members.push(member)?;
-        if seat.scanner {
-            scanners.push(seat)?;
+        if setup.scanner {
+            scanners.push(setup)?;
         } else {
-            plant.serve(&rt, seat)?;
+            plant.serve(&rt, setup)?;
         }
     }
-    for seat in scanners {
-        plant.serve(&rt, seat)?;
+    for setup in scanners {
+        plant.serve(&rt, setup)?;
     }
     Ok(members)
 }

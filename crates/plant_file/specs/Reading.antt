@@ -1,6 +1,6 @@
 -- How a text is read as a plant's file, line by line. LF ends a line, and the last line may end without one.
-use Rattle.std.specs.Prelude.{ℕ, ◌+◌, ◌≡◌, ◌==◌, Bool, List, [], ◌∷◌, Result, Ok, Err}
-use Rattle.std.specs.List.{slice_split}
+use Rattle.std.specs.Prelude.{ℕ, ◌+◌, ◌≡◌, List, [], ◌∷◌, Result, Ok, Err}
+use Rattle.trace_text.specs.Reading.{parts_of}
 use Rattle.plant_file.specs.declared.draft.PlantDraft.{PlantDraft}
 use Rattle.plant_file.specs.declared.faults.PlantLineFault.{PlantLineFault}
 use Rattle.plant_file.specs.declared.faults.PlantFault.{PlantFault}
@@ -11,13 +11,6 @@ use Rattle.plant_file.specs.declared.line.PlantLine.{PlantLine}
 use Rattle.plant_file.specs.declared.plant.PlantFile.{PlantFile}
 use Rattle.plant_file.specs.Lines.{line_of}
 use Rattle.plant_file.specs.Plants.{draft_with, no_draft, plant_of}
-
-abbrev pub is_line_feed : ℕ → Bool
-is_line_feed byte = byte == 10
-
--- the lines of a text
-abbrev pub lines_of : List ℕ → List (List ℕ)
-lines_of text = slice_split is_line_feed text
 
 abbrev pub draft_after_line : PlantDraft → Result PlantLine PlantLineFault → Result PlantDraft PlantLineFault
 draft_after_line draft (Ok given) = draft_with draft given
@@ -50,7 +43,7 @@ reading_from number state (bytes ∷ next ∷ lines) = reading_from (number + 1)
 
 -- the reading of a text: its plant, or the first bad line and what is wrong with it
 unfoldable pub plant_reading : List ℕ → Result PlantFile PlantFault
-plant_reading text = reading_from 1 (Ok no_draft) (lines_of text)
+plant_reading text = reading_from 1 (Ok no_draft) (parts_of text)
 
 -- A function answers the reading of the text, or that an allocation was refused.
 abbrev pub Answers : {A : Type 0} → Result A PlantFault → Result A PlantFault → Type 0

@@ -121,7 +121,7 @@ fn sentence_of_context(fault: PlantLineFault) -> &'static str
         PlantLineFault::BeforeDevice => "no device is before it",
         PlantLineFault::TooManyDevices => "a plant has at most 127 devices",
         PlantLineFault::SameName => "an earlier device has this name",
-        PlantLineFault::SameAddress => "an earlier device has this address",
+        PlantLineFault::SameAddress => "word 4: an earlier device has this address",
         PlantLineFault::LongScript => "a script has at most 256 lines",
         PlantLineFault::SaidTwice => "an earlier line says the same",
         _ => "a plant has at least one device",

@@ -1,14 +1,15 @@
 //! The text of a plant's file, read line by line.
 
-ghost use Rattle.std.specs.Prelude.{◌≡◌, ◌<◌, ◌∷◌, [], IfNone, IfSome, Ok, length, position};
+ghost use Rattle.std.specs.Prelude.{◌<◌, Ok};
 ghost use Rattle.plant_file.specs.Plants.{plant_of};
-ghost use Rattle.plant_file.specs.Reading.{Adds, AddsNumbered, Answers, draft_after, is_line_feed, lines_of, numbered, plant_reading};
+ghost use Rattle.plant_file.specs.Reading.{Adds, AddsNumbered, Answers, draft_after, numbered, plant_reading};
 
 use crate::draft::PlantDraft;
 use crate::faults::{PlantFault, PlantReadFault};
 use crate::line::read_line;
 use crate::plant::PlantFile;
 use std::alloc::Global;
+use trace_text::first_line;
 
 /// The plant of a file.
 ///
@@ -33,25 +34,6 @@ pub fn read_plant(alloc: Global, text: &[u8]) -> Result<PlantFile, PlantFault>
         Ok(()) => whole(alloc, draft, number),
         Err(fault) => Err(fault),
     }
-}
-
-/// The first line, without the LF that ends it, and the text behind that. None if no LF is left.
-fn first_line(text: &[u8]) -> Option<(&[u8], &[u8])>
-    ensures line { IfSome result (λ got. lines_of text.now ≡ got.0.now ∷ lines_of got.1.now) }
-    ensures shorter { IfSome result (λ got. length got.1.now < length text.now) }
-    ensures last { IfNone result (lines_of text.now ≡ text.now ∷ []) }
-{
-    let end = line_len(text)?;
-    let (line, after) = text.split_at(end);
-    Some((line, &after[1..]))
-}
-
-/// The number of bytes before the first LF.
-fn line_len(text: &[u8]) -> Option<usize>
-    ensures first { result ≡ position is_line_feed text.now }
-    ensures inside { IfSome result (λ end. end < length text.now) }
-{
-    text.iter().position(|byte| *byte == b'\n')
 }
 
 /// Adds the line of this number.

@@ -18,6 +18,7 @@ port_failure port.OutOfMemory = OutOfMemory
 -- its record cannot be begun
 abbrev pub record_failure : RecordFault → DeviceFailure
 record_failure record_fault.Refused = Record
+record_failure record_fault.Full = Record
 record_failure record_fault.OutOfMemory = OutOfMemory
 
 -- its life ended before its time

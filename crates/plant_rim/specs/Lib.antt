@@ -1,6 +1,6 @@
 pub mod Boards
 pub mod Counts
-pub mod Deeds
+pub mod Tasks
 pub mod Failures
 pub mod Named
 pub mod Phases

@@ -6,7 +6,7 @@ ghost use Rattle.plant_rim.specs.declared.jobs.PlantJob.TheVariants.{Serve, Writ
 
 use crate::counts::PlantCounts;
 use crate::failure::DeviceFailure;
-use crate::jobs::{DeviceSeat, PlantJob};
+use crate::jobs::{DeviceSetup, PlantJob};
 use cip_types::OutOfMemory;
 use station_rim::SharedRecord;
 use std::alloc::Global;
@@ -93,14 +93,14 @@ impl Board {
     }
 
     /// A device waits to be served. OutOfMemory is the only fault, and then nothing changes.
-    pub(crate) fn serve(&mut self, seat: DeviceSeat) -> Result<(), OutOfMemory>
-        ensures waits { OnOk result (self.new.waiting.items ≡ self.old.waiting.items ++ Serve seat ∷ []) }
-        ensures counted { OnOk result (self.new.state ≡ device_begun seat.scanner self.old.state) }
+    pub(crate) fn serve(&mut self, setup: DeviceSetup) -> Result<(), OutOfMemory>
+        ensures waits { OnOk result (self.new.waiting.items ≡ self.old.waiting.items ++ Serve setup ∷ []) }
+        ensures counted { OnOk result (self.new.state ≡ device_begun setup.scanner self.old.state) }
         ensures unchanged { OnErr result
             ((self.new.waiting.items ≡ self.old.waiting.items) × (self.new.state ≡ self.old.state)) }
     {
-        let scanner = seat.scanner;
-        self.waiting.push(PlantJob::Serve(seat))?;
+        let scanner = setup.scanner;
+        self.waiting.push(PlantJob::Serve(setup))?;
         self.state.counts.begin(scanner);
         Ok(())
     }

@@ -55,6 +55,7 @@ impl From<RecordFault> for DeviceFailure {
         match fault {
             RecordFault::OutOfMemory => DeviceFailure::OutOfMemory,
             RecordFault::Refused => DeviceFailure::Record,
+            RecordFault::Full => DeviceFailure::Record,
         }
     }
 }

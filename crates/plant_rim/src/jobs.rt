@@ -13,7 +13,7 @@ use std::sync::{Arc, Condvar, Mutex, Wait};
 
 /// A device that is to live.
 #[derive(Drop)]
-pub struct DeviceSeat {
+pub struct DeviceSetup {
     pub name: String,
     pub config: Config,
     pub options: Options,
@@ -31,7 +31,7 @@ pub struct DeviceSeat {
 #[derive(Drop)]
 pub enum PlantJob {
     /// A device lives, one life after another.
-    Serve(DeviceSeat),
+    Serve(DeviceSetup),
     /// The record of a life is written to its end.
     Write(SharedRecord),
 }
@@ -79,8 +79,8 @@ impl SharedPlant {
     }
 
     /// Has a thread serve a device. OutOfMemory is the only fault, and then none does.
-    pub fn serve<R: Wait>(&self, rt: &R, seat: DeviceSeat) -> Result<(), OutOfMemory> {
-        self.shared.board.lock(rt).serve(seat)?;
+    pub fn serve<R: Wait>(&self, rt: &R, setup: DeviceSetup) -> Result<(), OutOfMemory> {
+        self.shared.board.lock(rt).serve(setup)?;
         self.shared.more.notify_one();
         Ok(())
     }

@@ -2,14 +2,14 @@
 
 ghost use Rattle.std.specs.Prelude.{◌≡◌, IfOk, OnOk};
 ghost use Rattle.plant_file.specs.Calls.{plant_call_of};
-ghost use Rattle.plant_rim.specs.Deeds.{deed_of, end_after, incarnation_behind, script_deed, typed_deed, typed_end};
+ghost use Rattle.plant_rim.specs.Tasks.{task_of, end_after, incarnation_behind, script_task, typed_task, typed_end};
 ghost use Rattle.plant_script.specs.Runs.{after, taken};
 
 use cip_types::{Items, OutOfMemory};
 use plant_file::read_plant_call;
 use plant_script::{IncarnationSpan, PlantCall, ScriptLine, ScriptRun};
 use port_orders::PortOrder;
-use station::{LifeLines, NextDeed};
+use station::{LifeLines, NextTask};
 use station_lines::{CallLines, NextLine};
 use std::alloc::Global;
 use trace_words::TextFault;
@@ -75,8 +75,8 @@ impl<'a, L: CallLines> DeviceLines<'a, L> {
     }
 
     /// What a typed line has the device do.
-    fn typed_deed(&mut self, line: Vec<u8>) -> Result<NextDeed, OutOfMemory>
-        ensures deed { IfOk result (λ deed. deed ≡ typed_deed line.items) }
+    fn typed_task(&mut self, line: Vec<u8>) -> Result<NextTask, OutOfMemory>
+        ensures task { IfOk result (λ task. task ≡ typed_task line.items) }
         ensures end { OnOk result (self.new.end ≡ typed_end (plant_call_of line.items)) }
         ensures run { self.new.run ≡ self.old.run }
     {
@@ -84,37 +84,37 @@ impl<'a, L: CallLines> DeviceLines<'a, L> {
             Ok(call) => self.perform(&call),
             Err(TextFault::Bad) => {
                 self.end = LifeEnd::Over;
-                Ok(NextDeed::Line(Items::from_vec(line)))
+                Ok(NextTask::Line(Items::from_vec(line)))
             }
             Err(TextFault::OutOfMemory) => Err(OutOfMemory),
         }
     }
 
     /// What the script has the device do at this time of the plant.
-    fn script_deed(&mut self, now_ms: u64) -> Result<NextDeed, OutOfMemory>
-        ensures deed { IfOk result (λ deed. deed ≡ script_deed self.old.script.now self.old.run now_ms) }
+    fn script_task(&mut self, now_ms: u64) -> Result<NextTask, OutOfMemory>
+        ensures task { IfOk result (λ task. task ≡ script_task self.old.script.now self.old.run now_ms) }
         ensures run { self.new.run ≡ after self.old.run (taken self.old.run now_ms self.old.script.now) }
     {
         let script = self.script;
         match self.run.next_line(script, now_ms) {
             Some(due) => match script.get(due.line) {
                 Some(line) => self.perform(&line.call),
-                None => Ok(NextDeed::Wait { ms: 0 }),
+                None => Ok(NextTask::Wait { ms: 0 }),
             },
-            None => Ok(NextDeed::Wait {
+            None => Ok(NextTask::Wait {
                 ms: self.run.wait_ms(script, now_ms, TYPED_MS),
             }),
         }
     }
 
     /// What a call has the device do, and how its life ends, if it ends.
-    fn perform(&mut self, call: &PlantCall) -> Result<NextDeed, OutOfMemory>
-        ensures deed { IfOk result (λ deed. deed ≡ deed_of call.now) }
+    fn perform(&mut self, call: &PlantCall) -> Result<NextTask, OutOfMemory>
+        ensures task { IfOk result (λ task. task ≡ task_of call.now) }
         ensures end { self.new.end ≡ end_after call.now }
         ensures run { self.new.run ≡ self.old.run }
     {
         self.end = end_after(call);
-        deed_of(self.alloc, call)
+        task_of(self.alloc, call)
     }
 }
 
@@ -140,33 +140,33 @@ pub fn incarnation_behind(span: IncarnationSpan, incarnation: u8, same: bool) ->
 }
 
 /// What a call has a device do. The only fault is a refused allocation.
-pub fn deed_of(alloc: Global, call: &PlantCall) -> Result<NextDeed, OutOfMemory>
-    ensures { IfOk result (λ deed. deed ≡ deed_of call.now) }
+pub fn task_of(alloc: Global, call: &PlantCall) -> Result<NextTask, OutOfMemory>
+    ensures { IfOk result (λ task. task ≡ task_of call.now) }
 {
     match call {
         PlantCall::Call(line) => {
             let line = Items::copy_of(alloc, line.as_slice())?;
-            Ok(NextDeed::Line(line))
+            Ok(NextTask::Line(line))
         }
-        PlantCall::Cut => Ok(NextDeed::Order(PortOrder::Cut)),
-        PlantCall::Pause(ms) => Ok(NextDeed::Order(PortOrder::Pause { ms: u64::from(*ms) })),
-        PlantCall::Restart { same: _ } => Ok(NextDeed::End),
+        PlantCall::Cut => Ok(NextTask::Order(PortOrder::Cut)),
+        PlantCall::Pause(ms) => Ok(NextTask::Order(PortOrder::Pause { ms: u64::from(*ms) })),
+        PlantCall::Restart { same: _ } => Ok(NextTask::End),
         PlantCall::Send { peer, bytes } => {
             let bytes = Items::copy_of(alloc, bytes.as_slice())?;
-            Ok(NextDeed::Order(PortOrder::Send { node: *peer, bytes }))
+            Ok(NextTask::Order(PortOrder::Send { node: *peer, bytes }))
         }
     }
 }
 
 impl<'a, L: CallLines> LifeLines for DeviceLines<'a, L> {
-    fn next_deed(&mut self, now_ms: u64) -> Result<NextDeed, OutOfMemory> {
+    fn next_task(&mut self, now_ms: u64) -> Result<NextTask, OutOfMemory> {
         match self.typed.next_line()? {
             NextLine::End => {
                 self.end = LifeEnd::Over;
-                Ok(NextDeed::End)
+                Ok(NextTask::End)
             }
-            NextLine::Line(line) => self.typed_deed(line),
-            NextLine::Nothing => self.script_deed(self.begun_ms.saturating_add(now_ms)),
+            NextLine::Line(line) => self.typed_task(line),
+            NextLine::Nothing => self.script_task(self.begun_ms.saturating_add(now_ms)),
         }
     }
 }

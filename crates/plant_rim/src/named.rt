@@ -52,6 +52,12 @@ impl<S: LineSink> LineSink for NamedLines<S> {
             self.sink.line(self.text.as_slice());
         }
     }
+
+    fn state(&mut self, text: &[u8]) -> bool {
+        self.text.clear();
+        push_named(&mut self.text, self.form, self.name.as_slice(), text).is_ok()
+            && self.sink.state(self.text.as_slice())
+    }
 }
 
 /// Appends a text of whole lines, each of them under the name of a device. The only fault is a refused allocation.

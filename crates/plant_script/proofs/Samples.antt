@@ -6,7 +6,7 @@ use Rattle.plant_script.specs.declared.script.PlantCall.TheVariants as call
 use Rattle.plant_script.specs.declared.script.ScriptLine.{ScriptLine}
 use Rattle.plant_script.specs.Due.{is_due, last_time, next_time}
 use Rattle.plant_script.specs.Incarnations.{next_of, span_of}
-use Rattle.plant_script.specs.Runs.{after, paused, taken, wait_of}
+use Rattle.plant_script.specs.Runs.{after, taken, wait_of}
 
 -- a line that is due once
 at_its_time : last_time 500 (At 500) ≡ Some 500
@@ -39,43 +39,30 @@ abbrev two_lines : List ScriptLine
 two_lines = record { due = At 20; call = call.Cut } ∷ record { due = Every 10; call = call.Pause 5 } ∷ []
 
 abbrev begun : ScriptRun
-begun = record { ms = 0; line = 0; paused_until_ms = 0 }
+begun = record { ms = 0; line = 0 }
 
 -- one that is due at the same time comes first if it is first in the script; what was due at 10 is due once, at 20
 one_after_the_other : taken begun 25 two_lines ≡ Some (record { ms = 20; line = 0 })
 one_after_the_other = refl
 
-then_the_other : taken (record { ms = 20; line = 1; paused_until_ms = 0 }) 25 two_lines ≡ Some (record { ms = 20; line = 1 })
+then_the_other : taken (record { ms = 20; line = 1 }) 25 two_lines ≡ Some (record { ms = 20; line = 1 })
 then_the_other = refl
 
-then_none : taken (record { ms = 20; line = 2; paused_until_ms = 0 }) 25 two_lines ≡ None
+then_none : taken (record { ms = 20; line = 2 }) 25 two_lines ≡ None
 then_none = refl
 
-is_behind : after begun (Some (record { ms = 20; line = 0 })) ≡ record { ms = 20; line = 1; paused_until_ms = 0 }
+is_behind : after begun (Some (record { ms = 20; line = 0 })) ≡ record { ms = 20; line = 1 }
 is_behind = refl
 
 -- the next one is due at 30
-waits_5 : wait_of (record { ms = 20; line = 2; paused_until_ms = 0 }) 25 100 two_lines ≡ 5
+waits_5 : wait_of (record { ms = 20; line = 2 }) 25 100 two_lines ≡ 5
 waits_5 = refl
 
-waits_at_most_2 : wait_of (record { ms = 20; line = 2; paused_until_ms = 0 }) 25 2 two_lines ≡ 2
+waits_at_most_2 : wait_of (record { ms = 20; line = 2 }) 25 2 two_lines ≡ 2
 waits_at_most_2 = refl
 
 waits_not : wait_of begun 25 100 two_lines ≡ 0
 waits_not = refl
-
--- a pause of 40 ms from 25 on: nothing is taken at 64, and at 65 what was due at 60
-in_a_pause : taken (paused (record { ms = 20; line = 2; paused_until_ms = 0 }) 25 40) 64 two_lines ≡ None
-in_a_pause = refl
-
-behind_a_pause : taken (paused (record { ms = 20; line = 2; paused_until_ms = 0 }) 25 40) 65 two_lines ≡ Some (record { ms = 60; line = 1 })
-behind_a_pause = refl
-
-the_longer_pause : paused (record { ms = 20; line = 2; paused_until_ms = 90 }) 25 40 ≡ record { ms = 20; line = 2; paused_until_ms = 90 }
-the_longer_pause = refl
-
-pause_ends : wait_of (record { ms = 20; line = 2; paused_until_ms = 65 }) 25 100 two_lines ≡ 40
-pause_ends = refl
 
 -- at time 0 a line that is due then is taken
 at_0 : taken begun 0 (record { due = At 0; call = call.Cut } ∷ []) ≡ Some (record { ms = 0; line = 0 })

@@ -7,7 +7,7 @@ use Rattle.plant_script.specs.declared.run.ScriptRun.{ScriptRun}
 use Rattle.plant_script.specs.declared.script.DueTime.{DueTime}
 use Rattle.plant_script.specs.declared.script.ScriptLine.{ScriptLine}
 use Rattle.plant_script.specs.Due.{IsLast, IsNext, earlier, is_due, last_time, next_due, next_time}
-use Rattle.plant_script.specs.Runs.{IsExactWait, first_due, first_from, is_paused, left_at, open_time, sooner, taken, wait_for, wait_of}
+use Rattle.plant_script.specs.Runs.{IsExactWait, first_from, left_at, open_time, sooner, taken, wait_for, wait_of}
 use Rattle.plant_script.proofs.Rounds.{last, next}
 
 both : {A : Type 0} (b : Bool) → b ≡ true → b ≡ false → A
@@ -125,66 +125,40 @@ next_behind now (line ∷ lines) time is =
       | inr rest ↦ next_behind now lines time rest
     ]
 
-awake : (run : ScriptRun) (now time : ℕ) → now ≤ time → is_paused run now ≡ false → is_paused run time ≡ false
-awake run now time le is = grind (arith, nat_tests)
-
-takes : (run : ScriptRun) (time : ℕ) (script : List ScriptLine) → is_paused run time ≡ false → taken run time script ≡ first_due run time script
-takes run time script is = ap (λ b. cond b None (first_due run time script)) is
-
-pausing : (run : ScriptRun) (now most : ℕ) (script : List ScriptLine) → is_paused run now ≡ true → IsExactWait run now most script (min most (run.paused_until_ms - now))
-pausing run now most script is =
-    let later : now < run.paused_until_ms = grind (arith, nat_tests, is) in (
-      omega arith,
-      (
-        λ time le before fits. (let still : is_paused run time ≡ true = grind (arith, nat_tests, before) in ap (λ b. cond b None (first_due run time script)) still),
-        λ shorter. (grind (arith, nat_tests, shorter, later), λ not. both (is_paused run now) is not),
-      ),
-    )
-
-ready : (run : ScriptRun) (now most : ℕ) (script : List ScriptLine) (due : DueLine) → is_paused run now ≡ false → first_due run now script ≡ Some due → IsExactWait run now most script 0
-ready run now most script due is found =
+ready : (run : ScriptRun) (now most : ℕ) (script : List ScriptLine) (due : DueLine) → taken run now script ≡ Some due → IsExactWait run now most script 0
+ready run now most script due found =
     let at : now + 0 ≡ now = omega arith in (
       omega arith,
       (
         λ time le before fits. absurd (omega (arith, le, before)),
-        λ shorter. (
-          ap (is_paused run) at ∙ is,
-          λ not none. (let some : Some due ≡ None = sym found ∙ sym (takes run now script is) ∙ ap (λ t. taken run t script) (sym at) ∙ none in absurd (cc)),
-        ),
+        λ shorter none. (let some : Some due ≡ None = sym found ∙ ap (λ t. taken run t script) (sym at) ∙ none in absurd (cc)),
       ),
     )
 
-endless : (run : ScriptRun) (now most : ℕ) (script : List ScriptLine) → is_paused run now ≡ false → first_due run now script ≡ None → next_due now script ≡ None → IsExactWait run now most script most
-endless run now most script is none no_next = (
+endless : (run : ScriptRun) (now most : ℕ) (script : List ScriptLine) → taken run now script ≡ None → next_due now script ≡ None → IsExactWait run now most script most
+endless run now most script none no_next = (
   omega arith,
   (
-    λ time le before fits. takes run time script (awake run now time le is) ∙ nothing run now time 0 script le fits none (subst (Before time) (sym no_next) tt),
+    λ time le before fits. nothing run now time 0 script le fits none (subst (Before time) (sym no_next) tt),
     λ shorter. absurd (omega (arith, shorter)),
   ),
 )
 
-waiting : (run : ScriptRun) (now most next : ℕ) (script : List ScriptLine) → run.ms ≤ now → is_paused run now ≡ false → first_due run now script ≡ None → next_due now script ≡ Some next → IsExactWait run now most script (min most (next - now))
-waiting run now most next script old is none found =
+waiting : (run : ScriptRun) (now most next : ℕ) (script : List ScriptLine) → run.ms ≤ now → taken run now script ≡ None → next_due now script ≡ Some next → IsExactWait run now most script (min most (next - now))
+waiting run now most next script old none found =
     let behind : now < next = next_behind now script next found in (
       omega arith,
       (
-        λ time le before fits. takes run time script (awake run now time le is) ∙ nothing run now time 0 script le fits none (subst (Before time) (sym found) (omega (arith, before, behind))),
+        λ time le before fits. nothing run now time 0 script le fits none (subst (Before time) (sym found) (omega (arith, before, behind))),
         λ shorter. (let at : next ≡ now + min most (next - now) = omega (arith, shorter, behind) in
-            let free : is_paused run next ≡ false = awake run now next (omega (arith, behind)) is in (
-              subst (λ t. is_paused run t ≡ false) at free,
-              λ not. subst (λ t. taken run t script ≢ None) at (λ no. something run now next 0 script old found (sym (takes run next script free) ∙ no)),
-            )),
+            subst (λ t. taken run t script ≢ None) at (something run now next 0 script old found)),
       ),
     )
 
-wait_free : (run : ScriptRun) (now most : ℕ) (script : List ScriptLine) (due : Option DueLine) (next : Option ℕ) → run.ms ≤ now → is_paused run now ≡ false → first_due run now script ≡ due → next_due now script ≡ next → IsExactWait run now most script (wait_for now most due next)
-wait_free run now most script (Some due) next old is found then = ready run now most script due is found
-wait_free run now most script None None old is found then = endless run now most script is found then
-wait_free run now most script None (Some next) old is found then = waiting run now most next script old is found then
-
-wait_any : (run : ScriptRun) (now most : ℕ) (script : List ScriptLine) (b : Bool) → run.ms ≤ now → is_paused run now ≡ b → IsExactWait run now most script (cond b (min most (run.paused_until_ms - now)) (wait_for now most (first_due run now script) (next_due now script)))
-wait_any run now most script true old is = pausing run now most script is
-wait_any run now most script false old is = wait_free run now most script _ _ old is refl refl
+wait_free : (run : ScriptRun) (now most : ℕ) (script : List ScriptLine) (due : Option DueLine) (next : Option ℕ) → run.ms ≤ now → taken run now script ≡ due → next_due now script ≡ next → IsExactWait run now most script (wait_for now most due next)
+wait_free run now most script (Some due) next old found then = ready run now most script due found
+wait_free run now most script None None old found then = endless run now most script found then
+wait_free run now most script None (Some next) old found then = waiting run now most next script old found then
 
 pub exact : (run : ScriptRun) (now most : ℕ) (script : List ScriptLine) → run.ms ≤ now → IsExactWait run now most script (wait_of run now most script)
-exact run now most script old = wait_any run now most script _ old refl
+exact run now most script old = wait_free run now most script _ _ old refl refl

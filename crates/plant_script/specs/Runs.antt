@@ -1,18 +1,10 @@
 -- How far the lines of a script were taken, and the next one that is taken.
-use Rattle.std.specs.Prelude.{ℕ, ◌+◌, ◌-◌, ◌^◌, ◌<◌, ◌≤◌, ◌≡◌, ◌≢◌, ◌==◌, ◌&&◌, ◌||◌, min, max, nat_lt, nat_le, if◌then◌else◌, Bool, false, List, [], ◌∷◌, option_and_then, Option, Some, None}
+use Rattle.std.specs.Prelude.{ℕ, ◌+◌, ◌-◌, ◌^◌, ◌<◌, ◌≤◌, ◌≡◌, ◌≢◌, ◌==◌, ◌&&◌, ◌||◌, min, nat_lt, nat_le, if◌then◌else◌, Bool, List, [], ◌∷◌, option_and_then, Option, Some, None}
 use Rattle.plant_script.specs.declared.script.DueTime.{DueTime}
 use Rattle.plant_script.specs.declared.script.ScriptLine.{ScriptLine}
 use Rattle.plant_script.specs.declared.run.DueLine.{DueLine}
 use Rattle.plant_script.specs.declared.run.ScriptRun.{ScriptRun}
 use Rattle.plant_script.specs.Due.{last_time, next_due}
-
--- a pause has not ended
-abbrev pub is_paused : ScriptRun → ℕ → Bool
-is_paused run now = nat_lt now run.paused_until_ms
-
--- a pause of so many milliseconds begins now
-abbrev pub paused : ScriptRun → (now ms : ℕ) → ScriptRun
-paused run now ms = record run { paused_until_ms = max run.paused_until_ms (min (now + ms) (2 ^ 64 - 1)) }
 
 -- a line was not taken at this time, with all before it
 abbrev pub is_left : ScriptRun → DueLine → Bool
@@ -39,12 +31,9 @@ abbrev pub first_from : ScriptRun → ℕ → ℕ → List ScriptLine → Option
 first_from run now number [] = None
 first_from run now number (line ∷ lines) = sooner (open_time run now number line.due) (first_from run now (number + 1) lines)
 
-abbrev pub first_due : ScriptRun → ℕ → List ScriptLine → Option DueLine
-first_due run now script = first_from run now 0 script
-
 -- the line that is taken
 abbrev pub taken : ScriptRun → ℕ → List ScriptLine → Option DueLine
-taken run now script = if is_paused run now then None else first_due run now script
+taken run now script = first_from run now 0 script
 
 -- a line was taken
 abbrev pub after : ScriptRun → Option DueLine → ScriptRun
@@ -59,17 +48,16 @@ abbrev pub wait_for : (now most : ℕ) → Option DueLine → Option ℕ → ℕ
 wait_for now most (Some due) next = 0
 wait_for now most None next = time_to now most next
 
--- the wait until a line can be taken or the pause ends, of at most so many milliseconds
+-- the wait until a line can be taken, of at most so many milliseconds
 abbrev pub wait_of : ScriptRun → (now most : ℕ) → List ScriptLine → ℕ
-wait_of run now most script = if is_paused run now then min most (run.paused_until_ms - now) else wait_for now most (first_due run now script) (next_due now script)
+wait_of run now most script = wait_for now most (taken run now script) (next_due now script)
 
--- While a run waits so long nothing can be taken. A wait that is shorter than the longest ends with the pause, or when
--- a line can be taken.
+-- While a run waits so long nothing can be taken. A wait that is shorter than the longest ends when a line can be taken.
 abbrev pub IsExactWait : ScriptRun → (now most : ℕ) → List ScriptLine → ℕ → Type 0
 IsExactWait run now most script wait =
     (wait ≤ most)
     × (((time : ℕ) → now ≤ time → time < now + wait → time < 2 ^ 64 → taken run time script ≡ None)
-    × (wait < most → (is_paused run (now + wait) ≡ false) × (is_paused run now ≡ false → taken run (now + wait) script ≢ None)))
+    × (wait < most → taken run (now + wait) script ≢ None))
 
 -- Each wait is exact, unless the clock went back behind the line that was taken last.
 abbrev pub WaitsAreExact : Type 0

@@ -14,7 +14,7 @@ pub fn times_are_exact()
 {}
 
 /// While a run of a script waits, nothing is due that it did not take; and where its wait is shorter than the longest, a line
-/// can be taken then, or a pause ends.
+/// can be taken then.
 pub fn waits_are_exact()
     ensures { WaitsAreExact }
 {}

@@ -1,7 +1,7 @@
 //! The lines of a script, taken one by one as their times come.
 
 ghost use Rattle.std.specs.Prelude.{◌≡◌, ◌<◌, IfSome, length};
-ghost use Rattle.plant_script.specs.Runs.{after, first_due, is_left, is_paused, open_time, paused, sooner, sooner_line, taken, wait_of};
+ghost use Rattle.plant_script.specs.Runs.{after, is_left, open_time, sooner, sooner_line, taken, wait_of};
 
 use crate::due::{last_time, next_due};
 use crate::script::{DueTime, ScriptLine};
@@ -19,67 +19,33 @@ pub struct DueLine {
 pub struct ScriptRun {
     ms: u64,
     line: usize,
-    paused_until_ms: u64,
 }
 
 impl ScriptRun {
     /// Nothing was taken.
     pub fn new() -> ScriptRun
-        ensures { result ≡ record { ms = 0; line = 0; paused_until_ms = 0 } }
+        ensures { result ≡ record { ms = 0; line = 0 } }
     {
-        ScriptRun {
-            ms: 0,
-            line: 0,
-            paused_until_ms: 0,
-        }
+        ScriptRun { ms: 0, line: 0 }
     }
 
     /// Takes the next line that is due up to now: the earliest one, and of several at one time the first one in the script.
-    /// A line that has become due several times is due once, at the last of these times. None if no line is due, or in a pause:
-    /// what becomes due in a pause is due behind it.
+    /// A line that has become due several times is due once, at the last of these times. None if no line is due.
     pub fn next_line(&mut self, script: &[ScriptLine], now_ms: u64) -> Option<DueLine>
         ensures given { result ≡ taken self.old now_ms script.now }
         ensures left { self.new ≡ after self.old result }
         ensures inside { IfSome result (λ due. due.line < length script.now) }
     {
-        if self.is_paused(now_ms) {
-            return None;
-        }
         let due = self.first_due(script, now_ms)?;
         self.ms = due.ms;
         self.line = due.line + 1;
         Some(due)
     }
 
-    /// A pause of so many milliseconds begins now. One that lasts longer goes on.
-    pub fn pause(&mut self, now_ms: u64, ms: u32)
-        ensures { self.new ≡ paused self.old now_ms ms }
-    {
-        let until_ms = now_ms.saturating_add(u64::from(ms));
-        self.paused_until_ms = self.paused_until_ms.max(until_ms);
-    }
-
-    /// The pause ends, as at the beginning of a new life.
-    pub fn end_pause(&mut self)
-        ensures { self.new ≡ record self.old { paused_until_ms = 0 } }
-    {
-        self.paused_until_ms = 0;
-    }
-
-    /// Whether the device pauses now: it does nothing, and takes no line.
-    pub fn is_paused(&self, now_ms: u64) -> bool
-        ensures { result ≡ is_paused self.now now_ms }
-    {
-        now_ms < self.paused_until_ms
-    }
-
-    /// The milliseconds until a line can be taken or the pause ends, at most so many. 0 if a line can be taken now.
+    /// The milliseconds until a line can be taken, at most so many. 0 if a line can be taken now.
     pub fn wait_ms(&self, script: &[ScriptLine], now_ms: u64, most_ms: u64) -> u64
         ensures { result ≡ wait_of self.now now_ms most_ms script.now }
     {
-        if self.is_paused(now_ms) {
-            return most_ms.min(self.paused_until_ms - now_ms);
-        }
         if self.first_due(script, now_ms).is_some() {
             return 0;
         }
@@ -91,7 +57,7 @@ impl ScriptRun {
 
     /// The next line that is due up to now.
     fn first_due(&self, script: &[ScriptLine], now_ms: u64) -> Option<DueLine>
-        ensures first { result ≡ first_due self.now now_ms script.now }
+        ensures first { result ≡ taken self.now now_ms script.now }
         ensures inside { IfSome result (λ due. due.line < length script.now) }
     {
         let mut first = None;

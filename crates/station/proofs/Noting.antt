@@ -9,8 +9,8 @@ use Rattle.station.specs.declared.observer.StationObserver.{StationObserver}
 use Rattle.station.specs.declared.serving.Station.{Station}
 use Rattle.station.specs.declared.fault.EarlyEnd.{EarlyEnd}
 use Rattle.station.specs.Ended.{Ended}
-use Rattle.station.specs.Recorded.{Deed, Does, Recorded}
-use Rattle.station.specs.Recorded.Deed.{End, BrokenEnd, Rest}
+use Rattle.station.specs.Recorded.{Task, Does, Recorded}
+use Rattle.station.specs.Recorded.Task.{End, BrokenEnd, Rest}
 use Rattle.station.specs.Rests.{Rests, Unstepped}
 use Rattle.udp_runner.specs.Handing.{Watches}
 use Rattle.udp_runner.specs.Tape.{Tape}
@@ -29,23 +29,23 @@ watches_on notes first second third (event ∷ events) more [] others one two = 
 watches_on notes first second third (event ∷ events) more (outcome ∷ outcomes) others (mid, noted, rest) two = (mid, noted, watches_on notes mid second third events more outcomes others rest two)
 
 -- two lists of things that a station did, one behind the other
-does_on : {P C D W O E : Type 0} (contents : W → Option (List ℕ)) (s t : Bool) (coming : C → List ℕ) (tape : P → Tape) (failed : P → ℕ) (table : D → DeviceTable) (first second third : Station P C D W O E) (deeds more : List Deed) → Does contents s t coming tape failed table deeds first second → Does contents s t coming tape failed table more second third → Does contents s t coming tape failed table (deeds ++ more) first third
+does_on : {P C D W O E : Type 0} (contents : W → Option (List ℕ)) (s t : Bool) (coming : C → List ℕ) (tape : P → Tape) (failed : P → ℕ) (table : D → DeviceTable) (first second third : Station P C D W O E) (tasks more : List Task) → Does contents s t coming tape failed table tasks first second → Does contents s t coming tape failed table more second third → Does contents s t coming tape failed table (tasks ++ more) first third
 does_on {P} {C} {D} {W} {O} {E} contents s t coming tape failed table first second third [] more one two = let At : Station P C D W O E → Type 0 = λ x. Does contents s t coming tape failed table more x third in subst At one two
-does_on contents s t coming tape failed table first second third (deed ∷ deeds) more (mid, did, rest) two = (mid, did, does_on contents s t coming tape failed table mid second third deeds more rest two)
+does_on contents s t coming tape failed table first second third (task ∷ tasks) more (mid, did, rest) two = (mid, did, does_on contents s t coming tape failed table mid second third tasks more rest two)
 
 -- nothing
 pub at_rest : {P C D W O E : Type 0} (contents : W → Option (List ℕ)) (s t : Bool) (coming : C → List ℕ) (tape : P → Tape) (failed : P → ℕ) (table : D → DeviceTable) (old new : Station P C D W O E) → Rests s tape failed old new → Recorded contents s t coming tape failed table old new
-at_rest contents s t coming tape failed table old new rests = record { deeds = Rest ∷ []; does = (new, rests, refl); events = []; outcomes = []; runs = ap table rests.device; notes = rests.recorder }
+at_rest contents s t coming tape failed table old new rests = record { tasks = Rest ∷ []; does = (new, rests, refl); events = []; outcomes = []; runs = ap table rests.device; notes = rests.recorder }
 
 pub unmoved : {P C D W O E : Type 0} (contents : W → Option (List ℕ)) (s t : Bool) (coming : C → List ℕ) (tape : P → Tape) (failed : P → ℕ) (table : D → DeviceTable) (old new : Station P C D W O E) → new.observer.recorder ≡ old.observer.recorder → new.device ≡ old.device → new.clock ≡ old.clock → new.port ≡ old.port → Recorded contents s t coming tape failed table old new
 unmoved contents s t coming tape failed table old new recorder device clock port = at_rest contents s t coming tape failed table old new (record { recorder = recorder; device = device; clock = clock; kept = λ sc. ap tape port; worked = ap failed port })
 
 -- the end of the sessions
 pub ended : {P C D W O E : Type 0} (contents : W → Option (List ℕ)) (s t : Bool) (coming : C → List ℕ) (tape : P → Tape) (failed : P → ℕ) (table : D → DeviceTable) (old new : Station P C D W O E) → Unstepped old new → Ended s tape failed table old new → Recorded contents s t coming tape failed table old new
-ended contents s t coming tape failed table old new rests ends = record { deeds = End ∷ []; does = (new, ends, refl); events = []; outcomes = []; runs = ap table rests.device; notes = rests.recorder }
+ended contents s t coming tape failed table old new rests ends = record { tasks = End ∷ []; does = (new, ends, refl); events = []; outcomes = []; runs = ap table rests.device; notes = rests.recorder }
 
 pub broken : {P C D W O E : Type 0} (contents : W → Option (List ℕ)) (s t : Bool) (coming : C → List ℕ) (tape : P → Tape) (failed : P → ℕ) (table : D → DeviceTable) (old new : Station P C D W O E) → Unstepped old new → Recorded contents s t coming tape failed table old new
-broken contents s t coming tape failed table old new rests = record { deeds = BrokenEnd ∷ []; does = (new, rests, refl); events = []; outcomes = []; runs = ap table rests.device; notes = rests.recorder }
+broken contents s t coming tape failed table old new rests = record { tasks = BrokenEnd ∷ []; does = (new, rests, refl); events = []; outcomes = []; runs = ap table rests.device; notes = rests.recorder }
 
 pub ended_or_broken : {P C D W O E : Type 0} (contents : W → Option (List ℕ)) (s t : Bool) (coming : C → List ℕ) (tape : P → Tape) (failed : P → ℕ) (table : D → DeviceTable) (old new : Station P C D W O E) (result : Result Unit EarlyEnd) → Unstepped old new → OnOk result (Ended s tape failed table old new) → Recorded contents s t coming tape failed table old new
 ended_or_broken contents s t coming tape failed table old new (Ok done) rests ends = ended contents s t coming tape failed table old new rests ends
@@ -54,8 +54,8 @@ ended_or_broken contents s t coming tape failed table old new (Err fault) rests 
 -- one run behind another
 pub recorded_on : {P C D W O E : Type 0} (contents : W → Option (List ℕ)) (s t : Bool) (coming : C → List ℕ) (tape : P → Tape) (failed : P → ℕ) (table : D → DeviceTable) (old middle new : Station P C D W O E) → Recorded contents s t coming tape failed table old middle → Recorded contents s t coming tape failed table middle new → Recorded contents s t coming tape failed table old new
 recorded_on contents s t coming tape failed table old middle new one two = record {
-  deeds = one.deeds ++ two.deeds;
-  does = does_on contents s t coming tape failed table old middle new one.deeds two.deeds one.does two.does;
+  tasks = one.tasks ++ two.tasks;
+  does = does_on contents s t coming tape failed table old middle new one.tasks two.tasks one.does two.does;
   events = one.events ++ two.events;
   outcomes = one.outcomes ++ two.outcomes;
   runs = runs_on _ _ _ one.events two.events one.outcomes two.outcomes one.runs two.runs;

@@ -9,7 +9,7 @@ use Rattle.station_record.specs.declared.recorder.Recorder.{Recorder}
 use Rattle.station.specs.declared.observer.StationObserver.{StationObserver}
 use Rattle.station.specs.declared.serving.Station.{Station}
 use Rattle.station.specs.Recorded.{Called, Recorded}
-use Rattle.station.specs.Recorded.Deed.{Call, Turn}
+use Rattle.station.specs.Recorded.Task.{Call, Turn}
 use Rattle.station.specs.Rests.{Rests}
 use Rattle.station.specs.Turned.{MadeOrNot, Turned, station_seen}
 use Rattle.station.proofs.Noting.{watched}
@@ -106,7 +106,7 @@ did_then contents s t times later last old middle new None did clock tape failed
   recorder = recorder ∙ did.recorder;
 }
 did_then contents s t times later last old middle new (Some made) did clock tape failed table recorder = record {
-  drove = drove_then (Notes contents) s t _ 1 2 old middle new made did.drove tape failed table recorder;
+  drove = drove_then (Notes contents) s t _ 1 131 old middle new made did.drove tape failed table recorder;
   times_ms = later_then t made later last _ clock did.times_ms;
 }
 
@@ -123,12 +123,12 @@ turned_then contents s t coming tape failed table old middle new turn rests = re
 -- a turn that was made, and what is done behind it
 pub turn_made : {P C D W O E : Type 0} (contents : W → Option (List ℕ)) (s t : Bool) (coming : C → List ℕ) (tape : P → Tape) (failed : P → ℕ) (table : D → DeviceTable) (old middle new : Station P C D W O E) (made : Result ℕ RunFault)
     → Rests s tape failed middle new
-    → Drove (λ one event outcome other. Notes contents one.recorder event outcome other.recorder) s t (turn_of (coming old.clock) (tape old.port).coming) 1 2 (seen tape failed table old.port old.device old.observer) (seen tape failed table middle.port middle.device middle.observer) made
+    → Drove (λ one event outcome other. Notes contents one.recorder event outcome other.recorder) s t (turn_of (coming old.clock) (tape old.port).coming) 1 131 (seen tape failed table old.port old.device old.observer) (seen tape failed table middle.port middle.device middle.observer) made
     → OnOk made (t ≡ true → coming middle.clock ≡ drop 1 (coming old.clock))
     → Turned contents s t coming tape failed table old new
 turn_made contents s t coming tape failed table old middle new made rests drove times =
     turned_then contents s t coming tape failed table old middle new
-    (record { made = Some made; did = record { drove = drove_recorded contents s t _ 1 2 _ _ made drove; times_ms = times } })
+    (record { made = Some made; did = record { drove = drove_recorded contents s t _ 1 131 _ _ made drove; times_ms = times } })
     rests
 
 -- no turn was made
@@ -140,11 +140,11 @@ not_turned contents s t coming tape failed table station full = record { made = 
 did_record : {P C D W O E : Type 0} (contents : W → Option (List ℕ)) (s t : Bool) (coming : C → List ℕ) (tape : P → Tape) (failed : P → ℕ) (table : D → DeviceTable) (old new : Station P C D W O E) (made : Option (Result ℕ RunFault))
     → Turned contents s t coming tape failed table old new
     → MadeOrNot contents s t (coming old.clock) (coming new.clock) (station_seen tape failed table old) (station_seen tape failed table new) made → Recorded contents s t coming tape failed table old new
-did_record contents s t coming tape failed table old new None turn did = record { deeds = Turn ∷ []; does = (new, turn, refl); events = []; outcomes = []; runs = did.table; notes = did.recorder }
+did_record contents s t coming tape failed table old new None turn did = record { tasks = Turn ∷ []; does = (new, turn, refl); events = []; outcomes = []; runs = did.table; notes = did.recorder }
 did_record contents s t coming tape failed table old new (Some (Ok count)) turn did =
-    let hands = did.drove.handed in record { deeds = Turn ∷ []; does = (new, turn, refl); events = hands.events; outcomes = hands.outcomes; runs = hands.runs; notes = hands.watches }
+    let hands = did.drove.handed in record { tasks = Turn ∷ []; does = (new, turn, refl); events = hands.events; outcomes = hands.outcomes; runs = hands.runs; notes = hands.watches }
 did_record contents s t coming tape failed table old new (Some (Err fault)) turn did =
-    let hands = did.drove.handed_some in record { deeds = Turn ∷ []; does = (new, turn, refl); events = hands.events; outcomes = hands.outcomes; runs = hands.runs; notes = hands.watches }
+    let hands = did.drove.handed_some in record { tasks = Turn ∷ []; does = (new, turn, refl); events = hands.events; outcomes = hands.outcomes; runs = hands.runs; notes = hands.watches }
 
 pub turn_records : {P C D W O E : Type 0} (contents : W → Option (List ℕ)) (s t : Bool) (coming : C → List ℕ) (tape : P → Tape) (failed : P → ℕ) (table : D → DeviceTable) (old new : Station P C D W O E)
     → Turned contents s t coming tape failed table old new → Recorded contents s t coming tape failed table old new
@@ -155,9 +155,9 @@ called_record : {P C D W O E : Type 0} (contents : W → Option (List ℕ)) (s t
     → Called contents s tape failed table event old new
     → Drove (Notes contents) s true (event ∷ []) 0 1 (station_seen tape failed table old) (station_seen tape failed table new) (once made) → Recorded contents s t coming tape failed table old new
 called_record contents s t coming tape failed table event old new (Ok done) call drove =
-    let hands = drove.handed in record { deeds = Call event ∷ []; does = (new, call, refl); events = hands.events; outcomes = hands.outcomes; runs = hands.runs; notes = hands.watches }
+    let hands = drove.handed in record { tasks = Call event ∷ []; does = (new, call, refl); events = hands.events; outcomes = hands.outcomes; runs = hands.runs; notes = hands.watches }
 called_record contents s t coming tape failed table event old new (Err fault) call drove =
-    let hands = drove.handed_some in record { deeds = Call event ∷ []; does = (new, call, refl); events = hands.events; outcomes = hands.outcomes; runs = hands.runs; notes = hands.watches }
+    let hands = drove.handed_some in record { tasks = Call event ∷ []; does = (new, call, refl); events = hands.events; outcomes = hands.outcomes; runs = hands.runs; notes = hands.watches }
 
 -- a call, and what is done behind it
 pub call_records : {P C D W O E : Type 0} (contents : W → Option (List ℕ)) (s t : Bool) (coming : C → List ℕ) (tape : P → Tape) (failed : P → ℕ) (table : D → DeviceTable) (event : Event) (old middle new : Station P C D W O E) (made : Result Unit RunFault)

@@ -25,32 +25,32 @@ pub record Called {P C D W O E : Type 0} (contents : W → Option (List ℕ)) (s
 
 -- ONE THING BEHIND ANOTHER
 
--- what a station does: a turn; a call of its application, or a start or a stop of a slot; the end of all sessions, or one that
+-- what a station does: a turn; a call of its application, a start or a stop of a slot, or a tick at its end; the end of all sessions, or one that
 -- a fault breaks off; and what neither the device nor the port nor the clock sees
-pub data Deed : Type 0 where
-  Turn : Deed
-  Call : Event → Deed
-  End : Deed
-  BrokenEnd : Deed
-  Rest : Deed
+pub data Task : Type 0 where
+  Turn : Task
+  Call : Event → Task
+  End : Task
+  BrokenEnd : Task
+  Rest : Task
 
-abbrev pub Did : {P C D W O E : Type 0} (contents : W → Option (List ℕ)) (scripted timed : Bool) (coming : C → List ℕ) (tape : P → Tape) (failed : P → ℕ) (table : D → DeviceTable) → Deed → Station P C D W O E → Station P C D W O E → Type 0
+abbrev pub Did : {P C D W O E : Type 0} (contents : W → Option (List ℕ)) (scripted timed : Bool) (coming : C → List ℕ) (tape : P → Tape) (failed : P → ℕ) (table : D → DeviceTable) → Task → Station P C D W O E → Station P C D W O E → Type 0
 Did contents scripted timed coming tape failed table Turn old new = Turned contents scripted timed coming tape failed table old new
 Did contents scripted timed coming tape failed table (Call event) old new = Called contents scripted tape failed table event old new
 Did contents scripted timed coming tape failed table End old new = Ended scripted tape failed table old new
 Did contents scripted timed coming tape failed table BrokenEnd old new = Unstepped old new
 Did contents scripted timed coming tape failed table Rest old new = Rests scripted tape failed old new
 
-abbrev pub Does : {P C D W O E : Type 0} (contents : W → Option (List ℕ)) (scripted timed : Bool) (coming : C → List ℕ) (tape : P → Tape) (failed : P → ℕ) (table : D → DeviceTable) → List Deed → Station P C D W O E → Station P C D W O E → Type 0
+abbrev pub Does : {P C D W O E : Type 0} (contents : W → Option (List ℕ)) (scripted timed : Bool) (coming : C → List ℕ) (tape : P → Tape) (failed : P → ℕ) (table : D → DeviceTable) → List Task → Station P C D W O E → Station P C D W O E → Type 0
 Does contents scripted timed coming tape failed table [] old new = new ≡ old
-Does {P} {C} {D} {W} {O} {E} contents scripted timed coming tape failed table (deed ∷ deeds) old new = (mid : Station P C D W O E) × Did contents scripted timed coming tape failed table deed old mid × Does contents scripted timed coming tape failed table deeds mid new
+Does {P} {C} {D} {W} {O} {E} contents scripted timed coming tape failed table (task ∷ tasks) old new = (mid : Station P C D W O E) × Did contents scripted timed coming tape failed table task old mid × Does contents scripted timed coming tape failed table tasks mid new
 
 -- The station did these things, one behind another, and nothing else; so what a scripted port sent and which of its arrivals
 -- were taken is what its turns and calls say. The device of it ran by some events, and the recorder noted each of them with
 -- its outcome, in this order, and nothing else.
 pub record Recorded {P C D W O E : Type 0} (contents : W → Option (List ℕ)) (scripted timed : Bool) (coming : C → List ℕ) (tape : P → Tape) (failed : P → ℕ) (table : D → DeviceTable) (old new : Station P C D W O E) : Type 0 where
-  pub deeds : List Deed
-  pub does : Does contents scripted timed coming tape failed table deeds old new
+  pub tasks : List Task
+  pub does : Does contents scripted timed coming tape failed table tasks old new
   pub events : List Event
   pub outcomes : List Outcome
   pub runs : Runs (table old.device) events outcomes (table new.device)

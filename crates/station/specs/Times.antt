@@ -1,5 +1,5 @@
 -- When a station ends, and how long its turns wait.
-use Rattle.std.specs.Prelude.{ℕ, ◌+◌, ◌-◌, ◌^◌, ◌&&◌, min, nat_le, nat_lt, Bool, false, Option, Some, None}
+use Rattle.std.specs.Prelude.{ℕ, ◌+◌, ◌-◌, ◌^◌, ◌&&◌, min, nat_le, nat_lt, Bool, true, false, Option, Some, None}
 
 -- whether the time of a station is over
 abbrev pub is_over : ℕ → Option ℕ → Bool
@@ -18,3 +18,8 @@ close_end now = min (now + 2000) (2 ^ 64 - 1)
 -- whether it waits for them: while a slot is being closed, until that time
 abbrev pub waits_on : Bool → ℕ → ℕ → Bool
 waits_on closing now until = closing && nat_lt now until
+
+-- the milliseconds that a turn waits at most: while a line of state waits for room, 50
+abbrev pub patience_ms : Bool → ℕ → ℕ
+patience_ms true most = min 50 most
+patience_ms false most = most

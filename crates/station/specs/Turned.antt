@@ -12,7 +12,7 @@ use Rattle.udp_runner.specs.Turns.{turn_of}
 -- A turn was made with this result: the device was driven by what the clock and the port gave, as `Drove` says, and the
 -- recorder noted each step.
 pub record Made {W : Type 0} (contents : W → Option (List ℕ)) (scripted timed : Bool) (times later : List ℕ) (old new : Seen (Recorder W)) (made : Result ℕ RunFault) : Type 0 where
-  pub drove : Drove (Notes contents) scripted timed (turn_of times old.tape.coming) 1 2 old new made
+  pub drove : Drove (Notes contents) scripted timed (turn_of times old.tape.coming) 1 131 old new made
   pub times_ms : OnOk made (timed ≡ true → later ≡ drop 1 times)
 
 -- No turn was made: the count of the port's failures is at its end.

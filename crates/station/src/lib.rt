@@ -1,16 +1,16 @@
-//! A station: a device at a port with a clock, which takes the calls of its application as lines, records what its device
-//! takes, and prints what changes.
+//! A station: a device at a port with a clock. It takes calls as lines, records what its device takes, prints what changes.
 #![tactic(auto)]
 
 mod fault;
 mod living;
 mod observer;
+mod point_lines;
 mod run;
 mod serving;
 mod sessions;
 
 pub use fault::EarlyEnd;
-pub use living::{LifeLines, NextDeed};
+pub use living::{LifeLines, NextTask};
 pub use observer::StationObserver;
 pub use run::Ending;
-pub use serving::{Station, Voice};
+pub use serving::{Reporting, Station};

@@ -7,14 +7,15 @@ use crate::fault::EarlyEnd;
 use crate::serving::Station;
 use cip_tables::Device;
 use cip_types::{Items, OutOfMemory};
+use port_groups::GroupPort;
 use port_orders::{OrderedPort, PortOrder};
 use station_lines::LineSink;
 use station_record::RecordSink;
-use udp_runner::{Clock, KeptPort};
+use udp_runner::Clock;
 
 /// What a station does next.
 #[derive(PartialEq, Drop)]
-pub enum NextDeed {
+pub enum NextTask {
     /// It performs the call of this line, which has no LF.
     Line(Items<u8>),
     /// Its port obeys this order.
@@ -28,11 +29,11 @@ pub enum NextDeed {
 /// The lines by which a station lives. They never wait.
 pub trait LifeLines {
     /// What the station does next, so many milliseconds after its life began. The fault: an allocation was refused.
-    fn next_deed(&mut self, now_ms: u64) -> Result<NextDeed, OutOfMemory>;
+    fn next_task(&mut self, now_ms: u64) -> Result<NextTask, OutOfMemory>;
 }
 
 impl<
-    P: KeptPort + OrderedPort,
+    P: GroupPort + OrderedPort,
     C: Clock,
     D: Device,
     W: RecordSink + Drop,
@@ -43,7 +44,7 @@ impl<
     pub fn live<L: LifeLines>(&mut self, lines: &mut L, slots: u32) -> Result<(), EarlyEnd>
         ensures { Recorded W.contents P.is_scripted C.is_scripted C.coming P.tape P.failed D.table self.old self.new }
     {
-        self.start(slots)?;
+        self.begin(slots)?;
         self.live_on(lines)
     }
 
@@ -64,11 +65,11 @@ impl<
     fn do_next<L: LifeLines>(&mut self, lines: &mut L) -> Result<bool, EarlyEnd>
         ensures { Recorded W.contents P.is_scripted C.is_scripted C.coming P.tape P.failed D.table self.old self.new }
     {
-        match lines.next_deed(self.now_ms())? {
-            NextDeed::End => Ok(false),
-            NextDeed::Wait { ms } => self.wait_at_most(ms),
-            NextDeed::Order(order) => self.follow(order),
-            NextDeed::Line(line) => self.perform(line.as_slice()),
+        match lines.next_task(self.now_ms())? {
+            NextTask::End => Ok(false),
+            NextTask::Wait { ms } => self.wait_at_most(ms),
+            NextTask::Order(order) => self.follow(order),
+            NextTask::Line(line) => self.perform(line.as_slice()),
         }
     }
 

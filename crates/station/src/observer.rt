@@ -10,10 +10,14 @@ use attribute_lines::{PendingAttributes, ReplyMoment};
 use cip_events::{Answer, Delivery, Event, Outcome, Verdict};
 use cip_tables::{Config, Device};
 use cip_types::{Node, OutOfMemory};
-use page_feed::{PageFeed, StationFacts};
+use page_feed::{PageFeed, StationFacts, page_wait_ms};
+use port_groups::DataGroup;
 use station_lines::{EventMoment, LineSink, has_news, push_own};
 use station_record::{RecordFault, RecordSink, Recorder};
-use station_watch::{ClosingSlots, ConnectedPeers, SlotDuty, SlotWatches, Starved, StationTraffic};
+use station_watch::{
+    ClosingSlots, ConnectedPeers, LinkReport, SlotWatches, Starved, StationTraffic,
+};
+use status_words::push_refusals;
 use std::alloc::Global;
 use trace_text::push_outcome;
 use udp_runner::Observer;
@@ -84,6 +88,11 @@ impl<W: RecordSink + Drop, O: LineSink, E: LineSink> StationObserver<W, O, E> {
         }
     }
 
+    /// How long a turn may wait, so that the page gets its next snapshot in time.
+    pub fn page_wait_ms(&self, most_ms: u64) -> u64 {
+        page_wait_ms(&self.page, self.facts(), most_ms)
+    }
+
     /// Has the page note a step.
     fn note_page(&mut self, event: &Event, outcome: &Outcome)
         ensures kept { self.new.recorder ≡ self.old.recorder }
@@ -150,11 +159,18 @@ impl<W: RecordSink + Drop, O: LineSink, E: LineSink> StationObserver<W, O, E> {
         self.peers.push_changed(peers)
     }
 
-    /// Takes the next thing that the port is to be told of a slot's target.
-    pub fn next_duty(&mut self) -> Option<SlotDuty>
+    /// Appends the groups of the slots, each once, if they may have changed since the last time. Whether they may have.
+    pub fn push_groups(&mut self, groups: &mut Vec<DataGroup>) -> Result<bool, OutOfMemory>
         ensures kept { self.new.recorder ≡ self.old.recorder }
     {
-        self.slots.next_duty()
+        self.slots.push_groups(groups)
+    }
+
+    /// Takes the next thing that the port is to be told of a slot's target.
+    pub fn next_link_report(&mut self) -> Option<LinkReport>
+        ensures kept { self.new.recorder ≡ self.old.recorder }
+    {
+        self.slots.next_link_report()
     }
 
     /// Takes the next slot whose data never came.
@@ -202,6 +218,13 @@ impl<W: RecordSink + Drop, O: LineSink, E: LineSink> StationObserver<W, O, E> {
         }
     }
 
+    /// Offers a line of state on `out`. Whether it was taken.
+    pub fn print_state(&mut self, text: &[u8]) -> bool
+        ensures kept { self.new.recorder ≡ self.old.recorder }
+    {
+        self.out.state(text)
+    }
+
     /// Reports a text on `err`.
     pub fn report(&mut self, text: &[u8])
         ensures kept { self.new.recorder ≡ self.old.recorder }
@@ -209,12 +232,13 @@ impl<W: RecordSink + Drop, O: LineSink, E: LineSink> StationObserver<W, O, E> {
         self.err.line(text);
     }
 
-    /// Prints the outcome of the last event.
+    /// Prints the outcome of the last event, and why slots are not opened.
     fn print_outcome(&mut self, outcome: &Outcome) -> Result<(), OutOfMemory>
         ensures kept { self.new.recorder ≡ self.old.recorder }
     {
         let mut text = String::new(self.alloc);
         push_outcome(&mut text, self.recorder.count(), outcome)?;
+        push_refusals(&mut text, outcome)?;
         self.print(text.as_bytes());
         Ok(())
     }
@@ -292,7 +316,7 @@ impl<W: RecordSink + Drop, O: LineSink, E: LineSink> StationObserver<W, O, E> {
         ensures kept { self.new.recorder ≡ self.old.recorder }
     {
         self.record_fault = Some(fault);
-        self.report(b"eip_station: the record cannot take more and has ended\n");
+        self.report(fault.line());
     }
 }
 

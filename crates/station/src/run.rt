@@ -9,12 +9,12 @@ ghost use Rattle.station_watch.specs.Closing.{is_marked};
 use crate::fault::EarlyEnd;
 use crate::serving::Station;
 use cip_tables::Device;
+use port_groups::GroupPort;
 use station_lines::{CallLines, LineSink, NextLine};
 use station_record::RecordSink;
-use udp_runner::{Clock, KeptPort};
+use udp_runner::Clock;
 
-/// A station looks for lines of its application at least so often, in milliseconds. A source that wakes the port is looked
-/// at earlier.
+/// A station looks for lines at least so often, in milliseconds, and earlier if their source wakes the port.
 const LOOK_MS: u64 = 1_000;
 
 /// A scanner waits at most so long for the replies to its Forward_Close requests, in milliseconds.
@@ -29,7 +29,7 @@ pub struct Ending {
     pub ms: Option<u64>,
 }
 
-impl<P: KeptPort, C: Clock, D: Device, W: RecordSink + Drop, O: LineSink, E: LineSink> Station<
+impl<P: GroupPort, C: Clock, D: Device, W: RecordSink + Drop, O: LineSink, E: LineSink> Station<
     P,
     C,
     D,
@@ -37,8 +37,8 @@ impl<P: KeptPort, C: Clock, D: Device, W: RecordSink + Drop, O: LineSink, E: Lin
     O,
     E,
 > {
-    /// Runs the station until its time is over or the input ends, and then ends it in order: the slots are closed, and then
-    /// the sessions. After a fault it ends so too, as far as it can.
+    /// Runs the station until its time is over or the input ends, and then ends it in order: the outputs take their fault
+    /// actions, the slots are closed, and then the sessions. After a fault it ends so too, as far as it can.
     pub fn run<L: CallLines>(&mut self, lines: &mut L, ending: Ending) -> Result<(), EarlyEnd>
         ensures { Recorded W.contents P.is_scripted C.is_scripted C.coming P.tape P.failed D.table self.old self.new }
     {
@@ -51,7 +51,7 @@ impl<P: KeptPort, C: Clock, D: Device, W: RecordSink + Drop, O: LineSink, E: Lin
     fn run_on<L: CallLines>(&mut self, lines: &mut L, ending: Ending) -> Result<(), EarlyEnd>
         ensures { Recorded W.contents P.is_scripted C.is_scripted C.coming P.tape P.failed D.table self.old self.new }
     {
-        self.start(ending.slots)?;
+        self.begin(ending.slots)?;
         self.go_on(lines, ending.ms)
     }
 
@@ -107,10 +107,11 @@ impl<P: KeptPort, C: Clock, D: Device, W: RecordSink + Drop, O: LineSink, E: Lin
         Ok(true)
     }
 
-    /// Closes the slots, waits a bounded time for the replies, and ends the sessions.
+    /// Times out who owns an output, closes the slots, waits a bounded time for the replies, and ends the sessions.
     pub fn close(&mut self, slots: u32) -> Result<(), EarlyEnd>
         ensures { Recorded W.contents P.is_scripted C.is_scripted C.coming P.tape P.failed D.table self.old self.new }
     {
+        self.time_out_owners()?;
         self.stop(slots)?;
         self.wait_closed()?;
         self.unregister()

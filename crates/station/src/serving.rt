@@ -12,23 +12,27 @@ ghost use Rattle.station_watch.specs.Closing.{is_marked};
 
 use crate::fault::{EarlyEnd, failures_after_call, failures_after_turn};
 use crate::observer::StationObserver;
+use crate::point_lines::patience_ms;
 use crate::sessions::{sessions_of, unregister_message};
 use attribute_lines::{AttributeCall, call_event};
 use cip_tables::{Config, Device, Event};
 use cip_types::{Ms, Node, OutOfMemory};
+use port_groups::{DataGroup, GroupPort};
 use scanner_table::Session;
-use station_lines::{InputLine, LineSink, Points, push_report, push_starved, read_line};
+use station_lines::{
+    InputLine, LineSink, Points, push_report, push_starved, push_unbound, read_line,
+};
 use station_record::{RecordFault, RecordSink};
-use station_watch::{SlotDuty, StationTraffic};
+use station_watch::{LinkReport, StationTraffic, owners_of};
 use std::alloc::Global;
-use udp_runner::{Clock, KeptPort, Output, RunFault, act, turn_waiting};
+use udp_runner::{Clock, Output, RunFault, act, turn_in_time};
 
 /// At most so many reports of the port are told behind one turn.
 const MOST_REPORTS: u32 = 64;
 
 /// What a station says beside its outcomes.
 #[derive(Clone, Copy, PartialEq, Eq)]
-pub struct Voice {
+pub struct Reporting {
     /// Whether it says nothing of its port's streams, and not why it ends with its input.
     pub quiet: bool,
     /// The seconds for which an adapter's stream may be silent.
@@ -38,20 +42,21 @@ pub struct Voice {
 /// A device at a port with a clock, with an observer of its steps.
 #[derive(Drop)]
 pub struct Station<P, C, D, W, O, E> {
-    alloc: Global,
+    pub(crate) alloc: Global,
     pub(crate) port: P,
     clock: C,
-    device: D,
-    observer: StationObserver<W, O, E>,
-    points: Points,
+    pub(crate) device: D,
+    pub(crate) observer: StationObserver<W, O, E>,
+    pub(crate) points: Points,
     peers: Vec<Node>,
-    text: String,
-    voice: Voice,
+    groups: Vec<DataGroup>,
+    pub(crate) text: String,
+    reporting: Reporting,
     failures: u32,
     lines: u64,
 }
 
-impl<P: KeptPort, C: Clock, D: Device, W: RecordSink + Drop, O: LineSink, E: LineSink> Station<
+impl<P: GroupPort, C: Clock, D: Device, W: RecordSink + Drop, O: LineSink, E: LineSink> Station<
     P,
     C,
     D,
@@ -67,7 +72,7 @@ impl<P: KeptPort, C: Clock, D: Device, W: RecordSink + Drop, O: LineSink, E: Lin
         clock: C,
         device: D,
         observer: StationObserver<W, O, E>,
-        voice: Voice,
+        reporting: Reporting,
     ) -> Result<Self, OutOfMemory>
     where
         P: Drop,
@@ -86,8 +91,9 @@ impl<P: KeptPort, C: Clock, D: Device, W: RecordSink + Drop, O: LineSink, E: Lin
             observer,
             points: Points::of(alloc, config)?,
             peers: Vec::new(alloc),
+            groups: Vec::new(alloc),
             text: String::new(alloc),
-            voice,
+            reporting,
             failures: 0,
             lines: 0,
         })
@@ -112,10 +118,12 @@ impl<P: KeptPort, C: Clock, D: Device, W: RecordSink + Drop, O: LineSink, E: Lin
         self.observer.traffic()
     }
 
-    /// Makes a turn that waits at most so many milliseconds, and prints what has changed.
+    /// Makes a turn that waits at most so long, and less if a line of state or a browser waits. Prints what has changed.
     pub fn turn(&mut self, most_ms: u64) -> Result<(), EarlyEnd>
         ensures { Turned W.contents P.is_scripted C.is_scripted C.coming P.tape P.failed D.table self.old self.new }
     {
+        let most_ms = self.observer.page_wait_ms(most_ms);
+        let most_ms = patience_ms(self.points.is_behind(), most_ms);
         self.wait_and_step(most_ms)?;
         self.inform_port()?;
         self.show()
@@ -126,42 +134,56 @@ impl<P: KeptPort, C: Clock, D: Device, W: RecordSink + Drop, O: LineSink, E: Lin
         ensures { Rests P.is_scripted P.tape P.failed self.old self.new }
     {
         self.pass_peers()?;
-        self.pass_duties();
+        self.pass_groups()?;
+        self.pass_link_reports();
         self.report_starved()?;
+        self.report_unbound()?;
         self.report_streams()
     }
 
-    /// Tells an adapter's port which peers have connections, if they have changed.
+    /// Tells an adapter's port which peers have connections, and which own outputs, if they have changed.
     fn pass_peers(&mut self) -> Result<(), EarlyEnd>
         ensures { Rests P.is_scripted P.tape P.failed self.old self.new }
     {
         self.peers.clear();
         if self.observer.push_peers(&mut self.peers)? {
-            self.port.keep(self.peers.as_slice());
+            let owners = owners_of(self.alloc, &self.device)?;
+            self.port.keep(self.peers.as_slice(), owners.as_slice());
+        }
+        Ok(())
+    }
+
+    /// Tells a scanner's port of which groups it receives the datagrams, if they have changed.
+    fn pass_groups(&mut self) -> Result<(), EarlyEnd>
+        ensures { Rests P.is_scripted P.tape P.failed self.old self.new }
+    {
+        self.groups.clear();
+        if self.observer.push_groups(&mut self.groups)? {
+            self.port.receive_groups(self.groups.as_slice());
         }
         Ok(())
     }
 
     /// Tells a scanner's port of which targets the streams are to be renewed, and with which a connection is established.
-    fn pass_duties(&mut self)
+    fn pass_link_reports(&mut self)
         ensures { Rests P.is_scripted P.tape P.failed self.old self.new }
     {
         self.peers.clear();
         for _ in 0..u64::MAX {
-            let Some(duty) = self.observer.next_duty() else {
+            let Some(link_report) = self.observer.next_link_report() else {
                 return;
             };
-            self.pass_duty(duty);
+            self.pass_link_report(link_report);
         }
     }
 
     /// Tells a scanner's port of the target of one slot.
-    fn pass_duty(&mut self, duty: SlotDuty)
+    fn pass_link_report(&mut self, link_report: LinkReport)
         ensures { Rests P.is_scripted P.tape P.failed self.old self.new }
     {
-        match duty {
-            SlotDuty::Renew(slot) => self.renew(slot),
-            SlotDuty::Succeed(slot) => self.succeed(slot),
+        match link_report {
+            LinkReport::Renew(slot) => self.renew(slot),
+            LinkReport::Succeed(slot) => self.succeed(slot),
         }
     }
 
@@ -204,6 +226,21 @@ impl<P: KeptPort, C: Clock, D: Device, W: RecordSink + Drop, O: LineSink, E: Lin
         Ok(())
     }
 
+    /// Reports the groups whose datagrams the port cannot receive.
+    fn report_unbound(&mut self) -> Result<(), EarlyEnd>
+        ensures { Rests P.is_scripted P.tape P.failed self.old self.new }
+    {
+        for _ in 0..MOST_REPORTS {
+            let Some(group) = self.port.next_unbound() else {
+                return Ok(());
+            };
+            self.text.clear();
+            push_unbound(&mut self.text, group)?;
+            self.observer.report(self.text.as_bytes());
+        }
+        Ok(())
+    }
+
     /// Says what the port reports of its streams.
     fn report_streams(&mut self) -> Result<(), EarlyEnd>
         ensures { Rests P.is_scripted P.tape P.failed self.old self.new }
@@ -212,9 +249,9 @@ impl<P: KeptPort, C: Clock, D: Device, W: RecordSink + Drop, O: LineSink, E: Lin
             let Some(report) = self.port.next_report() else {
                 return Ok(());
             };
-            if !self.voice.quiet {
+            if !self.reporting.quiet {
                 self.text.clear();
-                push_report(&mut self.text, &report, self.voice.silent_s)?;
+                push_report(&mut self.text, &report, self.reporting.silent_s)?;
                 self.observer.report(self.text.as_bytes());
             }
         }
@@ -225,7 +262,7 @@ impl<P: KeptPort, C: Clock, D: Device, W: RecordSink + Drop, O: LineSink, E: Lin
     pub fn report_input_end(&mut self)
         ensures { Rests P.is_scripted P.tape P.failed self.old self.new }
     {
-        if !self.voice.quiet {
+        if !self.reporting.quiet {
             self.observer.report(
                 b"eip_station: standard input has ended, and so does the station (--no-input: runs on without it)\n",
             );
@@ -237,11 +274,11 @@ impl<P: KeptPort, C: Clock, D: Device, W: RecordSink + Drop, O: LineSink, E: Lin
     fn wait_and_step(&mut self, most_ms: u64) -> Result<(), EarlyEnd>
         ensures { Turned W.contents P.is_scripted C.is_scripted C.coming P.tape P.failed D.table self.old self.new }
     {
-        // (`turn_waiting` requires that the count of failures can rise)
+        // (`turn_in_time` requires that the count of failures can rise)
         if self.port.failures() == u64::MAX {
             return Err(EarlyEnd::Port);
         }
-        let made = turn_waiting(
+        let made = turn_in_time(
             &mut self.port,
             &mut self.device,
             &mut self.clock,
@@ -293,8 +330,7 @@ impl<P: KeptPort, C: Clock, D: Device, W: RecordSink + Drop, O: LineSink, E: Lin
         self.show()
     }
 
-    /// Steps the device by an event of the application, and sends the answer. What cannot be sent is lost, as it may be on
-    /// the network.
+    /// Steps the device by an event of the application, and sends the answer. What cannot be sent is lost.
     #[tactic(auto, using(crate::proofs::Noting::at_rest, crate::proofs::Noting::unmoved))]
     fn step_and_send(&mut self, event: &Event) -> Result<(), EarlyEnd>
         ensures { Recorded W.contents P.is_scripted C.is_scripted C.coming P.tape P.failed D.table self.old self.new }
@@ -344,8 +380,6 @@ impl<P: KeptPort, C: Clock, D: Device, W: RecordSink + Drop, O: LineSink, E: Lin
     }
 
     /// Ends each session of the device: sends UnRegisterSession, and closes the stream.
-    ///
-    /// Volume 2, chapter 2, UnRegisterSession.
     pub fn unregister(&mut self) -> Result<(), EarlyEnd>
         ensures unstepped { Unstepped self.old self.new }
         ensures ended { OnOk result (Ended P.is_scripted P.tape P.failed D.table self.old self.new) }
@@ -384,16 +418,12 @@ impl<P: KeptPort, C: Clock, D: Device, W: RecordSink + Drop, O: LineSink, E: Lin
         Ok(())
     }
 
-    /// Prints the points that have changed. The fault: there was no memory for an outcome or a change.
-    fn show(&mut self) -> Result<(), EarlyEnd>
+    /// Offers the lines that are due of points. The fault: there was no memory for an outcome or a line.
+    pub(crate) fn show(&mut self) -> Result<(), EarlyEnd>
         ensures { Rests P.is_scripted P.tape P.failed self.old self.new }
     {
         self.observer.check()?;
-        self.text.clear();
-        let at = self.observer.moment();
-        self.points
-            .push_changes(self.alloc, &mut self.text, &self.device, at)?;
-        self.observer.print(self.text.as_bytes());
+        self.print_points()?;
         self.observer.show_page(&self.device);
         Ok(())
     }

@@ -1,7 +1,7 @@
 -- What the file of a station's state says.
 use Rattle.std.specs.Prelude.{ℕ, ◌==◌, if◌then◌else◌, Option, Some, None, Result, Ok, Err}
-use Rattle.std.specs.declared.io.ErrorKind.{ErrorKind}
-use Rattle.std.specs.declared.io.ErrorKind.TheVariants as kind
+use Rattle.regular_files.specs.declared.fault.FileFault.{FileFault}
+use Rattle.regular_files.specs.declared.fault.FileFault.TheVariants as file
 use Rattle.station_state.specs.declared.state.StationState.{StationState}
 use Rattle.station_files.specs.declared.state_file.StateFault.{StateFault}
 use Rattle.station_files.specs.declared.state_file.StateFault.TheVariants as fault
@@ -9,13 +9,13 @@ use Rattle.station_files.specs.declared.state_file.StateFault.TheVariants as fau
 -- a file's text is a state, or it is a fault
 abbrev pub held_state : Option StationState → Result (Option StationState) StateFault
 held_state (Some state) = Ok (Some state)
-held_state None = Err fault.Unread
+held_state None = Err fault.NoState
 
 -- a file that is not there is the first start; one that is there has to be read
-abbrev pub unread_state : ErrorKind → Result (Option StationState) StateFault
-unread_state kind.NotFound = Ok None
-unread_state kind.OutOfMemory = Err fault.OutOfMemory
-unread_state _ = Err fault.Unread
+abbrev pub unread_state : FileFault → Result (Option StationState) StateFault
+unread_state file.Missing = Ok None
+unread_state file.OutOfMemory = Err fault.OutOfMemory
+unread_state other = Err (fault.Unread other)
 
 -- a number that is drawn is a serial number, if it is not 0
 abbrev pub drawn_number : ℕ → Option ℕ

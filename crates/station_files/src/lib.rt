@@ -10,4 +10,4 @@ mod state_file;
 pub use file_words::{name_of, stem_of};
 pub use moment::push_moment;
 pub use record_file::{RecordFile, RecordPlace, place_of_record};
-pub use state_file::{StateFault, begin_in_file};
+pub use state_file::{Start, StateFault};

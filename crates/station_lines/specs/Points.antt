@@ -1,26 +1,24 @@
--- The points that a station watches, and the lines for those that have changed.
-use Rattle.std.specs.Prelude.{ℕ, ◌^◌, ◌-◌, zero, suc, min, length, map, replicate, slice_get, if◌then◌else◌, bytes_eq, List, [], ◌∷◌, ◌++◌, Option, Some, None, codes, decimal}
+-- The points that a station watches, and the lines that are due of them.
+use Rattle.std.specs.Prelude.{ℕ, ◌^◌, ◌-◌, zero, suc, min, length, map, slice_get, is_some, Bool, List, [], ◌∷◌, ◌++◌, Option, Some, None, codes, decimal}
 use Rattle.adapter_table.specs.declared.profile.OutputPoint.{OutputPoint}
 use Rattle.scanner_table.specs.declared.profile.SlotConfig.{SlotConfig}
 use Rattle.cip_tables.specs.declared.table.Config.{Config}
 use Rattle.cip_tables.specs.declared.table.Config.TheVariants as config
 use Rattle.cip_tables.specs.declared.table.DeviceTable.{DeviceTable}
+use Rattle.cip_tables.specs.States.{owner_in}
 use Rattle.cip_tables.specs.Step.{bytes_in}
 use Rattle.trace_words.specs.Words.{bytes_word}
 use Rattle.station_lines.specs.declared.points.PointKind.{PointKind}
 use Rattle.station_lines.specs.declared.points.PointKind.TheVariants.{Output, Image}
 use Rattle.station_lines.specs.declared.points.SlotTerms.{SlotTerms}
 use Rattle.station_lines.specs.declared.points.WatchedPoint.{WatchedPoint}
+use Rattle.line_queue.specs.Reported.{Reported, due_bytes}
 
 -- THE POINTS OF A PROFILE
 
--- a point before its first bytes: it is of zeros
-abbrev pub watched_point : PointKind → ℕ → ℕ → WatchedPoint
-watched_point kind point len = record { kind = kind; point = point; bytes = replicate len 0 }
-
 -- an output of an adapter
 abbrev pub watched_output : OutputPoint → WatchedPoint
-watched_output output = watched_point Output output.instance output.len
+watched_output output = record { kind = Output; point = output.instance }
 
 -- what the profile says of a slot's connection: target, kind, points and configuration
 abbrev pub terms_of : SlotConfig → SlotTerms
@@ -28,7 +26,7 @@ terms_of slot = record { target = slot.target; kind = slot.kind; consumed = slot
 
 -- the image of a slot
 abbrev pub watched_slot : ℕ → SlotConfig → WatchedPoint
-watched_slot number slot = watched_point (Image (terms_of slot)) number slot.in_len
+watched_slot number slot = record { kind = Image (terms_of slot); point = number }
 
 abbrev pub watched_at : ℕ → Option SlotConfig → List WatchedPoint
 watched_at number (Some slot) = watched_slot number slot ∷ []
@@ -47,6 +45,9 @@ abbrev pub watched_points : Config → List WatchedPoint
 watched_points (config.Adapter profile) = map watched_output profile.outputs
 watched_points (config.Scanner profile) = watched_slots profile.slots
 
+abbrev pub count_of : List WatchedPoint → ℕ
+count_of points = min (length points) (2 ^ 32 - 1)
+
 -- LINES
 
 abbrev pub word_of : PointKind → List ℕ
@@ -57,24 +58,28 @@ word_of (Image terms) = codes "image"
 abbrev pub point_line : ℕ → ℕ → PointKind → ℕ → List ℕ → List ℕ
 point_line number ms kind point bytes = decimal number ++ (codes " at " ++ (decimal ms ++ (codes " " ++ (word_of kind ++ (codes " " ++ (decimal point ++ (codes " " ++ (bytes_word bytes ++ codes "\n"))))))))
 
--- the line, if the bytes have changed
-abbrev pub change_text : ℕ → ℕ → PointKind → ℕ → List ℕ → List ℕ → List ℕ
-change_text number ms kind point old new = if bytes_eq old new then [] else point_line number ms kind point new
+-- DUE LINES
 
--- the line of a point of which a device has these bytes now, if they have changed; none if it has no such point
-abbrev pub change_of : ℕ → ℕ → WatchedPoint → Option (List ℕ) → List ℕ
-change_of number ms watched (Some bytes) = change_text number ms watched.kind watched.point watched.bytes bytes
-change_of number ms watched None = []
+-- the bytes of which the line of a point at a place is due in a device's table: none if it has no such point
+abbrev pub due_with : Reported → ℕ → Option (List ℕ) → Option (List ℕ)
+due_with reported place (Some bytes) = due_bytes reported place bytes
+due_with reported place None = None
 
--- the lines of the points whose bytes have changed in a device's table
-abbrev pub changes_text : ℕ → ℕ → DeviceTable → List WatchedPoint → List ℕ
-changes_text number ms table [] = []
-changes_text number ms table (watched ∷ others) = change_of number ms watched (bytes_in table watched.point) ++ changes_text number ms table others
+abbrev pub due_of : DeviceTable → Reported → ℕ → ℕ → Option (List ℕ)
+due_of table reported place point = due_with reported place (bytes_in table point)
 
--- a point with the bytes of the device's table, if it has the point
-abbrev pub held_with : WatchedPoint → Option (List ℕ) → WatchedPoint
-held_with watched (Some bytes) = record watched { bytes = bytes }
-held_with watched None = watched
+abbrev pub due_at : DeviceTable → Reported → ℕ → Option WatchedPoint → Option (List ℕ)
+due_at table reported place (Some watched) = due_of table reported place watched.point
+due_at table reported place None = None
 
-abbrev pub held_point : DeviceTable → WatchedPoint → WatchedPoint
-held_point table watched = held_with watched (bytes_in table watched.point)
+-- the line of a point, if it is due
+abbrev pub due_line : ℕ → ℕ → Option WatchedPoint → Option (List ℕ) → List ℕ
+due_line number ms (Some watched) (Some bytes) = point_line number ms watched.kind watched.point bytes
+due_line number ms (Some watched) None = []
+due_line number ms None due = []
+
+-- OWNERS
+
+-- a connection owns an output of this number
+abbrev pub is_owned : DeviceTable → WatchedPoint → Bool
+is_owned table watched = is_some (owner_in table watched.point)

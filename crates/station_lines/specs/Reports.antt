@@ -8,6 +8,7 @@ use Rattle.udp_runner.specs.declared.report.RefusalCause.TheVariants as refusal
 use Rattle.udp_runner.specs.declared.report.PortReport.{PortReport}
 use Rattle.udp_runner.specs.declared.report.PortReport.TheVariants as report
 use Rattle.trace_words.specs.Words.{node_word}
+use Rattle.port_groups.specs.declared.group.DataGroup.{DataGroup}
 use Rattle.station_watch.specs.declared.slots.Starved.{Starved}
 
 -- STREAMS
@@ -56,10 +57,18 @@ report_text silent (report.NotOpened peer cause) = refusal_text peer cause
 -- SLOTS
 
 -- what to do for the data of a group, if the reply named one
-abbrev pub remedy_text : Option Node → List ℕ
-remedy_text (Some group) = codes " came to " ++ (node_word group ++ (codes ": this host does not receive that group: ip address add " ++ (node_word group ++ codes "/32 dev INTERFACE autojoin\n")))
+abbrev pub remedy_text : Option DataGroup → List ℕ
+remedy_text (Some group) = codes " came to " ++ (node_word group.address ++ (codes ": this host does not receive that group: ip address add " ++ (node_word group.address ++ codes "/32 dev INTERFACE autojoin\n")))
 remedy_text None = codes " came: if this host does not receive its group: ip address add GROUP/32 dev INTERFACE autojoin\n"
 
 -- the line of a slot whose data never came
 abbrev pub starved_text : Starved → List ℕ
 starved_text starved = codes "eip_station: slot " ++ (decimal starved.slot ++ (codes ": no multicast datagram of " ++ (node_word starved.target ++ remedy_text starved.group)))
+
+-- why no datagram of a group comes
+abbrev pub unbound_port_text : ℕ → List ℕ
+unbound_port_text port = codes " can be received: its UDP port " ++ (decimal port ++ codes " cannot be had, as where another program has it alone; it is tried again every 5 s\n")
+
+-- the line of a group for which no socket can be bound
+abbrev pub unbound_text : DataGroup → List ℕ
+unbound_text group = codes "eip_station: no datagram of the group " ++ (node_word group.address ++ unbound_port_text group.port)

@@ -7,8 +7,6 @@ use Rattle.adapter_table.specs.declared.row.Mode.{Mode}
 use Rattle.adapter_table.specs.declared.row.Mode.TheVariants as mode
 use Rattle.cip_productions.specs.declared.age.Age.{Age}
 use Rattle.cip_productions.specs.declared.age.Age.TheVariants.{SinceOpening, SinceAccepted}
-use Rattle.cip_productions.specs.declared.kind.Kind.{Kind}
-use Rattle.cip_productions.specs.declared.kind.Kind.TheVariants.{ExclusiveOwner, InputOnly, ListenOnly}
 use Rattle.cip_tables.specs.declared.table.DeviceTable.{DeviceTable}
 use Rattle.cip_tables.specs.declared.totals.DeviceTotals.{DeviceTotals}
 use Rattle.cip_tables.specs.States.{connection_in, owner_in, slot_in, totals_of}
@@ -25,13 +23,9 @@ use Rattle.datagram_counts.specs.declared.counts.DatagramCounts.{DatagramCounts}
 use Rattle.station_watch.specs.declared.traffic.CountedConnection.{CountedConnection}
 use Rattle.station_watch.specs.declared.traffic.TrafficTotals.{TrafficTotals}
 use Rattle.trace_words.specs.Words.{node_word}
+use Rattle.trace_lines.specs.Kinds.{kind_word}
 
 -- WORDS
-
-abbrev pub kind_word : Kind → List ℕ
-kind_word ExclusiveOwner = codes "exclusive"
-kind_word InputOnly = codes "input"
-kind_word ListenOnly = codes "listen"
 
 abbrev pub state_word : Bool → List ℕ
 state_word true = codes "open"
@@ -77,7 +71,7 @@ use_text totals =
     codes "status streams " ++ (decimal totals.streams
     ++ (codes " sessions " ++ (decimal totals.sessions
     ++ (codes " connections " ++ (decimal totals.connections
-    ++ (codes " class-3 " ++ (decimal totals.dialogues
+    ++ (codes " class-3 " ++ (decimal totals.class3_connections
     ++ (codes " ids " ++ decimal totals.ids_left))))))))
 
 abbrev pub traffic_text : TrafficTotals → List ℕ

@@ -12,6 +12,6 @@ mod status;
 pub use calls::{InputLine, has_news, is_call, read_call, read_line};
 pub use lines::{CallBuffer, CallLines, InputRead, NextLine, NoLines, input_read};
 pub use points::{EventMoment, Points};
-pub use reports::{push_report, push_starved};
+pub use reports::{push_report, push_starved, push_unbound};
 pub use sink::LineSink;
 pub use status::push_own;

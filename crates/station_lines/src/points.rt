@@ -1,13 +1,15 @@
-//! The points whose changes a station prints: the outputs of an adapter, the images of a scanner's slots.
+//! The points whose bytes a station prints: the outputs of an adapter, the images of a scanner's slots.
 
-ghost use Rattle.std.specs.Prelude.{◌≡◌, ◌++◌, map, IfOk, OnOk, string_bytes};
-ghost use Rattle.cip_tables.specs.Step.{bytes_in};
-ghost use Rattle.station_lines.specs.Points.{change_of, change_text, changes_text, held_point, point_line, terms_of, watched_output, watched_point, watched_points, watched_slot, watched_slots, word_of};
+ghost use Rattle.std.specs.Prelude.{◌≡◌, ◌++◌, map, slice_get, IfOk, OnOk, string_bytes};
+ghost use Rattle.std.specs.List.{list_any};
+ghost use Rattle.station_lines.specs.Points.{count_of, due_at, due_line, due_of, is_owned, point_line, terms_of, watched_output, watched_points, watched_slot, watched_slots, word_of};
 ghost use Rattle.station_lines.specs.Status.{status_text};
+ghost use Rattle.line_queue.specs.Reported.{answered, begun, first_place, is_behind, unreported};
 
 use crate::status::push_status;
 use cip_tables::{Config, Device, Kind, OutputPoint, SlotConfig};
 use cip_types::{Items, Node, OutOfMemory};
+use line_queue::ReportedPoints;
 use station_watch::StationTraffic;
 use std::alloc::Global;
 use trace_words::push_last_bytes;
@@ -38,56 +40,104 @@ pub enum PointKind {
     Image(SlotTerms),
 }
 
-/// When points changed: behind the event of this number, at this time in milliseconds.
+/// When points held their bytes: behind the event of this number, at this time in milliseconds.
 #[derive(Clone, Copy, PartialEq, Eq)]
 pub struct EventMoment {
     pub number: u64,
     pub ms: u64,
 }
 
-/// A point, and the bytes that were printed last.
-#[derive(Drop)]
+/// A point whose bytes are printed.
+#[derive(Clone, Copy, PartialEq, Eq)]
 pub struct WatchedPoint {
     pub kind: PointKind,
     pub point: u32,
-    pub bytes: Items<u8>,
 }
 
-/// The points whose changes are printed.
+/// The points whose bytes are printed, and what was told of each: its line that was taken last.
 #[derive(Drop)]
 pub struct Points {
     points: Vec<WatchedPoint>,
+    reported: ReportedPoints,
 }
 
 impl Points {
-    /// The outputs of an adapter, or the images of a scanner's slots, in the order of the profile: at first each is zeros.
-    /// OutOfMemory is the only fault.
+    /// The outputs of an adapter, or the images of a scanner's slots, in the order of the profile: at first nothing is told of
+    /// them. OutOfMemory is the only fault.
     pub fn of(alloc: Global, config: &Config) -> Result<Points, OutOfMemory>
-        ensures { IfOk result (λ made. made.points.items ≡ watched_points config.now) }
+        ensures points { IfOk result (λ made. made.points.items ≡ watched_points config.now) }
+        ensures reported { IfOk result (λ made. made.reported ≡ unreported (count_of (watched_points config.now))) }
     {
         let points = match config {
             Config::Adapter(profile) => watch_outputs(alloc, profile.outputs.as_slice())?,
             Config::Scanner(profile) => watch_slots(alloc, profile.slots.as_slice())?,
         };
-        Ok(Points { points })
+        let reported = ReportedPoints::unreported(alloc, count_of(points.as_slice()))?;
+        Ok(Points { points, reported })
     }
 
-    /// Appends a line for each point whose bytes have changed: the number of the last event, the kind and the number of the
-    /// point, its bytes, and the time in milliseconds. These bytes are the point's from then on.
-    pub fn push_changes<D: Device>(
-        &mut self,
+    /// How many points there are.
+    pub fn count(&self) -> u32
+        ensures { result ≡ count_of self.now.points.items }
+    {
+        count_of(self.points.as_slice())
+    }
+
+    /// Begins to offer the lines that are due: answers the place of the point with which it begins, the one whose line found
+    /// no room last.
+    pub fn begin(&mut self) -> u32
+        ensures first { result ≡ first_place self.old.reported }
+        ensures begun { self.new.reported ≡ begun self.old.reported }
+        ensures kept { self.new.points ≡ self.old.points }
+    {
+        self.reported.begin()
+    }
+
+    /// Appends the line of the point at a place, if it is due: the number of the last event, the kind and the number of the
+    /// point, its bytes, and the time in milliseconds. Answers these bytes.
+    pub fn push_due<D: Device>(
+        &self,
         alloc: Global,
         out: &mut String,
         device: &D,
         at: EventMoment,
-    ) -> Result<(), OutOfMemory>
-        ensures text { OnOk result (string_bytes out.new ≡ string_bytes out.old
-            ++ changes_text at.number at.ms (D.table device.now) self.old.points.items) }
-        ensures held { OnOk result
-            (self.new.points.items ≡ map (held_point (D.table device.now)) self.old.points.items) }
+        place: u32,
+    ) -> Result<Option<Items<u8>>, OutOfMemory>
+        ensures due { IfOk result
+            (λ due. due ≡ due_at (D.table device.now) self.now.reported place (slice_get self.now.points.items place)) }
+        ensures text { IfOk result (λ due. string_bytes out.new ≡ string_bytes out.old
+            ++ due_line at.number at.ms (slice_get self.now.points.items place) due) }
     {
-        push_lines(out, self.points.as_slice(), device, at)?;
-        hold_all(alloc, &mut self.points, device)
+        let Some(watched) = self.points.get(place as usize) else {
+            return Ok(None);
+        };
+        let Some(bytes) = due_bytes(alloc, &self.reported, device, place, watched.point)? else {
+            return Ok(None);
+        };
+        push_line(out, at, watched.kind, watched.point, bytes.as_slice())?;
+        Ok(Some(bytes))
+    }
+
+    /// The line of the point at a place, with these bytes, was offered, and was taken or found no room.
+    pub fn answer(&mut self, place: u32, bytes: Items<u8>, taken: bool)
+        ensures reported { self.new.reported ≡ answered place bytes taken self.old.reported }
+        ensures kept { self.new.points ≡ self.old.points }
+    {
+        self.reported.answer(place, bytes, taken);
+    }
+
+    /// Whether a line found no room when lines were offered last.
+    pub fn is_behind(&self) -> bool
+        ensures { result ≡ is_behind self.now.reported }
+    {
+        self.reported.is_behind()
+    }
+
+    /// Whether one of the points is an output that a connection owns.
+    pub fn has_owner<D: Device>(&self, device: &D) -> bool
+        ensures { result ≡ list_any (is_owned (D.table device.now)) self.now.points.items }
+    {
+        has_owner(self.points.as_slice(), device)
     }
 
     /// Appends the lines of the call `status`: what the device says of itself and of each of these points, and what was
@@ -106,22 +156,32 @@ impl Points {
     }
 }
 
+/// How many points these are.
+fn count_of(points: &[WatchedPoint]) -> u32
+    ensures { result ≡ count_of points.now }
+{
+    u32::try_from(points.len()).unwrap_or(u32::MAX)
+}
+
 /// The outputs of an adapter.
 fn watch_outputs(alloc: Global, outputs: &[OutputPoint]) -> Result<Vec<WatchedPoint>, OutOfMemory>
     ensures { IfOk result (λ points. points.items ≡ map watched_output outputs.now) }
 {
     let mut points = Vec::new(alloc);
     for output in outputs {
-        points.push(watch_output(alloc, output)?)?;
+        points.push(watch_output(output))?;
     }
     Ok(points)
 }
 
 /// An output of an adapter.
-fn watch_output(alloc: Global, output: &OutputPoint) -> Result<WatchedPoint, OutOfMemory>
-    ensures { IfOk result (λ watched. watched ≡ watched_output output.now) }
+fn watch_output(output: &OutputPoint) -> WatchedPoint
+    ensures { result ≡ watched_output output.now }
 {
-    zeros(alloc, PointKind::Output, output.instance, output.len)
+    WatchedPoint {
+        kind: PointKind::Output,
+        point: output.instance,
+    }
 }
 
 /// The images of a scanner's slots.
@@ -132,17 +192,20 @@ fn watch_slots(alloc: Global, slots: &[SlotConfig]) -> Result<Vec<WatchedPoint>,
     let count = u32::try_from(slots.len()).unwrap_or(u32::MAX);
     for number in 0..count {
         if let Some(slot) = slots.get(number as usize) {
-            points.push(watch_slot(alloc, number, slot)?)?;
+            points.push(watch_slot(number, slot))?;
         }
     }
     Ok(points)
 }
 
 /// The image of a slot.
-fn watch_slot(alloc: Global, number: u32, slot: &SlotConfig) -> Result<WatchedPoint, OutOfMemory>
-    ensures { IfOk result (λ watched. watched ≡ watched_slot number slot.now) }
+fn watch_slot(number: u32, slot: &SlotConfig) -> WatchedPoint
+    ensures { result ≡ watched_slot number slot.now }
 {
-    zeros(alloc, PointKind::Image(terms_of(slot)), number, slot.in_len)
+    WatchedPoint {
+        kind: PointKind::Image(terms_of(slot)),
+        point: number,
+    }
 }
 
 /// What the profile says of a slot's connection.
@@ -158,98 +221,34 @@ fn terms_of(slot: &SlotConfig) -> SlotTerms
     }
 }
 
-/// A point of zeros.
-fn zeros(alloc: Global, kind: PointKind, point: u32, len: u64) -> Result<WatchedPoint, OutOfMemory>
-    ensures { IfOk result (λ watched. watched ≡ watched_point kind point len) }
+/// Whether one of these points is an output that a connection owns.
+fn has_owner<D: Device>(points: &[WatchedPoint], device: &D) -> bool
+    ensures { result ≡ list_any (is_owned (D.table device.now)) points.now }
 {
-    let len = len as usize;
-    Ok(WatchedPoint {
-        kind,
-        point,
-        bytes: Items::zeros(alloc, len)?,
-    })
+    points.iter().any(|watched| is_owned(device, watched))
 }
 
-/// Appends the lines of the points whose bytes have changed.
-fn push_lines<D: Device>(
-    out: &mut String,
-    points: &[WatchedPoint],
-    device: &D,
-    at: EventMoment,
-) -> Result<(), OutOfMemory>
-    ensures { OnOk result (string_bytes out.new ≡ string_bytes out.old
-        ++ changes_text at.number at.ms (D.table device.now) points.now) }
+/// Whether a point is an output that a connection owns.
+fn is_owned<D: Device>(device: &D, watched: &WatchedPoint) -> bool
+    ensures { result ≡ is_owned (D.table device.now) watched.now }
 {
-    for watched in points {
-        push_change(out, watched, device, at)?;
-    }
-    Ok(())
+    device.owner(watched.point).is_some()
 }
 
-/// Appends the line of a point, if its bytes have changed.
-fn push_change<D: Device>(
-    out: &mut String,
-    watched: &WatchedPoint,
-    device: &D,
-    at: EventMoment,
-) -> Result<(), OutOfMemory>
-    ensures { OnOk result (string_bytes out.new ≡ string_bytes out.old
-        ++ change_of at.number at.ms watched.now (bytes_in (D.table device.now) watched.now.point)) }
-{
-    match device.read_point(watched.point) {
-        Ok(bytes) => push_changed(out, watched, bytes, at),
-        Err(_) => Ok(()),
-    }
-}
-
-/// Appends the line of a point whose bytes are now these, if they have changed.
-fn push_changed(
-    out: &mut String,
-    watched: &WatchedPoint,
-    bytes: &[u8],
-    at: EventMoment,
-) -> Result<(), OutOfMemory>
-    ensures { OnOk result (string_bytes out.new ≡ string_bytes out.old
-        ++ change_text at.number at.ms watched.now.kind watched.now.point watched.now.bytes bytes.now) }
-{
-    if watched.bytes.as_slice() == bytes {
-        return Ok(());
-    }
-    push_line(out, at, watched.kind, watched.point, bytes)
-}
-
-/// Has each point hold the bytes of the device.
-fn hold_all<D: Device>(
+/// The bytes of a point, if its line is due: nothing was told of it, or other bytes. The point has this place.
+fn due_bytes<D: Device>(
     alloc: Global,
-    points: &mut [WatchedPoint],
+    reported: &ReportedPoints,
     device: &D,
-) -> Result<(), OutOfMemory>
-    ensures { OnOk result (points.new ≡ map (held_point (D.table device.now)) points.old) }
+    place: u32,
+    point: u32,
+) -> Result<Option<Items<u8>>, OutOfMemory>
+    ensures { IfOk result (λ due. due ≡ due_of (D.table device.now) reported.now place point) }
 {
-    for watched in points.iter_mut() {
-        hold(alloc, watched, device)?;
+    match device.read_point(point) {
+        Ok(bytes) => reported.due_bytes(alloc, place, bytes),
+        Err(_) => Ok(None),
     }
-    Ok(())
-}
-
-/// Has a point hold the bytes of the device, if it has the point.
-fn hold<D: Device>(alloc: Global, watched: &mut WatchedPoint, device: &D) -> Result<(), OutOfMemory>
-    ensures { OnOk result (watched.new ≡ held_point (D.table device.now) watched.old) }
-{
-    match device.read_point(watched.point) {
-        Ok(bytes) => hold_bytes(alloc, watched, bytes),
-        Err(_) => Ok(()),
-    }
-}
-
-/// Has a point hold these bytes. It takes no memory if it holds them.
-fn hold_bytes(alloc: Global, watched: &mut WatchedPoint, bytes: &[u8]) -> Result<(), OutOfMemory>
-    ensures { OnOk result (watched.new ≡ record watched.old { bytes = bytes.now }) }
-{
-    if watched.bytes.as_slice() != bytes {
-        watched.bytes = Items::copy_of(alloc, bytes)?;
-    }
-    Ok(())
 }
 
 /// Appends the line of a point.

@@ -1,9 +1,10 @@
 //! What a station says of the streams of its port and of its slots.
 
 ghost use Rattle.std.specs.Prelude.{◌≡◌, ◌++◌, OnOk, string_bytes};
-ghost use Rattle.station_lines.specs.Reports.{ended_text, ending_text, full_text, opened_text, refusal_text, remedy_text, report_text, retry_text, starved_text, stream_text};
+ghost use Rattle.station_lines.specs.Reports.{ended_text, ending_text, full_text, opened_text, refusal_text, remedy_text, report_text, retry_text, starved_text, stream_text, unbound_port_text, unbound_text};
 
 use cip_types::{Node, OutOfMemory};
+use port_groups::DataGroup;
 use station_watch::Starved;
 use trace_words::{push_node, push_text};
 use udp_runner::{EndCause, PortReport, RefusalCause};
@@ -130,7 +131,7 @@ pub fn push_starved(out: &mut String, starved: &Starved) -> Result<(), OutOfMemo
 }
 
 /// Appends what to do for the data of a group, if the reply named one.
-fn push_remedy(out: &mut String, group: Option<Node>) -> Result<(), OutOfMemory>
+fn push_remedy(out: &mut String, group: Option<DataGroup>) -> Result<(), OutOfMemory>
     ensures { OnOk result (string_bytes out.new ≡ string_bytes out.old ++ remedy_text group) }
 {
     let Some(group) = group else {
@@ -140,11 +141,32 @@ fn push_remedy(out: &mut String, group: Option<Node>) -> Result<(), OutOfMemory>
         );
     };
     push_text(out, " came to ")?;
-    push_node(out, group)?;
+    push_node(out, group.address)?;
     push_text(
         out,
         ": this host does not receive that group: ip address add ",
     )?;
-    push_node(out, group)?;
+    push_node(out, group.address)?;
     push_text(out, "/32 dev INTERFACE autojoin\n")
+}
+
+/// Appends the line of a group for which no socket can be bound.
+pub fn push_unbound(out: &mut String, group: DataGroup) -> Result<(), OutOfMemory>
+    ensures { OnOk result (string_bytes out.new ≡ string_bytes out.old ++ unbound_text group) }
+{
+    push_text(out, "eip_station: no datagram of the group ")?;
+    push_node(out, group.address)?;
+    push_unbound_port(out, group.port)?;
+    Ok(())
+}
+
+/// Appends why no datagram of a group comes.
+fn push_unbound_port(out: &mut String, port: u16) -> Result<(), OutOfMemory>
+    ensures { OnOk result (string_bytes out.new ≡ string_bytes out.old ++ unbound_port_text port) }
+{
+    write!(
+        out,
+        " can be received: its UDP port {port} cannot be had, as where another program has it alone; it is tried again every 5 s\n"
+    )?;
+    Ok(())
 }

@@ -3,17 +3,16 @@
 ghost use Rattle.std.specs.Prelude.{◌≡◌, ◌++◌, OnOk, slice_get, string_bytes};
 ghost use Rattle.cip_tables.specs.States.{connection_in, totals_of};
 ghost use Rattle.station_lines.specs.OwnRequests.{own_request_line, said_line};
-ghost use Rattle.station_lines.specs.Status.{age_text, apis_text, config_text, connection_at, connection_head, connection_line, connection_lines, counts_text, id_text, kind_word, mode_word, moment_text, owner_line, owner_text, point_head, point_status, points_status, purpose_text, slot_kind_text, slot_line, slot_of, slot_state, state_word, status_lines, status_text, target_text, terms_text, totals_line};
+ghost use Rattle.station_lines.specs.Status.{age_text, apis_text, config_text, connection_at, connection_head, connection_line, connection_lines, counts_text, id_text, mode_word, moment_text, owner_line, owner_text, point_head, point_status, points_status, purpose_text, slot_kind_text, slot_line, slot_of, slot_state, state_word, status_lines, status_text, target_text, terms_text, totals_line};
 
 use crate::points::{EventMoment, PointKind, SlotTerms, WatchedPoint};
 use cip_events::Verdict;
-use cip_tables::{
-    Age, ConnectionReport, Device, DeviceTotals, Kind, Mode, SlotReport, TargetReport,
-};
+use cip_tables::{Age, ConnectionReport, Device, DeviceTotals, Mode, SlotReport, TargetReport};
 use cip_types::OutOfMemory;
 use cip_types::limits::MOST_CONNECTIONS;
 use datagram_counts::DatagramCounts;
 use station_watch::{CountedConnection, StationTraffic, TrafficTotals};
+use trace_lines::kind_name;
 use trace_outcomes::push_verdict;
 use trace_words::{push_digits, push_node, push_text};
 
@@ -104,10 +103,14 @@ fn push_totals_line(
 {
     push_moment(out, at)?;
     let (streams, sessions) = (device.streams, device.sessions);
-    let (connections, dialogues, ids) = (device.connections, device.dialogues, device.ids_left);
+    let (connections, class3_connections, ids) = (
+        device.connections,
+        device.class3_connections,
+        device.ids_left,
+    );
     write!(
         out,
-        "status streams {streams} sessions {sessions} connections {connections} class-3 {dialogues} ids {ids}"
+        "status streams {streams} sessions {sessions} connections {connections} class-3 {class3_connections} ids {ids}"
     )?;
     let (received, sent) = (traffic.received, traffic.sent);
     let (applied, lost) = (traffic.applied, traffic.lost);
@@ -200,7 +203,7 @@ fn push_id(out: &mut String, id: Option<u32>) -> Result<(), OutOfMemory>
 fn push_purpose(out: &mut String, report: ConnectionReport) -> Result<(), OutOfMemory>
     ensures { OnOk result (string_bytes out.new ≡ string_bytes out.old ++ purpose_text report) }
 {
-    let (kind, consumed, produced) = (kind_word(report.kind), report.consumed, report.produced);
+    let (kind, consumed, produced) = (kind_name(report.kind), report.consumed, report.produced);
     write!(out, " {kind} {consumed} {produced}")?;
     push_apis(out, report.o_t_api_ms, report.t_o_api_ms)?;
     let (state, mode) = (state_word(report.established), mode_word(report.mode));
@@ -381,7 +384,7 @@ fn push_terms(out: &mut String, terms: SlotTerms) -> Result<(), OutOfMemory>
 fn push_slot_kind(out: &mut String, terms: SlotTerms) -> Result<(), OutOfMemory>
     ensures { OnOk result (string_bytes out.new ≡ string_bytes out.old ++ slot_kind_text terms) }
 {
-    let (kind, consumed, produced) = (kind_word(terms.kind), terms.consumed, terms.produced);
+    let (kind, consumed, produced) = (kind_name(terms.kind), terms.consumed, terms.produced);
     write!(out, " {kind} {consumed} {produced} config ")?;
     Ok(())
 }
@@ -420,17 +423,6 @@ fn push_target(out: &mut String, target: TargetReport) -> Result<(), OutOfMemory
     push_apis(out, target.o_t_api_ms, target.t_o_api_ms)?;
     push_age(out, target.age)?;
     Ok(())
-}
-
-/// The word of a connection's kind.
-fn kind_word(kind: Kind) -> &'static str
-    ensures { result.now ≡ kind_word kind }
-{
-    match kind {
-        Kind::ExclusiveOwner => "exclusive",
-        Kind::InputOnly => "input",
-        Kind::ListenOnly => "listen",
-    }
 }
 
 /// The word of a connection's state.

@@ -1,8 +1,8 @@
 -- What is read of a profile as its device begins, and what is put in its place.
 use Rattle.std.specs.Prelude.{ℕ, ◌-◌, ◌^◌, min, length, Bool, true, false}
 use Rattle.cip_tables.specs.declared.table.Config.{Config}
-use Rattle.std.specs.declared.io.ErrorKind.{ErrorKind}
-use Rattle.std.specs.declared.io.ErrorKind.TheVariants.{OutOfMemory}
+use Rattle.regular_files.specs.declared.fault.FileFault.{FileFault}
+use Rattle.regular_files.specs.declared.fault.FileFault.TheVariants as file
 use Rattle.cip_tables.specs.declared.table.Config.TheVariants.{Adapter, Scanner}
 use Rattle.station_opening.specs.declared.profiles.UnusableProfile.{UnusableProfile}
 use Rattle.station_opening.specs.declared.profiles.UnusableProfile.TheVariants as fault
@@ -24,7 +24,7 @@ abbrev pub slots_of : Config → ℕ
 slots_of (Adapter profile) = 0
 slots_of (Scanner profile) = min (length profile.slots) (2 ^ 32 - 1)
 
--- why the file of a profile is not read to its end
-abbrev pub unread_profile : ErrorKind → UnusableProfile
-unread_profile OutOfMemory = fault.OutOfMemory
-unread_profile _ = fault.Unread
+-- why the file of a profile is not read
+abbrev pub unread_profile : FileFault → UnusableProfile
+unread_profile file.OutOfMemory = fault.OutOfMemory
+unread_profile other = fault.Unread other

@@ -3,12 +3,7 @@
 ghost use Rattle.std.specs.Prelude.{◌≡◌};
 ghost use Rattle.station_opening.specs.Devices.{incarnation_of, is_scanner, slots_of, with_incarnation};
 
-use adapter_engine::FastAdapter;
-use cip_tables::{AnyDevice, Config};
-use scanner_engine::FastScanner;
-
-/// The device of a profile of either kind.
-pub type FastDevice = AnyDevice<FastAdapter, FastScanner>;
+use cip_tables::Config;
 
 /// Whether a configuration is that of a scanner.
 pub fn is_scanner(config: &Config) -> bool

@@ -3,10 +3,12 @@
 ghost use Rattle.std.specs.Prelude.{◌≡◌};
 ghost use Rattle.station_opening.specs.Devices.{unread_profile};
 
+use crate::unserved::sentence_of;
 use cip_tables::Config;
-use cip_types::OutOfMemory;
-use std::fs;
-use std::io::ErrorKind;
+use cip_types::limits::LONGEST_TRACE;
+use cip_types::{Node, OutOfMemory};
+use regular_files::{FileFault, read_regular};
+use station_faults::station_defect;
 use std::rt::Files;
 use trace_faults::explain_fault;
 use trace_text::{Trace, TraceFault, read_trace};
@@ -14,12 +16,14 @@ use trace_text::{Trace, TraceFault, read_trace};
 /// Why a file gives no profile.
 #[derive(Drop)]
 pub enum UnusableProfile {
-    /// The file cannot be read.
-    Unread,
+    /// The file is not read, for this reason.
+    Unread(FileFault),
     /// The text is no trace, which the sentence explains.
     Bad(TraceFault, String),
     /// There are events behind the profile.
     Events,
+    /// The profile says what no station can serve, which the sentence explains.
+    Unserved(String),
     /// An allocation was refused.
     OutOfMemory,
 }
@@ -30,14 +34,18 @@ impl From<OutOfMemory> for UnusableProfile {
     }
 }
 
-/// The profile of a file, which is to have no events.
+/// The profile of a file, which is to have no events, for a station at this address or, without one, at that of the profile.
 ///
-/// The faults, in order: `Unread`, or `OutOfMemory` if the file is not read for want of memory; `Bad`; `Events`.
-pub fn profile_in<R: Files + AllocGlobal>(rt: &R, path: &str) -> Result<Config, UnusableProfile> {
+/// The faults, in order: `Unread`, or `OutOfMemory` if the file is not read for want of memory; `Bad`; `Events`; `Unserved`.
+pub fn profile_in<R: Files + AllocGlobal>(
+    rt: &R,
+    path: &str,
+    address: Option<Node>,
+) -> Result<Config, UnusableProfile> {
     let alloc = rt.alloc();
-    let text = match fs::read(rt, path) {
+    let text = match read_regular(rt, path, LONGEST_TRACE as u64) {
         Ok(text) => text,
-        Err(error) => return Err(unread_profile(error.kind())),
+        Err(fault) => return Err(unread_profile(fault)),
     };
     let Trace { config, events } = match read_trace(alloc, text.as_slice()) {
         Ok(trace) => trace,
@@ -47,19 +55,24 @@ pub fn profile_in<R: Files + AllocGlobal>(rt: &R, path: &str) -> Result<Config, 
             return Err(UnusableProfile::Bad(fault, sentence));
         }
     };
-    if events.as_slice().is_empty() {
-        Ok(config)
-    } else {
-        Err(UnusableProfile::Events)
+    if !events.as_slice().is_empty() {
+        return Err(UnusableProfile::Events);
+    }
+    match station_defect(&config, address) {
+        None => Ok(config),
+        Some(defect) => {
+            let sentence = sentence_of(alloc, text.as_slice(), &config, defect)?;
+            Err(UnusableProfile::Unserved(sentence))
+        }
     }
 }
 
-/// Why a file is not read to its end, by the kind of the system's error.
-pub fn unread_profile(kind: ErrorKind) -> UnusableProfile
-    ensures { result ≡ unread_profile kind }
+/// Why a file is not read.
+pub fn unread_profile(fault: FileFault) -> UnusableProfile
+    ensures { result ≡ unread_profile fault }
 {
-    match kind {
-        ErrorKind::OutOfMemory => UnusableProfile::OutOfMemory,
-        _ => UnusableProfile::Unread,
+    match fault {
+        FileFault::OutOfMemory => UnusableProfile::OutOfMemory,
+        other => UnusableProfile::Unread(other),
     }
 }

@@ -10,14 +10,16 @@ use std::fs::File;
 use std::rt::{Clock, Files};
 use std::sync::Wait;
 
-/// The recorder of a device of this configuration, whose entries go to a new file of this name.
+/// The recorder of a device of this configuration, whose entries go to a new file of this name. The record has at most so many
+/// bytes.
 ///
-/// The faults: `Refused` if the file cannot be begun, and `OutOfMemory`.
+/// The faults: `Refused` if the file cannot be begun, `Full` if its first lines have more bytes, and `OutOfMemory`.
 pub fn recorder_in<R>(
     rt: R,
     record: &SharedRecord,
     config: &Config,
     path: String,
+    most: u64,
 ) -> Result<Recorder<Entries<R>>, RecordFault>
 where
     R: AllocGlobal + Files<File = File> + Clock + Wait + Copy + Drop,
@@ -30,7 +32,7 @@ where
         return Err(RecordFault::OutOfMemory);
     };
     match head_of(&rt) {
-        Ok(head) => Recorder::begin(alloc, config, head.as_str(), entries),
+        Ok(head) => Recorder::begin(alloc, config, head.as_str(), most, entries),
         Err(OutOfMemory) => Err(RecordFault::OutOfMemory),
     }
 }

@@ -8,7 +8,8 @@ use Rattle.station_page.specs.declared.answers.PageRefusal.TheVariants as refusa
 use Rattle.station_page.specs.declared.request.Allowed.{Allowed}
 use Rattle.station_page.specs.declared.request.Body.TheVariants.{Empty}
 use Rattle.station_page.specs.declared.request.Method.TheVariants.{Get}
-use Rattle.station_page.specs.declared.request.PagePath.TheVariants.{Events}
+use Rattle.station_page.specs.declared.request.PagePath.TheVariants.{Events, Page}
+use Rattle.station_page.specs.Values.{target_parts}
 
 -- a browser that says nothing of the page, an address that was typed, and the page itself
 silent_browser : is_foreign (One (codes "127.0.0.1:8080")) Missing Missing ≡ false
@@ -46,6 +47,33 @@ field_of_a_head = refl
 
 -- a foreign request of the event stream is refused
 foreign_is_forbidden : (allowed : Allowed) →
-    answer_to (record { method = Get; path = Events; has_own_host = true; is_foreign = true; has_token = false; body = Empty }) allowed
+    answer_to (record { method = Get; path = Events; has_own_host = true; is_foreign = true; has_word = true; has_token = false; body = Empty }) allowed
     ≡ answer.Refused refusal.Forbidden
 foreign_is_forbidden allowed = refl
+
+-- the event stream for whom the page itself has not told its word, and for whom it has
+strange_events : (allowed : Allowed) →
+    answer_to (record { method = Get; path = Events; has_own_host = true; is_foreign = false; has_word = false; has_token = true; body = Empty }) allowed
+    ≡ answer.Refused refusal.Forbidden
+strange_events allowed = refl
+
+own_events : (allowed : Allowed) →
+    answer_to (record { method = Get; path = Events; has_own_host = true; is_foreign = false; has_word = true; has_token = false; body = Empty }) allowed
+    ≡ answer.Events
+own_events allowed = refl
+
+-- the page needs no word
+bare_page : (allowed : Allowed) →
+    answer_to (record { method = Get; path = Page; has_own_host = true; is_foreign = false; has_word = false; has_token = false; body = Empty }) allowed
+    ≡ answer.Page
+bare_page allowed = refl
+
+-- the word of a request's target: what stands behind the first question mark
+word_of_events : target_parts (codes "/events?0a0b") ≡ (codes "/events", codes "0a0b")
+word_of_events = refl
+
+two_marks : target_parts (codes "/record?0a?0b") ≡ (codes "/record", codes "0a?0b")
+two_marks = refl
+
+no_word : target_parts (codes "/events") ≡ (codes "/events", [])
+no_word = refl

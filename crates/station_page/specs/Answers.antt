@@ -1,5 +1,5 @@
 -- What is answered to a request of a browser (RFC 9110, sections 9 and 15.5).
-use Rattle.std.specs.Prelude.{◌||◌, not, if◌then◌else◌, Bool, true, false}
+use Rattle.std.specs.Prelude.{◌&&◌, ◌||◌, not, if◌then◌else◌, Bool, true, false}
 use Rattle.station_page.specs.declared.request.Allowed.{Allowed}
 use Rattle.station_page.specs.declared.request.PageRequest.{PageRequest}
 use Rattle.station_page.specs.declared.request.Body.{Body}
@@ -23,6 +23,11 @@ is_there other allowed = true
 abbrev pub method_for : PagePath → Method
 method_for page.Call = method.Post
 method_for other = method.Get
+
+-- a path is for the page alone, which has the word; the page itself is for everybody
+abbrev pub needs_word : PagePath → Bool
+needs_word page.Page = false
+needs_word other = true
 
 abbrev pub is_same_method : Method → Method → Bool
 is_same_method method.Get method.Get = true
@@ -64,4 +69,5 @@ answer_to request allowed =
     if not request.has_own_host || request.is_foreign then answer.Refused refusal.Forbidden
     else (if not (is_there request.path allowed) then answer.Refused refusal.NotFound
     else (if not (is_same_method request.method (method_for request.path)) then answer.Refused refusal.NotAllowed
-    else answer_of request.path request allowed))
+    else (if needs_word request.path && not request.has_word then answer.Refused refusal.Forbidden
+    else answer_of request.path request allowed)))

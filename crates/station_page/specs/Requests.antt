@@ -1,6 +1,6 @@
 -- What the head of a request asks for and shows (RFC 9112, sections 2 to 5; RFC 9110, sections 5.1 and 7.2; W3C Fetch Metadata
 -- Request Headers, section 2.3).
-use Rattle.std.specs.Prelude.{◌≡◌, ℕ, ◌&&◌, ◌||◌, not, nat_le, nat_lt, bytes_eq, map, if◌then◌else◌, Bool, true, false, List, [], ◌∷◌, ◌++◌, length, take, slice_range, string_bytes, codes, decimal, IsUtf8, ⊤}
+use Rattle.std.specs.Prelude.{◌≡◌, ℕ, ◌&&◌, ◌||◌, not, nat_le, nat_lt, bytes_eq, map, if◌then◌else◌, Bool, true, false, List, [], ◌∷◌, ◌++◌, length, take, slice_range, string_bytes, codes, decimal, option_map, Option, Some, None, IsUtf8, ⊤}
 use Rattle.std.specs.Char.{to_ascii_lowercase}
 use Rattle.cip_types.specs.declared.names.Node.{Node}
 use Rattle.trace_words.specs.Words.{node_word}
@@ -16,7 +16,7 @@ use Rattle.station_page.specs.declared.requests.Field.TheVariants as field
 use Rattle.station_page.specs.declared.requests.OwnNames.{OwnNames}
 use Rattle.station_page.specs.declared.requests.RequestReading.{RequestReading}
 use Rattle.station_page.specs.declared.requests.RequestReading.TheVariants as reading
-use Rattle.station_page.specs.Values.{body_of, is_from_host, is_other_site, method_of, path_of}
+use Rattle.station_page.specs.Values.{body_of, is_from_host, is_other_site, method_of, path_of, target_parts}
 
 -- FIELDS
 
@@ -57,19 +57,38 @@ found_in bytes name spans = found_from bytes name Missing spans
 
 -- WHAT A REQUEST SHOWS
 
--- The names of a page at an address and a port are that address and localhost, each with the port; its token is this one.
-pub record AreNames (address : Node) (port : ℕ) (token : List ℕ) (names : OwnNames) : Type 0 where
+-- the name of the host that is given, with the port
+abbrev pub host_at : Option (List ℕ) → ℕ → Option (List ℕ)
+host_at host port = option_map (λ name. name ++ (codes ":" ++ decimal port)) host
+
+-- The names of a page at an address and a port are that address, localhost, and the one that is given, each with the port; its
+-- word and its token are these.
+pub record AreNames (address : Node) (port : ℕ) (host : Option (List ℕ)) (word token : List ℕ) (names : OwnNames) : Type 0 where
   pub address_is : string_bytes names.address ≡ node_word address ++ (codes ":" ++ decimal port)
   pub local_is : string_bytes names.local ≡ codes "localhost:" ++ decimal port
+  pub host_is : option_map (λ name. string_bytes name) names.host ≡ host_at host port
+  pub word_is : names.word.items ≡ word
   pub token_is : names.token.items ≡ token
 
--- a host is a name of the page: its address, or that of this host, with its port
+-- a host is this one, whatever the case of its letters (RFC 3986, section 3.2.2)
+abbrev pub is_this_host : List ℕ → Option (List ℕ) → Bool
+is_this_host host None = false
+is_this_host host (Some name) = is_named host name
+
+abbrev pub is_given : OwnNames → List ℕ → Bool
+is_given names host = is_this_host host (option_map (λ name. string_bytes name) names.host)
+
+-- a host is a name of the page: its address, or that of this host, or the one that was given, with its port
 abbrev pub is_own : OwnNames → List ℕ → Bool
-is_own names host = bytes_eq host (string_bytes names.address) || bytes_eq host (string_bytes names.local)
+is_own names host = bytes_eq host (string_bytes names.address) || (bytes_eq host (string_bytes names.local) || is_given names host)
 
 abbrev pub is_own_host : OwnNames → Found → Bool
 is_own_host names (One host) = is_own names host
 is_own_host names other = false
+
+-- a word is the page's, which is not empty
+abbrev pub is_word : OwnNames → List ℕ → Bool
+is_word names word = nat_lt 0 (length word) && bytes_eq word names.word.items
 
 -- a token is the page's, which is not empty
 abbrev pub is_token : OwnNames → List ℕ → Bool
@@ -106,9 +125,10 @@ Announces coding count said = said ≡ body.Bad
 -- What a request asks for and shows, as its head has it.
 pub record Shows (names : OwnNames) (bytes : List ℕ) (spans : RequestSpans) (fields : List HeaderSpan) (request : PageRequest) : Type 0 where
   pub way : request.method ≡ method_of (text_at bytes spans.method)
-  pub place : request.path ≡ path_of (text_at bytes spans.path)
+  pub place : request.path ≡ path_of (target_parts (text_at bytes spans.path)).0
   pub host : request.has_own_host ≡ is_own_host names (found_in bytes (codes "host") fields)
   pub page : request.is_foreign ≡ is_foreign (found_in bytes (codes "host") fields) (found_in bytes (codes "origin") fields) (found_in bytes (codes "sec-fetch-site") fields)
+  pub word : request.has_word ≡ is_word names (target_parts (text_at bytes spans.path)).1
   pub token : request.has_token ≡ is_own_token names (found_in bytes (codes "x-station-token") fields)
   pub announces : Announces (found_in bytes (codes "transfer-encoding") fields) (found_in bytes (codes "content-length") fields) request.body
 

@@ -1,5 +1,5 @@
 -- What the words of a request's head say (RFC 9112, sections 2 to 5; W3C Fetch Metadata Request Headers, section 2.3).
-use Rattle.std.specs.Prelude.{ℕ, ◌==◌, ◌&&◌, ◌||◌, nat_lt, bytes_eq, if◌then◌else◌, Bool, List, take, drop, codes, Option, Some, None}
+use Rattle.std.specs.Prelude.{ℕ, ◌+◌, ◌==◌, ◌&&◌, ◌||◌, nat_lt, bytes_eq, if◌then◌else◌, Bool, List, [], take, drop, codes, position, Option, Some, None}
 use Rattle.trace_words.specs.Words.{number_of}
 use Rattle.station_page.specs.declared.request.Body.{Body}
 use Rattle.station_page.specs.declared.request.Body.TheVariants as body
@@ -11,6 +11,19 @@ use Rattle.station_page.specs.declared.request.PagePath.TheVariants as page
 -- the method of a word
 abbrev pub method_of : List ℕ → Method
 method_of word = if bytes_eq word (codes "GET") then method.Get else (if bytes_eq word (codes "POST") then method.Post else method.Other)
+
+-- THE TARGET OF A REQUEST
+
+abbrev pub is_query_mark : ℕ → Bool
+is_query_mark byte = byte == 63
+
+abbrev pub parts_at : List ℕ → Option ℕ → List ℕ × List ℕ
+parts_at target (Some place) = (take place target, drop (place + 1) target)
+parts_at target None = (target, [])
+
+-- the path of a target, and what stands behind its first question mark (RFC 3986, section 3.4)
+abbrev pub target_parts : List ℕ → List ℕ × List ℕ
+target_parts target = parts_at target (position is_query_mark target)
 
 -- what a path names
 abbrev pub path_of : List ℕ → PagePath

@@ -1,7 +1,7 @@
 //! What is answered to a request.
 
 ghost use Rattle.std.specs.Prelude.{◌≡◌};
-ghost use Rattle.station_page.specs.Answers.{answer_to, answer_to_read, answer_to_call, is_there, method_for};
+ghost use Rattle.station_page.specs.Answers.{answer_to, answer_to_read, answer_to_call, is_there, method_for, needs_word};
 
 use crate::request::{Allowed, Body, Method, PagePath, PageRequest};
 
@@ -12,7 +12,7 @@ use crate::request::{Allowed, Body, Method, PagePath, PageRequest};
 pub enum PageRefusal {
     /// 400: it is no request, or has a body where none is other.
     Bad,
-    /// 403: another host or page, no right token, or calls are not allowed.
+    /// 403: another host or page, no right word or token, or calls are not allowed.
     Forbidden,
     /// 404: there is nothing at its path.
     NotFound,
@@ -22,7 +22,7 @@ pub enum PageRefusal {
     Late,
     /// 413: its head or its body is too long.
     TooLarge,
-    /// 503: too many requests are served, or the station takes no call now.
+    /// 503: too many requests are served, another file is, or the station takes no call now.
     Busy,
 }
 
@@ -45,9 +45,9 @@ pub enum PageAnswer {
 
 /// What is answered to a request.
 ///
-/// The refusals, in order: `Forbidden` if its host is not the page's or another page makes it; `NotFound`; `NotAllowed`; of a
-/// call `Forbidden` if calls are not allowed or it does not show the token, `TooLarge`, `Bad`; of any other request `Bad` if
-/// it has a body.
+/// The refusals, in order: `Forbidden` if its host is not the page's or another page makes it; `NotFound`; `NotAllowed`;
+/// `Forbidden` if it does not show the word of the page, which the page itself needs not; of a call `Forbidden` if calls are
+/// not allowed or it does not show the token, `TooLarge`, `Bad`; of any other request `Bad` if it has a body.
 pub fn answer_to(request: PageRequest, allowed: Allowed) -> PageAnswer
     ensures { result ≡ answer_to request allowed }
 {
@@ -59,6 +59,9 @@ pub fn answer_to(request: PageRequest, allowed: Allowed) -> PageAnswer
     }
     if request.method != method_for(request.path) {
         return PageAnswer::Refused(PageRefusal::NotAllowed);
+    }
+    if needs_word(request.path) && !request.has_word {
+        return PageAnswer::Refused(PageRefusal::Forbidden);
     }
     match request.path {
         PagePath::Call => answer_to_call(request, allowed),
@@ -84,6 +87,16 @@ fn method_for(path: PagePath) -> Method
     match path {
         PagePath::Call => Method::Post,
         _ => Method::Get,
+    }
+}
+
+/// Whether a path is for the page alone, which has the word. The page itself is for everybody.
+fn needs_word(path: PagePath) -> bool
+    ensures { result ≡ needs_word path }
+{
+    match path {
+        PagePath::Page => false,
+        _ => true,
     }
 }
 

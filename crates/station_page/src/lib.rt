@@ -1,15 +1,13 @@
-//! The page of a station: its text, and what is answered to each request of a browser.
+//! The page of a station: what is answered to each request of a browser.
 #![tactic(auto)]
 
 mod answers;
 mod heads;
-mod page_text;
 mod request;
 mod requests;
 mod values;
 
 pub use answers::{PageAnswer, PageRefusal, answer_to};
 pub use heads::{head_of, refusal_text};
-pub use page_text::PAGE;
 pub use request::{Allowed, Body, Method, PagePath, PageRequest};
-pub use requests::{OwnNames, RequestReading, read_request};
+pub use requests::{OwnNames, RequestReading, Secrets, read_request};

@@ -52,6 +52,8 @@ pub struct PageRequest {
     pub has_own_host: bool,
     /// Whether another page makes it.
     pub is_foreign: bool,
+    /// Whether it shows the word that the page has, so that only the page itself makes it.
+    pub has_word: bool,
     /// Whether it shows the token that the station printed.
     pub has_token: bool,
     pub body: Body,

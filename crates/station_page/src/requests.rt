@@ -1,11 +1,11 @@
 //! The head of a request, as a browser sends it.
 
-ghost use Rattle.std.specs.Prelude.{◌≡◌, IfOk, IsUtf8};
-ghost use Rattle.station_page.specs.Requests.{AreNames, Announces, Shows, ReadsAs, found_at, found_in, has_other_origin, is_foreign, is_named, is_of_other_site, is_own, is_own_host, is_own_token, is_token, text_at, view_field};
+ghost use Rattle.std.specs.Prelude.{◌≡◌, option_map, string_bytes, IfOk, IsUtf8};
+ghost use Rattle.station_page.specs.Requests.{AreNames, Announces, Shows, ReadsAs, found_at, found_in, has_other_origin, host_at, is_foreign, is_given, is_named, is_of_other_site, is_own, is_own_host, is_own_token, is_token, is_word, text_at, view_field};
 ghost use Rattle.station_page.specs.Values.{body_of};
 
 use crate::request::{Body, PageRequest};
-use crate::values::{body_of, is_from_host, is_other_site, method_of, path_of};
+use crate::values::{body_of, is_from_host, is_other_site, method_of, path_of, split_target};
 use cip_types::{Node, OutOfMemory};
 use httparse::Status;
 use httparse::spans::{EMPTY_HEADER_SPAN, HeaderSpan, RequestSpans, Span, parse_request};
@@ -16,23 +16,29 @@ use trace_words::push_node;
 /// The head of a request has at most so many fields.
 const MOST_FIELDS: usize = 48;
 
-/// The names of a page, which a request has to use, and the token that its calls have to show.
+/// The names of a page, which a request has to use, the word that only the page itself has, and the token that its calls have
+/// to show.
 #[derive(Drop)]
 pub struct OwnNames {
     address: String,
     local: String,
+    host: Option<String>,
+    word: Vec<u8>,
     token: Vec<u8>,
 }
 
 impl OwnNames {
-    /// The names of a page at this address and port: that address, and `localhost`. The fault: an allocation was refused.
+    /// The names of a page at this address and port: that address, `localhost`, and the name of the host that is given. The
+    /// fault: an allocation was refused.
     pub fn new(
         alloc: Global,
         address: Node,
         port: u16,
-        token: &[u8],
+        host: Option<&str>,
+        secrets: Secrets<'_>,
     ) -> Result<OwnNames, OutOfMemory>
-        ensures { IfOk result (AreNames address port token.now) }
+        ensures { IfOk result (AreNames address port (option_map (λ name. name.now) host.entry)
+            secrets.entry.word.now secrets.entry.token.now) }
     {
         let mut name = String::new(alloc);
         push_node(&mut name, address)?;
@@ -40,15 +46,34 @@ impl OwnNames {
         Ok(OwnNames {
             address: name,
             local: format!(in alloc; "localhost:{port}")?,
-            token: Vec::from_slice(alloc, token)?,
+            host: host_at(alloc, host, port)?,
+            word: Vec::from_slice(alloc, secrets.word)?,
+            token: Vec::from_slice(alloc, secrets.token)?,
         })
+    }
+
+    /// The word of the page.
+    pub fn word(&self) -> &[u8]
+        ensures { result.now ≡ self.now.word.items }
+    {
+        self.word.as_slice()
     }
 
     /// Whether a host is a name of the page.
     fn is_own(&self, host: &[u8]) -> bool
         ensures { result ≡ is_own self.now host.now }
     {
-        host == self.address.as_bytes() || host == self.local.as_bytes()
+        host == self.address.as_bytes() || host == self.local.as_bytes() || self.is_given(host)
+    }
+
+    /// Whether a host is the name that was given, whatever the case of its letters.
+    fn is_given(&self, host: &[u8]) -> bool
+        ensures { result ≡ is_given self.now host.now }
+    {
+        match &self.host {
+            Some(name) => is_named(host, name.as_bytes()),
+            None => false,
+        }
     }
 
     /// Whether a head has a host that is a name of the page.
@@ -59,6 +84,13 @@ impl OwnNames {
             Field::One(host) => self.is_own(host),
             _ => false,
         }
+    }
+
+    /// Whether a word is the page's, which is not empty.
+    fn is_word(&self, word: &[u8]) -> bool
+        ensures { result ≡ is_word self.now word.now }
+    {
+        !word.is_empty() && word == self.word.as_slice()
     }
 
     /// Whether a token is the page's, which is not empty.
@@ -76,6 +108,24 @@ impl OwnNames {
             Field::One(token) => self.is_token(token),
             _ => false,
         }
+    }
+}
+
+/// What a page tells to few: the word to itself, and the token to who reads the station's reports.
+#[derive(Clone, Copy)]
+pub struct Secrets<'a> {
+    pub word: &'a [u8],
+    pub token: &'a [u8],
+}
+
+/// A name of the host with a port.
+fn host_at(alloc: Global, host: Option<&str>, port: u16) -> Result<Option<String>, OutOfMemory>
+    ensures { IfOk result (λ named. option_map (λ name. string_bytes name) named
+        ≡ host_at (option_map (λ name. name.now) host.entry) port) }
+{
+    match host {
+        Some(name) => Ok(Some(format!(in alloc; "{name}:{port}")?)),
+        None => Ok(None),
     }
 }
 
@@ -122,11 +172,13 @@ fn request_in(
     let token = sole(bytes, fields, b"x-station-token");
     let coding = sole(bytes, fields, b"transfer-encoding");
     let count = sole(bytes, fields, b"content-length");
+    let (path, query) = split_target(text_at(bytes, spans.path));
     PageRequest {
         method: method_of(text_at(bytes, spans.method)),
-        path: path_of(text_at(bytes, spans.path)),
+        path: path_of(path),
         has_own_host: names.is_own_host(host),
         is_foreign: is_foreign(host, origin, site),
+        has_word: names.is_word(query),
         has_token: names.is_own_token(token),
         body: announced(coding, count),
     }

@@ -1,7 +1,7 @@
 //! What the words of a request's head say.
 
-ghost use Rattle.std.specs.Prelude.{◌≡◌};
-ghost use Rattle.station_page.specs.Values.{body_of, body_with, is_from_host, is_other_site, method_of, path_of};
+ghost use Rattle.std.specs.Prelude.{◌≡◌, ◌<◌, length, position, IfSome};
+ghost use Rattle.station_page.specs.Values.{body_of, body_with, is_from_host, is_other_site, is_query_mark, method_of, path_of, target_parts};
 
 use crate::request::{Body, Method, PagePath};
 use trace_words::read_u64;
@@ -37,6 +37,26 @@ pub fn method_of(word: &[u8]) -> Method
         b"POST" => Method::Post,
         _ => Method::Other,
     }
+}
+
+/// The path of a request's target, and what stands behind its first question mark.
+///
+/// RFC 3986, section 3.4.
+pub fn split_target(target: &[u8]) -> (&[u8], &[u8])
+    ensures { (result.0.now, result.1.now) ≡ target_parts target.now }
+{
+    match query_place(target) {
+        Some(place) => (&target[..place], &target[place + 1..]),
+        None => (target, &[]),
+    }
+}
+
+/// The place of the first question mark.
+fn query_place(target: &[u8]) -> Option<usize>
+    ensures first { result ≡ position is_query_mark target.now }
+    ensures inside { IfSome result (λ place. place < length target.now) }
+{
+    target.iter().position(|byte| *byte == b'?')
 }
 
 /// What a path names.

@@ -2,6 +2,7 @@
 use Rattle.std.proofs.Common.{◌≡◌, ℕ, Bool, true, false, List, length, Option, Some, None, Result, Ok, Err, refl, ap, ◌∙◌, arith}
 use Rattle.std.specs.Prelude.{find, ◌==◌, if◌then◌else◌}
 use Rattle.cip_types.specs.declared.names.Node.{Node}
+use Rattle.cip_types.specs.declared.names.Ms.{Ms}
 use Rattle.cip_datagram.specs.declared.datagram.DatagramFault.{DatagramFault}
 use Rattle.cip_datagram.specs.Datagram.{DatagramFields, DatagramFits, IsDatagramReading}
 use Rattle.cip_datagram.specs.ReadsBack.{DatagramReadsBack}
@@ -15,14 +16,14 @@ use Rattle.cip_tables.specs.declared.table.DeviceTable.TheVariants.{Adapter, Sca
 use Rattle.cip_tables.specs.Step.{step}
 use Rattle.cip_tables.specs.Run.{outcome_of}
 use Rattle.cip_productions.specs.Kinds.{is_owner}
-use Rattle.cip_productions.specs.Acceptance.{accepts_sequence, is_duplicate}
+use Rattle.cip_productions.specs.Acceptance.{is_duplicate}
 use Rattle.cip_datagram.specs.Header.{header_at}
 use Rattle.adapter_table.specs.declared.table.AdapterTable.{AdapterTable}
 use Rattle.adapter_table.specs.declared.profile.Profile.{Profile}
 use Rattle.adapter_table.specs.Connections.{Row}
 use Rattle.adapter_table.specs.Requests.{Next as AdapterNext}
 use Rattle.adapter_table.specs.Datagrams as adapter
-use Rattle.adapter_table.specs.StatedLimits.{accepts_number}
+use Rattle.adapter_table.specs.StatedLimits.{accepts_at}
 use Rattle.scanner_table.specs.declared.table.ScannerTable.{ScannerTable}
 use Rattle.scanner_table.specs.declared.slot.SlotConnection as slotted
 use Rattle.scanner_table.specs.declared.slot.SlotState.{SlotState}
@@ -64,11 +65,11 @@ owned_kept row d = either is_kept (is_duplicate row.last d.count) _ _ refl (mode
 accepted_kept : (row : Row) (d : DatagramFields) → is_lost (adapter.accepted_delivery row d) ≡ false
 accepted_kept row d = either is_kept (is_owner row.kind) _ _ (owned_kept row d) refl
 
-sized_kept : (within : Option ℕ) (row : Row) (d : DatagramFields) → is_lost (adapter.sized_delivery within row d) ≡ false
-sized_kept within row d = either is_kept (accepts_number within row.last d.sequence) _ _ (accepted_kept row d) refl
+sized_kept : (within : Option ℕ) (clock : Ms) (row : Row) (d : DatagramFields) → is_lost (adapter.sized_delivery within clock row d) ≡ false
+sized_kept within clock row d = either is_kept (accepts_at within clock row d.sequence) _ _ (accepted_kept row d) refl
 
-row_kept : (profile : Profile) (row : Row) (d : DatagramFields) → is_lost (adapter.row_delivery profile row d) ≡ false
-row_kept profile row d = either is_kept (length d.payload == adapter.expected_len profile row) _ _ (sized_kept profile.limits.newer row d) refl
+row_kept : (profile : Profile) (clock : Ms) (row : Row) (d : DatagramFields) → is_lost (adapter.row_delivery profile clock row d) ≡ false
+row_kept profile clock row d = either is_kept (length d.payload == adapter.expected_len profile row) _ _ (sized_kept profile.limits.newer clock row d) refl
 
 judged_kept : (t : AdapterTable) (peer : Node) (d : DatagramFields) (row : Row) (delivery : Delivery) → is_lost delivery ≡ false → is_for_none (Ok (adapter.judged_datagram t peer d row delivery).0) ≡ false
 judged_kept t peer d row delivery kept =
@@ -77,7 +78,7 @@ judged_kept t peer d row delivery kept =
 found_alike : (t : AdapterTable) (peer : Node) (d : DatagramFields) (found : Option Row) → is_for_none (Ok (adapter.found_datagram t peer d found).0) ≡ true → adapter.found_datagram t peer (without_data d) found ≡ adapter.found_datagram t peer d found
 found_alike t peer d None lost = refl
 found_alike t peer d (Some row) lost =
-    let kept : is_for_none (Ok (adapter.judged_datagram t peer d row (adapter.row_delivery t.profile row d)).0) ≡ false = judged_kept t peer d row (adapter.row_delivery t.profile row d) (row_kept t.profile row d) in
+    let kept : is_for_none (Ok (adapter.judged_datagram t peer d row (adapter.row_delivery t.profile t.clock row d)).0) ≡ false = judged_kept t peer d row (adapter.row_delivery t.profile t.clock row d) (row_kept t.profile t.clock row d) in
     absurd (cc)
 
 adapter_alike : (t : AdapterTable) (peer : Node) (reading bare : Result DatagramFields DatagramFault) → IsBare reading bare → is_for_none (Ok (adapter.datagram_of t peer reading).0) ≡ true → adapter.datagram_of t peer bare ≡ adapter.datagram_of t peer reading
@@ -90,7 +91,7 @@ adapter_alike t peer (Ok d) bare is lost = ap (adapter.datagram_of t peer) is �
 connected_kept : (t : ScannerTable) (indexed : IndexedSlot) (d : DatagramFields) (c : slotted.SlotConnection) → is_for_none (Ok (scanner.connected t indexed d c).0) ≡ false
 connected_kept t indexed d c =
     either keeps (length d.payload == indexed.config.in_len) _ _
-    (either keeps (accepts_sequence c.last d.sequence) _ _ (either keeps (is_duplicate c.last d.count) _ _ refl refl) refl)
+    (either keeps (scanner.accepts_at t indexed c d.sequence) _ _ (either keeps (is_duplicate c.last d.count) _ _ refl refl) refl)
     refl
   where
     keeps : ScannerNext → Type 0

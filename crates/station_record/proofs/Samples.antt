@@ -1,5 +1,5 @@
 -- Samples of the definitions, by hand.
-use Rattle.std.proofs.Common.{◌≡◌, ℕ, List, [], ◌∷◌, Option, Some, Err, refl}
+use Rattle.std.proofs.Common.{◌≡◌, ℕ, List, [], ◌∷◌, Option, Err, refl}
 use Rattle.std.specs.Prelude.{◌++◌, codes, decimal}
 use Rattle.cip_datagram.specs.Reading.{datagram_reading}
 use Rattle.cip_events.specs.declared.event.Event.TheVariants as event
@@ -12,10 +12,10 @@ use Rattle.station_record.specs.Files.{file_name_text, placed}
 use Rattle.station_record.specs.Shortened.{bare_bytes}
 
 -- an event that the device refuses is an entry of its record as another one is, and is handed over to it
-refused_entry : entries_of (event.Write 100 []) (Err fault.WrongLength) ≡ (event.Write 100 [], Some (Err fault.WrongLength)) ∷ []
+refused_entry : entries_of (event.Write 100 []) (Err fault.WrongLength) ≡ (event.Write 100 [], Err fault.WrongLength) ∷ []
 refused_entry = refl
 
-refused_is_handed_over : {W : Type 0} (contents : W → Option (List ℕ)) (accepts : W → List ℕ → Type 0) (old new : Recorder W) (answer : Option RecordFault) → IsNoted contents accepts old (event.Write 100 []) (Err fault.WrongLength) new answer → IsRecordedAs contents accepts old.out new.out (entry_text (next_number old) (event.Write 100 []) (Err fault.WrongLength)) answer
+refused_is_handed_over : {W : Type 0} (contents : W → Option (List ℕ)) (accepts : W → List ℕ → Type 0) (old new : Recorder W) (answer : Option RecordFault) → IsNoted contents accepts old (event.Write 100 []) (Err fault.WrongLength) new answer → IsRecordedAs contents accepts old.left old.out new.out (entry_text (next_number old) (event.Write 100 []) (Err fault.WrongLength)) answer
 refused_is_handed_over contents accepts old new answer noted = noted.0
 
 -- only one that found no memory has none

@@ -1,3 +1,4 @@
 pub mod Files
 pub mod Records
 pub mod Shortened
+pub mod Summed

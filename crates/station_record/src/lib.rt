@@ -7,6 +7,7 @@ mod files;
 mod recorder;
 mod shortened;
 mod sink;
+mod summed;
 
 pub use fault::RecordFault;
 pub use files::{Placed, RecordFiles, file_name};

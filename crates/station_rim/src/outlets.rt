@@ -1,7 +1,7 @@
 //! The lines of an output, which a thread of its own writes.
 
 use cip_types::{Items, OutOfMemory};
-use line_queue::{NoticeForm, QueueOutlet};
+use line_queue::{NoticeForm, Offer, QueueOutlet};
 use station_lines::LineSink;
 use std::alloc::Global;
 use std::io::{self, ErrorKind, Write};
@@ -14,6 +14,13 @@ use std::time::Duration;
 const MOST_BYTES: usize = 262_144;
 
 const MOST_TEXTS: usize = 4_096;
+
+/// Texts that wait are written together, so many bytes at a time, which a pipe takes whole.
+const BATCH_BYTES: usize = 4_096;
+
+/// A writer pauses for a millisecond behind so many batches, which are as many bytes as may be on their way, so that a station
+/// that shares its processor has its time.
+const BATCHES_IN_A_ROW: u32 = 64;
 
 /// Lines on their way, and whether the writer has some in its hands.
 #[derive(Drop)]
@@ -32,6 +39,7 @@ struct Channel {
 /// The lines of an output on their way from a station to the thread that writes them.
 #[derive(Drop)]
 pub struct SharedLines {
+    alloc: Global,
     channel: Arc<Channel, Global>,
 }
 
@@ -46,7 +54,7 @@ impl SharedLines {
             more: Condvar::new(),
         };
         match Arc::new(alloc, channel) {
-            Ok(channel) => Ok(SharedLines { channel }),
+            Ok(channel) => Ok(SharedLines { alloc, channel }),
             Err(_) => Err(OutOfMemory),
         }
     }
@@ -54,7 +62,10 @@ impl SharedLines {
     /// The same way, for another thread. OutOfMemory is the only fault.
     pub fn share(&self) -> Result<SharedLines, OutOfMemory> {
         match Arc::try_clone(&self.channel) {
-            Ok(channel) => Ok(SharedLines { channel }),
+            Ok(channel) => Ok(SharedLines {
+                alloc: self.alloc,
+                channel,
+            }),
             Err(_) => Err(OutOfMemory),
         }
     }
@@ -71,28 +82,57 @@ impl SharedLines {
     pub fn write_to<R: Wait + Clock, W: Write + Drop>(&self, rt: &R, out: W) {
         let mut out = out;
         let mut is_broken = false;
+        let mut count = 0u32;
+        let mut batch = Vec::new(self.alloc);
         for _ in rt.forever() {
-            if let Some(text) = self.next(rt) {
-                if !is_broken && write_whole(rt, &mut out, text.as_slice()).is_err() {
-                    is_broken = true;
-                }
-                self.channel.way.lock(rt).is_busy = false;
+            count = count.wrapping_add(1);
+            if count % BATCHES_IN_A_ROW == 0 {
+                thread::sleep(rt, Duration::from_millis(1));
             }
+            let behind = self.gather(rt, &mut batch);
+            if !is_broken {
+                is_broken = write_whole(rt, &mut out, batch.as_slice()).is_err();
+            }
+            if let Some(text) = behind {
+                if !is_broken {
+                    is_broken = write_whole(rt, &mut out, text.as_slice()).is_err();
+                }
+            }
+            batch.clear();
+            self.channel.way.lock(rt).is_busy = false;
         }
     }
 
-    /// Waits for the next text and takes it. None if there was no memory for a notice.
-    fn next<R: Wait + Clock>(&self, rt: &R) -> Option<Items<u8>> {
+    /// Waits for the next text, and takes those that wait, as far as they fit in a batch. Answers the one behind them, if it
+    /// does not fit.
+    fn gather<R: Wait + Clock>(&self, rt: &R, batch: &mut Vec<u8>) -> Option<Items<u8>> {
+        for _ in 0..u64::MAX {
+            let (text, is_last) = self.next(rt)?;
+            let is_gathered = fits(batch.as_slice(), text.as_slice())
+                && batch.extend_from_slice(text.as_slice()).is_ok();
+            if !is_gathered {
+                return Some(text);
+            }
+            if is_last {
+                return None;
+            }
+        }
+        None
+    }
+
+    /// Waits for the next text and takes it: whether it is the last one for now. None if there was no memory for a notice.
+    fn next<R: Wait + Clock>(&self, rt: &R) -> Option<(Items<u8>, bool)> {
         let way = self.channel.way.lock(rt);
         let mut way = self
             .channel
             .more
             .wait_while(rt, way, |way| way.outlet.is_idle());
         let taken = way.outlet.take();
+        let is_last = way.outlet.is_idle();
         way.is_busy = true;
         drop(way);
         match taken {
-            Ok(text) => text,
+            Ok(text) => Some((text?, is_last)),
             Err(OutOfMemory) => {
                 thread::sleep(rt, Duration::from_millis(1));
                 None
@@ -100,11 +140,21 @@ impl SharedLines {
         }
     }
 
+    /// Who offered state last has ended, and offers none again.
+    pub fn release<R: Wait>(&self, rt: &R) {
+        self.channel.way.lock(rt).outlet.release();
+    }
+
     /// Whether each line was written.
     pub fn is_drained<R: Wait>(&self, rt: &R) -> bool {
         let way = self.channel.way.lock(rt);
         way.outlet.is_idle() && !way.is_busy
     }
+}
+
+/// Whether a text is written together with those of a batch. A long one is written by itself.
+fn fits(batch: &[u8], text: &[u8]) -> bool {
+    batch.len().saturating_add(text.len()) <= BATCH_BYTES
 }
 
 /// Writes a text, and hands it on. A stream that takes nothing now, since another program has made it non-blocking, is tried
@@ -139,5 +189,13 @@ impl<R: Wait + Drop> LineSink for LineEntrance<R> {
     fn line(&mut self, text: &[u8]) {
         let _ = self.lines.channel.way.lock(&self.rt).outlet.offer(text);
         self.lines.channel.more.notify_one();
+    }
+
+    fn state(&mut self, text: &[u8]) -> bool {
+        let mut way = self.lines.channel.way.lock(&self.rt);
+        let offered = way.outlet.offer_state(text);
+        drop(way);
+        self.lines.channel.more.notify_one();
+        matches!(offered, Offer::Taken)
     }
 }

@@ -6,13 +6,19 @@ use station_files::{RecordFile, RecordPlace};
 use std::alloc::Global;
 use std::fs::File;
 use std::io::{self, ErrorKind, Write};
-use std::rt::Files;
+use std::rt::{Clock, Files};
 use std::sync::{Arc, Condvar, Mutex, Wait};
+use std::thread;
+use std::time::Duration;
 
 /// A record has at most so many bytes on their way, and so many entries.
 const MOST_BYTES: usize = 4_194_304;
 
 const MOST_ENTRIES: usize = 65_536;
+
+/// Entries that wait are written together, so many bytes at a time. Behind them the writer pauses for a millisecond, so that a
+/// station that shares its processor has its time.
+const BATCH_BYTES: usize = 65_536;
 
 /// Entries on their way, where they go, and what the writer does.
 #[derive(Drop)]
@@ -86,37 +92,56 @@ impl SharedRecord {
     }
 
     /// Writes the entries to the record's files until the record has ended. After a failure they are taken and discarded.
-    pub fn write_files<R: Wait + Files<File = File>>(&self, rt: &R) {
+    pub fn write_files<R: Wait + Clock + Files<File = File>>(&self, rt: &R) {
         let mut file: Option<RecordFile> = None;
+        let mut batch = Vec::new(self.alloc);
         for _ in rt.forever() {
-            let Some(entry) = self.next(rt) else {
+            let Some((entry, is_last)) = self.next(rt) else {
                 return;
             };
-            let written = self.write(rt, &mut file, entry.as_slice());
-            let mut way = self.channel.way.lock(rt);
-            way.is_busy = false;
-            way.has_failed |= written.is_err();
+            let is_gathered = is_gathered(batch.as_slice(), entry.as_slice())
+                && batch.extend_from_slice(entry.as_slice()).is_ok();
+            if is_gathered && !is_last && batch.len() < BATCH_BYTES {
+                continue;
+            }
+            let mut written = self.write(rt, &mut file, batch.as_slice());
+            batch.clear();
+            if !is_gathered && written.is_ok() {
+                written = self.write(rt, &mut file, entry.as_slice());
+            }
+            self.note(rt, written.is_err());
+            if !is_last {
+                thread::sleep(rt, Duration::from_millis(1));
+            }
         }
     }
 
-    /// Waits for the next entry, and takes it. None if the record has ended, and each entry was taken.
-    fn next<R: Wait>(&self, rt: &R) -> Option<Items<u8>> {
+    /// Notes that what was taken is written or discarded, and whether that failed.
+    fn note<R: Wait>(&self, rt: &R, has_failed: bool) {
+        let mut way = self.channel.way.lock(rt);
+        way.is_busy = false;
+        way.has_failed |= has_failed;
+    }
+
+    /// Waits for the next entry, and takes it: whether it is the last one for now. None if the record has ended, and each entry
+    /// was taken.
+    fn next<R: Wait>(&self, rt: &R) -> Option<(Items<u8>, bool)> {
         let way = self.channel.way.lock(rt);
         let mut way = self
             .channel
             .more
             .wait_while(rt, way, |way| way.queue.is_empty() && !way.has_ended);
-        let entry = way.queue.pop();
-        way.is_busy = entry.is_some();
-        entry
+        let entry = way.queue.pop()?;
+        way.is_busy = true;
+        Some((entry, way.queue.is_empty()))
     }
 
-    /// Writes an entry, unless one could not be written before.
+    /// Writes entries, unless one could not be written before.
     fn write<R: Wait + Files<File = File>>(
         &self,
         rt: &R,
         file: &mut Option<RecordFile>,
-        entry: &[u8],
+        piece: &[u8],
     ) -> io::Result<()> {
         if file.is_none() {
             let place = self.channel.way.lock(rt).place.take();
@@ -124,11 +149,11 @@ impl SharedRecord {
                 *file = Some(RecordFile::begin(rt, self.alloc, place)?);
             }
         }
-        if self.channel.way.lock(rt).has_failed {
+        if piece.is_empty() || self.channel.way.lock(rt).has_failed {
             return Ok(());
         }
         match file {
-            Some(file) => file.write(rt, entry),
+            Some(file) => file.write(rt, piece),
             None => Err(io::Error::from(ErrorKind::NotFound)),
         }
     }
@@ -143,6 +168,11 @@ impl SharedRecord {
     pub fn has_failed<R: Wait>(&self, rt: &R) -> bool {
         self.channel.way.lock(rt).has_failed
     }
+}
+
+/// Whether an entry is written together with those that are gathered. A long one is written by itself.
+fn is_gathered(batch: &[u8], entry: &[u8]) -> bool {
+    batch.len().saturating_add(entry.len()) <= BATCH_BYTES
 }
 
 /// The end of a way at which a recorder puts entries in: each write is an entry, which is taken whole or refused.

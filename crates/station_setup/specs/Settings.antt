@@ -6,6 +6,7 @@ use Rattle.adapter_table.specs.declared.profile.Profile.{Profile}
 use Rattle.cip_types.specs.declared.names.Node.{Node}
 use Rattle.list_identity.specs.Names.{name_front}
 use Rattle.port_faults.specs.declared.rates.FaultRates.{FaultRates}
+use Rattle.port_groups.specs.GroupUse.{uses_groups}
 use Rattle.port_streams.specs.declared.routes.Destination.{Destination}
 use Rattle.scanner_table.specs.declared.profile.SlotConfig.{SlotConfig}
 use Rattle.station.specs.declared.run.Ending.{Ending}
@@ -17,6 +18,11 @@ abbrev pub given_or : Option Node → Node → Node
 given_or (Some address) node = address
 given_or None node = node
 
+-- the address of the options, unless that is each address of the host, or that of the profile
+abbrev pub node_of : Option Node → Node → Node
+node_of None node = node
+node_of (Some address) node = if address.0 == 0 then node else address
+
 -- where a station is, in the network of this mask, at this TCP port, with this inactivity time-out, and where it sends
 abbrev pub place_of : Options → Node → (mask tcp inactivity : ℕ) → StationPlace
 place_of options node mask tcp inactivity = record {
@@ -25,15 +31,10 @@ place_of options node mask tcp inactivity = record {
   tcp = tcp;
   udp = options.udp;
   peer_udp = options.peer_udp;
-  multicast = options.multicast;
+  multicast = uses_groups options.multicast (node_of options.address node);
   inactivity_s = inactivity;
   item_ports = options.item_ports;
 }
-
--- the address of the options, unless that is each address of the host, or that of the profile
-abbrev pub node_of : Option Node → Node → Node
-node_of None node = node
-node_of (Some address) node = if address.0 == 0 then node else address
 
 -- the number of an option, or this one
 abbrev pub given_or_number : Option ℕ → ℕ → ℕ

@@ -93,7 +93,7 @@ fn described_as(
 }
 
 /// The address of a station: that of its options, unless that is each address of the host, or that of its profile.
-fn node_of(address: Option<Node>, node: Node) -> Node
+pub(crate) fn node_of(address: Option<Node>, node: Node) -> Node
     ensures { result ≡ node_of address node }
 {
     match address {

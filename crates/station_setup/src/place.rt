@@ -3,12 +3,14 @@
 ghost use Rattle.std.specs.Prelude.{◌≡◌};
 ghost use Rattle.station_setup.specs.Settings.{ending_of, given_or, ms_of, place_of, rates_of};
 
+use crate::describing::node_of;
 use adapter_table::Profile;
 use cip_tables::ScannerProfile;
 use cip_types::Node;
 use cip_types::limits::TCP_PORT;
 use command_lines::Options;
 use port_faults::FaultRates;
+use port_groups::uses_groups;
 use station::Ending;
 use station_port::StationPlace;
 
@@ -40,7 +42,7 @@ fn place_of(options: &Options, node: Node, mask: u32, tcp: u16, inactivity_s: u1
         tcp,
         udp: options.udp,
         peer_udp: options.peer_udp,
-        multicast: options.multicast,
+        multicast: uses_groups(options.multicast, node_of(options.address, node)),
         inactivity_s,
         item_ports: options.item_ports,
     }

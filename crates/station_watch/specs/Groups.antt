@@ -1,58 +1,55 @@
--- What the reply to a Forward_Open says of the T->O datagrams, and the addresses of multicast groups
+-- What the reply to a Forward_Open says of the T->O datagrams, and of their group
 -- (Volume 2, chapter 2, common packet format; Volume 1, chapter 3, Forward_Open service).
-use Rattle.std.specs.Prelude.{ℕ, ◌&&◌, ◌||◌, ◌==◌, not, nat_le, nat_lt, if◌then◌else◌, Bool, List, length, take, drop, Option, Some, None, Result, Ok, Err}
+use Rattle.std.specs.Prelude.{ℕ, ◌||◌, ◌==◌, not, nat_lt, if◌then◌else◌, Bool, List, length, take, drop, Option, Some, None, Result, Ok, Err}
 use Rattle.std.specs.Int.{w16, w32, from_be_bytes}
 use Rattle.cip_types.specs.Fields.{field_at, then_at}
-use Rattle.cip_types.specs.declared.names.Node.{Node}
 use Rattle.cip_encap.specs.declared.packet.ItemFault.{ItemFault}
 use Rattle.cip_encap.specs.declared.message.EncapFault.{EncapFault}
 use Rattle.cip_encap.specs.Message.{MessageFields}
 use Rattle.cip_encap.specs.Reading.{message_reading}
 use Rattle.cip_encap.specs.Packet.{PacketFields}
 use Rattle.cip_encap.specs.PacketReading.{packet_reading}
+use Rattle.port_groups.specs.GroupUse.{group_port, is_group}
+use Rattle.port_groups.specs.declared.group.DataGroup.{DataGroup}
 use Rattle.station_watch.specs.declared.groups.OpenedData.{OpenedData}
 use Rattle.station_watch.specs.declared.groups.SocketItem.{SocketItem}
 
--- the address is one of 224.0.0.0 to 239.255.255.255
-abbrev pub is_group : Node → Bool
-is_group address = nat_le 0xE0000000 address.0 && nat_lt address.0 0xF0000000
-
--- the address, if it is that of a group
-abbrev pub as_group : Node → Option Node
-as_group address = if is_group address then Some address else None
+-- the group that an item names, if its address is that of a group
+abbrev pub as_group : SocketItem → Option DataGroup
+as_group item = if is_group item.address then Some (record { address = item.address; port = group_port item.port }) else None
 
 -- the bytes behind the head of an item are no socket address
 abbrev pub not_socket : ℕ → List ℕ → Bool
 not_socket len rest = not (len == 16) || nat_lt (length rest) 16
 
--- the item with the address in the bytes behind its head: four bytes of family and port, then the address
+-- the item with what the bytes behind its head say: two bytes of family, two of port, then the address
 abbrev pub socket_with : ℕ → ℕ → List ℕ → Option (SocketItem × List ℕ)
 socket_with kind len rest =
     if not_socket len rest then None
-    else Some (record { kind = kind; address = record { 0 = from_be_bytes w32 (take 4 (drop 4 rest)) } }, drop 8 (drop 4 (drop 4 rest)))
+    else Some (record { kind = kind; address = record { 0 = from_be_bytes w32 (take 4 (drop 2 (drop 2 rest))) }; port = from_be_bytes w16 (take 2 (drop 2 rest)) }, drop 8 (drop 4 (drop 2 (drop 2 rest))))
 
 -- the socket address item at the front, and the bytes behind it
 abbrev pub socket_at : List ℕ → Option (SocketItem × List ℕ)
 socket_at bytes = then_at (field_at w16 bytes) (λ kind rest. then_at (field_at w16 rest) (λ len after. socket_with kind len after))
 
 -- the group of an item that says where T->O datagrams go, or else what the others say
-abbrev pub group_or : SocketItem → Option Node → Option Node
-group_or item others = if item.kind == 0x8001 then as_group item.address else others
+abbrev pub group_or : SocketItem → Option DataGroup → Option DataGroup
+group_or item others = if item.kind == 0x8001 then as_group item else others
 
-abbrev pub last_of : Option (SocketItem × List ℕ) → Option Node
+abbrev pub last_of : Option (SocketItem × List ℕ) → Option DataGroup
 last_of None = None
 last_of (Some found) = group_or found.0 None
 
 -- the group that the last item names
-abbrev pub last_group : List ℕ → Option Node
+abbrev pub last_group : List ℕ → Option DataGroup
 last_group items = last_of (socket_at items)
 
-abbrev pub group_of : Option (SocketItem × List ℕ) → Option Node
+abbrev pub group_of : Option (SocketItem × List ℕ) → Option DataGroup
 group_of None = None
 group_of (Some found) = group_or found.0 (last_group found.1)
 
 -- the group that one of two items names
-abbrev pub group_in : List ℕ → Option Node
+abbrev pub group_in : List ℕ → Option DataGroup
 group_in items = group_of (socket_at items)
 
 abbrev pub number_of : Option (ℕ × List ℕ) → Option ℕ
@@ -64,7 +61,7 @@ abbrev pub u32_behind : List ℕ → ℕ → Option ℕ
 u32_behind bytes before = number_of (field_at w32 (drop before bytes))
 
 -- what is said of the datagrams of this id
-abbrev pub data_with : Option ℕ → Option Node → Option OpenedData
+abbrev pub data_with : Option ℕ → Option DataGroup → Option OpenedData
 data_with None group = None
 data_with (Some id) group = Some (record { id = id; group = group })
 

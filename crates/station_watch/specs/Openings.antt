@@ -26,6 +26,6 @@ message_opens (Err fault) = false
 message_opens (Ok message) = packet_opens (packet_reading message.payload)
 
 -- the event brings a request that opens a class 3 connection
-abbrev pub opens_dialogue : Event → Bool
-opens_dialogue (event.Frame stream bytes) = message_opens (message_reading bytes)
-opens_dialogue other = false
+abbrev pub opens_class3 : Event → Bool
+opens_class3 (event.Frame stream bytes) = message_opens (message_reading bytes)
+opens_class3 other = false

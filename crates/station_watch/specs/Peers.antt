@@ -1,5 +1,8 @@
--- The peers of an adapter that have connections.
+-- The peers of an adapter that have connections, and those that own outputs (Volume 1, chapter 3, application connection types).
 use Rattle.std.specs.Prelude.{◌==◌, ◌&&◌, not, nat_lt, if◌then◌else◌, Bool, true, false, List, [], ◌∷◌, ◌++◌, length, filter, Option, Some, None}
+use Rattle.adapter_table.specs.declared.report.ConnectionReport.{ConnectionReport}
+use Rattle.cip_productions.specs.declared.kind.Kind.{Kind}
+use Rattle.cip_productions.specs.declared.kind.Kind.TheVariants.{ExclusiveOwner}
 use Rattle.cip_types.specs.declared.names.Node.{Node}
 use Rattle.cip_types.specs.declared.names.Triad.{Triad}
 use Rattle.cip_events.specs.declared.event.Notice.{Notice}
@@ -32,9 +35,9 @@ has_triad triad held = held.triad.serial == triad.serial && (held.triad.vendor =
 abbrev pub without : Triad → List PeerConnection → List PeerConnection
 without triad held = filter (λ other. not (has_triad triad other)) held
 
--- with one more, if there are fewer than 64
+-- with one more, if there are fewer than 128: 64 of class 1, and 64 of class 3
 abbrev pub with_connection : PeerConnection → List PeerConnection → List PeerConnection
-with_connection new held = if nat_lt (length held) 64 then held ++ new ∷ [] else held
+with_connection new held = if nat_lt (length held) 128 then held ++ new ∷ [] else held
 
 -- the connections after a notice of an answer to this peer: the newest opening of a triad counts
 abbrev pub connections_after : Option Node → ConnectionChange → List PeerConnection → List PeerConnection
@@ -47,3 +50,12 @@ connections_after (Some peer) (change.Added triad) held = with_connection (recor
 abbrev pub connections_through : Option Node → List Notice → List PeerConnection → List PeerConnection
 connections_through peer [] held = held
 connections_through peer (first ∷ notices) held = connections_through peer notices (connections_after peer (change_of first) held)
+
+-- the owner by a connection of this kind
+abbrev pub owning : Kind → ConnectionReport → Option Node
+owning ExclusiveOwner report = if report.established then Some report.peer else None
+owning kind report = None
+
+-- the peer of a connection that owns an output
+abbrev pub owner_of : ConnectionReport → Option Node
+owner_of report = owning report.kind report

@@ -1,13 +1,15 @@
 -- What a station tells its port of the targets of slots, and which slots get no data.
-use Rattle.std.specs.Prelude.{ℕ, ◌==◌, ◌&&◌, ◌||◌, if◌then◌else◌, Bool, true, false, Option, Some, None}
+use Rattle.std.specs.Prelude.{ℕ, ◌==◌, ◌&&◌, ◌||◌, if◌then◌else◌, Bool, true, false, List, [], ◌∷◌, Option, Some, None}
 use Rattle.cip_types.specs.declared.names.Node.{Node}
 use Rattle.cip_events.specs.declared.event.Event.{Event}
 use Rattle.cip_events.specs.declared.event.Event.TheVariants as event
 use Rattle.cip_events.specs.declared.event.Notice.{Notice}
 use Rattle.cip_events.specs.declared.event.Notice.TheVariants as notice
+use Rattle.port_groups.specs.GroupUse.{with_group}
+use Rattle.port_groups.specs.declared.group.DataGroup.{DataGroup}
 use Rattle.station_watch.specs.declared.groups.OpenedData.{OpenedData}
-use Rattle.station_watch.specs.declared.slots.SlotDuty.{SlotDuty}
-use Rattle.station_watch.specs.declared.slots.SlotDuty.TheVariants as duty
+use Rattle.station_watch.specs.declared.slots.LinkReport.{LinkReport}
+use Rattle.station_watch.specs.declared.slots.LinkReport.TheVariants as link_report
 use Rattle.station_watch.specs.declared.slots.SlotWatch.{SlotWatch}
 
 -- THE STATES OF A SLOT
@@ -29,14 +31,14 @@ is_tick (event.Tick ms) = true
 is_tick other = false
 
 -- a connection is established; or, as time passes, a request was not answered or a connection timed out
-abbrev pub slot_duty : Bool → ℕ → ℕ → Option SlotDuty
-slot_duty ticks slot state =
-    if state == established then Some (duty.Succeed slot)
-    else (if ticks && ((state == idle) || (state == timed_out)) then Some (duty.Renew slot) else None)
+abbrev pub slot_link_report : Bool → ℕ → ℕ → Option LinkReport
+slot_link_report ticks slot state =
+    if state == established then Some (link_report.Succeed slot)
+    else (if ticks && ((state == idle) || (state == timed_out)) then Some (link_report.Renew slot) else None)
 
-abbrev pub duty_of : Event → Notice → Option SlotDuty
-duty_of given (notice.Slot slot state) = slot_duty (is_tick given) slot state
-duty_of given other = None
+abbrev pub link_report_of : Event → Notice → Option LinkReport
+link_report_of given (notice.Slot slot state) = slot_link_report (is_tick given) slot state
+link_report_of given other = None
 
 -- WHAT COMES
 
@@ -53,6 +55,23 @@ is_id (Some id) expected = id == expected
 -- a datagram of this target and this id was accepted
 abbrev pub fed : SlotWatch → Node → ℕ → SlotWatch
 fed watch target id = if (watch.target.0 == target.0) && is_id watch.id id then record watch { unfed = false } else watch
+
+-- WHICH GROUPS ARE HEARD
+
+abbrev pub idle_in : ℕ → ℕ → Option ℕ
+idle_in slot state = if state == idle then Some slot else None
+
+-- the slot that a notice says to be idle, which has no group from then on
+abbrev pub idle_slot : Notice → Option ℕ
+idle_slot (notice.Slot slot state) = idle_in slot state
+idle_slot other = None
+
+-- these groups with those of the slots, each once
+abbrev pub with_groups : List SlotWatch → List DataGroup → List DataGroup
+with_groups [] groups = groups
+with_groups (slot ∷ slots) groups = with_groups slots (with_group groups slot.group)
+
+-- WHOSE DATA NEVER CAME
 
 -- its target sends to a group, and nothing of its connection was accepted
 abbrev pub is_starved : SlotWatch → Bool

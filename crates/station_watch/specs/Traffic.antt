@@ -18,7 +18,7 @@ use Rattle.cip_tables.specs.declared.table.Config.TheVariants as config
 use Rattle.scanner_table.specs.declared.profile.SlotConfig.{SlotConfig}
 use Rattle.datagram_counts.specs.Counts.{counted, is_accepted, missed, no_counts, with_more}
 use Rattle.station_watch.specs.Groups.{opened_data, u32_behind}
-use Rattle.station_watch.specs.Openings.{opens_dialogue}
+use Rattle.station_watch.specs.Openings.{opens_class3}
 use Rattle.station_watch.specs.declared.groups.OpenedData.{OpenedData}
 use Rattle.station_watch.specs.declared.traffic.CountedConnection.{CountedConnection}
 use Rattle.station_watch.specs.declared.traffic.DataSource.{DataSource}
@@ -164,7 +164,7 @@ reply_id other = None
 -- a connection that was opened is the last one; one of class 3 has no datagrams, and no place
 abbrev pub with_opened : Event → Triad → ℕ → List CountedConnection → List CountedConnection
 with_opened given triad id connections =
-    if opens_dialogue given then connections else with_connection (begun (source.Originator triad) (Some id)) (without_originator triad connections)
+    if opens_class3 given then connections else with_connection (begun (source.Originator triad) (Some id)) (without_originator triad connections)
 
 -- after a notice in the answer to an event: a connection that has ended gives its place up, and one that timed out keeps it
 abbrev pub after_notice : Event → Notice → List CountedConnection → List CountedConnection

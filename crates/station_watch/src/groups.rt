@@ -2,11 +2,12 @@
 
 ghost use Rattle.std.specs.Prelude.{◌≡◌, drop};
 ghost use Rattle.cip_types.specs.Fields.{Finds};
-ghost use Rattle.station_watch.specs.Groups.{as_group, data_of_items, data_with, group_in, u32_behind, is_group, last_group, opened_data, socket_at};
+ghost use Rattle.station_watch.specs.Groups.{as_group, data_of_items, data_with, group_in, u32_behind, last_group, opened_data, socket_at};
 
 use cip_encap::{read_items, read_message};
 use cip_types::Node;
 use cip_types::fields::{u16_at, u32_at};
+use port_groups::{DataGroup, group_port, is_group};
 
 /// The bytes of the items before the data: the interface handle and the timeout, the count, the null address item, and the
 /// head of the data item.
@@ -34,25 +35,21 @@ const BEFORE_SEQUENCE: usize = 10;
 /// The bytes of a socket address.
 const SOCKET_ADDRESS_BYTES: u16 = 16;
 
-/// The first address of a group, 224.0.0.0, and the one behind the last, 240.0.0.0.
-const FIRST_GROUP: u32 = 0xE000_0000;
-
-const BEHIND_GROUPS: u32 = 0xF000_0000;
-
 /// What the reply to a Forward_Open says of the T->O datagrams.
 #[derive(Clone, Copy, PartialEq, Eq)]
 pub struct OpenedData {
     /// Their connection id.
     pub id: u32,
     /// The group to which they go, if the reply names one.
-    pub group: Option<Node>,
+    pub group: Option<DataGroup>,
 }
 
-/// A socket address item: its type, and the address that it names.
+/// A socket address item: its type, and the address and the port that it names.
 #[derive(Clone, Copy, PartialEq, Eq)]
 struct SocketItem {
     kind: u16,
     address: Node,
+    port: u16,
 }
 
 /// What the reply that opened a connection says of the T->O datagrams.
@@ -79,7 +76,7 @@ fn data_of_items(items: &[u8]) -> Option<OpenedData>
 }
 
 /// What is said of the datagrams of this id, if there is one.
-fn data_with(id: Option<u32>, group: Option<Node>) -> Option<OpenedData>
+fn data_with(id: Option<u32>, group: Option<DataGroup>) -> Option<OpenedData>
     ensures { result ≡ data_with id group }
 {
     match id {
@@ -126,23 +123,23 @@ fn behind(bytes: &[u8], count: usize) -> &[u8]
 }
 
 /// The group that one of at most two socket address items names.
-fn group_in(items: &[u8]) -> Option<Node>
+fn group_in(items: &[u8]) -> Option<DataGroup>
     ensures { result ≡ group_in items.now }
 {
     let (item, rest) = socket_at(items)?;
     if item.kind == T_O_SOCKET_ADDRESS {
-        return as_group(item.address);
+        return as_group(item);
     }
     last_group(rest)
 }
 
 /// The group that the last socket address item names.
-fn last_group(items: &[u8]) -> Option<Node>
+fn last_group(items: &[u8]) -> Option<DataGroup>
     ensures { result ≡ last_group items.now }
 {
     let (item, _rest) = socket_at(items)?;
     if item.kind == T_O_SOCKET_ADDRESS {
-        return as_group(item.address);
+        return as_group(item);
     }
     None
 }
@@ -156,27 +153,31 @@ fn socket_at(bytes: &[u8]) -> Option<(SocketItem, &[u8])>
     if len != SOCKET_ADDRESS_BYTES || rest.len() < 16 {
         return None;
     }
-    let (_family_and_port, rest) = rest.split_at(4);
+    let (_family, rest) = rest.split_at(2);
+    let (port, rest) = rest.split_at(2);
     let (ip, rest) = rest.split_at(4);
     let (_zeros, rest) = rest.split_at(8);
     let address = Node(u32::from_be_bytes([ip[0], ip[1], ip[2], ip[3]]));
-    Some((SocketItem { kind, address }, rest))
+    let port = u16::from_be_bytes([port[0], port[1]]);
+    Some((
+        SocketItem {
+            kind,
+            address,
+            port,
+        },
+        rest,
+    ))
 }
 
-/// An address, if it is that of a group.
-fn as_group(address: Node) -> Option<Node>
-    ensures { result ≡ as_group address }
+/// The group that an item names, if its address is that of a group.
+fn as_group(item: SocketItem) -> Option<DataGroup>
+    ensures { result ≡ as_group item }
 {
-    if is_group(address) {
-        Some(address)
-    } else {
-        None
+    if !is_group(item.address) {
+        return None;
     }
-}
-
-/// Whether an address is that of a group: 224.0.0.0 to 239.255.255.255.
-fn is_group(address: Node) -> bool
-    ensures { result ≡ is_group address }
-{
-    FIRST_GROUP <= address.0 && address.0 < BEHIND_GROUPS
+    Some(DataGroup {
+        address: item.address,
+        port: group_port(item.port),
+    })
 }

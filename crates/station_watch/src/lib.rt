@@ -10,6 +10,6 @@ mod slots;
 mod traffic;
 
 pub use closing::ClosingSlots;
-pub use peers::ConnectedPeers;
-pub use slots::{SlotDuty, SlotWatches, Starved};
+pub use peers::{ConnectedPeers, owners_of};
+pub use slots::{LinkReport, SlotWatches, Starved};
 pub use traffic::{CountedConnection, DataSource, StationTraffic, TrafficTotals};

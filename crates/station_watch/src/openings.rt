@@ -4,7 +4,7 @@ ghost use Rattle.std.specs.Prelude.{◌≡◌};
 ghost use Rattle.cip_encap.specs.PacketReading.{packet_reading};
 ghost use Rattle.cip_encap.specs.Reading.{message_reading};
 ghost use Rattle.cip_router.specs.Requests.{router_request_reading};
-ghost use Rattle.station_watch.specs.Openings.{is_opening, message_opens, opens_dialogue, packet_opens};
+ghost use Rattle.station_watch.specs.Openings.{is_opening, message_opens, opens_class3, packet_opens};
 
 use cip_encap::{read_items, read_message};
 use cip_events::Event;
@@ -15,8 +15,8 @@ use cip_router::{RouterRequest, read_router_request};
 /// are counted for it. Takes no memory.
 ///
 /// Volume 1, chapter 3, Forward_Open service and class 3 transport.
-pub fn opens_dialogue(event: &Event) -> bool
-    ensures { result ≡ opens_dialogue event.now }
+pub fn opens_class3(event: &Event) -> bool
+    ensures { result ≡ opens_class3 event.now }
 {
     match event {
         Event::Frame { stream: _, bytes } => message_opens(bytes.as_slice()),

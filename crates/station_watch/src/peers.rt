@@ -1,13 +1,18 @@
-//! The peers of an adapter that have connections.
+//! The peers of an adapter that have connections, and those that own outputs.
 
 ghost use Rattle.std.specs.Prelude.{◌≡◌, OnOk};
-ghost use Rattle.station_watch.specs.Peers.{change_of, has_triad, connections_after, connections_through, is_change, with_connection, without};
+ghost use Rattle.station_watch.specs.Peers.{change_of, has_triad, connections_after, connections_through, is_change, owner_of, with_connection, without};
 
-use crate::openings::opens_dialogue;
+use adapter_table::ConnectionReport;
 use cip_events::{Event, Notice};
-use cip_types::limits::{MOST_CONNECTIONS, MOST_STREAMS};
+use cip_productions::Kind;
+use cip_tables::Device;
+use cip_types::limits::MOST_STREAMS;
 use cip_types::{Node, OutOfMemory, Triad};
 use std::alloc::Global;
+
+/// An adapter has at most 64 connections of class 1, and as many of class 3.
+const MOST_HELD: usize = 128;
 
 /// A connection of an adapter, and the peer that opened it.
 #[derive(Clone, Copy, PartialEq, Eq)]
@@ -27,7 +32,7 @@ pub enum ConnectionChange {
     Nothing,
 }
 
-/// The peers of an adapter's streams, and its connections with their peers.
+/// The peers of an adapter's streams, and its connections, of class 1 and 3, with their peers.
 #[derive(Drop)]
 pub struct ConnectedPeers {
     streams: [Option<Node>; MOST_STREAMS],
@@ -58,11 +63,8 @@ impl ConnectedPeers {
         note_all(&mut self.held, notices, peer)
     }
 
-    /// The peer whose request an event brings, unless it opens a class 3 connection, which has no datagrams.
+    /// The peer whose request an event brings.
     fn peer_of(&self, event: &Event) -> Option<Node> {
-        if opens_dialogue(event) {
-            return None;
-        }
         match event {
             Event::Request { peer, bytes: _ } => Some(*peer),
             Event::Frame { stream, bytes: _ } => *self.streams.get(usize::from(*stream))?,
@@ -169,12 +171,39 @@ fn remove(held: &mut Vec<PeerConnection>, triad: Triad)
     held.retain(|other| !has_triad(other, triad));
 }
 
-/// Adds a connection, if there are fewer than 64. The fault: an allocation was refused, and none is added.
+/// Adds a connection, if there are fewer than 128. The fault: an allocation was refused, and none is added.
 fn add(held: &mut Vec<PeerConnection>, new: PeerConnection) -> Result<(), OutOfMemory>
     ensures { OnOk result (held.new.items ≡ with_connection new held.old.items) }
 {
-    if held.len() < MOST_CONNECTIONS {
+    if held.len() < MOST_HELD {
         held.push(new)?;
     }
     Ok(())
+}
+
+/// The peers that own outputs of an adapter, each once. None own one of a scanner. The fault: an allocation was refused.
+pub fn owners_of<D: Device>(alloc: Global, device: &D) -> Result<Vec<Node>, OutOfMemory> {
+    let mut owners = Vec::new(alloc);
+    for place in 0..u32::MAX {
+        let Some(report) = device.connection(place) else {
+            return Ok(owners);
+        };
+        match owner_of(&report) {
+            Some(owner) if !owners.contains(&owner) => owners.push(owner)?,
+            _ => {}
+        }
+    }
+    Ok(owners)
+}
+
+/// The peer of a connection that owns an output: an established exclusive owner.
+///
+/// Volume 1, chapter 3, application connection types.
+fn owner_of(report: &ConnectionReport) -> Option<Node>
+    ensures { result ≡ owner_of report.now }
+{
+    match report.kind {
+        Kind::ExclusiveOwner if report.established => Some(report.peer),
+        _ => None,
+    }
 }

@@ -1,17 +1,18 @@
 //! What a station knows of a scanner's slots: what it tells its port of their targets, and whether their data comes.
 
-ghost use Rattle.std.specs.Prelude.{◌≡◌};
-ghost use Rattle.station_watch.specs.Slots.{duty_of, fed, is_id, is_starved, is_tick, opened};
+ghost use Rattle.std.specs.Prelude.{◌≡◌, OnOk};
+ghost use Rattle.station_watch.specs.Slots.{link_report_of, fed, idle_slot, is_id, is_starved, is_tick, opened, with_groups};
 
 use crate::groups::{OpenedData, datagram_id, opened_data};
 use cip_events::{Answer, Delivery, Event, Notice, SlotPhase, Verdict};
 use cip_tables::Config;
 use cip_types::{Node, OutOfMemory};
+use port_groups::{DataGroup, add_group};
 use std::alloc::Global;
 
 /// What a station tells its port of the target of a slot.
 #[derive(Clone, Copy, PartialEq, Eq)]
-pub enum SlotDuty {
+pub enum LinkReport {
     /// Its stream is to be opened anew.
     Renew(u32),
     /// A connection with it is established.
@@ -28,8 +29,8 @@ pub struct SlotWatch {
     pub unfed: bool,
     /// The connection id of its datagrams.
     pub id: Option<u32>,
-    /// The group that the reply named.
-    pub group: Option<Node>,
+    /// The group that the reply named; none of a slot that is idle.
+    pub group: Option<DataGroup>,
 }
 
 /// A slot whose data never came.
@@ -37,15 +38,17 @@ pub struct SlotWatch {
 pub struct Starved {
     pub slot: u32,
     pub target: Node,
-    pub group: Option<Node>,
+    pub group: Option<DataGroup>,
 }
 
 /// What is known of a scanner's slots, and what is to be told.
 #[derive(Drop)]
 pub struct SlotWatches {
     slots: Vec<SlotWatch>,
-    duties: Vec<SlotDuty>,
+    link_reports: Vec<LinkReport>,
     starved: Vec<Starved>,
+    /// Whether the groups of the slots may have changed since they were told.
+    regrouped: bool,
 }
 
 impl SlotWatches {
@@ -65,8 +68,9 @@ impl SlotWatches {
         }
         Ok(SlotWatches {
             slots,
-            duties: Vec::new(alloc),
+            link_reports: Vec::new(alloc),
             starved: Vec::new(alloc),
+            regrouped: false,
         })
     }
 
@@ -78,10 +82,11 @@ impl SlotWatches {
             }
         }
         for notice in answer.notices.as_slice() {
-            if let Some(duty) = duty_of(event, notice) {
-                self.duties.push(duty)?;
-                self.follow(event, duty)?;
+            if let Some(link_report) = link_report_of(event, notice) {
+                self.link_reports.push(link_report)?;
+                self.follow(event, link_report)?;
             }
+            self.forget(notice);
         }
         Ok(())
     }
@@ -96,21 +101,47 @@ impl SlotWatches {
         }
     }
 
-    /// Notes what a duty says of its slot.
-    fn follow(&mut self, event: &Event, duty: SlotDuty) -> Result<(), OutOfMemory> {
-        match duty {
-            SlotDuty::Succeed(slot) => {
+    /// Notes what a report on a link says of its slot.
+    fn follow(&mut self, event: &Event, link_report: LinkReport) -> Result<(), OutOfMemory> {
+        match link_report {
+            LinkReport::Succeed(slot) => {
                 let data = reply_data(event);
                 if let Some(place) = watch_mut(&mut self.slots, slot) {
                     *place = opened(*place, data);
+                    self.regrouped = true;
                 }
                 Ok(())
             }
-            SlotDuty::Renew(slot) => match self.starved_at(slot) {
+            LinkReport::Renew(slot) => match self.starved_at(slot) {
                 Some(starved) => Ok(self.starved.push(starved)?),
                 None => Ok(()),
             },
         }
+    }
+
+    /// Forgets the group of a slot that a notice says to be idle.
+    fn forget(&mut self, notice: &Notice) {
+        let Some(slot) = idle_slot(notice) else {
+            return;
+        };
+        if let Some(place) = watch_mut(&mut self.slots, slot) {
+            *place = SlotWatch {
+                group: None,
+                ..*place
+            };
+            self.regrouped = true;
+        }
+    }
+
+    /// Appends the groups of the slots, each once, if they may have changed since the last time. Whether they may have. The only
+    /// fault is a refused allocation, and then they are told the next time.
+    pub fn push_groups(&mut self, groups: &mut Vec<DataGroup>) -> Result<bool, OutOfMemory> {
+        if !self.regrouped {
+            return Ok(false);
+        }
+        add_groups(self.slots.as_slice(), groups)?;
+        self.regrouped = false;
+        Ok(true)
     }
 
     /// A slot whose data never came. It is answered once for each connection.
@@ -132,8 +163,8 @@ impl SlotWatches {
     }
 
     /// Takes the next thing that the port is to be told, the last one first.
-    pub fn next_duty(&mut self) -> Option<SlotDuty> {
-        self.duties.pop()
+    pub fn next_link_report(&mut self) -> Option<LinkReport> {
+        self.link_reports.pop()
     }
 
     /// Takes the next slot whose data never came, the last one first.
@@ -146,6 +177,29 @@ impl SlotWatches {
         let slot = usize::try_from(slot).ok()?;
         Some(self.slots.get(slot)?.target)
     }
+}
+
+/// Adds the groups of slots, each once. The only fault is a refused allocation.
+fn add_groups(slots: &[SlotWatch], groups: &mut Vec<DataGroup>) -> Result<(), OutOfMemory>
+    ensures { OnOk result (groups.new.items ≡ with_groups slots.now groups.old.items) }
+{
+    for slot in slots {
+        add_group(groups, slot.group)?;
+    }
+    Ok(())
+}
+
+/// The slot that a notice says to be idle.
+fn idle_slot(notice: &Notice) -> Option<u32>
+    ensures { result ≡ idle_slot notice.now }
+{
+    let Notice::Slot(slot, state) = notice else {
+        return None;
+    };
+    if *state == SlotPhase::Idle.number() {
+        return Some(*slot);
+    }
+    None
 }
 
 /// What is known of a slot.
@@ -163,19 +217,19 @@ fn reply_data(event: &Event) -> Option<OpenedData> {
 
 /// What a notice in the answer to an event has a station tell its port: a connection is established; or at a tick a request
 /// was not answered in time or a connection timed out, and then the target's stream is to be opened anew.
-fn duty_of(event: &Event, notice: &Notice) -> Option<SlotDuty>
-    ensures { result ≡ duty_of event.now notice.now }
+fn link_report_of(event: &Event, notice: &Notice) -> Option<LinkReport>
+    ensures { result ≡ link_report_of event.now notice.now }
 {
     let Notice::Slot(slot, state) = notice else {
         return None;
     };
     if *state == SlotPhase::Established.number() {
-        return Some(SlotDuty::Succeed(*slot));
+        return Some(LinkReport::Succeed(*slot));
     }
     if is_tick(event)
         && (*state == SlotPhase::Idle.number() || *state == SlotPhase::TimedOut.number())
     {
-        return Some(SlotDuty::Renew(*slot));
+        return Some(LinkReport::Renew(*slot));
     }
     None
 }

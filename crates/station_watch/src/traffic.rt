@@ -4,7 +4,7 @@ ghost use Rattle.std.specs.Prelude.{◌≡◌, find, map, IfOk, OnOk};
 ghost use Rattle.station_watch.specs.Traffic.{after_datagram, after_event, after_notice, after_notices, applied_by, arrived, begun, counted_one, fresh_slot, fresh_traffic, is_for, is_from, is_id, is_of, lost_by, lost_of, noted, received_datagram, reply_id, sent_totals, slot_changed, totals_after, with_connection, with_slot, without_originator};
 
 use crate::groups::{datagram_id, datagram_sequence, opened_data};
-use crate::openings::opens_dialogue;
+use crate::openings::opens_class3;
 use cip_events::{Answer, Delivery, Event, Notice, SlotPhase, Verdict};
 use cip_tables::{Config, SlotConfig};
 use cip_types::limits::MOST_CONNECTIONS;
@@ -333,7 +333,7 @@ fn note_one(
     ensures { OnOk result (connections.new.items ≡ after_notice event.now notice.now connections.old.items) }
 {
     match notice {
-        Notice::Opened(_, _) if opens_dialogue(event) => Ok(()),
+        Notice::Opened(_, _) if opens_class3(event) => Ok(()),
         Notice::Opened(triad, id) => {
             remove(connections, *triad);
             add(

@@ -29,14 +29,14 @@ use Rattle.adapter_table.specs.Lemmas.SoundLemmas.{any_opened, triads_filter}
 use Rattle.adapter_table.specs.Messages.{messages_table}
 use Rattle.adapter_table.specs.Requests.{Next}
 use Rattle.adapter_table.specs.Streams.{ended_notice, ended_notices, without_stream}
-use Rattle.messaging.specs.declared.dialogue.Dialogue.{Dialogue}
+use Rattle.messaging.specs.declared.class3.Class3Connection.{Class3Connection}
 use Rattle.messaging.specs.declared.table.Messaging.{Messaging}
-use Rattle.messaging.specs.Changes.{stream_dialogues}
-use Rattle.messaging.specs.Dialogues.{is_on_stream}
+use Rattle.messaging.specs.Changes.{stream_class3_connections}
+use Rattle.messaging.specs.Class3Connections.{is_on_stream}
 use Rattle.messaging.specs.Sound.{EachOf}
-use Rattle.messaging.specs.Times.{late_dialogues}
+use Rattle.messaging.specs.Times.{late_class3_connections}
 use Rattle.messaging.specs.Lemmas.EachOfLemmas.{each_left}
-use Rattle.station_watch.specs.Openings.{opens_dialogue}
+use Rattle.station_watch.specs.Openings.{opens_class3}
 use Rattle.traffic_laws.specs.Places.{AreAtPlaces}
 use Rattle.station_watch.specs.Traffic.{after_notice, after_notices, begun, with_connection, with_opened, without_originator}
 use Rattle.station_watch.specs.declared.traffic.CountedConnection.{CountedConnection}
@@ -85,7 +85,7 @@ keeps_closed given t removed differ = λ counts at.
 -- CLASS 3 CONNECTIONS
 
 -- no connection of class 1 has its triad
-abbrev pub IsApart : List Row → Dialogue → Type 0
+abbrev pub IsApart : List Row → Class3Connection → Type 0
 IsApart rows d = list_any (has_triad d.triad) rows ≡ false
 
 -- what has another triad stays
@@ -108,31 +108,31 @@ class_3 true old new rows is at = at
 class_3 false old new rows is at = absurd cc
 
 -- one that opens has no place
-pub keeps_begun : (given : Event) (t : AdapterTable) (next_id : ℕ) (m : Messaging) (d : Dialogue) → opens_dialogue given ≡ true → KeepsPlaces given t (notice.Opened d.triad d.o_t_id ∷ []) (messages_table t next_id m)
+pub keeps_begun : (given : Event) (t : AdapterTable) (next_id : ℕ) (m : Messaging) (d : Class3Connection) → opens_class3 given ≡ true → KeepsPlaces given t (notice.Opened d.triad d.o_t_id ∷ []) (messages_table t next_id m)
 unfolding messages_table
 keeps_begun given t next_id m d three = λ counts at.
-    class_3 (opens_dialogue given) counts (with_connection (begun (source.Originator d.triad) (Some d.o_t_id.0)) (without_originator d.triad counts)) t.rows three at
+    class_3 (opens_class3 given) counts (with_connection (begun (source.Originator d.triad) (Some d.o_t_id.0)) (without_originator d.triad counts)) t.rows three at
 
 -- one that is closed had none
-pub keeps_ended : (given : Event) (t : AdapterTable) (m : Messaging) (d : Dialogue) → IsApart t.rows d → KeepsPlaces given t (notice.Closed d.triad ∷ []) (messages_table t t.next_id m)
+pub keeps_ended : (given : Event) (t : AdapterTable) (m : Messaging) (d : Class3Connection) → IsApart t.rows d → KeepsPlaces given t (notice.Closed d.triad ∷ []) (messages_table t t.next_id m)
 unfolding messages_table
 keeps_ended given t m d apart = λ counts at. at_apart d.triad counts t.rows apart at
 
-at_ended : (given : Event) (ended : List Dialogue) (counts : List CountedConnection) (rows : List Row) → EachOf (IsApart rows) ended → AreAtPlaces counts rows → AreAtPlaces (after_notices given (map ended_notice ended) counts) rows
+at_ended : (given : Event) (ended : List Class3Connection) (counts : List CountedConnection) (rows : List Row) → EachOf (IsApart rows) ended → AreAtPlaces counts rows → AreAtPlaces (after_notices given (map ended_notice ended) counts) rows
 at_ended given [] counts rows apart at = at
 at_ended given (d ∷ ended) counts rows apart at = at_ended given ended (without_originator d.triad counts) rows apart.1 (at_apart d.triad counts rows apart.0 at)
 
 -- nor had those of a stream
-pub keeps_unstreamed : (given : Event) (t : AdapterTable) (number : ℕ) → EachOf (IsApart t.rows) t.messaging.dialogues → KeepsPlaces given t (ended_notices t number) (without_stream t number)
+pub keeps_unstreamed : (given : Event) (t : AdapterTable) (number : ℕ) → EachOf (IsApart t.rows) t.messaging.class3_connections → KeepsPlaces given t (ended_notices t number) (without_stream t number)
 unfolding without_stream
 keeps_unstreamed given t number apart = λ counts at.
-    at_ended given (stream_dialogues t.messaging number) counts t.rows (each_left (IsApart t.rows) (is_on_stream number) t.messaging.dialogues apart) at
+    at_ended given (stream_class3_connections t.messaging number) counts t.rows (each_left (IsApart t.rows) (is_on_stream number) t.messaging.class3_connections apart) at
 
-late_alone : (given : Event) (late : List Dialogue) (counts : List CountedConnection) → after_notices given (map late_notice late) counts ≡ counts
+late_alone : (given : Event) (late : List Class3Connection) (counts : List CountedConnection) → after_notices given (map late_notice late) counts ≡ counts
 late_alone given [] counts = refl
 late_alone given (d ∷ late) counts = late_alone given late counts
 
-late_stay : (given : Event) (notices : List Notice) (late : List Dialogue) (counts : List CountedConnection) → after_notices given (notices ++ map late_notice late) counts ≡ after_notices given notices counts
+late_stay : (given : Event) (notices : List Notice) (late : List Class3Connection) (counts : List CountedConnection) → after_notices given (notices ++ map late_notice late) counts ≡ after_notices given notices counts
 late_stay given [] late counts = late_alone given late counts
 late_stay given (first ∷ notices) late counts = late_stay given notices late (after_notice given first counts)
 
@@ -140,7 +140,7 @@ late_stay given (first ∷ notices) late counts = late_stay given notices late (
 pub keeps_aged : (given : Event) (t : AdapterTable) (next : Next) → KeepsPlaces given t next.0.notices next.1 → KeepsPlaces given t (aged_next next).0.notices (aged_next next).1
 unfolding messages_table
 keeps_aged given t next keeps = λ counts at.
-    subst (λ (list : List CountedConnection). AreAtPlaces list next.1.rows) (sym (late_stay given next.0.notices (late_dialogues next.1.clock next.1.messaging) counts)) (keeps counts at)
+    subst (λ (list : List CountedConnection). AreAtPlaces list next.1.rows) (sym (late_stay given next.0.notices (late_class3_connections next.1.clock next.1.messaging) counts)) (keeps counts at)
 
 -- AN OPENING
 
@@ -168,13 +168,13 @@ class_1 true old new rows is at = absurd cc
 class_1 false old new rows is at = at
 
 -- the new connection is the last one
-at_new : (given : Event) (row : Row) (counts : List CountedConnection) (left : List Row) → opens_dialogue given ≡ false → list_any (has_triad row.triad) left ≡ false → length left + 1 ≤ 64 → AreAtPlaces counts left → AreAtPlaces (with_opened given row.triad row.o_t_id.0 counts) (left ++ row ∷ [])
+at_new : (given : Event) (row : Row) (counts : List CountedConnection) (left : List Row) → opens_class3 given ≡ false → list_any (has_triad row.triad) left ≡ false → length left + 1 ≤ 64 → AreAtPlaces counts left → AreAtPlaces (with_opened given row.triad row.o_t_id.0 counts) (left ++ row ∷ [])
 at_new given row counts left one none few at =
     let new = begun (source.Originator row.triad) (Some row.o_t_id.0) in
-    class_1 (opens_dialogue given) counts (with_connection new (without_originator row.triad counts)) (left ++ row ∷ []) one
+    class_1 (opens_class3 given) counts (with_connection new (without_originator row.triad counts)) (left ++ row ∷ []) one
     (at_opened (without_originator row.triad counts) left new row (at_apart row.triad counts left none at) few (record { source = refl; id = refl }))
 
-at_replaced : (given : Event) (row : Row) (p : Row → Bool) (rows : List Row) (found : Option Row) (counts : List CountedConnection) → opens_dialogue given ≡ false → find p rows ≡ found → TriadsDiffer rows → Alone p rows → list_any (has_triad row.triad) (others p rows) ≡ false → length (others p rows) + 1 ≤ 64 → AreAtPlaces counts rows → AreAtPlaces (after_notices given (replaced_notices (option_map triad_of found) ++ notice.Opened row.triad row.o_t_id ∷ []) counts) (others p rows ++ row ∷ [])
+at_replaced : (given : Event) (row : Row) (p : Row → Bool) (rows : List Row) (found : Option Row) (counts : List CountedConnection) → opens_class3 given ≡ false → find p rows ≡ found → TriadsDiffer rows → Alone p rows → list_any (has_triad row.triad) (others p rows) ≡ false → length (others p rows) + 1 ≤ 64 → AreAtPlaces counts rows → AreAtPlaces (after_notices given (replaced_notices (option_map triad_of found) ++ notice.Opened row.triad row.o_t_id ∷ []) counts) (others p rows ++ row ∷ [])
 at_replaced given row p rows None counts one is differ alone none few at =
     at_new given row counts (others p rows) one none few (subst (λ (xs : List Row). AreAtPlaces counts xs) (sym (all_left p rows (none_found p rows is))) at)
 at_replaced given row p rows (Some old) counts one is differ alone none few at =
@@ -183,7 +183,7 @@ at_replaced given row p rows (Some old) counts one is differ alone none few at =
     (at_removed old.triad counts rows at))
 
 -- the connection that is replaced gives its place up, and the new one is the last
-pub keeps_opened : (given : Event) (t : AdapterTable) (row : Row) (admitted : Admitted) → opens_dialogue given ≡ false → TriadsDiffer t.rows → OpeningsRise t.rows → length (opened_table t row admitted).rows ≤ 64 → KeepsPlaces given t (opened_notices t.rows row) (opened_table t row admitted)
+pub keeps_opened : (given : Event) (t : AdapterTable) (row : Row) (admitted : Admitted) → opens_class3 given ≡ false → TriadsDiffer t.rows → OpeningsRise t.rows → length (opened_table t row admitted).rows ≤ 64 → KeepsPlaces given t (opened_notices t.rows row) (opened_table t row admitted)
 unfolding opened_table
 keeps_opened given t row admitted one differ rise few = λ counts at.
     let b = list_any (has_triad row.triad) t.rows in

@@ -1,7 +1,7 @@
 use Rattle.std.proofs.Common.{[], ◌∷◌, codes}
 use Rattle.hex.specs.Hex.{encode_lower}
 use Rattle.trace_words.specs.Words.{bytes_word}
-use Rattle.attribute_lines.specs.Statuses.{status_name}
+use Rattle.status_words.specs.Statuses.{status_name}
 use Rattle.attribute_lines.specs.Lemmas.Appended.{named, six}
 use Rattle.attribute_lines.proofs.replies.push_status.Goals as goal
 

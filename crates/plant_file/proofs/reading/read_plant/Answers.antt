@@ -1,14 +1,14 @@
 use Rattle.std.proofs.Common.{rules, ◌≡◌, ◌∷◌, arith}
-use Rattle.plant_file.specs.Reading.{lines_of}
+use Rattle.trace_text.specs.Reading.{parts_of}
 use Rattle.plant_file.proofs.Lines.{good_line, line_stops}
 use Rattle.plant_file.proofs.reading.read_plant.Goals as goal
 
 pub returns-in-Err : goal.returns-in-Err
 returns-in-Err c =
-    let parted : lines_of c.loop-line.rest.now ≡ c.in-Some.line.now ∷ lines_of c.in-Some.after.now = search rules in
+    let parted : parts_of c.loop-line.rest.now ≡ c.in-Some.line.now ∷ parts_of c.in-Some.after.now = search rules in
     line_stops _ c.loop-line.number c.loop-line.draft _ c.in-Err.fault c.loop-line.rest.now c.in-Some.after.now c.in-Some.line.now c.loop-line.invariant.0 parted c.in-Err.ensures
 
 pub loop-line-preserved : goal.loop-line-preserved
 loop-line-preserved c =
-    let parted : lines_of c.loop-line.rest.now ≡ c.in-Some.line.now ∷ lines_of c.in-Some.after.now = search rules in
+    let parted : parts_of c.loop-line.rest.now ≡ c.in-Some.line.now ∷ parts_of c.in-Some.after.now = search rules in
     (good_line _ c.loop-line.number c.loop-line.draft _ c.loop-line.rest.now c.in-Some.after.now c.in-Some.line.now c.loop-line.invariant.0 parted c.in-Ok.ensures, omega (arith, c.loop-line.invariant.1, c.in-Some.ensures.shorter))

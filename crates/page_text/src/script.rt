@@ -1,0 +1,625 @@
+//! The script of the page, in one text, from behind the page's word to its end.
+
+/// The page behind its word. The script reads the event stream of its own station, and shows what each snapshot says: in the
+/// elements that are there, so that a click, a selection and the focus stay where they are.
+pub const PAGE_REST: &str = "\
+';
+const KEPT_MS = 180000, STALE_MS = 1500, SILENT_MS = 5000, RATE_MS = 190, TICK_MS = 250, LINE_BYTES = 16;
+const COLOURS = ['#3b78dd', '#1f8a54', '#cf4040', '#9a55d3', '#b87410', '#1b9a9c', '#cf4a8c', '#7b8592'];
+const token = location.hash.slice(1);
+const byId = (id) => document.getElementById(id);
+const chosen = new Set();  // the bytes of the chart, as `150:0`, and `output 2:0` of what slot 2 sends
+const opened = Date.now(), openedAt = performance.now();
+let station = { writes: false, record: false, name: 'station', devices: [] };
+let shown = 0, marks = 0;
+// what is known of each device: one of a station
+const views = new Map();
+
+function viewOf(device) {
+  if (!views.has(device)) {
+    views.set(device, { samples: [], last: null, known: new Map(), heard: 0, late: 0, quickest: [], isCut: false, isUnfolded: false });
+  }
+  return views.get(device);
+}
+
+// TIME
+
+// the milliseconds since a device was as it is shown: since its last snapshot came, and how late that one was
+function ageOf(view) { return view.last ? performance.now() - view.heard + view.late : performance.now() - openedAt; }
+
+function isStale(view) { return ageOf(view) > STALE_MS; }
+
+function clockOf(ms) { return new Date(ms).toTimeString().slice(0, 8); }
+
+function since(view) { return `no contact since ${clockOf(view.last ? view.last.wall_ms ?? view.receivedWall : opened)}`; }
+
+// A snapshot is late by as much as it is further behind its clock than the quickest one. It has two clocks, and the one by which it is
+// less late counts: so a clock that jumps makes nothing late.
+function latenessOf(view, snapshot, before) {
+  const behind = [performance.now() - snapshot.ms];
+  if (snapshot.wall_ms !== undefined) behind.push(Date.now() - snapshot.wall_ms);
+  const drift = before ? (snapshot.ms - before.ms) / 10000 : Infinity;
+  view.quickest = behind.map((ms, at) => Math.min(ms, (view.quickest[at] ?? ms) + drift));
+  return Math.min(...behind.map((ms, at) => ms - view.quickest[at]));
+}
+
+// ELEMENTS, CHANGED IN PLACE
+
+function element(name, text, kind) {
+  const made = document.createElement(name);
+  if (text !== undefined) made.textContent = text;
+  if (kind) made.className = kind;
+  return made;
+}
+
+// Puts a text into an element. A selection that ends in it stays, as far as the text reaches.
+function put(node, text) {
+  const reported = String(text), own = node.firstChild;
+  if (!own) {
+    if (reported) node.append(reported);
+    return;
+  }
+  if (own.data === reported) return;
+  const selection = getSelection(), { anchorNode, anchorOffset, focusNode, focusOffset } = selection;
+  own.data = reported;
+  if (anchorNode !== own && focusNode !== own) return;
+  const within = (place, at) => place === own ? Math.min(at, reported.length) : at;
+  selection.setBaseAndExtent(anchorNode, within(anchorNode, anchorOffset), focusNode, within(focusNode, focusOffset));
+}
+
+function dress(node, text, kind) {
+  put(node, text);
+  if (node.className !== kind) node.className = kind;
+}
+
+// Gives a parent the children of these keys, in this order. A child that stays is the same element.
+function keep(parent, keys, make, fill) {
+  const requested = new Set(keys);
+  for (const child of [...parent.children]) if (!requested.has(child.dataset.key)) child.remove();
+  const held = new Map([...parent.children].map((it) => [it.dataset.key, it]));
+  keys.forEach((key, at) => {
+    const child = held.get(key) ?? make();
+    child.dataset.key = key;
+    if (parent.children[at] !== child) parent.insertBefore(child, parent.children[at] ?? null);
+    fill(child, at);
+  });
+}
+
+function tableIn(place, heads) {
+  if (!place.firstChild) {
+    const table = place.appendChild(element('table'));
+    const row = table.createTHead().insertRow();
+    row.className = 'heads';
+    for (const text of heads) row.appendChild(element('th', text));
+    table.createTBody();
+  }
+  return place.firstChild.tBodies[0];
+}
+
+// A cell is a text, or a function that fills its element.
+function fillRow(row, heads, { cells, kind = '' }) {
+  if (row.className !== kind) row.className = kind;
+  cells.forEach((value, at) => {
+    const cell = row.cells[at] ?? row.insertCell();
+    cell.dataset.head = heads[at];
+    if (typeof value === 'function') value(cell); else put(cell, value);
+  });
+}
+
+function fillTable(place, heads, rows) {
+  keep(tableIn(place, heads), rows.map((it) => it.key), () => element('tr'), (row, at) => fillRow(row, heads, rows[at]));
+}
+
+// a cell of badges, each a text with its colour, and a text behind them
+const said = (badges, text = '') => (cell) => {
+  const place = cell.firstChild ?? cell.appendChild(element('span'));
+  while (place.children.length <= badges.length) place.append(element('span'));
+  while (place.children.length > badges.length + 1) place.lastChild.remove();
+  badges.forEach(([words, kind], at) => dress(place.children[at], words, `badge ${kind}`));
+  dress(place.lastChild, badges.length && text ? ` ${text}` : text, '');
+};
+
+const coded = (text, kind = '') => (cell) => {
+  if (!cell.firstChild) cell.append(element('code'));
+  dress(cell.firstChild, text, kind);
+};
+
+// VALUES
+
+function bytesOf(text) {
+  const found = [];
+  for (let at = 0; text !== '-' && at < text.length; at += 2) found.push(parseInt(text.slice(at, at + 2), 16));
+  return found;
+}
+
+// a cell of bytes, each a button
+const hexOf = (text, name) => (cell) => {
+  const hex = text === '-' ? '' : text, isMarked = cell.point === name && cell.marks === marks;
+  if (isMarked && cell.hex === hex) return;
+  const isBuilt = cell.firstChild && cell.hex.length === hex.length;
+  if (!isBuilt) cell.replaceChildren(linesOf(hex.length / 2));
+  Object.assign(cell, { hex, point: name, marks });
+  cell.querySelectorAll('button').forEach((one, at) => {
+    put(one, hex.slice(2 * at, 2 * at + 2));
+    if (!(isBuilt && isMarked)) mark(one, `${name}:${at}`);
+  });
+};
+
+function mark(one, key) {
+  one.dataset.byte = key;
+  one.className = chosen.has(key) ? 'chosen' : '';
+  one.setAttribute('aria-pressed', String(chosen.has(key)));
+}
+
+function linesOf(count) {
+  const made = element('span', undefined, 'bytes');
+  let line, four;
+  for (let at = 0; at < count; at += 1) {
+    if (at % LINE_BYTES === 0) line = made.appendChild(element('span', undefined, 'line'));
+    if (at % 4 === 0) four = line.appendChild(element('span', undefined, 'four'));
+    four.append(element('button'));
+  }
+  return made;
+}
+
+function bitsOf(bytes) {
+  const bits = bytes.slice(0, 16).map((byte) => byte.toString(2).padStart(8, '0')).join(' ');
+  return coded(bytes.length > 16 ? `${bits} ..` : bits, 'bits');
+}
+
+function numbersOf(bytes) {
+  const view = new DataView(new Uint8Array(bytes).buffer), words = [];
+  for (let at = 0; at + 2 <= bytes.length && at < 16; at += 2) words.push(view.getUint16(at, true));
+  return coded(bytes.length < 2 ? bytes.join(' ') : words.join(' '));
+}
+
+// the age of a row's data, so many milliseconds after its snapshot
+function dataAge(row, more) {
+  const ms = Math.round(row.age_ms + more);
+  const age = ms < 10000 ? `${ms} ms` : `${Math.round(ms / 1000)} s`;
+  return row.has_data ? age : `no data for ${age}`;
+}
+
+// what a connection is at present
+function modeOf(row) {
+  if (!row.established) return ['lost', 'bad'];
+  if (row.mode === 'run') return ['run', 'good'];
+  if (row.mode === 'idle') return ['idle', 'warn'];
+  return row.has_data ? ['open', 'good'] : ['waiting', 'wait'];
+}
+
+// CONNECTIONS OF THE PRESENT
+
+const pairOf = (row) => `${row.peer} ${row.consumed} ${row.produced}`;
+
+// The connections of the present: the established ones, and of each peer and its points the newest that is lost, if none has followed
+// it. All others are earlier ones. The newest connection is the last one.
+function sorted(connections) {
+  const followed = new Set(connections.filter((it) => it.established).map(pairOf)), lost = new Set();
+  for (const it of [...connections].reverse()) {
+    if (it.established || followed.has(pairOf(it))) continue;
+    followed.add(pairOf(it));
+    lost.add(it);
+  }
+  const isPresent = (it) => it.established || lost.has(it);
+  return { present: connections.filter(isPresent), earlier: connections.filter((it) => !isPresent(it)), lost: lost.size };
+}
+
+// each connection with a key: its peer, kind and points, and how many such ones are before it
+function keyed(connections) {
+  const counts = new Map();
+  return connections.map((it) => {
+    const name = `${it.kind} ${pairOf(it)}`, count = counts.get(name) ?? 0;
+    counts.set(name, count + 1);
+    return [`${name} ${count}`, it];
+  });
+}
+
+// PARTS OF THE PAGE
+
+function ownerOf(output, snapshot, more) {
+  if (output.owner) return said([modeOf(output.owner)], `${output.owner.peer}, ${dataAge(output.owner, more)}`);
+  const lost = snapshot.connections.findLast((it) => it.kind === 'exclusive' && it.consumed === output.point);
+  return lost ? said([['lost', 'bad']], lost.peer) : said([['no owner', '']]);
+}
+
+function pointRow(kind, point, bytes, says, name = point) {
+  const values = bytesOf(bytes.slice(0, 34));  // (of a long point the first ones are shown as bits and numbers)
+  return { key: `${kind} ${point}`, cells: [kind, point, hexOf(bytes, name), bitsOf(values), numbersOf(values), says] };
+}
+
+// the name of what a slot sends, beside that of its image
+function outputOf(it) { return `output ${it.slot}`; }
+
+function consumersOf(input) {
+  return said([], `${input.exclusive_owners} exclusive, ${input.input_only} input only, ${input.listen_only} listen only`);
+}
+
+const POINT_HEADS = ['', 'point', 'bytes', 'bits', 'numbers of 16 bits', 'owner, consumers, target'];
+
+function renderPoints(snapshot, more) {
+  const rows = [];
+  for (const it of snapshot.outputs ?? []) rows.push(pointRow('output', it.point, it.bytes, ownerOf(it, snapshot, more)));
+  for (const it of snapshot.inputs ?? []) rows.push(pointRow('input', it.point, it.bytes, consumersOf(it)));
+  for (const it of snapshot.slots ?? []) {
+    rows.push(pointRow('image', it.slot, it.bytes, said([], `from ${it.target}`)));
+    if (it.output !== '-') rows.push(pointRow('output', it.slot, it.output, said([], `to ${it.target}`), outputOf(it)));
+  }
+  fillTable(byId('points'), POINT_HEADS, rows);
+}
+
+const STATES = { established: 'good', opening: 'warn', closing: 'warn', timed_out: 'bad', idle: '' };
+const SLOT_HEADS = ['slot', 'target', 'state', 'intervals', 'age of its data'];
+const CONNECTION_HEADS = ['peer', 'kind', 'consumes', 'produces', 'state', 'intervals', 'age of its data'];
+
+function slotRow(it, more) {
+  const isUp = it.state === 'established';
+  const state = isUp && !it.has_data ? ['waiting', 'wait'] : [it.state.replace('_', ' '), STATES[it.state]];
+  return { key: String(it.slot), cells: [it.slot, it.target, said([state]), isUp ? `${it.o_t_ms} ms out, ${it.t_o_ms} ms in` : '',
+    isUp ? dataAge(it, more) : ''] };
+}
+
+function connectionRow([key, it], badge, kind, more) {
+  return { key, kind, cells: [it.peer, it.kind, it.consumed, it.produced, said([badge]), `${it.o_t_ms} ms in, ${it.t_o_ms} ms out`,
+    dataAge(it, more)] };
+}
+
+function renderConnections(view, snapshot, more) {
+  const place = byId('connections'), kind = snapshot.slots ? 'Slots' : 'Connections';
+  if (byId('rows-title').textContent !== kind) {
+    byId('rows-title').textContent = kind;
+    place.replaceChildren();
+  }
+  const { present, earlier } = sorted(snapshot.connections ?? []);
+  if (snapshot.slots) {
+    fillTable(place, SLOT_HEADS, snapshot.slots.map((it) => slotRow(it, more)));
+  } else {
+    fillTable(place, CONNECTION_HEADS, keyed(present).map((it) => connectionRow(it, modeOf(it[1]), '', more)));
+  }
+  const fold = byId('fold'), isOpen = view.isUnfolded && earlier.length > 0;
+  put(fold, `${earlier.length} earlier`);
+  fold.hidden = !earlier.length;
+  fold.setAttribute('aria-expanded', String(isOpen));
+  byId('earlier').hidden = !isOpen;
+  if (isOpen) fillTable(byId('earlier'), CONNECTION_HEADS, keyed(earlier).map((it) => connectionRow(it, ['timed out', ''], 'past', more)));
+}
+
+byId('fold').onclick = () => {
+  viewOf(shown).isUnfolded = !viewOf(shown).isUnfolded;
+  renderShown();
+};
+
+function renderTotals(snapshot) {
+  const { totals, counts, connections } = snapshot;
+  const up = connections ? connections.filter((it) => it.established).length : totals.connections;
+  const earlier = connections && connections.length > up ? `, and ${connections.length - up} that timed out` : '';
+  const rows = [['streams, sessions', `${totals.streams}, ${totals.sessions}`], ['connections', `${up}${earlier}`],
+    ['class 3 connections', totals.class_3], ['connection ids left', totals.ids_left],
+    ['datagrams received, sent', `${counts.received}, ${counts.sent}`], ['datagrams whose data were applied', counts.applied],
+    ['sequence numbers lost', counts.lost]];
+  fillTable(byId('totals'), ['', ''], rows.map((cells) => ({ key: cells[0], cells })));
+}
+
+function renderEvents(view) {
+  const list = [...view.known.values()].sort((a, b) => b.number - a.number);
+  const keys = list.length ? list.map((it) => String(it.number)) : ['none'];
+  keep(byId('events'), keys, () => element('li'), (line, at) => {
+    if (!line.firstChild) line.append(element('b'), element('span'));
+    put(line.firstChild, list[at] ? `${list[at].number}. ${(list[at].ms / 1000).toFixed(3)} s  ` : '');
+    put(line.lastChild, list[at] ? list[at].words : 'nothing has happened');
+  });
+}
+
+function keepEvents(view, events) {
+  for (const event of events) view.known.set(event.number, event);
+  const kept = [...view.known.keys()].sort((a, b) => a - b).slice(-100);
+  if (kept.length < view.known.size) view.known = new Map(kept.map((number) => [number, view.known.get(number)]));
+}
+
+// THE DEVICES OF A PLANT
+
+const DEVICE_HEADS = ['device', '', 'established', 'datagrams received, sent', 'lost', 'contact'];
+
+// how many slots of a scanner are established; how many connections of an adapter are, and how many are lost
+function summaryOf(last) {
+  if (last.slots) {
+    const up = last.slots.filter((it) => it.state === 'established').length;
+    return [[`${up} of ${last.slots.length}`, up === last.slots.length ? (up ? 'good' : '') : 'bad']];
+  }
+  const { present, lost } = sorted(last.connections), up = present.length - lost;
+  return [[String(up), up ? 'good' : ''], ...(lost ? [[`${lost} lost`, 'bad']] : [])];
+}
+
+const linked = (name, device) => (cell) => {
+  if (!cell.firstChild) {
+    cell.append(element('span', undefined, 'bytes'));
+    cell.firstChild.append(element('button'));
+    cell.firstChild.firstChild.onclick = () => choose(device);
+  }
+  dress(cell.firstChild.firstChild, name, device === shown ? 'chosen' : '');
+};
+
+function deviceRow(name, device) {
+  const view = viewOf(device), { last } = view, key = String(device), kind = isStale(view) ? 'stale' : '';
+  if (!last) return { key, kind, cells: [linked(name, device), '', said([], 'nothing yet'), '', '', kind ? since(view) : ''] };
+  return { key, kind, cells: [linked(name, device), last.slots ? 'scanner' : 'adapter', said(summaryOf(last)),
+    `${last.counts.received}, ${last.counts.sent}`, last.counts.lost, kind ? since(view) : 'live'] };
+}
+
+function renderDevices() {
+  if (station.devices.length) fillTable(byId('devices'), DEVICE_HEADS, station.devices.map(deviceRow));
+}
+
+function renderDevice(device) {
+  const row = station.devices.length ? tableIn(byId('devices'), DEVICE_HEADS).rows[device] : undefined;
+  if (row) fillRow(row, DEVICE_HEADS, deviceRow(station.devices[device], device));
+}
+
+function choose(device) {
+  shown = device;
+  byId('device').value = String(device);
+  chosen.clear();
+  marks += 1;
+  renderAll();
+}
+
+byId('device').onchange = () => choose(Number(byId('device').value));
+
+// THE CHART
+
+byId('points').onclick = (event) => {
+  const key = event.target.closest('button')?.dataset.byte;
+  if (key === undefined) return;
+  if (!chosen.delete(key)) chosen.add(key);
+  marks += 1;
+  renderShown();
+};
+
+byId('points').onmouseover = (event) => {
+  const one = event.target.closest('button');
+  if (one) one.title = `byte ${one.dataset.byte.replace(':', '.')}: ${parseInt(one.textContent, 16)}; a click draws it`;
+};
+
+function pointsOf(snapshot) {
+  const points = [...(snapshot.outputs ?? []), ...(snapshot.inputs ?? [])].map((it) => [it.point, it.bytes]);
+  const slots = (snapshot.slots ?? []).flatMap((it) => [[it.slot, it.bytes], [outputOf(it), it.output]]);
+  return [...points, ...slots];
+}
+
+// A rate is that since a sample which is old enough, unless there is a gap between both.
+function takeSample(view, snapshot) {
+  const { samples } = view, { ms, counts } = snapshot;
+  if (samples.length > 1 && ms - samples[samples.length - 2].ms < RATE_MS) samples.pop();
+  const before = samples.findLast((it) => it.ms <= ms - RATE_MS);
+  const seconds = before ? (ms - before.ms) / 1000 : Infinity;
+  const rate = (name) => seconds > STALE_MS / 1000 ? undefined : (counts[name] - before.counts[name]) / seconds;
+  const values = Object.fromEntries(pointsOf(snapshot));
+  for (const name of Object.keys(values)) if (before?.values[name] === values[name]) values[name] = before.values[name];
+  samples.push({ ms, counts, values, received: rate('received'), sent: rate('sent'), lost: rate('lost') });
+  while (samples[0].ms < ms - KEPT_MS) samples.shift();
+}
+
+function byteAt(sample, key) {
+  const at = key.lastIndexOf(':'), hex = sample.values[key.slice(0, at)], byte = Number(key.slice(at + 1));
+  return hex && hex !== '-' && 2 * byte < hex.length ? parseInt(hex.slice(2 * byte, 2 * byte + 2), 16) / 255 : undefined;
+}
+
+function linesOfChart(most) {
+  const rates = [['received a second', 'received'], ['sent a second', 'sent'], ['lost a second', 'lost']]
+    .map(([name, field]) => [name, (it) => it[field] === undefined ? undefined : it[field] / most]);
+  return [...rates, ...[...chosen].map((key) => [`byte ${key.replace(':', '.')}`, (it) => byteAt(it, key)])];
+}
+
+function drawChart(view, more) {
+  const canvas = byId('chart'), scale = window.devicePixelRatio || 1;
+  const width = canvas.clientWidth, height = canvas.clientHeight, { samples } = view;
+  canvas.width = width * scale;
+  canvas.height = height * scale;
+  if (!samples.length) return;
+  const pen = canvas.getContext('2d');
+  pen.scale(scale, scale);
+  const end = samples[samples.length - 1].ms + more, left = 46, right = 34, top = 20, foot = 22;
+  const across = (ms) => width - right - (end - ms) / KEPT_MS * (width - left - right);
+  const up = (share) => height - foot - share * (height - top - foot);
+  const most = Math.max(10, ...samples.map((it) => Math.max(it.received ?? 0, it.sent ?? 0, it.lost ?? 0))) * 1.1;
+  drawAxes(pen, { width, height, left, right, end, across, up, most });
+  pen.beginPath();
+  pen.rect(left, 0, width - left - right, height);
+  pen.clip();
+  const lines = linesOfChart(most);
+  lines.forEach(([, share], at) => stroke(pen, samples, across, (it) => share(it) === undefined ? undefined : up(share(it)), COLOURS[at % COLOURS.length]));
+  keep(byId('key'), lines.map(([name]) => name), () => element('span'), (mark, at) => {
+    if (!mark.firstChild) mark.append(element('i'), lines[at][0]);
+    mark.firstChild.style.background = COLOURS[at % COLOURS.length];
+  });
+}
+
+function drawAxes(pen, { width, height, left, right, end, across, up, most }) {
+  const style = getComputedStyle(document.documentElement), line = style.getPropertyValue('--line');
+  pen.font = '11px system-ui';
+  pen.fillStyle = style.getPropertyValue('--dim');
+  pen.lineWidth = 1;
+  pen.strokeStyle = line;
+  for (let part = 0; part <= 4; part += 1) {
+    const y = up(part / 4);
+    pen.strokeRect(left, y, width - left - right, 0);
+    pen.fillText(Math.round(most * part / 4), 4, y + 4);
+    if (chosen.size) pen.fillText(Math.round(255 * part / 4), width - right + 5, y + 4);
+  }
+  const step = width < 600 ? 60 : 30;
+  for (let s = KEPT_MS / 1000; s >= 0; s -= step) {
+    const text = s ? `-${Math.floor(s / 60)}:${String(s % 60).padStart(2, '0')} min` : 'now';
+    const x = across(end - s * 1000) - (s === 0 ? 22 : s === KEPT_MS / 1000 ? 0 : 20);
+    pen.fillText(text, x, height - 6);
+  }
+  pen.fillText('datagrams a second', 4, 11);
+  if (chosen.size) pen.fillText('byte', width - right + 5, 11);
+}
+
+// A line is broken where a value is missing, or no snapshot came.
+function stroke(pen, samples, across, high, colour) {
+  pen.strokeStyle = colour;
+  pen.lineWidth = 1.5;
+  pen.beginPath();
+  let before;
+  for (const it of samples) {
+    const y = high(it);
+    if (y === undefined) {
+      before = undefined;
+      continue;
+    }
+    if (before === undefined || it.ms - before > STALE_MS) pen.moveTo(across(it.ms), y); else pen.lineTo(across(it.ms), y);
+    before = it.ms;
+  }
+  pen.stroke();
+}
+
+// CALLS
+
+function fillChoices(snapshot) {
+  const senders = (snapshot.slots ?? []).filter((it) => it.output !== '-');
+  const points = snapshot.slots ? senders.map((it) => it.slot) : snapshot.inputs.map((it) => it.point);
+  for (const [id, values] of [['write-point', points], ['slot', (snapshot.slots ?? []).map((it) => it.slot)]]) {
+    if ([...byId(id).options].map((it) => it.value).join() === values.join()) continue;
+    byId(id).replaceChildren(...values.map((value) => element('option', value)));
+  }
+  for (const form of document.forms) {
+    form.hidden = !snapshot.slots && form.dataset.call !== 'write';
+  }
+}
+
+function lineOf(form) {
+  if (form.dataset.call === 'write') return `write ${byId('write-point').value} ${byId('write-bytes').value.replace(/ /g, '')}`;
+  if (form.dataset.call === 'mode') return `mode ${byId('mode').value}`;
+  return `${byId('slot-call').value} ${byId('slot').value}`;
+}
+
+async function call(own) {
+  const line = station.devices.length ? `${station.devices[shown]} ${own}` : own;
+  const answer = await fetch(`/call?${current}`, { method: 'POST', headers: { 'X-Station-Token': token }, body: line });
+  byId('said').textContent = answer.ok ? `${line}: handed over` : `${line}: refused, ${answer.status} ${await answer.text()}`;
+}
+
+for (const form of document.forms) {
+  form.onsubmit = (event) => {
+    event.preventDefault();
+    call(lineOf(form)).catch((fault) => { byId('said').textContent = String(fault); });
+  };
+}
+
+// THE WHOLE
+
+// Shows the device that is chosen, as it was at its last snapshot. Ages go on from there.
+function renderShown() {
+  renderDevice(shown);
+  const view = viewOf(shown), { last } = view;
+  showContact(view);
+  if (!last) return clearParts();
+  const more = ageOf(view), wall = last.wall_ms === undefined ? '' : `${clockOf(last.wall_ms)}, `;
+  put(byId('clock'), `${wall}event ${last.number}, ${(last.ms / 1000).toFixed(1)} s`);
+  renderPoints(last, more);
+  renderConnections(view, last, more);
+  renderTotals(last);
+  renderEvents(view);
+  fillChoices(last);
+  drawChart(view, more);
+}
+
+// (a device of a plant of which nothing is known shows nothing of another one)
+function clearParts() {
+  put(byId('clock'), '');
+  for (const id of ['points', 'connections', 'earlier', 'totals', 'events', 'key']) byId(id).replaceChildren();
+  byId('fold').hidden = true;
+}
+
+function renderAll() {
+  renderDevices();
+  renderShown();
+}
+
+function showContact(view) {
+  const stale = isStale(view), name = station.devices.length ? ` (${station.devices[shown]})` : '';
+  const text = stale ? 'no contact' : view.last ? 'live' : 'no contact yet';
+  dress(byId('contact'), text, stale ? 'badge bad' : view.last ? 'badge good' : 'badge');
+  for (const part of document.querySelectorAll('section:not(#plant)')) part.classList.toggle('stale', stale);
+  put(byId('bar'), stale ? since(view) + name : '');
+  byId('bar').hidden = !stale;
+}
+
+function showStation() {
+  byId('title').textContent = station.name;
+  document.title = station.name;
+  byId('writes').hidden = !(station.writes && token);
+  byId('plant').hidden = byId('device').hidden = !station.devices.length;
+  byId('device').replaceChildren(...station.devices.map((name, at) => new Option(name, at)));
+  byId('device').value = String(shown);
+  byId('files').replaceChildren();
+  if (!station.record) return;
+  for (const [name, path] of [['record', '/record'], ['capture file', '/record.pcap']]) {
+    const link = element('a', name);
+    link.href = `${path}?${current}`;
+    link.download = '';
+    byId('files').append(link, ' ');
+  }
+}
+
+// THE STREAM
+
+let current = word, source = null, reported = 0;
+
+function takeStation(text) {
+  station = JSON.parse(text);
+  if (shown >= Math.max(1, station.devices.length)) shown = 0;
+  showStation();
+  renderAll();
+}
+
+function takeSnapshot(device, snapshot) {
+  const view = viewOf(device), { last } = view;
+  const before = last && !view.isCut && last.number <= snapshot.number && last.ms <= snapshot.ms ? last : null;
+  if (!before) Object.assign(view, { samples: [], known: new Map(), quickest: [], isCut: false });
+  view.late = latenessOf(view, snapshot, before);
+  Object.assign(view, { last: snapshot, heard: performance.now(), receivedWall: Date.now() });
+  keepEvents(view, snapshot.events);
+  takeSample(view, snapshot);
+  if (device === shown) renderShown(); else renderDevice(device);
+}
+
+function listen() {
+  reported = performance.now();
+  source = new EventSource(`/events?${current}`);
+  source.addEventListener('station', (event) => takeStation(event.data));
+  source.onerror = listenAgain;
+  source.onmessage = (event) => {
+    reported = performance.now();
+    takeSnapshot(Number(event.lastEventId), JSON.parse(event.data));
+  };
+}
+
+// A stream that has ended is opened again. A station that has started again has another word, which its page says.
+function listenAgain() {
+  source?.close();
+  source = null;
+  setTimeout(() => findWord().then(listen, listenAgain), 1000);
+}
+
+async function findWord() {
+  const answer = await fetch('/', { signal: AbortSignal.timeout(3000) });
+  const found = /const word = '([0-9a-f]{32})'/.exec(await answer.text());
+  if (!found) throw new Error('no page');
+  if (found[1] === current) return;
+  current = found[1];
+  for (const view of views.values()) view.isCut = true;
+}
+
+// Without snapshots the page grows old by itself.
+setInterval(() => {
+  if (source && performance.now() - reported > SILENT_MS) listenAgain();
+  renderDevices();
+  if (ageOf(viewOf(shown)) > TICK_MS) renderShown();
+}, TICK_MS);
+listen();
+</script>
+</body>
+</html>
+";
