@@ -1,5 +1,5 @@
--- The commands that ask: for the data sheet of a profile, and which devices there are.
-use Rattle.std.specs.Prelude.{ℕ, if◌then◌else◌, Bool, List, [], ◌∷◌, codes, length, bytes_eq, Option, Some, None, Result, Ok, Err}
+-- The commands that ask: for the data sheet of a profile, which devices there are, and what a story comes to.
+use Rattle.std.specs.Prelude.{ℕ, if◌then◌else◌, Bool, List, [], ◌∷◌, codes, length, bytes_eq, true, false, Option, Some, None, Result, Ok, Err}
 use Rattle.cip_types.specs.declared.names.Node.{Node}
 use Rattle.eds_text.specs.Names.{is_name}
 use Rattle.trace_words.specs.Words.{node_of}
@@ -7,6 +7,7 @@ use Rattle.command_lines.specs.StationOptions.{seconds_of}
 use Rattle.command_lines.specs.declared.question_task.SearchTask.{SearchTask}
 use Rattle.command_lines.specs.declared.question_task.SheetTask.{SheetTask}
 use Rattle.command_lines.specs.declared.question_task.SheetTask.TheVariants as sheet
+use Rattle.command_lines.specs.declared.question_task.WorldTask.{WorldTask}
 use Rattle.command_lines.specs.declared.station_options.StationMisuse.{StationMisuse}
 use Rattle.command_lines.specs.declared.station_options.StationMisuse.TheVariants as misuse
 
@@ -51,3 +52,17 @@ search_of (host ∷ []) = search_at host 1 1
 search_of (host ∷ option ∷ []) = if is_seconds option then Err (misuse.NoValue 1) else Err (misuse.NoSuchOption 1)
 search_of (host ∷ option ∷ value ∷ []) = if is_seconds option then timed_search host value else Err (misuse.NoSuchOption 2)
 search_of (host ∷ option ∷ value ∷ a ∷ more) = Err (misuse.NoSuchOption (length (option ∷ value ∷ a ∷ more)))
+
+abbrev pub is_plain : List ℕ → Bool
+is_plain word = bytes_eq word (codes "--plain")
+
+-- the words behind the option of a story
+abbrev pub behind_plain : List (List ℕ) → Result WorldTask StationMisuse
+behind_plain [] = Ok (record { plain = true })
+behind_plain (a ∷ more) = Err (misuse.NoSuchOption (length (a ∷ more)))
+
+-- the story that words request: over the fast engines, if no option says otherwise
+abbrev pub world_of : List (List ℕ) → Result WorldTask StationMisuse
+world_of [] = Err misuse.NoFile
+world_of (file ∷ []) = Ok (record { plain = false })
+world_of (file ∷ option ∷ more) = if is_plain option then behind_plain more else Err (misuse.NoSuchOption (length (option ∷ more)))

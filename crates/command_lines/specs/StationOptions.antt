@@ -1,5 +1,6 @@
 -- The options of a station, word by word.
-use Rattle.std.specs.Prelude.{ℕ, ◌==◌, ◌||◌, nat_lt, if◌then◌else◌, true, false, List, [], ◌∷◌, codes, length, option_and_then, option_map, Option, Some, None, Result, Ok, Err}
+use Rattle.std.specs.Prelude.{ℕ, ◌==◌, ◌&&◌, ◌||◌, not, nat_le, Bool, nat_lt, if◌then◌else◌, true, false, List, [], ◌∷◌, codes, length, option_and_then, option_map, Option, Some, None, Result, Ok, Err}
+use Rattle.std.specs.List.{list_all}
 use Rattle.cip_types.specs.declared.names.Node.{Node}
 use Rattle.trace_words.specs.Words.{number_of, node_of}
 use Rattle.trace_words.specs.Reader.{Meanings, meaning}
@@ -55,6 +56,10 @@ delay_of word = number_up_to 60000 word
 abbrev pub seed_of : List ℕ → Option ℕ
 seed_of word = number_of 64 word
 
+-- the most bytes of a record
+abbrev pub record_bytes_of : List ℕ → Option ℕ
+record_bytes_of word = option_and_then (λ number. if number == 0 then None else Some number) (number_of 64 word)
+
 -- OPTIONS
 
 -- the options by their names
@@ -66,17 +71,21 @@ option_meanings =
     ∷ (codes "--peer-udp", Some (name.Valued setting.PeerUdp))
     ∷ (codes "--seconds", Some (name.Valued setting.Seconds))
     ∷ (codes "--record", Some (name.Valued setting.Record))
+    ∷ (codes "--record-bytes", Some (name.Valued setting.RecordBytes))
     ∷ (codes "--state", Some (name.Valued setting.State))
     ∷ (codes "--incarnation", Some (name.Valued setting.Incarnation))
     ∷ (codes "--inactivity", Some (name.Valued setting.Inactivity))
     ∷ (codes "--serial", Some (name.Valued setting.Serial))
     ∷ (codes "--name", Some (name.Valued setting.Name))
     ∷ (codes "--multicast", Some (name.Alone flag.Multicast))
+    ∷ (codes "--unicast-copies", Some (name.Alone flag.UnicastCopies))
     ∷ (codes "--item-ports", Some (name.Alone flag.ItemPorts))
+    ∷ (codes "--port-2222", Some (name.Alone flag.Port2222))
     ∷ (codes "--no-input", Some (name.Alone flag.NoInput))
     ∷ (codes "--quiet", Some (name.Alone flag.Quiet))
     ∷ (codes "--page", Some (name.Valued setting.Page))
     ∷ (codes "--page-address", Some (name.Valued setting.PageAddress))
+    ∷ (codes "--page-host", Some (name.Valued setting.PageHost))
     ∷ (codes "--lose", Some (name.Valued setting.Lose))
     ∷ (codes "--repeat", Some (name.Valued setting.Repeat))
     ∷ (codes "--reorder", Some (name.Valued setting.Reorder))
@@ -90,12 +99,14 @@ option_of word = meaning option_meanings None word
 
 -- the usual values
 abbrev pub usual : Options
-usual = record { address = None; tcp = None; udp = 2222; peer_udp = 2222; seconds = None; record_from_end = None; state_from_end = None; incarnation = None; inactivity_s = None; serial = None; name_from_end = None; multicast = false; item_ports = false; no_input = false; quiet = false; page = None; page_address = None; page_writes = false; lose = 0; repeat = 0; reorder = 0; delay_ms = 0; seed = 0 }
+usual = record { address = None; tcp = None; udp = 2222; peer_udp = 2222; seconds = None; record_from_end = None; record_bytes = 1073741824; state_from_end = None; incarnation = None; inactivity_s = None; serial = None; name_from_end = None; multicast = None; item_ports = true; no_input = false; quiet = false; page = None; page_address = None; page_writes = false; page_host_from_end = None; lose = 0; repeat = 0; reorder = 0; delay_ms = 0; seed = 0 }
 
 -- one that has no value
 abbrev pub with_flag : Options → Flag → Options
-with_flag options flag.Multicast = record options { multicast = true }
+with_flag options flag.Multicast = record options { multicast = Some true }
+with_flag options flag.UnicastCopies = record options { multicast = Some false }
 with_flag options flag.ItemPorts = record options { item_ports = true }
+with_flag options flag.Port2222 = record options { item_ports = false }
 with_flag options flag.NoInput = record options { no_input = true }
 with_flag options flag.Quiet = record options { quiet = true }
 with_flag options flag.PageWrites = record options { page_writes = true }
@@ -113,6 +124,7 @@ with_address_word options given left (Some address) = Ok (with_address options g
 -- a number for one of the options that are numbers and no ports
 abbrev pub with_number : Options → Setting → List ℕ → Option Options
 with_number options setting.Seconds word = option_map (λ seconds. record options { seconds = Some seconds }) (seconds_of word)
+with_number options setting.RecordBytes word = option_map (λ most. record options { record_bytes = most }) (record_bytes_of word)
 with_number options setting.Incarnation word = option_map (λ incarnation. record options { incarnation = Some incarnation }) (incarnation_of word)
 with_number options setting.Inactivity word = option_map (λ seconds. record options { inactivity_s = Some seconds }) (inactivity_of word)
 with_number options setting.Serial word = option_map (λ serial. record options { serial = Some serial }) (serial_of word)
@@ -133,6 +145,21 @@ with_file options other left = options
 -- a name of 1 to 32 bytes
 abbrev pub with_name : Options → List ℕ → ℕ → Result Options StationMisuse
 with_name options word left = if (length word == 0) || nat_lt 32 (length word) then Err (misuse.BadValue left) else Ok (record options { name_from_end = Some left })
+
+-- a letter, a digit, a hyphen or a dot
+abbrev pub is_host_byte : ℕ → Bool
+is_host_byte byte =
+    (nat_le 48 byte && nat_le byte 57)
+    || ((nat_le 65 byte && nat_le byte 90)
+    || ((nat_le 97 byte && nat_le byte 122)
+    || ((byte == 45) || (byte == 46))))
+
+-- the name of a host: 1 to 253 of them (RFC 1123, section 2.1)
+abbrev pub with_host : Options → List ℕ → ℕ → Result Options StationMisuse
+with_host options word left =
+    if (length word == 0) || (nat_lt 253 (length word) || not (list_all is_host_byte word))
+    then Err (misuse.BadValue left)
+    else Ok (record options { page_host_from_end = Some left })
 
 -- a percentage for one of the options that are percentages
 abbrev pub with_percent : Options → Setting → ℕ → Options
@@ -164,7 +191,9 @@ with_value options setting.PageAddress word left = with_address_word options set
 with_value options setting.Record word left = Ok (with_file options setting.Record left)
 with_value options setting.State word left = Ok (with_file options setting.State left)
 with_value options setting.Name word left = with_name options word left
+with_value options setting.PageHost word left = with_host options word left
 with_value options setting.Seconds word left = with_number_word left (with_number options setting.Seconds word)
+with_value options setting.RecordBytes word left = with_number_word left (with_number options setting.RecordBytes word)
 with_value options setting.Incarnation word left = with_number_word left (with_number options setting.Incarnation word)
 with_value options setting.Inactivity word left = with_number_word left (with_number options setting.Inactivity word)
 with_value options setting.Serial word left = with_number_word left (with_number options setting.Serial word)

@@ -1,10 +1,11 @@
 -- The task that a command line requests.
 use Rattle.std.specs.Prelude.{ℕ, ◌||◌, if◌then◌else◌, is_some, List, [], ◌∷◌, codes, length, Bool, false, true, Option, Some, None, Result, Ok, Err}
 use Rattle.trace_words.specs.Reader.{Meanings, meaning}
-use Rattle.command_lines.specs.Questions.{search_of, sheet_of}
+use Rattle.command_lines.specs.Questions.{search_of, sheet_of, world_of}
 use Rattle.command_lines.specs.StationOptions.{usual, options_after}
 use Rattle.command_lines.specs.declared.question_task.SearchTask.{SearchTask}
 use Rattle.command_lines.specs.declared.question_task.SheetTask.{SheetTask}
+use Rattle.command_lines.specs.declared.question_task.WorldTask.{WorldTask}
 use Rattle.command_lines.specs.declared.station_options.Options.{Options}
 use Rattle.command_lines.specs.declared.station_options.StationMisuse.{StationMisuse}
 use Rattle.command_lines.specs.declared.station_options.StationMisuse.TheVariants as misuse
@@ -23,6 +24,7 @@ command_meanings =
     ∷ (codes "pcap", Some command.Pcap)
     ∷ (codes "explain", Some command.Explain)
     ∷ (codes "settle", Some command.Settle)
+    ∷ (codes "world", Some command.World)
     ∷ (codes "eds", Some command.Eds)
     ∷ (codes "identity", Some command.Identity)
     ∷ (codes "--help", Some command.Help)
@@ -61,7 +63,7 @@ abbrev pub of_files : ProgramTask → List (List ℕ) → Result ProgramTask Sta
 of_files given [] = Err misuse.NoFile
 of_files given (file ∷ files) = Ok given
 
--- a data sheet, and a search
+-- a data sheet, a search, and a story
 abbrev pub sheet_task : Result SheetTask StationMisuse → Result ProgramTask StationMisuse
 sheet_task (Ok given) = Ok (task.Sheet given)
 sheet_task (Err fault) = Err fault
@@ -76,6 +78,13 @@ search_task (Err fault) = Err fault
 abbrev pub search_with : List (List ℕ) → Result ProgramTask StationMisuse
 search_with words = search_task (search_of words)
 
+abbrev pub world_task : Result WorldTask StationMisuse → Result ProgramTask StationMisuse
+world_task (Ok given) = Ok (task.World given)
+world_task (Err fault) = Err fault
+
+abbrev pub world_with : List (List ℕ) → Result ProgramTask StationMisuse
+world_with words = world_task (world_of words)
+
 -- the task of a command with the words behind it
 abbrev pub task_with : StationCommand → List (List ℕ) → Result ProgramTask StationMisuse
 task_with command.Help words = Ok task.Help
@@ -87,6 +96,7 @@ task_with command.Replay words = of_files task.Replay words
 task_with command.Pcap words = of_files task.Pcap words
 task_with command.Explain words = of_files task.Explain words
 task_with command.Settle words = of_files task.Settle words
+task_with command.World words = world_with words
 task_with command.Eds words = sheet_with words
 task_with command.Identity words = search_with words
 

@@ -1,5 +1,4 @@
-//! The command lines of the line's programs: their words, the tasks that these request, the usage of the station
-//! program, and the version.
+//! The command lines of the line's programs: their words, the tasks that these request, and the version.
 #![tactic(auto)]
 
 mod line_commands;
@@ -8,12 +7,10 @@ mod question_task;
 mod station_numbers;
 mod station_options;
 mod station_task;
-mod usage;
 mod version;
 
 pub use line_task::{LineTask, LoopTask, Misuse, Task, read_line_task};
-pub use question_task::{SearchTask, SheetTask};
-pub use station_options::{Flag, OptionName, Options, Setting, StationMisuse};
-pub use station_task::{ProgramTask, StationCommand, StationTask, read_station_task};
-pub use usage::USAGE;
+pub use question_task::{SearchTask, SheetTask, WorldTask};
+pub use station_options::{Flag, OptionName, Options, Setting, StationMisuse, option_of};
+pub use station_task::{ProgramTask, StationCommand, StationTask, command_of, read_station_task};
 pub use version::VERSION;

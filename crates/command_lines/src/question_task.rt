@@ -1,7 +1,7 @@
-//! The commands that ask: for the data sheet of a profile, and which devices there are.
+//! The commands that ask: for the data sheet of a profile, which devices there are, and what a story comes to.
 
 ghost use Rattle.std.specs.Prelude.{◌≡◌, map};
-ghost use Rattle.command_lines.specs.Questions.{is_seconds, named_sheet, search_at, search_of, sheet_of, timed_search};
+ghost use Rattle.command_lines.specs.Questions.{is_plain, is_seconds, named_sheet, search_at, search_of, sheet_of, timed_search, world_of};
 
 use crate::station_numbers::{address_of, seconds_of};
 use crate::station_options::StationMisuse;
@@ -102,4 +102,34 @@ fn search_at(host: &str, left: usize, seconds: u32) -> Result<SearchTask, Statio
         Some(host) => Ok(SearchTask { host, seconds }),
         None => Err(StationMisuse::BadAddress(left)),
     }
+}
+
+/// A story of a simulated network: whether it is played over the plain engines.
+#[derive(Clone, Copy, PartialEq, Eq)]
+pub struct WorldTask {
+    pub plain: bool,
+}
+
+/// The story that words request: the name of its file, and `--plain` or nothing.
+///
+/// The faults, in order: `NoFile`, `NoSuchOption` at the first word that is none.
+pub fn world_of<S: AsStr>(words: &[S]) -> Result<WorldTask, StationMisuse>
+    ensures { result ≡ world_of (map S.text words.now) }
+{
+    match words {
+        [] => Err(StationMisuse::NoFile),
+        [_file] => Ok(WorldTask { plain: false }),
+        [_file, option] if is_plain(option.as_str()) => Ok(WorldTask { plain: true }),
+        [_file, option, rest @ ..] if is_plain(option.as_str()) => {
+            Err(StationMisuse::NoSuchOption(rest.len()))
+        }
+        [_file, rest @ ..] => Err(StationMisuse::NoSuchOption(rest.len())),
+    }
+}
+
+/// Whether a word is the option of the plain engines.
+fn is_plain(word: &str) -> bool
+    ensures { result ≡ is_plain word.now }
+{
+    word == "--plain"
 }

@@ -1,7 +1,7 @@
 //! Values of options: addresses, ports and times.
 
 ghost use Rattle.std.specs.Prelude.{◌≡◌};
-ghost use Rattle.command_lines.specs.StationOptions.{delay_of, inactivity_of, incarnation_of, percent_of, port_of, seconds_of, seed_of, serial_of};
+ghost use Rattle.command_lines.specs.StationOptions.{delay_of, inactivity_of, incarnation_of, percent_of, port_of, record_bytes_of, seconds_of, seed_of, serial_of};
 ghost use Rattle.trace_words.specs.Words.{node_of};
 
 use cip_types::Node;
@@ -109,4 +109,15 @@ pub fn seed_of(word: &str) -> Option<u64>
     ensures { result ≡ seed_of word.now }
 {
     read_u64(word)
+}
+
+/// The most bytes of a record, by a word: a number of 64 bits, and not 0.
+pub fn record_bytes_of(word: &str) -> Option<u64>
+    ensures { result ≡ record_bytes_of word.now }
+{
+    let number = read_u64(word)?;
+    if number == 0 {
+        return None;
+    }
+    Some(number)
 }

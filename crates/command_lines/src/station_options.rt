@@ -1,11 +1,12 @@
 //! The options of a station.
 
 ghost use Rattle.std.specs.Prelude.{◌≡◌, ◌≤◌, ◌+◌, ◌∷◌, Err, true, length, map, IfOk, IfErr};
-ghost use Rattle.command_lines.specs.StationOptions.{option_of, options_after, usual, with_address, with_file, with_flag, with_name, with_number, with_percent, with_port, with_value};
+ghost use Rattle.std.specs.List.{list_all};
+ghost use Rattle.command_lines.specs.StationOptions.{is_host_byte, option_of, options_after, usual, with_address, with_file, with_flag, with_host, with_name, with_number, with_percent, with_port, with_value};
 
 use crate::station_numbers::{
-    address_of, delay_of, inactivity_of, incarnation_of, percent_of, port_of, seconds_of, seed_of,
-    serial_of,
+    address_of, delay_of, inactivity_of, incarnation_of, percent_of, port_of, record_bytes_of,
+    seconds_of, seed_of, serial_of,
 };
 use cip_types::Node;
 use cip_types::limits::UDP_PORT;
@@ -14,6 +15,12 @@ use thiserror::Error;
 
 /// The longest name of a station, in bytes.
 const LONGEST_NAME: usize = 32;
+
+/// The most bytes of a record, if no option says it.
+const RECORD_BYTES: u64 = 1_073_741_824;
+
+/// The longest name of a host, in bytes.
+const LONGEST_HOST: usize = 253;
 
 /// The options of a station, with the usual values of those that are left out.
 #[derive(Clone, Copy, PartialEq, Eq)]
@@ -31,6 +38,8 @@ pub struct Options {
     pub seconds: Option<u32>,
     /// The number of words from the record's file on.
     pub record_from_end: Option<usize>,
+    /// The most bytes of a record.
+    pub record_bytes: u64,
     /// The number of words from the file of the station's state on.
     pub state_from_end: Option<usize>,
     /// The incarnation of this start.
@@ -42,8 +51,9 @@ pub struct Options {
     pub serial: Option<u32>,
     /// The number of words from the station's name on.
     pub name_from_end: Option<usize>,
-    /// Whether T->O datagrams go once to the address of their group.
-    pub multicast: bool,
+    /// Whether the datagrams of a multicast connection go once to the address of their group; if it is left out, the station's
+    /// address decides.
+    pub multicast: Option<bool>,
     /// Whether the port that a socket address item names is named and honoured.
     pub item_ports: bool,
     /// Whether the standard input is not read.
@@ -56,6 +66,8 @@ pub struct Options {
     pub page_address: Option<Node>,
     /// Whether the page takes calls.
     pub page_writes: bool,
+    /// The number of words from the name of the host on by which browsers reach the page.
+    pub page_host_from_end: Option<usize>,
     /// The percentage of the arriving datagrams that are lost.
     pub lose: u8,
     /// The percentage that arrive twice.
@@ -77,6 +89,7 @@ pub enum Setting {
     PeerUdp,
     Seconds,
     Record,
+    RecordBytes,
     State,
     Incarnation,
     Inactivity,
@@ -84,6 +97,7 @@ pub enum Setting {
     Name,
     Page,
     PageAddress,
+    PageHost,
     Lose,
     Repeat,
     Reorder,
@@ -95,7 +109,9 @@ pub enum Setting {
 #[derive(Clone, Copy, PartialEq, Eq)]
 pub enum Flag {
     Multicast,
+    UnicastCopies,
     ItemPorts,
+    Port2222,
     NoInput,
     Quiet,
     PageWrites,
@@ -141,7 +157,7 @@ pub enum StationMisuse {
     #[error("no such value of this option")]
     BadValue(usize),
     /// The word is no address.
-    #[error("no address")]
+    #[error("is no IPv4 address: that is four numbers below 256 with dots between them")]
     BadAddress(usize),
     /// An option of a plant is for one device.
     #[error("--address, --state, --incarnation, --serial and --name are for one device, and a plant has several")]
@@ -159,18 +175,20 @@ fn usual() -> Options
         peer_udp: UDP_PORT,
         seconds: None,
         record_from_end: None,
+        record_bytes: RECORD_BYTES,
         state_from_end: None,
         incarnation: None,
         inactivity_s: None,
         serial: None,
         name_from_end: None,
-        multicast: false,
-        item_ports: false,
+        multicast: None,
+        item_ports: true,
         no_input: false,
         quiet: false,
         page: None,
         page_address: None,
         page_writes: false,
+        page_host_from_end: None,
         lose: 0,
         repeat: 0,
         reorder: 0,
@@ -181,7 +199,7 @@ fn usual() -> Options
 
 /// The option that a word names.
 #[tactic(auto, unfolding(crate::specs::StationOptions::option_of))]
-fn option_of(word: &str) -> Option<OptionName>
+pub fn option_of(word: &str) -> Option<OptionName>
     ensures { result ≡ option_of word.now }
 {
     match word {
@@ -191,17 +209,21 @@ fn option_of(word: &str) -> Option<OptionName>
         "--peer-udp" => Some(OptionName::Valued(Setting::PeerUdp)),
         "--seconds" => Some(OptionName::Valued(Setting::Seconds)),
         "--record" => Some(OptionName::Valued(Setting::Record)),
+        "--record-bytes" => Some(OptionName::Valued(Setting::RecordBytes)),
         "--state" => Some(OptionName::Valued(Setting::State)),
         "--incarnation" => Some(OptionName::Valued(Setting::Incarnation)),
         "--inactivity" => Some(OptionName::Valued(Setting::Inactivity)),
         "--serial" => Some(OptionName::Valued(Setting::Serial)),
         "--name" => Some(OptionName::Valued(Setting::Name)),
         "--multicast" => Some(OptionName::Alone(Flag::Multicast)),
+        "--unicast-copies" => Some(OptionName::Alone(Flag::UnicastCopies)),
         "--item-ports" => Some(OptionName::Alone(Flag::ItemPorts)),
+        "--port-2222" => Some(OptionName::Alone(Flag::Port2222)),
         "--no-input" => Some(OptionName::Alone(Flag::NoInput)),
         "--quiet" => Some(OptionName::Alone(Flag::Quiet)),
         "--page" => Some(OptionName::Valued(Setting::Page)),
         "--page-address" => Some(OptionName::Valued(Setting::PageAddress)),
+        "--page-host" => Some(OptionName::Valued(Setting::PageHost)),
         "--lose" => Some(OptionName::Valued(Setting::Lose)),
         "--repeat" => Some(OptionName::Valued(Setting::Repeat)),
         "--reorder" => Some(OptionName::Valued(Setting::Reorder)),
@@ -263,11 +285,19 @@ fn with_flag(options: Options, flag: Flag) -> Options
 {
     match flag {
         Flag::Multicast => Options {
-            multicast: true,
+            multicast: Some(true),
+            ..options
+        },
+        Flag::UnicastCopies => Options {
+            multicast: Some(false),
             ..options
         },
         Flag::ItemPorts => Options {
             item_ports: true,
+            ..options
+        },
+        Flag::Port2222 => Options {
+            item_ports: false,
             ..options
         },
         Flag::NoInput => Options {
@@ -301,11 +331,13 @@ fn with_value(
         },
         Setting::Record | Setting::State => Ok(with_file(options, setting, left)),
         Setting::Name => with_name(options, word, left),
+        Setting::PageHost => with_host(options, word, left),
         Setting::Tcp | Setting::Udp | Setting::PeerUdp | Setting::Page => match port_of(word) {
             Some(port) => Ok(with_port(options, setting, port)),
             None => Err(StationMisuse::BadValue(left)),
         },
         Setting::Seconds
+        | Setting::RecordBytes
         | Setting::Incarnation
         | Setting::Inactivity
         | Setting::Serial
@@ -368,6 +400,39 @@ fn with_name(options: Options, word: &str, left: usize) -> Result<Options, Stati
     })
 }
 
+/// The options with the name of a host, from which on so many words are left: it has 1 to 253 letters, digits, hyphens and dots.
+///
+/// RFC 1123, section 2.1.
+fn with_host(options: Options, word: &str, left: usize) -> Result<Options, StationMisuse>
+    ensures { result ≡ with_host options word.now left }
+{
+    if word.is_empty() || word.len() > LONGEST_HOST || !is_host(word.as_bytes()) {
+        return Err(StationMisuse::BadValue(left));
+    }
+    Ok(Options {
+        page_host_from_end: Some(left),
+        ..options
+    })
+}
+
+/// Whether each byte is one of the name of a host.
+fn is_host(bytes: &[u8]) -> bool
+    ensures { result ≡ list_all is_host_byte bytes.now }
+{
+    bytes.iter().all(|byte| is_host_byte(*byte))
+}
+
+/// Whether a byte is a letter, a digit, a hyphen or a dot.
+fn is_host_byte(byte: u8) -> bool
+    ensures { result ≡ is_host_byte byte }
+{
+    (byte >= b'0' && byte <= b'9')
+        || (byte >= b'A' && byte <= b'Z')
+        || (byte >= b'a' && byte <= b'z')
+        || byte == b'-'
+        || byte == b'.'
+}
+
 /// The options with a number for one of them, which is not a port; None if the word is no such number.
 fn with_number(options: Options, setting: Setting, word: &str) -> Option<Options>
     ensures { result ≡ with_number options setting word.now }
@@ -375,6 +440,10 @@ fn with_number(options: Options, setting: Setting, word: &str) -> Option<Options
     match setting {
         Setting::Seconds => Some(Options {
             seconds: Some(seconds_of(word)?),
+            ..options
+        }),
+        Setting::RecordBytes => Some(Options {
+            record_bytes: record_bytes_of(word)?,
             ..options
         }),
         Setting::Incarnation => Some(Options {

@@ -1,9 +1,9 @@
 //! The task that a command line requests.
 
 ghost use Rattle.std.specs.Prelude.{◌≡◌, map};
-ghost use Rattle.command_lines.specs.StationTasks.{command_of, is_for_one, of_files, plant_of, search_with, sheet_with, station_of, task_of, task_with};
+ghost use Rattle.command_lines.specs.StationTasks.{command_of, is_for_one, of_files, plant_of, search_with, sheet_with, station_of, task_of, task_with, world_with};
 
-use crate::question_task::{SearchTask, SheetTask, search_of, sheet_of};
+use crate::question_task::{SearchTask, SheetTask, WorldTask, search_of, sheet_of, world_of};
 use crate::station_options::{Options, StationMisuse, read_options};
 use std::convert::AsStr;
 
@@ -24,6 +24,8 @@ pub enum StationCommand {
     Explain,
     /// Settles the records of several devices.
     Settle,
+    /// Plays a story of a simulated network.
+    World,
     /// Writes the data sheet of a profile.
     Eds,
     /// Searches for devices.
@@ -60,6 +62,8 @@ pub enum ProgramTask {
     Explain,
     /// Settles the records of the files from the third word on.
     Settle,
+    /// Plays the story of the file that is the third word.
+    World(WorldTask),
     /// Writes the data sheet of the profile that is the third word.
     Sheet(SheetTask),
     /// Searches for devices.
@@ -68,7 +72,7 @@ pub enum ProgramTask {
 
 /// The command that a word names.
 #[tactic(auto, unfolding(crate::specs::StationTasks::command_of))]
-fn command_of(word: &str) -> Option<StationCommand>
+pub fn command_of(word: &str) -> Option<StationCommand>
     ensures { result ≡ command_of word.now }
 {
     match word {
@@ -79,6 +83,7 @@ fn command_of(word: &str) -> Option<StationCommand>
         "pcap" => Some(StationCommand::Pcap),
         "explain" => Some(StationCommand::Explain),
         "settle" => Some(StationCommand::Settle),
+        "world" => Some(StationCommand::World),
         "eds" => Some(StationCommand::Eds),
         "identity" => Some(StationCommand::Identity),
         "--help" => Some(StationCommand::Help),
@@ -120,6 +125,7 @@ fn task_with<S: AsStr>(command: StationCommand, words: &[S]) -> Result<ProgramTa
         StationCommand::Pcap => of_files(ProgramTask::Pcap, words),
         StationCommand::Explain => of_files(ProgramTask::Explain, words),
         StationCommand::Settle => of_files(ProgramTask::Settle, words),
+        StationCommand::World => world_with(words),
         StationCommand::Eds => sheet_with(words),
         StationCommand::Identity => search_with(words),
         StationCommand::Help => Ok(ProgramTask::Help),
@@ -182,6 +188,16 @@ fn search_with<S: AsStr>(words: &[S]) -> Result<ProgramTask, StationMisuse>
 {
     match search_of(words) {
         Ok(task) => Ok(ProgramTask::Search(task)),
+        Err(misuse) => Err(misuse),
+    }
+}
+
+/// A story, whose words are the name of its file and over which engines it is played.
+fn world_with<S: AsStr>(words: &[S]) -> Result<ProgramTask, StationMisuse>
+    ensures { result ≡ world_with (map S.text words.now) }
+{
+    match world_of(words) {
+        Ok(task) => Ok(ProgramTask::World(task)),
         Err(misuse) => Err(misuse),
     }
 }

@@ -10,12 +10,13 @@ pub use cip_events::Arrival;
 pub use cip_netparams::Trigger;
 pub use cip_tables::{
     Action, Age, Answer, AnyDevice, Config, ConnectionReport, ConsumerCounts, Delivery, Device,
-    DeviceTotals, Event, Frame, InputPoint, Kind, MakerLimits, Mode, NewFault, Notice, Outcome,
-    OutgoingDatagram, OutputPoint, Places, Profile, ProfileFault, Reason, Recipient,
+    DeviceTotals, Event, Frame, InputPoint, Kind, MakerLimits, Mode, NewFault, NodeLimits, Notice,
+    Outcome, OutgoingDatagram, OutputPoint, Places, Profile, ProfileFault, Reason, Recipient,
     ScannerProfile, SlotConfig, SlotReport, StepFault, TableCopy, TargetReport, Verdict, run,
 };
 pub use cip_types::{ConnId, Fault, Identity, Items, Mismatch, Ms, Node, OutOfMemory, Triad};
 pub use device_lock::{Book, BookFault, History, LockedDevice, Receipt, Segment};
+pub use fast_device::FastDevice;
 pub use list_identity::{NameFault, ProductName, StationIdentity, identity_reply, inquiry_reply};
 pub use plain_engine::{PlainAdapter, PlainDevice, PlainScanner};
 pub use port_streams::{DatagramRoute, DatagramRoutes, Destination};
@@ -27,6 +28,3 @@ pub use udp_runner::{
     Clock, MemoryPort, Observer, Output, Port, PortFault, RunFault, SentOutput, SteppedClock,
     Unobserved, act, drive, drive_watched, turn_waiting,
 };
-
-/// A fast adapter or a fast scanner, as its configuration says.
-pub type FastDevice = AnyDevice<FastAdapter, FastScanner>;

@@ -7,13 +7,9 @@ ghost use Rattle.eip_c.specs.Statuses.{status_of};
 
 use crate::room::{copy_out, report};
 use crate::status::fault_number;
-use adapter_engine::FastAdapter;
 use cip_events::{Answer, Event, Outcome, StepFault};
-use cip_tables::{AnyDevice, Device};
-use scanner_engine::FastScanner;
-
-/// A device of either kind, as the profile of its handle says.
-pub type FastDevice = AnyDevice<FastAdapter, FastScanner>;
+use cip_tables::Device;
+use fast_device::FastDevice;
 
 /// A device, and the answer of its last event that was not refused, if there was one.
 #[derive(Drop)]

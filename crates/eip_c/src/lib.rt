@@ -39,6 +39,18 @@ use states::{ConnectionNumbers, SlotNumbers, put_connection, put_slot};
 use status::{DONE, OUT_OF_MEMORY};
 use std::alloc::Global;
 
+/// The version of this library, as `EIP_VERSION_NUMBER` of its header has it.
+const VERSION_NUMBER: u32 = 1_051_000;
+
+/// The version of this library: a million times its first number, a thousand times its second, and its third. A program
+/// compares it with the number of the header that it was compiled with. Takes no memory.
+#[unsafe(no_mangle)]
+pub extern "C" fn eip_c_version() -> u32
+    ensures { result ≡ 1051000 }
+{
+    VERSION_NUMBER
+}
+
 // DEVICES
 
 /// Makes a device from the lines of a profile, as they stand at the head of a trace, and writes its handle.

@@ -8,10 +8,11 @@ ghost use Rattle.trace_text.specs.Reading.{trace_reading};
 ghost use Rattle.eip_c.specs.Calls.{table_of, state, IsOpened, Opens, Refuses};
 ghost use Rattle.eip_c.specs.Statuses.{status_of};
 
-use crate::answered_device::{AnsweredDevice, FastDevice};
+use crate::answered_device::AnsweredDevice;
 use crate::status::{BAD_LINE, BAD_PROFILE, OUT_OF_MEMORY};
 use cip_events::NewFault;
 use cip_tables::{Config, Device};
+use fast_device::FastDevice;
 use std::alloc::Global;
 use trace_text::{TraceFault, read_trace};
 

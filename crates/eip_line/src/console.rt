@@ -8,7 +8,6 @@ ghost use Rattle.eip_line.specs.Tasks.{HasFailed, IsDone, IsPerformed, IsReporte
 ghost use Rattle.command_lines.specs.LineTasks.{IsAlone, task_of};
 ghost use Rattle.eip_line.specs.Usage.{usage_text};
 
-use crate::FastDevice;
 use crate::faults::{FAILED, ProgramFault, failed};
 use crate::lines::print_settled;
 use crate::loops::print_turns;
@@ -16,6 +15,7 @@ use crate::output::{flush, print_version, write_numbered};
 use crate::usage::misused;
 use cip_types::limits::LONGEST_TRACE;
 use command_lines::{Misuse, Task, read_line_task};
+use fast_device::FastDevice;
 use std::alloc::Global;
 use std::convert::AsStr;
 use std::io::{ErrorKind, Read, Write};

@@ -8,10 +8,10 @@ ghost use Rattle.line_setup.specs.Devices.{line_configs};
 ghost use Rattle.line_setup.specs.Scripts.{line_scripts};
 ghost use Rattle.eip_line.specs.Lined.{IsLined};
 
-use crate::FastDevice;
 use crate::faults::ProgramFault;
 use crate::output::flush;
 use command_lines::LineTask;
+use fast_device::FastDevice;
 use line_setup::{line_of, scripts};
 use line_threads::{LineFault, LineRun, Open, run_line};
 use segment_world::WorldFault;

@@ -10,13 +10,7 @@ mod output;
 mod running;
 mod usage;
 
-use adapter_engine::FastAdapter;
-use cip_tables::AnyDevice;
-use scanner_engine::FastScanner;
 use std::process::ExitCode;
-
-/// The device of a profile of either kind.
-type FastDevice = AnyDevice<FastAdapter, FastScanner>;
 
 /// Hands the program its command line and its standard streams, and ends with its status.
 fn main(rt: HostRuntime) -> ExitCode {

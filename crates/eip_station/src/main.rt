@@ -7,7 +7,8 @@ mod profiles;
 mod program;
 mod stationing;
 
-use failure::{Failure, NO_MEMORY, status_of};
+use failure::{Failure, NO_MEMORY, NO_THREAD, status_of};
+use fast_device::FastDevice;
 use page_server::{PAGE_THREADS, SharedPage, begin_page};
 use plant_command::work;
 use plant_rim::SharedPlant;
@@ -43,21 +44,21 @@ fn main(rt: HostRuntime) -> ExitCode {
         || (begin_output(rt, &rim.out, rt.stdout()) && begin_output(rt, &rim.err, rt.stderr()));
     let is_begun = has_outputs && (!needs.alarm || begin_alarm(rt, &alarm));
     if !is_begun || (needs.page && !begin_page(rt, &page, &rim.input)) {
-        return no_memory(rt.stderr());
+        return no_thread(rt.stderr());
     }
     if needs.record && thread::spawn(&rt, move || record.write_files(&rt)).is_err() {
-        return no_memory(rt.stderr());
+        return no_thread(rt.stderr());
     }
     if needs.input && thread::spawn(&rt, move || input.fill(&rt, rt.reader())).is_err() {
-        return no_memory(rt.stderr());
+        return no_thread(rt.stderr());
     }
     let page_threads = if needs.page { PAGE_THREADS } else { 0 };
     for _ in 0..page_threads {
         let Ok(page) = page.share() else {
             return no_memory(rt.stderr());
         };
-        if thread::spawn(&rt, move || page.serve(&rt)).is_err() {
-            return no_memory(rt.stderr());
+        if thread::spawn(&rt, move || page.serve::<HostRuntime, FastDevice>(&rt)).is_err() {
+            return no_thread(rt.stderr());
         }
     }
     for _ in 0..needs.plant {
@@ -65,7 +66,7 @@ fn main(rt: HostRuntime) -> ExitCode {
             return no_memory(rt.stderr());
         };
         if thread::spawn(&rt, move || work(rt, &plant)).is_err() {
-            return no_memory(rt.stderr());
+            return no_thread(rt.stderr());
         }
     }
     let shared = Surroundings {
@@ -88,9 +89,19 @@ where
     }
 }
 
-/// Reports that there is no memory to begin with, as far as the stream takes the line, and answers the status for that.
+/// Reports that there is no memory to begin with, and answers the status for that.
 fn no_memory<E: Write + Drop>(err: E) -> ExitCode {
+    refused(err, NO_MEMORY, Failure::OutOfMemory)
+}
+
+/// Reports that the system refuses a thread, and answers the status for that.
+fn no_thread<E: Write + Drop>(err: E) -> ExitCode {
+    refused(err, NO_THREAD, Failure::Thread)
+}
+
+/// Reports a failure of the beginning by its line, as far as the stream takes that, and answers its status.
+fn refused<E: Write + Drop>(err: E, line: &[u8], failure: Failure) -> ExitCode {
     let mut err = err;
-    let _ = err.write_all(NO_MEMORY);
-    ExitCode::from(status_of(Failure::OutOfMemory))
+    let _ = err.write_all(line);
+    ExitCode::from(status_of(failure))
 }

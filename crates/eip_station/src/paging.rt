@@ -1,11 +1,13 @@
-//! The page of a station: where it is served, its token, and the line that names it.
+//! The page of a station: where it is served, its word and its token, and the line that names it.
 
 use crate::failure::Failure;
 use crate::program::Surroundings;
 use cip_types::Node;
 use command_lines::Options;
+use option_words::word_from_end;
 use page_server::{PageSetting, greeting_text};
-use station_page::{Allowed, OwnNames};
+use station_opening::SocketPlace;
+use station_page::{Allowed, OwnNames, Secrets};
 use station_port::page_listener;
 use station_rim::report_line;
 use std::fs::{self, File};
@@ -18,7 +20,7 @@ use trace_words::{push_digits, push_node};
 /// The address of this host alone: 127.0.0.1.
 const LOCAL: Node = Node(0x7F00_0001);
 
-/// The bytes of a token.
+/// The bytes of a word, and of a token.
 const TOKEN_BYTES: usize = 16;
 
 /// Sockets of the host.
@@ -26,12 +28,14 @@ pub trait HostNet: Net<Listener = TcpListener, Stream = TcpStream> {}
 
 impl<R: Net<Listener = TcpListener, Stream = TcpStream>> HostNet for R {}
 
-/// What a page shows: the name of its station or plant, the first file of a record, and the devices of a plant.
+/// What a page shows: the name of its station or plant, the first file of a record, and the devices of a plant; and the name of
+/// the host by which browsers reach it, if one is given.
 #[derive(Clone, Copy)]
 pub struct PageSubject<'a> {
     pub name: &'a str,
     pub record: Option<&'a str>,
     pub devices: Option<&'a [&'a str]>,
+    pub host: Option<&'a str>,
 }
 
 /// Begins to serve a page at a port.
@@ -47,7 +51,11 @@ where
 {
     let alloc = rt.alloc();
     let address = options.page_address.unwrap_or(LOCAL);
-    let listener = page_listener(&rt, address, port)?;
+    let listener = match page_listener(&rt, address, port) {
+        Ok(listener) => listener,
+        Err(fault) => return Err(Failure::at(fault, SocketPlace::new(address, port))),
+    };
+    let word = drawn_word(&rt)?;
     let token = token_of(&rt, options)?;
     let record = record_of(&rt, subject.record)?;
     let allowed = Allowed {
@@ -55,9 +63,13 @@ where
         record: record.is_some(),
     };
     let devices = subject.devices.unwrap_or(&[]);
+    let secrets = Secrets {
+        word: word.as_bytes(),
+        token: token.as_bytes(),
+    };
     let page = PageSetting {
         listener,
-        names: OwnNames::new(alloc, address, port, token.as_bytes())?,
+        names: OwnNames::new(alloc, address, port, subject.host, secrets)?,
         allowed,
         greeting: greeting_text(alloc, subject.name, allowed, devices)?,
         record,
@@ -70,21 +82,38 @@ where
     Ok(())
 }
 
+/// The name of the host by which browsers reach the page too, if one is given.
+pub fn page_host<'a>(options: &Options, words: &'a [String]) -> Option<&'a str> {
+    match options.page_host_from_end {
+        Some(left) => Some(word_from_end(words, left)),
+        None => None,
+    }
+}
+
 /// A token that nobody can guess, if the page takes calls; else none.
 fn token_of<R>(rt: &R, options: &Options) -> Result<String, Failure>
 where
     R: AllocGlobal + RandomSource,
 {
-    let mut token = String::new(rt.alloc());
-    if !options.page_writes {
-        return Ok(token);
+    if options.page_writes {
+        drawn_word(rt)
+    } else {
+        Ok(String::new(rt.alloc()))
     }
+}
+
+/// A word that nobody can guess.
+fn drawn_word<R>(rt: &R) -> Result<String, Failure>
+where
+    R: AllocGlobal + RandomSource,
+{
     let mut bytes = [0u8; TOKEN_BYTES];
     if rt.fill_bytes(&mut bytes).is_err() {
         return Err(Failure::Token);
     }
-    push_digits(&mut token, &bytes)?;
-    Ok(token)
+    let mut word = String::new(rt.alloc());
+    push_digits(&mut word, &bytes)?;
+    Ok(word)
 }
 
 /// The name of the record's first file, if that is a file that can be read again.

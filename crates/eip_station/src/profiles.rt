@@ -3,6 +3,7 @@
 use crate::failure::Failure;
 use cip_tables::Config;
 use cip_types::OutOfMemory;
+use command_lines::Options;
 use station_opening::{UnusableProfile, is_scanner, profile_in};
 use station_rim::{Rim, report_line};
 use std::rt::Files;
@@ -14,17 +15,22 @@ pub fn profile_of<R: Files + AllocGlobal + Wait + Copy + Drop>(
     rt: R,
     rim: &Rim,
     path: &str,
+    options: &Options,
     scanner: bool,
 ) -> Result<Config, Failure> {
-    match profile_in(&rt, path) {
+    match profile_in(&rt, path, options.address) {
         Ok(config) if is_scanner(&config) == scanner => Ok(config),
         Ok(_) => Err(Failure::WrongKind),
-        Err(UnusableProfile::Unread) => Err(Failure::Unread),
+        Err(UnusableProfile::Unread(fault)) => Err(Failure::Unread(fault)),
         Err(UnusableProfile::Events) => Err(Failure::Events),
         Err(UnusableProfile::OutOfMemory) => Err(Failure::OutOfMemory),
         Err(UnusableProfile::Bad(fault, sentence)) => {
             report_fault(rt, rim, path, sentence.as_str())?;
             Err(Failure::from(fault))
+        }
+        Err(UnusableProfile::Unserved(sentence)) => {
+            report_fault(rt, rim, path, sentence.as_str())?;
+            Err(Failure::Unserved)
         }
     }
 }

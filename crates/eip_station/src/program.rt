@@ -1,11 +1,14 @@
 //! The program, at its command line and its streams.
 
 use crate::failure::{Failure, NO_MEMORY, is_reported, status_of, subject_of};
-use crate::paging::{HostNet, PageSubject, begin_page};
-use crate::stationing::{file_of, report_end, run_task, word_from_end};
-use command_lines::{Options, ProgramTask, SheetTask, USAGE, VERSION, read_station_task};
-use eds_text::SheetNames;
+use crate::paging::{HostNet, PageSubject, begin_page, page_host};
+use crate::stationing::{report_end, run_task};
+use command_lines::{Options, ProgramTask, VERSION};
 use identity_search::search;
+use option_words::{
+    USAGE, file_of, files_of, names_of, profile_of, push_value_fault, read_task, split_words,
+    word_from_end,
+};
 use page_server::SharedPage;
 use plant_command::{PlantSetting, names_in, run_plant};
 use plant_rim::SharedPlant;
@@ -21,7 +24,8 @@ use std::process::ExitCode;
 use std::random::RandomSource;
 use std::rt::{Clock, Files};
 use std::sync::Wait;
-use trace_commands::{data_sheet, explain, pcap, replay};
+use trace_commands::{PipedOutput, data_sheet, explain, pcap, replay};
+use world_command::play_world;
 
 /// What a station or a plant shares with its threads.
 #[derive(Drop)]
@@ -72,7 +76,7 @@ where
 /// The threads that the command line needs. None without memory.
 pub fn needs_of<R: AllocGlobal + Env + Files>(rt: &R) -> Option<Needs> {
     let words = words_of(rt)?;
-    match read_station_task(words.as_slice()) {
+    match read_task(words.as_slice()) {
         Ok(ProgramTask::Station(task)) => Some(Needs {
             outputs: true,
             alarm: true,
@@ -103,9 +107,10 @@ fn plant_needs(options: &Options, devices: usize) -> Needs {
     }
 }
 
-/// The words of the command line.
+/// The words of the command line. An option and its value are two of them.
 fn words_of<R: AllocGlobal + Env>(rt: &R) -> Option<Vec<String>> {
-    env::args(rt).ok()?.collect::<Vec<String>>(rt.alloc()).ok()
+    let given = env::args(rt).ok()?.collect::<Vec<String>>(rt.alloc()).ok()?;
+    split_words(rt.alloc(), given).ok()
 }
 
 /// Performs the task of the words, and reports its failure.
@@ -121,11 +126,11 @@ where
     O: Write + Drop,
     E: Write,
 {
-    match read_station_task(words) {
+    match read_task(words) {
         Ok(ProgramTask::Station(task)) => run_task(rt, words, task, shared),
         Ok(ProgramTask::Plant(options)) => plant(rt, words, &options, shared),
         Ok(task) => {
-            let done = write(&rt, words, task, out);
+            let done = write_out(&rt, words, task, out);
             report(rt.alloc(), words, done, err)
         }
         Err(misuse) => report(rt.alloc(), words, Err(Failure::Words(misuse)), err),
@@ -169,9 +174,9 @@ where
         },
     };
     if let Some(port) = options.page {
-        begin_plant_page(rt, shared, &setting, port)?;
+        begin_plant_page(rt, shared, &setting, port, page_host(options, words))?;
     }
-    Ok(run_plant(rt, &shared.rim, &shared.plant, &setting)?)
+    run_plant(rt, &shared.rim, &shared.plant, &setting).map_err(Failure::Plant)
 }
 
 /// Serves the page of a plant. A file that is no plant has none.
@@ -180,6 +185,7 @@ fn begin_plant_page<R>(
     shared: &Surroundings,
     setting: &PlantSetting<'_>,
     port: u16,
+    host: Option<&str>,
 ) -> Result<(), Failure>
 where
     R: AllocGlobal + Files<File = File> + Clock + HostNet + RandomSource + Wait + Copy + Drop,
@@ -196,8 +202,23 @@ where
         name: stem_of(setting.file),
         record: None,
         devices: Some(names.as_slice()),
+        host,
     };
     begin_page(rt, shared, setting.options, port, subject)
+}
+
+/// Performs a task that writes a text or a capture file. It ends in silence if nobody reads on.
+fn write_out<R, O>(rt: &R, words: &[String], task: ProgramTask, out: O) -> Result<(), Failure>
+where
+    R: AllocGlobal + Files<File = File> + Clock + HostNet,
+    O: Write + Drop,
+{
+    let mut piped = PipedOutput::new(out);
+    let done = write(rt, words, task, &mut piped);
+    if done.is_err() && piped.is_unread() {
+        return Err(Failure::Unheard);
+    }
+    done
 }
 
 /// Performs a task that writes a text or a capture file.
@@ -216,39 +237,18 @@ where
         ProgramTask::Replay => Ok(replay(rt, files_of(words), out)?),
         ProgramTask::Pcap => Ok(pcap(rt, files_of(words), out)?),
         ProgramTask::Explain => Ok(explain(rt, files_of(words), out)?),
-        ProgramTask::Settle => Ok(settle_files(rt, files_of(words), out)?),
+        ProgramTask::Settle => { settle_files(rt, files_of(words), out).map_err(Failure::Settling) }
+        ProgramTask::World(world) => {
+            play_world(rt, file_of(words), world.plain, out).map_err(Failure::World)
+        }
         ProgramTask::Sheet(sheet) => {
             Ok(data_sheet(rt, profile_of(words), &names_of(words, sheet), out)?)
         }
-        ProgramTask::Search(task) => Ok(search(rt, task.host, task.seconds, &mut out)?),
+        ProgramTask::Search(task) => {
+            search(rt, task.host, task.seconds, &mut out).map_err(Failure::Search)
+        }
         ProgramTask::Station(_) | ProgramTask::Plant(_) => Ok(()),
     }
-}
-
-/// The file of the profile that the words name.
-fn profile_of(words: &[String]) -> &[String] {
-    words.get(2..3).unwrap_or(&[])
-}
-
-/// The names of a data sheet that the words have.
-fn names_of(words: &[String], sheet: SheetTask) -> SheetNames<'_> {
-    match (sheet, words) {
-        (SheetTask::Named, [_, _, _, vendor, product, catalog]) => SheetNames {
-            vendor: Some(vendor.as_str()),
-            product: Some(product.as_str()),
-            catalog: Some(catalog.as_str()),
-        },
-        _ => SheetNames {
-            vendor: None,
-            product: None,
-            catalog: None,
-        },
-    }
-}
-
-/// The files that the words name.
-fn files_of(words: &[String]) -> &[String] {
-    words.get(2..).unwrap_or(&[])
 }
 
 /// Prints a text.
@@ -281,6 +281,13 @@ fn report<E: Write>(
 pub fn line_of(alloc: Global, words: &[String], failure: Failure) -> Result<String, Failure> {
     if is_reported(failure) {
         return Ok(String::new(alloc));
+    }
+    if let Failure::Words(misuse) = failure {
+        let mut line = format!(in alloc; "eip_station: ")?;
+        if push_value_fault(&mut line, words, misuse)? {
+            line.push_str("\n")?;
+            return Ok(line);
+        }
     }
     let subject = subject_of(words, failure);
     if subject.is_empty() {

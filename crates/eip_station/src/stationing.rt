@@ -1,19 +1,22 @@
 //! A station from its words to its end.
 
 use crate::failure::{Failure, NO_MEMORY};
-use crate::paging::{HostNet, PageSubject, begin_page};
+use crate::paging::{HostNet, PageSubject, begin_page, page_host};
 use crate::profiles::profile_of;
 use crate::program::{Surroundings, line_of};
 use cip_tables::{Config, Device};
 use command_lines::{Options, StationTask};
+use fast_device::FastDevice;
+use option_words::{file_of, word_from_end};
 use page_feed::PageFeed;
 use port_faults::FaultyPort;
 use socket_port::SystemClock;
-use station::{Station, StationObserver, Voice};
-use station_files::{begin_in_file, name_of, stem_of};
+use station::{Reporting, Station, StationObserver};
+use station_files::{Start, StateFault, name_of, stem_of};
 use station_lines::NoLines;
 use station_opening::{
-    FastDevice, OpenedPort, incarnation_of, is_scanner, open_port, recorder_in, with_incarnation,
+    OpenedPort, incarnation_of, is_scanner, open_port, recorder_in, socket_place, start_in,
+    with_incarnation,
 };
 use station_port::{StationPlace, StationPort};
 use station_record::Recorder;
@@ -24,6 +27,11 @@ use std::fs::File;
 use std::random::RandomSource;
 use std::rt::{Clock, Files};
 use std::sync::Wait;
+
+/// Why a start has to be counted, and what to do where it cannot be.
+const UNCOUNTED: &str =
+    ", and a start that is not counted may give the connection ids of an earlier one again: an old \
+datagram could then drive an output. --state FILE names another file; --incarnation N needs none, if no earlier start had N";
 
 /// The words of a station, its options, and what it shares with its threads.
 #[derive(Clone, Copy)]
@@ -103,56 +111,81 @@ fn begin<R>(setting: &Stationed<'_, R>, scanner: bool) -> Result<(), Failure>
 where
     R: AllocGlobal + Files<File = File> + Clock + HostNet + RandomSource + Wait + Copy + Drop,
 {
-    let config = profile_of(setting.rt, setting.rim, file_of(setting.words), scanner)?;
-    let state = state_of(setting, incarnation_of(&config))?;
-    let config = with_incarnation(config, state.incarnation);
-    open(setting, config, state)
+    let path = file_of(setting.words);
+    let config = profile_of(setting.rt, setting.rim, path, setting.options, scanner)?;
+    let start = start_of(setting, incarnation_of(&config))?;
+    let config = with_incarnation(config, start.state().incarnation);
+    let ran = open(setting, config, &start);
+    if ran.is_err() {
+        start.discard(&setting.rt);
+    }
+    ran
 }
 
 /// The state of this start.
-fn state_of<R>(setting: &Stationed<'_, R>, own: u8) -> Result<StationState, Failure>
+fn start_of<R>(setting: &Stationed<'_, R>, own: u8) -> Result<Start, Failure>
 where
     R: AllocGlobal + Files<File = File> + RandomSource + Wait + Copy + Drop,
 {
     let options = setting.options;
-    if let (Some(incarnation), None) = (options.incarnation, options.state_from_end) {
-        return Ok(StationState {
-            incarnation,
-            serial: 0,
-        });
-    }
     let alloc = setting.rt.alloc();
     let path = match options.state_from_end {
         Some(left) => format!(in alloc; "{}", word_from_end(setting.words, left))?,
         None => format!(in alloc; "{}.state", file_of(setting.words))?,
     };
-    match begin_in_file(&setting.rt, path.as_str(), options.incarnation, own) {
-        Ok(state) => Ok(state),
-        Err(fault) => {
-            let failure = Failure::from(fault);
-            if matches!(failure, Failure::State | Failure::NoState) {
-                let line = format!(in alloc; "eip_station: {path} {failure}\n")?;
-                report_line(setting.rt, setting.rim, line.as_bytes());
-            }
-            Err(failure)
-        }
+    match start_in(&setting.rt, options, path.as_str(), own) {
+        Ok(start) => Ok(start),
+        Err(fault) => Err(reported(setting, path.as_str(), fault)),
     }
 }
 
+/// Counts a start, before its station gives an id.
+fn keep<R>(setting: &Stationed<'_, R>, start: &Start) -> Result<(), Failure>
+where
+    R: AllocGlobal + Files<File = File> + Wait + Copy + Drop,
+{
+    match start.keep(&setting.rt) {
+        Ok(()) => Ok(()),
+        Err(fault) => Err(reported(setting, start.path(), fault)),
+    }
+}
+
+/// The failure of a state's file, which a line tells with the name of that file and the danger.
+fn reported<R>(setting: &Stationed<'_, R>, path: &str, fault: StateFault) -> Failure
+where
+    R: AllocGlobal + Wait + Copy + Drop,
+{
+    let failure = Failure::from(fault);
+    if failure == Failure::OutOfMemory {
+        return failure;
+    }
+    match format!(in setting.rt.alloc(); "eip_station: {path} {failure}{UNCOUNTED}\n") {
+        Ok(line) => report_line(setting.rt, setting.rim, line.as_bytes()),
+        Err(_) => return Failure::OutOfMemory,
+    }
+    failure
+}
+
 /// Opens the port of a station, begins its record, and runs it.
-fn open<R>(setting: &Stationed<'_, R>, config: Config, state: StationState) -> Result<(), Failure>
+fn open<R>(setting: &Stationed<'_, R>, config: Config, start: &Start) -> Result<(), Failure>
 where
     R: AllocGlobal + Files<File = File> + Clock + HostNet + RandomSource + Wait + Copy + Drop,
 {
-    let config = described(setting, config, &state)?;
+    let config = described(setting, config, &start.state())?;
     let kind = if is_scanner(&config) {
         "scanner"
     } else {
         "adapter"
     };
-    let opened = open_port(setting.rt, setting.options, &config)?;
-    let start = start_line(setting, kind, &opened.place, state.incarnation)?;
-    serve(setting, &config, opened, start.as_str())
+    let opened = match open_port(setting.rt, setting.options, &config) {
+        Ok(opened) => opened,
+        Err(fault) => {
+            let place = socket_place(setting.options, &config, fault);
+            return Err(Failure::at(fault, place));
+        }
+    };
+    let line = start_line(setting, kind, &opened.place, start.state().incarnation)?;
+    serve(setting, &config, opened, start, line.as_str())
 }
 
 /// The configuration of a station: an adapter's has a description, so that inquiries find it.
@@ -214,7 +247,8 @@ fn serve<R>(
     setting: &Stationed<'_, R>,
     config: &Config,
     opened: OpenedPort<R>,
-    start: &str,
+    start: &Start,
+    line: &str,
 ) -> Result<(), Failure>
 where
     R: AllocGlobal + Files<File = File> + Clock + HostNet + RandomSource + Wait + Copy + Drop,
@@ -231,7 +265,7 @@ where
     let waker = port.waker()?;
     let recorder = recorder_of(setting, config)?;
     if !setting.options.quiet {
-        report_line(rt, setting.rim, start.as_bytes());
+        report_line(rt, setting.rim, line.as_bytes());
     }
     let (out, err) = (setting.rim.out.sink(rt)?, setting.rim.err.sink(rt)?);
     let mut observer = StationObserver::new(alloc, config, recorder, out, err)?;
@@ -240,20 +274,20 @@ where
     }
     let device = FastDevice::new(alloc, config.copy(alloc)?)?;
     let clock = SystemClock::new(rt);
-    let voice = Voice {
+    let reporting = Reporting {
         quiet: setting.options.quiet,
         silent_s: place.inactivity_s,
     };
     let port = FaultyPort::new(alloc, port, SystemClock::new(rt), rates_of(setting.options));
-    let mut station = Station::new(alloc, config, port, clock, device, observer, voice)?;
+    let mut station = Station::new(alloc, config, port, clock, device, observer, reporting)?;
     let ending = ending_of(setting.options, slots);
-    let ended = if setting.options.no_input && !setting.options.page_writes {
-        station.run(&mut NoLines, ending)
+    keep(setting, start)?;
+    if setting.options.no_input && !setting.options.page_writes {
+        station.run(&mut NoLines, ending)?;
     } else {
         let mut lines = setting.rim.input.share()?.lines(rt, waker);
-        station.run(&mut lines, ending)
-    };
-    ended?;
+        station.run(&mut lines, ending)?;
+    }
     match station.record_fault() {
         Some(_) => Err(Failure::RecordEnd),
         None => Ok(()),
@@ -274,6 +308,7 @@ where
         name: station_name(setting),
         record,
         devices: None,
+        host: page_host(setting.options, setting.words),
     };
     begin_page(setting.rt, setting.shared, setting.options, port, subject)?;
     let end = setting.shared.page.feed_end(0)?;
@@ -305,18 +340,6 @@ where
         return Ok(Recorder::idle(alloc));
     };
     let path = format!(in alloc; "{}", word_from_end(setting.words, left))?;
-    Ok(recorder_in(rt, &setting.rim.record, config, path)?)
-}
-
-/// The file that the words name.
-pub fn file_of(words: &[String]) -> &str {
-    word_from_end(words, words.len().saturating_sub(2))
-}
-
-/// The word from which on so many words are left.
-pub fn word_from_end(words: &[String], left: usize) -> &str {
-    match words.get(words.len().saturating_sub(left)) {
-        Some(word) => word.as_str(),
-        None => "",
-    }
+    let most = setting.options.record_bytes;
+    Ok(recorder_in(rt, &setting.rim.record, config, path, most)?)
 }

@@ -55,5 +55,6 @@ scanner_profile incarnation node target = record {
   serial = 0x12345678;
   open_timeout = 2000;
   retry = 3000;
+  newer = None;
   slots = slot_config target ∷ [];
 }

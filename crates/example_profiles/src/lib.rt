@@ -131,6 +131,7 @@ pub fn scanner(
         serial: 0x1234_5678,
         open_timeout: 2_000,
         retry: 3_000,
+        newer: None,
         slots: Items::one(alloc, slot(alloc, target))?,
     })
 }

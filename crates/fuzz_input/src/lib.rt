@@ -1,29 +1,21 @@
-//! What a coverage-guided fuzzer calls: it gives any bytes to every reader, to a splitter, and to devices of both kinds.
+//! What a coverage-guided fuzzer calls beside the library for C: it gives any bytes to every reader of a codec, and to a
+//! splitter. Devices and traces it reaches through `include/eip.h` (`tools/long/fuzz_main.c`).
 //!
 //! CONTRIBUTING has the command. No device and no other crate calls this one.
 #![tactic(auto)]
 
-mod events;
 mod readers;
-mod traces;
 
 use std::alloc::Global;
 
-/// Gives bytes to the part that the first of them names: every reader of a codec, a splitter in two pieces, an adapter's
-/// events, a scanner's events, or the text of a trace.
-///
-/// Returns 0, or 1 if a plain and a fast device answered one event differently. A refused allocation ends the call with 0.
+/// Gives bytes to every reader of a codec.
 #[unsafe(no_mangle)]
-pub extern "C" fn eip_fuzz(alloc: Global, bytes: &[u8]) -> u32 {
-    let Some((part, rest)) = bytes.split_first() else {
-        return 0;
-    };
-    let agrees = match *part % 5 {
-        0 => readers::read_all(rest),
-        1 => readers::split(alloc, rest),
-        2 => traces::adapters_agree(alloc, rest),
-        3 => traces::scanners_agree(alloc, rest),
-        _ => traces::texts_agree(alloc, rest),
-    };
-    u32::from(!agrees)
+pub extern "C" fn eip_fuzz_readers(bytes: &[u8]) {
+    readers::read_all(bytes);
+}
+
+/// Gives bytes to a splitter in two pieces, the first as long as the first byte says. A refused allocation ends the call.
+#[unsafe(no_mangle)]
+pub extern "C" fn eip_fuzz_splitter(alloc: Global, bytes: &[u8]) {
+    readers::split(alloc, bytes);
 }

@@ -78,7 +78,7 @@ fn scanner_profile(alloc: Global, number: u8) -> Result<ScannerProfile, OutOfMem
     })
 }
 
-// A slot that only consumes the input, with all others that do so.
+/// A slot that only consumes the input, with all others that do so.
 fn input_slot(alloc: Global) -> SlotConfig
     ensures { result ≡ input_slot }
 {

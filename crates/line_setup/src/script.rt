@@ -28,7 +28,7 @@ fn add(script: &mut Vec<Event>, event: Event) -> Result<(), OutOfMemory>
     Ok(())
 }
 
-// One turn of an application: it writes the number of the turn to a point, if it has one, and a millisecond passes.
+/// One turn of an application: it writes the number of the turn to a point, if it has one, and a millisecond passes.
 fn add_turn(
     alloc: Global,
     script: &mut Vec<Event>,
@@ -43,7 +43,7 @@ fn add_turn(
     add(script, Event::Tick { ms: 1 })
 }
 
-// So many turns of an application. The first has number 1.
+/// So many turns of an application. The first has number 1.
 fn add_turns(
     alloc: Global,
     script: &mut Vec<Event>,
@@ -58,7 +58,7 @@ fn add_turns(
     Ok(())
 }
 
-// The adapter's application writes the input in each turn.
+/// The adapter's application writes the input in each turn.
 fn adapter_script(alloc: Global, turns: u32) -> Result<Vec<Event>, OutOfMemory>
     ensures { IfOk result (λ script. script.items ≡ adapter_script turns) }
 {
@@ -67,14 +67,14 @@ fn adapter_script(alloc: Global, turns: u32) -> Result<Vec<Event>, OutOfMemory>
     Ok(script)
 }
 
-// The point to which a scanner's application writes: scanner 0 alone has an output.
+/// The point to which a scanner's application writes: scanner 0 alone has an output.
 fn output_of(number: u8) -> Option<u32>
     ensures { result ≡ output_of number }
 {
     if number == 0 { Some(SLOT) } else { None }
 }
 
-// A scanner's application starts its slot and runs. That of scanner 0 writes the output in each turn.
+/// A scanner's application starts its slot and runs. That of scanner 0 writes the output in each turn.
 fn scanner_script(alloc: Global, number: u8, turns: u32) -> Result<Vec<Event>, OutOfMemory>
     ensures { IfOk result (λ script. script.items ≡ scanner_script turns number) }
 {

@@ -2,11 +2,11 @@
 
 use std::alloc::Global;
 
-/// Any allocator refuses a request for so many bytes and n more. `tools/refuse.c` also refuses the nth request from then
+/// Any allocator refuses a request for so many bytes and n more. `tools/play/refuse.c` also refuses the nth request from then
 /// on, or none if n is 0.
 const ARMING: usize = 1 << 50;
 
-/// Any allocator refuses a request for so many bytes, but `tools/refuse.c` grants it if a request was refused since the
+/// Any allocator refuses a request for so many bytes, but `tools/play/refuse.c` grants it if a request was refused since the
 /// last arming.
 const ASK: usize = 1 << 51;
 

@@ -11,7 +11,7 @@ use std::marker::PhantomData;
 use trace_text::{Recorded, Trace};
 
 /// A book of a fresh device of a configuration.
-pub fn book_of<D: Device + Drop>(alloc: Global, config: &Config) -> Result<Book<D>, OutOfMemory> {
+fn book_of<D: Device + Drop>(alloc: Global, config: &Config) -> Result<Book<D>, OutOfMemory> {
     match made::<D>(alloc, config) {
         Ok(device) => Book::new(alloc, device),
         Err(refused) => Err(refused),
@@ -47,7 +47,7 @@ fn is_receipt_same(receipt: &Receipt, other: &Receipt) -> bool {
 }
 
 /// Makes a step of a book at an event.
-pub fn step_book<D: Device + Drop>(
+fn step_book<D: Device + Drop>(
     alloc: Global,
     book: &mut Book<D>,
     event: &Event,
@@ -59,7 +59,7 @@ pub fn step_book<D: Device + Drop>(
 }
 
 /// Hands out the present segment of a book.
-pub fn rotated<D: Device + Drop>(book: &mut Book<D>) -> Result<Segment, OutOfMemory> {
+fn rotated<D: Device + Drop>(book: &mut Book<D>) -> Result<Segment, OutOfMemory> {
     if book.segment() == u16::MAX {
         return Err(OutOfMemory);
     }
@@ -147,7 +147,7 @@ impl<D: Device + Drop> MemoryCall for Rotation<D> {
 }
 
 /// Whether two lists have the same events.
-pub fn are_events_same(events: &[Event], others: &[Event]) -> bool {
+fn are_events_same(events: &[Event], others: &[Event]) -> bool {
     events.len() == others.len()
         && events
             .iter()

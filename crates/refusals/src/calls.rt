@@ -75,8 +75,8 @@ pub trait Trial {
     ) -> Result<(), Difference>;
 }
 
-/// No call makes so many requests for memory.
-const MOST_REQUESTS: usize = 100_000;
+/// No call and no run makes so many requests for memory.
+pub const MOST_REQUESTS: usize = 100_000;
 
 /// The number of requests that were refused.
 #[derive(Clone, Copy)]
@@ -183,25 +183,5 @@ pub fn are_same<T: Compared + Drop>(
     match (one, other) {
         (Ok(one), Ok(other)) => Ok(one.is_same_as(&other)),
         _ => Err(OutOfMemory),
-    }
-}
-
-/// Whether two values are the same that were made if there was something to make them of.
-pub fn are_same_if_any<T: Compared + Drop>(
-    one: Option<Result<T, OutOfMemory>>,
-    other: Option<Result<T, OutOfMemory>>,
-) -> Result<bool, OutOfMemory> {
-    match (one, other) {
-        (Some(one), Some(other)) => are_same(one, other),
-        (None, None) => Ok(true),
-        _ => Ok(false),
-    }
-}
-
-/// Whether a call passed.
-pub fn passed<T: Drop>(made: Result<T, OutOfMemory>) -> Result<(), OutOfMemory> {
-    match made {
-        Ok(_) => Ok(()),
-        Err(refused) => Err(refused),
     }
 }

@@ -238,7 +238,7 @@ impl MemoryCall for Feeding {
         Ok(given == expected)
     }
 
-    // (what a splitter holds is seen in the messages of the pieces that follow)
+    /// (what a splitter holds is seen in the messages of the pieces that follow)
     fn is_like(_splitter: &Splitter, _twin: &Splitter) -> Result<bool, OutOfMemory> {
         Ok(true)
     }

@@ -1,12 +1,10 @@
 //! Devices: their making, their steps, their copies.
 
 use crate::calls::{Compared, Difference, MemoryCall, Refusals, Trial, are_same};
-use adapter_engine::FastAdapter;
 use cip_events::{Event, NewFault, Outcome, StepFault};
 use cip_tables::{Config, Device, TableCopy};
 use cip_types::OutOfMemory;
 use plain_engine::{PlainAdapter, PlainScanner};
-use scanner_engine::FastScanner;
 use std::alloc::Global;
 use std::marker::PhantomData;
 use trace_text::{Recorded, Trace};
@@ -23,21 +21,9 @@ impl Restore for PlainAdapter {
     }
 }
 
-impl Restore for FastAdapter {
-    fn of_copy(alloc: Global, copy: &TableCopy) -> Result<Self, NewFault> {
-        FastAdapter::from_copy(alloc, copy)
-    }
-}
-
 impl Restore for PlainScanner {
     fn of_copy(alloc: Global, copy: &TableCopy) -> Result<Self, NewFault> {
         PlainScanner::from_copy(alloc, copy)
-    }
-}
-
-impl Restore for FastScanner {
-    fn of_copy(alloc: Global, copy: &TableCopy) -> Result<Self, NewFault> {
-        FastScanner::from_copy(alloc, copy)
     }
 }
 

@@ -2,10 +2,11 @@
 //! until none is refused. A refused call has to answer that it is out of memory and to leave what it is made on as it
 //! was, and the call that passes has to return what it returns where nothing was refused.
 //!
-//! First the codecs, the parts of an adapter, and networks of devices; then the traces whose files the command line
-//! names: over each kind of device and a book of it, through the stepper, `run` and histories, and as text.
+//! First the codecs; then the traces whose files the command line names: as text, over a plain device, in a book of it, and
+//! through `run`. The fast devices are of `tools/play/c_memory.c`; networks, records that settle, and outcomes as lines are of
+//! `tools/play/refusals`, which refuses a request of a whole run of a program.
 //!
-//! The requests are refused by `tools/refuse.c`, which is loaded before the C library (`tools/refusals` does so). Without
+//! The requests are refused by `tools/play/refuse.c`, which is loaded before the C library (`tools/play/refusals` does so). Without
 //! it none is refused, and the program prints that.
 #![tactic(auto)]
 
@@ -14,32 +15,19 @@ mod books;
 mod calls;
 mod codecs;
 mod devices;
-mod histories;
-mod networks;
-mod race;
-mod race_events;
-mod settlings;
-mod steppers;
-mod tables;
+mod runs;
 mod texts;
 mod traces;
-mod worlds;
 
 use calls::{Difference, Refusals};
 use codecs::refuse_codecs;
-use networks::{DeviceNetwork, FastWorld, PlainWorld};
-use race::acts;
-use segment_world::Act;
-use settlings::Settlement;
 use std::alloc::Global;
 use std::env;
 use std::fs::Files;
 use std::process::ExitCode;
-use tables::refuse_parts;
 use traces::refuse_file;
-use worlds::Raced;
 
-/// Prints how many requests were refused in each part and in each trace.
+/// Prints how many requests were refused in the codecs and in each trace.
 fn main(rt: HostRuntime) -> ExitCode {
     let words = match env::args(&rt) {
         Ok(words) => words.collect::<Vec<String>>(rt.alloc()),
@@ -53,7 +41,7 @@ fn main(rt: HostRuntime) -> ExitCode {
 
 /// Prints how many requests were refused in all, and whether there was no difference.
 fn is_all_printed<R: AllocGlobal + Files + Print>(rt: &R, words: &[String]) -> bool {
-    let mut good = are_parts_printed(rt, rt.alloc());
+    let mut good = are_codecs_printed(rt, rt.alloc());
     for name in words.iter().skip(1) {
         let mut refusals = none_yet(rt.alloc());
         let refused = refuse_file(rt, name.as_str(), &mut refusals);
@@ -62,42 +50,16 @@ fn is_all_printed<R: AllocGlobal + Files + Print>(rt: &R, words: &[String]) -> b
     good
 }
 
-/// Prints how many requests were refused in each part, and whether there was no difference.
-fn are_parts_printed<R: Print>(rt: &R, alloc: Global) -> bool {
+/// Prints how many requests were refused in the codecs, and whether there was no difference.
+fn are_codecs_printed<R: Print>(rt: &R, alloc: Global) -> bool {
     let mut refusals = none_yet(alloc);
     let refused = refuse_codecs(&mut refusals);
-    let mut good = is_printed(rt, "codecs", &refusals, refused);
-    refusals = none_yet(alloc);
-    let refused = refuse_parts(&mut refusals);
-    good &= is_printed(rt, "parts of an adapter", &refusals, refused);
-    refusals = none_yet(alloc);
-    let refused = refuse_network::<PlainWorld>(&mut refusals);
-    good &= is_printed(rt, "plain devices on a network", &refusals, refused);
-    refusals = none_yet(alloc);
-    let refused = refuse_network::<FastWorld>(&mut refusals);
-    good & is_printed(rt, "fast devices on a network", &refusals, refused)
+    is_printed(rt, "codecs", &refusals, refused)
 }
 
 /// No refusals yet.
 fn none_yet(alloc: Global) -> Refusals {
     Refusals { alloc, count: 0 }
-}
-
-/// Refuses requests in the acts of a network, and where its histories are settled into a schedule.
-fn refuse_network<W: DeviceNetwork + Drop>(refusals: &mut Refusals) -> Result<(), Difference> {
-    match acts(refusals.alloc) {
-        Ok(acts) => refuse_acts::<W>(refusals, &acts),
-        Err(refused) => Err(Difference::from(refused)),
-    }
-}
-
-/// Refuses requests in these acts of a network, and where its histories are settled into a schedule.
-fn refuse_acts<W: DeviceNetwork + Drop>(
-    refusals: &mut Refusals,
-    acts: &Vec<Act>,
-) -> Result<(), Difference> {
-    refusals.in_trial::<Raced<W>>(acts)?;
-    refusals.in_trial::<Settlement<W>>(&())
 }
 
 /// Prints how many requests were refused, or the difference, and whether there was none.

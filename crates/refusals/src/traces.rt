@@ -1,20 +1,16 @@
-//! Traces over each kind of device.
+//! Traces over the plain devices. (`tools/play/c_memory.c` refuses requests within each call of the fast ones.)
 
 use crate::books::Booked;
 use crate::calls::{Difference, Refusals};
 use crate::devices::{Restore, Stepped, Written};
-use crate::histories::Recalling;
-use crate::steppers::{Played, Ran, Replaying};
-use crate::tables::PointMaking;
-use crate::texts::{Printed, Rewriting};
-use adapter_engine::FastAdapter;
+use crate::runs::Ran;
+use crate::texts::Rewriting;
 use cip_tables::{Config, Device};
 use plain_engine::{PlainAdapter, PlainScanner};
-use scanner_engine::FastScanner;
 use std::fs::{self, Files};
 use trace_text::{Trace, read_trace};
 
-/// Refuses requests in the trace of a file: where it is read and written, and over each kind of device.
+/// Refuses requests in the trace of a file: where it is read and written, and over its device.
 pub fn refuse_file<R: AllocGlobal + Files>(
     rt: &R,
     name: &str,
@@ -35,23 +31,15 @@ fn refuse_text(refusals: &mut Refusals, text: &Vec<u8>) -> Result<(), Difference
     }
 }
 
-/// Refuses requests over each kind of device that a trace is for.
+/// Refuses requests over the kind of device that a trace is for.
 fn refuse_trace(refusals: &mut Refusals, trace: &Trace) -> Result<(), Difference> {
     match &trace.config {
-        Config::Adapter(profile) => {
-            refusals.in_call::<PointMaking>(&mut (), &mut (), profile)?;
-            refuse_over::<PlainAdapter>(refusals, trace)?;
-            refuse_over::<FastAdapter>(refusals, trace)
-        }
-        Config::Scanner(_) => {
-            refuse_over::<PlainScanner>(refusals, trace)?;
-            refuse_over::<FastScanner>(refusals, trace)
-        }
+        Config::Adapter(_) => refuse_over::<PlainAdapter>(refusals, trace),
+        Config::Scanner(_) => refuse_over::<PlainScanner>(refusals, trace),
     }
 }
 
-/// Refuses requests over a kind of device: alone, in a book, through the stepper and `run`, in a history, and where
-/// its outcomes are written.
+/// Refuses requests over a kind of device: alone, in a book, and through `run`.
 fn refuse_over<D: Device + Restore + Drop>(
     refusals: &mut Refusals,
     trace: &Trace,
@@ -59,9 +47,5 @@ fn refuse_over<D: Device + Restore + Drop>(
     refusals.in_trial::<Stepped<D>>(trace)?;
     refusals.in_trial::<Written<D>>(trace)?;
     refusals.in_trial::<Booked<D>>(trace)?;
-    refusals.in_trial::<Played<'_, D>>(&trace)?;
-    refusals.in_trial::<Ran<D>>(trace)?;
-    refusals.in_trial::<Printed<D>>(trace)?;
-    refusals.in_call::<Replaying<D>>(&mut (), &mut (), trace)?;
-    refusals.in_call::<Recalling<D>>(&mut (), &mut (), trace)
+    refusals.in_trial::<Ran<D>>(trace)
 }

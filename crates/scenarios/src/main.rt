@@ -2,16 +2,17 @@
 //! for each: whether all outcomes are as recorded. A trace is played over both engines of its device, which have to give
 //! the same outcome of every event, recorded or not.
 //!
-//! The traces behind the word `driven` are driven over memory instead, with a failure at each call of the port.
+//! The traces behind the word `driven` are driven over memory instead, with a failure at each call of the port. The files
+//! behind the word `stations` are runs of stations, which are played step by step.
 #![tactic(auto)]
 
+mod arrivals;
 mod driven;
 mod script;
+mod stations;
 
-use adapter_engine::FastAdapter;
-use cip_tables::AnyDevice;
+use fast_device::FastDevice;
 use plain_engine::PlainDevice;
-use scanner_engine::FastScanner;
 use std::alloc::Global;
 use std::env;
 use std::fs::{self, Files};
@@ -19,9 +20,6 @@ use std::process::ExitCode;
 use thiserror::Error;
 use trace_stepper::{Differs, Report, StepperFault, compare, replay};
 use trace_text::{Trace, TraceFault, read_trace};
-
-/// The fast device of a profile of either kind.
-type FastDevice = AnyDevice<FastAdapter, FastScanner>;
 
 /// Why a scenario does not hold.
 #[derive(Clone, Copy, Debug, Error)]
@@ -38,16 +36,18 @@ enum ScenarioFailure {
     Engines,
 }
 
-/// The task for the named traces.
+/// The task for the named files.
 #[derive(Clone, Copy, PartialEq, Eq)]
 enum ScenarioTask {
     /// They are played over each engine.
     Play,
     /// They are driven over memory.
     Drive,
+    /// They are runs of stations.
+    Stations,
 }
 
-/// Does the task for the traces whose files the command line names.
+/// Does the tasks for the files that the command line names.
 fn main(rt: HostRuntime) -> ExitCode {
     let Ok(words) = env::args(&rt) else {
         return ExitCode::from(2);
@@ -60,6 +60,8 @@ fn main(rt: HostRuntime) -> ExitCode {
     for word in words.iter().skip(1) {
         if word.as_str() == "driven" {
             task = ScenarioTask::Drive;
+        } else if word.as_str() == "stations" {
+            task = ScenarioTask::Stations;
         } else if !is_well(&rt, task, word.as_str()) {
             status = 1;
         }
@@ -67,11 +69,25 @@ fn main(rt: HostRuntime) -> ExitCode {
     ExitCode::from(status)
 }
 
-/// Whether the trace of this file has the recorded outcomes, and all of the report was printed.
-fn is_well<R: AllocGlobal + Files + Print>(rt: &R, task: ScenarioTask, name: &str) -> bool {
+/// Whether the trace of this file has the recorded outcomes, or the run was played, and all of the report was printed.
+fn is_well<R>(rt: &R, task: ScenarioTask, name: &str) -> bool
+where
+    R: AllocGlobal + Files + Print + Copy + Drop,
+{
     match task {
         ScenarioTask::Play => is_played(rt, name),
         ScenarioTask::Drive => is_driven(rt, name),
+        ScenarioTask::Stations => is_run(*rt, name),
+    }
+}
+
+fn is_run<R: AllocGlobal + Files + Print + Copy + Drop>(rt: R, name: &str) -> bool {
+    match stations::run(rt, name) {
+        Ok(()) => true,
+        Err(fault) => {
+            let _ = println!(&rt; "{name}: {fault}");
+            false
+        }
     }
 }
 

@@ -1,5 +1,6 @@
 //! Turns of a trace: a tick and the event after it make one.
 
+use crate::arrivals::{arrival_of, push};
 use crate::driven::DriveFailure;
 use cip_events::Arrival;
 use cip_tables::{Config, Event};
@@ -17,41 +18,12 @@ pub struct Script {
     pub turns: u32,
 }
 
-fn keep_time(times_ms: &mut VecDeque<u64>, ms: u32) -> Result<(), OutOfMemory> {
-    match times_ms.push_back(u64::from(ms)) {
-        Ok(()) => Ok(()),
-        Err(_) => Err(OutOfMemory),
-    }
-}
-
-fn keep_arrival(
-    arrivals: &mut VecDeque<Option<Arrival>>,
-    arrival: Option<Arrival>,
-) -> Result<(), OutOfMemory> {
-    match arrivals.push_back(arrival) {
-        Ok(()) => Ok(()),
-        Err(_) => Err(OutOfMemory),
-    }
-}
-
 impl Script {
     fn push(&mut self, ms: u32, arrival: Option<Arrival>) -> Result<(), OutOfMemory> {
-        keep_time(&mut self.times_ms, ms)?;
-        keep_arrival(&mut self.arrivals, arrival)?;
+        push(&mut self.times_ms, u64::from(ms))?;
+        push(&mut self.arrivals, arrival)?;
         self.turns = self.turns.saturating_add(1);
         Ok(())
-    }
-}
-
-/// The arrival of a port for this event of a device, if it comes over a port.
-fn arrival_of(event: Event) -> Option<Arrival> {
-    match event {
-        Event::StreamOpened { stream, peer } => Some(Arrival::Opened { stream, peer }),
-        Event::Frame { stream, bytes } => Some(Arrival::Frame { stream, bytes }),
-        Event::StreamCut { stream } => Some(Arrival::Cut { stream }),
-        Event::Datagram { peer, bytes } => Some(Arrival::Datagram { peer, bytes }),
-        Event::Inquiry { peer, bytes } => Some(Arrival::Inquiry { peer, bytes }),
-        _ => None,
     }
 }
 
