@@ -27,6 +27,14 @@
 extern "C" {
 #endif
 
+/* The version of this header and of its library. Libraries whose versions have one first number offer what the older one of them
+ * offers, with the same numbers, types and fields. */
+#define EIP_VERSION "1.51.0"
+
+/* The same as a number, which eip_version says of the library that a program runs with: a million times the first number, a
+ * thousand times the second, and the third. */
+#define EIP_VERSION_NUMBER 1051000
+
 /* A device. The pointer is NULL before eip_new, which refuses any other, and after eip_free. */
 typedef struct eip_device {
     void *at;
@@ -141,6 +149,7 @@ typedef struct eip_identity {
 
 /* THE LIBRARY: what the proofs speak of. The inline functions below test pointers for NULL and call these. */
 
+uint32_t eip_c_version(void);
 uint32_t eip_c_new(const uint8_t *profile, size_t len, eip_device *device, uint64_t *number);
 void eip_c_free(eip_device device);
 uint32_t eip_c_answer(eip_device *device, uint8_t *out, size_t room, size_t *size);
@@ -170,6 +179,12 @@ uint32_t eip_c_slot(eip_device *device, uint32_t number, eip_slot_report *slot);
 uint32_t eip_c_mode(eip_device *device, bool run, uint8_t *out, size_t room, size_t *size);
 uint32_t eip_c_start(eip_device *device, uint32_t slot, uint8_t *out, size_t room, size_t *size);
 uint32_t eip_c_stop(eip_device *device, uint32_t slot, uint8_t *out, size_t room, size_t *size);
+
+/* The version of the library, to be compared with EIP_VERSION_NUMBER. */
+static inline uint32_t eip_version(void)
+{
+    return eip_c_version();
+}
 
 /* Memory for a range of length 0. */
 static inline const uint8_t *eip_bytes(const void *bytes)

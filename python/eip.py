@@ -9,7 +9,7 @@ what the application writes. It answers what is to be sent. The same events give
         for frame in answer.frames:
             ...
 
-The devices are those of include/eip.h, in a shared library that tools/python_library builds. This module needs the
+The devices are those of include/eip.h, in a shared library that tools/build/python_library builds. This module needs the
 standard library alone, and Python 3.9 or later. docs/PYTHON.md introduces it, docs/PROFILE.md has the rules of a device.
 """
 
@@ -631,9 +631,14 @@ _FUNCTIONS: dict[str, list[Any]] = {
 
 
 def library_path() -> pathlib.Path:
-    """Where the shared library is: the file that EIP_LIBRARY names, or out/libeip.so of this repository."""
+    """Where the shared library is: the file that EIP_LIBRARY names; that of the wheel, beside this module; or out/libeip.so of
+    this repository."""
     named = os.environ.get("EIP_LIBRARY")
-    return pathlib.Path(named) if named else pathlib.Path(__file__).resolve().parent.parent / "out" / "libeip.so"
+    here = pathlib.Path(__file__).resolve().parent
+    of_the_wheel = here / "eip.libs" / "libeip.so"
+    if named or of_the_wheel.exists():
+        return pathlib.Path(named or of_the_wheel)
+    return here.parent / "out" / "libeip.so"
 
 
 @functools.lru_cache(maxsize=None)
@@ -649,7 +654,7 @@ def _library() -> ctypes.CDLL:
         loaded.eip_c_free.argtypes = [_Handle]
         loaded.eip_c_free.restype = None
     except (OSError, AttributeError) as fault:
-        raise LibraryMissing(f"{path}: {fault}: run tools/python_library, or set EIP_LIBRARY") from fault
+        raise LibraryMissing(f"{path}: {fault}: run tools/build/python_library, or set EIP_LIBRARY") from fault
     return loaded
 
 

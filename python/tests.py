@@ -174,6 +174,37 @@ class Devices(unittest.TestCase):
             self.refused(Status.NO_SUCH_SLOT, scanner.slot, 1)
             self.assertIsNone(scanner.owner(150))
 
+    def test_each_way_has_its_interval_and_each_connection_its_kind(self):
+        """Openings of each kind, whose intervals to and fro are others; a slot whose target answers so."""
+
+        def opening(serial, sizes, intervals, consumed):
+            o_t_size, t_o_size = sizes
+            o_t_us, t_o_us = (ms * 1000 for ms in intervals)
+            return (
+                bytes.fromhex("5402200624010a0e" "00000000" "01000020") + serial.to_bytes(2, "little") + OPEN[18:28]
+                + o_t_us.to_bytes(4, "little") + bytes.fromhex(o_t_size) + t_o_us.to_bytes(4, "little") + bytes.fromhex(t_o_size)
+                + bytes.fromhex("0104200424972c") + bytes([consumed]) + bytes.fromhex("2c64")
+            )  # fmt: skip
+
+        kinds = [
+            (ConnectionKind.EXCLUSIVE_OWNER, ("0a48", "0648"), (10, 20), 150),
+            (ConnectionKind.INPUT_ONLY, ("0248", "0628"), (30, 50), 152),
+            (ConnectionKind.LISTEN_ONLY, ("0248", "0628"), (40, 50), 153),
+        ]
+        self.assertEqual(opening(1, ("0a48", "0648"), (10, 10), 150), OPEN)
+        with Device(ADAPTER) as device:
+            for at, (kind, sizes, intervals, consumed) in enumerate(kinds):
+                device.request(OWNER, opening(at + 1, sizes, intervals, consumed))
+                expected = Connection(OWNER, kind, consumed, 100, *intervals, None, True, False, 0)
+                self.assertEqual(device.connection(at), expected)
+        with Device(SCANNER.replace("10000 10000", "30000 10000")) as scanner:
+            scanner.start(0)
+            scanner.stream(7, "192.168.1.10")
+            scanner.frame(7, REGISTERED)
+            # (the reply ends with both intervals, to the target first, and no application reply)
+            scanner.frame(7, OPENED[:-10] + bytes.fromhex("30750000" "10270000" "0000"))
+            self.assertEqual(scanner.slot(0), Slot(SlotState.ESTABLISHED, 30, 10, False, 0))
+
     def test_time_passes_in_the_ticks_that_a_device_needs(self):
         device = self.opened()
         self.assertEqual([it.at_ms for it in device.run_until(25)], [0, 10, 20])

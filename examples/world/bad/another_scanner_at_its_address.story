@@ -1,0 +1,4 @@
+# another scanner at its address
+device adapter ../adapter.profile
+device first ../first.profile
+device neighbour neighbour.profile

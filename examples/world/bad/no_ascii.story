@@ -1,0 +1,3 @@
+# ä
+device adapter ../adapter.profile
+adapter read ä

@@ -1,0 +1,1 @@
+device device ../adapter.profile

@@ -1,0 +1,1 @@
+device adapter ../none.profile

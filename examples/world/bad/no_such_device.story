@@ -1,0 +1,3 @@
+device adapter ../adapter.profile
+adapter read 150
+tenth takes 0

@@ -1,0 +1,2 @@
+device adapter ../adapter.profile
+adapter opens tenth

@@ -1,0 +1,1 @@
+device adapter ../../first_open.trace

@@ -1,0 +1,161 @@
+"""Where the page of a station is, what its event stream says, by numbers worked by hand, and browsers that vanish or are slow."""
+
+import json, time
+from rim.host import holds, listens, need, sure, wait
+from rim.pages import HOST, LATE, MOST, PORT, Events, asked, connected, slowly_connected, status_of, told, wait_for_refusal, word_of
+from rim.peers import Originator
+from rim.plants import begun
+
+REQUEST_S = 3.0  # seconds in which a request has to arrive, however many reads that takes
+MOST_EVENTS = 32
+COUNTS = {"received": 5, "applied": 4, "lost": 3}  # those of the numbers 1, 2, 3, 7, and 7 again
+PAUSE_MS = 4500  # a pause of a device: nearly as long as the 5 s after which a browser opens its event stream again
+LONGEST_GAP = 3.5  # seconds
+SOON = 15.0  # seconds: 3 for a write that waits, and the time until the system keeps no more of what is not read
+MANY = "adapter 16 {adapter} 255.255.255.0 1 12 7 2 3\noutput 150 4 zero zero\n" + "".join(
+    f"input {100 + at} 1400\n" for at in range(8)) + "heartbeat 152 153\n"  # a snapshot has all bytes of all points
+
+
+def run_page_address(bench):
+    """A page is at the one address that it is served at, which is 127.0.0.1 or that of --page-address."""
+    second = "127.0.0.2"
+    for options, own in ((), "127.0.0.1"), (("--page-address", second), second):
+        adapter = bench.adapter("--page", str(PORT), *options, log="page_address")
+        wait(lambda: listens(bench.network, "adapter", own, PORT), f"the page is served at {own}", 5)
+        others = [it for it in ("127.0.0.1", second, "127.0.0.3", bench.address["adapter"]) if it != own]
+        found = [it for it in others if listens(bench.network, "adapter", it, PORT)]
+        sure(not found, f"a page at {own} is refused at {' and '.join(others)}: {found}")
+        need(adapter.end() == 0, "the adapter ends with status 0")
+        bench.clear()
+
+
+def begin_events(stream, word):
+    stream.sendall(f"GET /events?{word} HTTP/1.1\r\nHost: {HOST}\r\n\r\n".encode())
+
+
+def until_told(stream, text):
+    """Reads until a text has come, in however many pieces."""
+    told, end = b"", time.monotonic() + SOON
+    while text not in told:
+        piece = stream.recv(65536)
+        need(piece and time.monotonic() < end, f"the event stream says {text}, and not {told}")
+        told += piece
+
+
+def run_living_events(bench):
+    """The event stream of a plant whose one device is paused says that it lives."""
+    plant = begun(bench, 1, 0, lambda name: "", "--page", str(PORT), log="living")
+    stream = connected(bench, "peer")
+    begin_events(stream, word_of(bench, "peer"))
+    until_told(stream, b"event: station")
+    plant.call(f"adapter-0 pause {PAUSE_MS}", f"scanner-0 pause {PAUSE_MS}")
+    begin, last, gaps, beats = time.monotonic(), time.monotonic(), [], 0
+    while time.monotonic() < begin + PAUSE_MS / 1000:
+        got = stream.recv(65536)
+        need(got, "the event stream goes on")
+        gaps.append(time.monotonic() - last)
+        last, beats = time.monotonic(), beats + got.count(b":\n\n")
+    sure(beats and max(gaps) < LONGEST_GAP, f"the event stream of devices that are paused for {PAUSE_MS / 1000} s says {beats} times that it "
+         f"lives, and is silent for {max(gaps):.1f} s at most")
+    status = plant.end()
+    need(status == 0, f"the plant ends with status 0, and not {status}: {plant.said()}")
+    bench.clear()
+
+
+def run_vanished_browsers(bench):
+    """Eight browsers vanish: they read nothing more of their event streams, and do not end them. Their places are free again."""
+    bench.write("many.profile", MANY)
+    adapter = bench.adapter("--page", str(PORT), profile="many", log="vanished")
+    word = word_of(bench)
+    for _ in range(MOST):
+        begin_events(slowly_connected(bench), word)
+    wait_for_refusal(bench, "a ninth browser is refused")
+
+    def is_served():
+        adapter.call("write 100 " + "00" * 1400)
+        time.sleep(0.1)
+        return asked(bench)[0] == 200
+
+    seconds = wait(is_served, "the page is served beside eight browsers that vanished", SOON)
+    holds(f"eight browsers that vanished hold their places for {seconds:.1f} s, and no longer")
+    need(adapter.end() == 0, "the adapter ends with status 0")
+    bench.clear()
+
+
+def run_slow_request(bench):
+    """A request that comes byte by byte has its time in all, and not for each byte."""
+    adapter = bench.adapter("--page", str(PORT), log="slow_request")
+    wait(lambda: asked(bench)[0] == 200, "the page is served", 5)
+    stream, begin, left = connected(bench), time.monotonic(), iter(b"GET / HTTP/1.1\r\nHost: 127.0.0.1")
+    stream.settimeout(0.3)
+    answer = b""
+    while not answer and time.monotonic() < begin + 3 * REQUEST_S:
+        stream.sendall(bytes([next(left)]))
+        answer = received(stream)
+    seconds = time.monotonic() - begin
+    sure(status_of(answer) == LATE and REQUEST_S - 0.5 < seconds < REQUEST_S + 1.5,
+         f"a request of which a byte comes each 0.3 s has status {status_of(answer)} after {seconds:.1f} s")
+    need(adapter.end() == 0, "the adapter ends with status 0")
+    bench.clear()
+
+
+def received(stream):
+    """What a stream tells within its time."""
+    try:
+        return stream.recv(4096)
+    except TimeoutError:
+        return b""
+
+
+def greeting_of(bench):
+    """What an event stream begins with."""
+    stream = connected(bench)
+    begin_events(stream, word_of(bench))
+    text = b""
+    while b"event: station" not in text or not text.endswith(b"\n\n"):
+        text += stream.recv(4096)
+    stream.close()
+    return json.loads(text.partition(b"event: station\ndata: ")[2].partition(b"\n\n")[0])
+
+
+def run_page_numbers(bench):
+    """A snapshot has the numbers of its device, each at its own place."""
+    adapter = bench.adapter("--page", str(PORT), "--page-writes", log="page_numbers")
+    begun_at = time.monotonic()
+    allowed = {name: greeting_of(bench)[name] for name in ("name", "writes", "record")}
+    need(allowed == {"name": "adapter", "writes": True, "record": False}, f"the page takes calls and has no record: {allowed}")
+    owner, events = Originator(bench, consumed_ms=500, rpi_ms=200), Events(bench)
+    connection = owner.open()
+    for before in 0, 1, 2, 6, 6:
+        connection.sequence = before
+        connection.produce(owner.udp, bytes([0, 0, 0, before]))
+    shown = lambda it: {name: it["counts"][name] for name in COUNTS} == COUNTS
+    first = events.next(shown)
+    need(first, f"the page shows {COUNTS}, and not {events.next()}")
+    time.sleep(1)
+    later = events.next(lambda it: it["ms"] >= first["ms"] + 1000)
+    need(later and shown(later) and later["counts"]["sent"] >= first["counts"]["sent"] + 3, f"what is sent is counted by itself: {later}")
+    need(abs(later["ms"] / 1000 - (time.monotonic() - begun_at)) < 1.5, f"a snapshot has the milliseconds of its device: {later['ms']}")
+    found = [(it["o_t_ms"], it["t_o_ms"], it["mode"], it["consumed"], it["produced"]) for it in later["connections"]]
+    sure(found == [(500, 200, "run", 150, 100)], f"a snapshot has what arrived, was applied and lost, what was sent, and both intervals: {found}")
+    run_last_events(bench, adapter, events)
+    need(adapter.end() == 0, "the adapter ends with status 0")
+    adapter = bench.adapter("--page", str(PORT), "--record", bench.file("page_numbers.trace"), log="page_numbers_again")
+    allowed = {name: greeting_of(bench)[name] for name in ("writes", "record")}
+    sure(allowed == {"writes": False, "record": True}, f"a page says whether it takes calls, and whether it has a record: {allowed}")
+    need(adapter.end() == 0, "the adapter ends with status 0")
+    bench.clear()
+
+
+def run_last_events(bench, adapter, events):
+    """A snapshot has the newest events, in their order."""
+    count = MOST_EVENTS + 8
+    adapter.call(*(f"write 100 000000{value:02x}" for value in range(1, count + 1)))
+    newest = lambda it: it["inputs"][0]["bytes"] == f"000000{count:02x}"
+    last = events.next(newest)
+    need(last, "the last call is shown")
+    words = [it["words"].split("\n")[0] for it in last["events"]]
+    wanted = [f"the application writes point 100, 4 bytes of data 000000{value:02x}" for value in range(count - MOST_EVENTS + 1, count + 1)]
+    numbers = [it["number"] for it in last["events"]]
+    sure(words == wanted and numbers == sorted(set(numbers)) and numbers[-1] <= last["number"],
+         f"a snapshot has the last {MOST_EVENTS} events, in their order: {words[0]} .. {words[-1]}")

@@ -1,0 +1,267 @@
+"""What the sockets of a station are set to, what passes them, and how often the system is asked for what came."""
+
+import contextlib, ctypes, errno, os, resource, select, socket, struct, threading, time
+from rim.host import PRESENT, Station, need, sure, usual, wait
+from rim.peers import INPUT_ONLY, MULTICAST, REGISTER, Originator, Silent, Target, served
+
+LONG = "adapter 16 {adapter} 255.255.255.0 1 12 7 2 3\noutput 150 1400 zero zero\ninput 100 1400\nheartbeat 152 153\n"
+LENGTHS = {"out_len": 1400, "in_len": 1400}
+NOTHING = bytes(24)  # NOP, which has no answer
+PIDFD_GETFD = 438  # the number of the system's call on most machines; Python has no name for it
+REFUSED = {errno.EPERM, errno.ENOSYS}  # what a system says that does not lend a socket of a child
+IP_RECVTTL = 12  # the number of the option on Linux; Python has no name for it
+MOST_WAKES = 200  # of an idle station in two seconds: one that asks each millisecond wakes 2,000 times
+MOST_WORK = 0.3  # seconds of the processors for an idle station in two seconds: one that never waits takes what it gets
+RETRY = 1.0  # seconds from a session that is refused to the next stream
+REFUSALS = {1, 2, 3, 4, 5, 7}  # the sessions that a target refuses: the sixth is served, and its stream ends
+WAITS = [1, 1, 1, 1, 2, None, 1]  # seconds behind each of them; how long a stream is served is not judged
+GIVEN_UP_MS = 10_000  # a stream is given up whose bytes its peer does not acknowledge for so long
+INACTIVE_S = 120  # the usual inactivity time-out: a peer that is gone is to be found before it
+
+
+def sockets_of(station):
+    """Copies of a child's sockets, which share their options; None where the system lends no socket of a child."""
+    system, process = ctypes.CDLL(None, use_errno=True), os.pidfd_open(station.process.pid)
+    found = []
+    for fd in map(int, os.listdir(f"/proc/{station.process.pid}/fd")):
+        with contextlib.suppress(OSError):
+            if os.readlink(f"/proc/{station.process.pid}/fd/{fd}").startswith("socket:"):
+                copy = system.syscall(PIDFD_GETFD, process, fd, 0)
+                if copy < 0 and ctypes.get_errno() in REFUSED:
+                    return None
+                need(copy >= 0, f"a socket of a child is lent: {os.strerror(ctypes.get_errno())}")
+                found.append(socket.socket(fileno=copy))
+    os.close(process)
+    return found
+
+
+def streams_of(station):
+    """Copies of a child's open streams; None where the system lends no socket of a child."""
+    found = sockets_of(station)
+    return None if found is None else [it for it in found if it.type == socket.SOCK_STREAM and is_joined(it)]
+
+
+def is_joined(it):
+    try:
+        return bool(it.getpeername())
+    except OSError:
+        return False
+
+
+def are_set(station):
+    """Whether the streams of a station send at once, and whether the system looks after their peers."""
+    streams = streams_of(station)
+    if streams is None:
+        print("options: the system lends no socket of a child, so nobody looks how streams are set")
+        return True, True
+    found = [it.getsockopt(socket.IPPROTO_TCP, socket.TCP_NODELAY) for it in streams]
+    return bool(found) and all(found), bool(found) and all(map(has_watched_peer, streams))
+
+
+def has_watched_peer(it):
+    """Whether the system tests a stream that is idle, finds a peer that is gone in time, and gives up what is not acknowledged."""
+    idle, again, most, given_up = (it.getsockopt(socket.IPPROTO_TCP, option) for option in
+                                   (socket.TCP_KEEPIDLE, socket.TCP_KEEPINTVL, socket.TCP_KEEPCNT, socket.TCP_USER_TIMEOUT))
+    return bool(it.getsockopt(socket.SOL_SOCKET, socket.SO_KEEPALIVE)) and idle + again * most < INACTIVE_S and given_up == GIVEN_UP_MS
+
+
+def run_options(bench):
+    """Streams send at once, and their peers are watched, on both sides; a datagram to a group leaves no network. A scanner opens its
+    slots unasked."""
+    adapter, peer = bench.adapter("--multicast", log="options"), bench.address["peer"]
+    first = Originator(bench)
+    at_once, watched = are_set(adapter)
+    sure(at_once, "what an adapter writes over a stream that it accepted is sent at once")
+    sure(watched, f"the system tests such a stream while it is idle, and gives it up after {GIVEN_UP_MS} ms without an acknowledgement")
+    with bench.network.inside("peer"), socket.socket(socket.AF_INET, socket.SOCK_DGRAM) as group:
+        connection = first.open(INPUT_ONLY, MULTICAST)
+        group.bind((connection.group, 2222))
+        group.setsockopt(socket.IPPROTO_IP, socket.IP_ADD_MEMBERSHIP, socket.inet_aton(connection.group) + socket.inet_aton(peer))
+        group.setsockopt(socket.IPPROTO_IP, IP_RECVTTL, 1)
+        group.settimeout(5)
+        _, [(_, _, hops)], _, _ = group.recvmsg(2048, 64)
+    sure(struct.unpack("i", hops) == (1,), f"a datagram to a group passes one network: {hops.hex()}")
+    need(adapter.end() == 0, "the adapter ends with status 0")
+    bench.clear()
+    Target(bench, lambda *_: "serve")
+    scanner = Station(bench, "owner", "scanner", bench.file("single.profile"), log="unasked")
+    wait(scanner.is_established, "a scanner opens its slots, and nobody asks it to")
+    at_once, watched = are_set(scanner)
+    sure(at_once, "a scanner opens its slots unasked, and what it writes over a stream that it opened is sent at once")
+    sure(watched, "the system tests that stream while it is idle too, and gives it up alike")
+    need(scanner.end() == 0, "the scanner ends with status 0")
+    bench.clear()
+
+
+def run_long_points(bench):
+    """Datagrams of the longest points arrive whole, both ways."""
+    bench.write("long.profile", LONG)
+    adapter, data = bench.adapter(profile="long", log="long_points"), os.urandom(1400).hex()
+    owner = Originator(bench, **LENGTHS)
+    with bench.network.inside("peer"), socket.socket(socket.AF_INET, socket.SOCK_DGRAM) as consumer:
+        consumer.bind((bench.address["peer"], 2222))
+        connection = owner.open()
+        feeder = bench.later(owner.feed(connection, data))
+        wait(lambda: owner.read(150) == data, "1,400 bytes of an owner reach the output")
+        adapter.call(f"write 100 {data}")
+        wait(lambda: consumed(consumer, connection) == data, "1,400 bytes of the input reach the owner")
+    feeder.stop()
+    sure(adapter.end() == 0, "datagrams of 1,400 bytes arrive whole, both ways")
+    bench.clear()
+
+
+def consumed(udp, connection):
+    """The data of the next datagram."""
+    need(select.select([udp], [], [], 5)[0], "a datagram comes")
+    with served("a datagram of 1,400 bytes"):
+        connection.receive(udp.recv(65536))
+    return connection.data.hex()
+
+
+class Flood:
+    """Threads that send a stream and datagrams without a pause."""
+
+    def __init__(self, bench):
+        self.going, target = True, bench.address["adapter"]
+        with bench.network.inside("peer"):
+            tcp = socket.create_connection((target, 44818), 3, (bench.network.extra[0], 0))
+            udp = socket.socket(socket.AF_INET, socket.SOCK_DGRAM)
+            udp.bind((bench.network.extra[1], 0))
+        udp.connect((target, 2222))
+        self.sockets = [tcp, udp]
+        self.threads = [threading.Thread(target=self.send, args=it, daemon=True) for it in ((tcp, NOTHING * 2000), (udp, NOTHING))]
+        with usual():
+            for it in self.threads:
+                it.start()
+
+    def send(self, to, data):
+        while self.going:
+            with contextlib.suppress(OSError):
+                to.sendall(data)
+
+    def close(self):
+        self.going = False
+        for it in self.threads:
+            it.join()
+        for it in self.sockets:
+            it.close()
+
+
+def run_flooded(bench):
+    """While one peer has always something on its way, others are served."""
+    adapter = bench.adapter(log="flooded")
+    bench.later(Flood(bench))
+    time.sleep(0.5)
+    owner = Originator(bench, patience=10.0)
+    bench.later(owner.feed(owner.open(), "11223344"))
+    wait(lambda: owner.read(150) == "11223344", "an owner's data reach the output in a flood")
+    sure(adapter.is_running(), "a flood of one peer that never pauses keeps no other from opening, and no data from an output")
+    bench.clear()
+
+
+def run_no_files(bench):
+    """A connection comes as no file is left for it: it is accepted once one is."""
+    adapter = bench.adapter(log="no_files")
+    first = Silent(bench, bench.network.extra[0])
+    need(first.is_registered(), "a first peer registers a session")
+    time.sleep(0.5)
+    used = set(map(int, os.listdir(f"/proc/{adapter.process.pid}/fd")))
+    least = next(it for it in range(len(used) + 1) if it not in used)
+    resource.prlimit(adapter.process.pid, resource.RLIMIT_NOFILE, (least, resource.prlimit(adapter.process.pid, resource.RLIMIT_NOFILE)[1]))
+    with bench.network.inside("peer"), socket.create_connection((bench.address["adapter"], 44818), 3, (bench.network.extra[1], 0)) as late:
+        late.sendall(REGISTER)
+        need(not select.select([late], [], [], 1.5)[0], "no file is left for a second peer, and it waits")
+        first.close()
+        need(select.select([late], [], [], 5)[0] and len(late.recv(28)) == 28, "a connection that could not be accepted is asked for again")
+    sure(adapter.end() == 0, "a connection for which no file was left is accepted once one is")
+    bench.clear()
+
+
+def wakes_of(station):
+    """How often the thread of the device has waited."""
+    with open(f"/proc/{station.process.pid}/status") as file:
+        return next(int(line.split()[1]) for line in file if line.startswith("voluntary_ctxt_switches"))
+
+
+def worked_of(station):
+    """The seconds for which the processors have worked for the station."""
+    with open(f"/proc/{station.process.pid}/stat") as file:
+        return sum(map(int, file.read().rpartition(")")[2].split()[11:13])) / os.sysconf("SC_CLK_TCK")
+
+
+def run_idle(bench):
+    """A station waits until something comes or is due: it neither wakes often nor works without a wait."""
+    adapter = bench.adapter(log="idle")
+    time.sleep(0.5)
+    before, worked = wakes_of(adapter), worked_of(adapter)
+    time.sleep(2)
+    wakes, seconds = wakes_of(adapter) - before, worked_of(adapter) - worked
+    sure(wakes < MOST_WAKES and seconds < MOST_WORK, f"an adapter to which nothing comes wakes {wakes} times and works {seconds:.2f} s in 2 s")
+    need(adapter.end() == 0, "the adapter ends with status 0")
+    bench.clear()
+
+
+def run_refused_again(bench):
+    """A wait ends where a stream is to be opened, whenever it began."""
+    asked = []
+
+    def mood(kind, *_):
+        if kind[0] == 0x65:
+            asked.append(time.monotonic())
+        return "refuse"
+
+    Target(bench, mood)
+    scanner = bench.scanner("owner", profile="single", log="refused_again")
+    for tries in range(1, 4):
+        wait(lambda: len(asked) >= tries, f"session {tries} is asked for", 5)
+        time.sleep(max(0.0, asked[tries - 1] + 0.6 - time.monotonic()))
+        scanner.call("read 0")  # (its outcome begins another wait)
+    wait(lambda: len(asked) == 4, "a session is asked for again", 5)
+    gaps = [after - before for before, after in zip(asked, asked[1:])]
+    sure(RETRY * 0.95 < min(gaps) < RETRY + 0.4, f"after a session that is refused a stream is opened in {min(gaps):.2f} s, and no call delays it")
+    need(scanner.end() == 0, "the scanner ends with status 0")
+    bench.clear()
+
+
+def run_tries(bench):
+    """Tries to open a stream that are refused grow apart, and a slot that is established begins their count anew (rule 24.4)."""
+    asked, refused = [], REFUSALS
+
+    def mood(kind, *_):
+        if kind[0] == 0x65:
+            asked.append(time.monotonic())
+            return "refuse" if len(asked) in refused else "serve"
+        return "serve"
+
+    target = Target(bench, mood)
+    scanner = bench.scanner("owner", profile="single", log="tries")
+    wait(scanner.is_established, "a scanner whose target refused five sessions is established", 12)
+    target.streams[-1].tcp.shutdown(socket.SHUT_RDWR)
+    wait(lambda: len(asked) == len(WAITS) + 1, "another session is asked for behind one that is refused", 8)
+    gaps = [after - before for before, after in zip(asked, asked[1:])]
+    need(target.fault is None, f"the target finds nothing wrong: {target.fault}")
+    as_said = all(wanted is None or wanted * 0.95 < gap < wanted + 0.5 for gap, wanted in zip(gaps, WAITS))
+    sure(as_said, f"sessions are asked for after {' '.join(f'{gap:.2f}' for gap in gaps)} s: five are refused, one is served and cut, "
+         "the next one is refused")
+    need(scanner.end() == 0, "the scanner ends with status 0")
+    bench.clear()
+
+
+def run_cut_stream(bench):
+    """A target ends a stream whose connection goes on: the scanner opens another one, and registers a session on it."""
+    asked = []
+
+    def mood(kind, before, stream):
+        if kind[0] == 0x65:
+            asked.append(stream)
+        return "serve"
+
+    target = Target(bench, mood)
+    scanner = bench.scanner("owner", profile="single", log="cut_stream")
+    wait(scanner.is_established, "the scanner is established")
+    asked[0].tcp.shutdown(socket.SHUT_RDWR)
+    seconds = wait(lambda: len(asked) == 2, "a session is registered on another stream", 5)
+    need(scanner.is_established() and scanner.states().count(PRESENT) == 1, f"its connection goes on: {scanner.states()}")
+    sure(target.fault is None, f"a stream that its target ended is opened again after {seconds:.1f} s, and its connection goes on")
+    need(scanner.end() == 0, "the scanner ends with status 0")
+    bench.clear()
