@@ -6,7 +6,8 @@
 PROGRAM is the built gateway. It runs at 127.0.0.10, the controller at 127.0.0.20 (tools/peers/originator.py), the field device at
 127.0.0.30 (tools/peers/small_adapter.py, in a process of its own). The field device shows its output at its input and is killed;
 the controller runs, is idle and falls silent. Prints a line for each thing that holds, and ends with status 1 at the first
-that does not.
+that does not. What comes too late begins anew, with a gateway of its own, twice at most: a machine that does much else is late now and
+then, and a gateway that is wrong is late each time.
 """
 import os, select, signal, socket, subprocess, sys, time
 
@@ -20,6 +21,11 @@ RPI, TIME_OUT = 0.010, 0.160  # of both connections: 16 packet intervals of 10 m
 PATIENCE = 20.0
 MUTE = 0.5  # from the first datagram that a field device receives to the first that it sends
 LATE = 0.5  # what a machine that does much else may add to a time-out
+TRIES = 3
+
+
+class Late(originator.Difference):
+    """What is expected may have come too late."""
 
 
 class Recorded(small_adapter.Adapter):
@@ -91,7 +97,7 @@ class Controller:
         begin, due = time.monotonic(), 0.0
         while not test():
             if time.monotonic() - begin > seconds:
-                raise originator.Difference(f"not within {seconds} s; the input is {self.input()}")
+                raise Late(f"not within {seconds} s; the input is {self.input()}")
             if feeds and time.monotonic() >= due:
                 due = time.monotonic() + RPI
                 self.connection.produce(self.udp, self.data, self.run)
@@ -157,12 +163,25 @@ def exchange(controller, device):
 
 def main():
     program, tcp, udp = sys.argv[1], int(sys.argv[2]), int(sys.argv[3])
+    for left in reversed(range(TRIES)):
+        try:
+            return played(program, tcp, udp)
+        except Late as late:
+            if not left:
+                sys.exit(f"gateway_peers: {late}")
+            holds(f"(again: {late})")
+
+
+def played(program, tcp, udp):
+    """Plays the story with a gateway of its own."""
     devices = []
     gateway = subprocess.Popen([program, GATEWAY, FIELD, "16", str(tcp), str(udp)])
     try:
         story(tcp, udp, devices)
         if gateway.poll() is not None:
             raise originator.Difference(f"the gateway ended with status {gateway.returncode}")
+    except Late:
+        raise
     except (originator.Difference, OSError, KeyError, ValueError) as error:
         sys.exit(f"gateway_peers: {type(error).__name__}: {error}")
     finally:

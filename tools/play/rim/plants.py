@@ -2,7 +2,7 @@
 their lines."""
 
 import glob, itertools, os, resource, signal, socket, time
-from rim.host import PRESENT, Station, Untried, need, run, sure, until
+from rim.host import PRESENT, Station, Untried, need, run, sure, until, wait
 from rim.pages import HOST, PORT, connected, status_of, told, word_of
 
 VALVES, DRIVES, READERS = 4, 3, 2
@@ -88,6 +88,11 @@ def settled(bench, paths):
     return done.returncode, done.stdout.decode().strip()
 
 
+def noted(plant, adapters, *what):
+    """How many notices of connections of these kinds the adapters of a plant have printed."""
+    return sum(line.split()[1:2] == ["note"] and line.split()[2] in what for at in range(adapters) for line in plant.of(f"adapter-{at}"))
+
+
 def run_plant(bench):
     """Ten devices: data go both ways, calls by name, and the records settle."""
     plant = begun(bench, VALVES + DRIVES, READERS, lambda name: "  at 300 mode run\n" if name == "scanner-0" else "")
@@ -100,9 +105,10 @@ def run_plant(bench):
     plant.call("nobody status", "adapter-0 dance", "adapter-0")
     until(lambda: len([line for line in plant.said() if "of standard input" in line]) == 3, "three lines that are no calls are reported")
     need(any("line 5 of standard input names no device" in line for line in plant.said()), "the number of a line is said")
+    ended = noted(plant, VALVES + DRIVES, "expired", "dropped", "replaced")
     sure(plant.end() == 0, "the plant ends with status 0 when its input ends")
-    closed = [line for name in range(VALVES + DRIVES) for line in plant.of(f"adapter-{name}") if line.split()[1:3] == ["note", "closed"]]
-    sure(len(closed) == (VALVES + DRIVES) * (1 + READERS), "its scanners close each connection before its adapters end")
+    opened, closed = noted(plant, VALVES + DRIVES, "opened"), noted(plant, VALVES + DRIVES, "closed")
+    sure(closed == opened - ended >= (VALVES + DRIVES) * (1 + READERS), f"its scanners close each connection before its adapters end: {closed} of {opened}")
     paths = replays(bench, "plant")
     status, said = settled(bench, paths)
     sure(status == 0 and said.startswith("settled: 10 records, "), f"the records of ten devices settle: {said}")
@@ -121,8 +127,7 @@ def run_plant_scripts(bench):
     time.sleep(0.5)
     until(lambda: all(plant.established(name) == 3 for name in ("scanner-0", "scanner-1")), "all slots are established again")
     time.sleep(0.5)
-    closed = [line for at in range(3) for line in plant.of(f"adapter-{at}") if line.split()[1:3] == ["note", "closed"]]
-    sure(not closed, f"a device that loses its power closes nothing: {closed}")
+    sure(noted(plant, 3, "closed") == 0, "a device that loses its power closes nothing")
     sure(plant.end() == 0, "the plant ends with status 0")
     lives = [line.split("incarnation ")[1] for line in plant.said() if "adapter-2: adapter at" in line]
     sure(int(lives[1]) == int(lives[0]) + 1 and lives[2] == lives[1], f"the incarnations of its lives: {', '.join(lives)}")
@@ -152,10 +157,11 @@ def streams_cut(trace):
     return opened, {stream for _, stream, *_ in itertools.takewhile(lambda words: words[0] == "cut", behind)}
 
 
-def shown_at(plant, name, slot, data):
-    """The milliseconds of a scanner's life at which an image first had these data; None before."""
-    found = [int(line.split()[2]) for line in plant.of(name) if line.endswith(f" image {slot} {data}")]
-    return found[0] if found else None
+def shown_at(plant, name, slot, data, behind=None):
+    """The milliseconds of a scanner's life at which an image first had these data, behind others if they are named; None before."""
+    shown = [(line.split()[-1], int(line.split()[2])) for line in plant.of(name) if f" image {slot} " in line]
+    begin = [it for it, _ in shown].index(behind) if behind in [it for it, _ in shown] else 0
+    return next((ms for it, ms in shown[begin:] if it == data), None)
 
 
 def run_plant_times(bench):
@@ -166,6 +172,9 @@ def run_plant_times(bench):
     both = lambda: [shown_at(plant, "scanner-0", slot, "a1b2c3d4") for slot in (0, 1)]
     until(lambda: None not in both(), "an adapter that has restarted and one that has not perform their scripts")
     restarted, other = both()
+    again = shown_at(plant, "scanner-0", 0, "00000000", behind=own)
+    if again is None or again > other - RESTART_MS // 2:
+        raise Untried(f"this machine was late: the scanner had the slot of the restarted adapter at {again} ms, and the line was due at {other}")
     need(any("adapter-0: adapter at" in line and ", life 2," in line for line in plant.said()), "the restart was in front of that line")
     sure(abs(restarted - other) < RESTART_MS // 2, f"`at {SCRIPT_MS}` is due {SCRIPT_MS} ms after the plant began, with a restart at {RESTART_MS} "
          f"in front of it too: the scanner sees both at {restarted} and {other} ms")
@@ -192,12 +201,17 @@ def run_plant_disk(bench):
     bench.clear()
 
 
+def has(file, text):
+    with open(file) as opened:
+        return text in opened.read()
+
+
 def run_plant_raw(bench):
     """A datagram that no device sends is refused by settle, and named."""
     node = bench.network.extra[0]
     raw = "0200028008000100000099000000b100060099000000"
     plant = begun(bench, 2, 0, lambda name: f"  at 1000 send {node} {raw}\n" if name == "adapter-1" else "", log="raw")
-    time.sleep(1.5)
+    wait(lambda: has(bench.file("raw/adapter-0.1.trace"), f"datagram {bench.network.extra[1]} "), "a datagram of a script arrives at its time")
     need(plant.end() == 0, "the plant ends with status 0")
     status, said = settled(bench, replays(bench, "raw"))
     sure(status == 1 and "never sent by" in said and bench.network.extra[1] in said, f"the raw datagram is refused by settle: {said}")
