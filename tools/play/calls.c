@@ -1,11 +1,12 @@
-/* Stands before the C library's calls of datagrams and of reads, and makes them fail: the file that the variable CALL_FAULTS
-   names has three numbers of four bytes, now. The first is the error of each datagram that is sent, the second that of each one
-   that is asked for, 0 for none; if the third is not 0, a signal interrupts each second read of the standard input.
+/* Stands before the C library's calls of datagrams, of reads, of files that are to be on the medium and of addresses, and makes them fail: the
+   file that the variable CALL_FAULTS names has five numbers of four bytes, now. The first is the error of each datagram that is sent, the
+   second that of each one that is asked for, 0 for none; if the third is not 0, a signal interrupts each second read of the standard
+   input. The fourth is the error of each file that is to be on the medium, the fifth that of each socket that is to have an address.
    tools/play/stations builds and loads this. */
 typedef unsigned long size_t;
 typedef long ssize_t;
 struct faults {
-    int send, receive, interrupt;
+    int send, receive, interrupt, sync, bind;
 };
 extern long syscall(long, ...);
 extern int open(const char *, int, ...);
@@ -14,9 +15,9 @@ extern char *getenv(const char *);
 extern int *__errno_location(void);
 
 #if defined(__x86_64__)
-enum { READ = 0, SENDTO = 44, RECVFROM = 45, GETSOCKOPT = 55 };
+enum { READ = 0, SENDTO = 44, RECVFROM = 45, BIND = 49, GETSOCKOPT = 55, FSYNC = 74 };
 #else
-enum { READ = 63, SENDTO = 206, RECVFROM = 207, GETSOCKOPT = 209 };
+enum { READ = 63, FSYNC = 82, BIND = 200, SENDTO = 206, RECVFROM = 207, GETSOCKOPT = 209 };
 #endif
 
 enum { READ_ONLY = 0, CLOSE_ON_EXEC = 02000000, PROT_READ = 1, MAP_SHARED = 1 };
@@ -58,6 +59,14 @@ ssize_t recvfrom(int file, void *bytes, size_t len, int flags, void *from, unsig
     int error = faults ? faults->receive : 0;
     if (error && has_datagrams(file)) return failed(error);
     return syscall(RECVFROM, file, bytes, len, flags, from, from_len);
+}
+
+int fsync(int file) {
+    return faults && faults->sync ? (int)failed(faults->sync) : (int)syscall(FSYNC, file);
+}
+
+int bind(int file, const void *at, unsigned size) {
+    return faults && faults->bind ? (int)failed(faults->bind) : (int)syscall(BIND, file, at, size);
 }
 
 ssize_t read(int file, void *bytes, size_t len) {

@@ -11,23 +11,23 @@ PATIENCE = 20.0  # seconds in which a request is answered, on a busy machine too
 
 
 class CallFaults:
-    """The faults of a program's calls, which tools/play/calls.c makes: errors of datagrams, by their numbers, 0 for none."""
+    """The faults of a program's calls, which tools/play/calls.c makes: errors by their numbers, 0 for none."""
 
     def __init__(self, bench, name):
         self.library, self.path = bench.file("calls.so"), bench.file(f"{name}.faults")
         if not os.path.exists(self.library):
             build_before("calls", self.library)
         self.file = open(self.path, "w+b")
-        self.file.write(bytes(12))
+        self.file.write(bytes(20))
         self.file.flush()
-        self.faults = mmap.mmap(self.file.fileno(), 12)
+        self.faults = mmap.mmap(self.file.fileno(), 20)
         bench.later(self)
 
     def env(self):
         return [f"LD_PRELOAD={self.library}", f"CALL_FAULTS={self.path}"]
 
-    def set(self, send=0, receive=0, interrupt=0):
-        self.faults[:12] = struct.pack("<iii", send, receive, interrupt)
+    def set(self, send=0, receive=0, interrupt=0, sync=0, bind=0):
+        self.faults[:20] = struct.pack("<iiiii", send, receive, interrupt, sync, bind)
 
     def close(self):
         self.faults.close()

@@ -1,7 +1,7 @@
 """The live page of a station: who gets it, what it takes, and that it slows no device."""
 
-import contextlib, json, os, re, socket, struct, subprocess, threading, time
-from rim.host import OWNER, free_port, holds, last, need, run, sure, until, wait
+import contextlib, json, os, re, select, socket, struct, subprocess, threading, time
+from rim.host import OWNER, Wrong, free_port, holds, last, need, run, sure, until, wait
 from rim.outputs import LARGE, devices_go_on
 from rim.peers import Originator
 
@@ -11,6 +11,7 @@ TOKEN = re.compile(rf"eip_station: page at http://127\.0\.0\.1:{PORT}/#([0-9a-f]
 WORD = re.compile(rb"const word = '([0-9a-f]{32})';")
 BUSY, LATE, MOST = 503, 408, 8
 PATHS = "/events", "/record", "/record.pcap"
+TURNS, REFUSED_S = 20, 0.2  # a browser that is refused is refused within so many seconds, on a busy machine too
 SMALL_SEGMENTS = 536  # with such ones, the system keeps little of what a browser has not read
 
 
@@ -327,6 +328,17 @@ def wait_for_refusal(bench, text):
     wait(lambda: asked(bench)[0] == BUSY, text, 2.5)
 
 
+def half_asked(bench):
+    """A browser that has sent half a request and has a place: that of the one before it may be taken for some milliseconds more."""
+    for _ in range(TURNS):
+        stream = connected(bench)
+        stream.sendall(b"GET / HTTP/1.1\r\nHost: 127.")
+        if not select.select([stream], [], [], REFUSED_S)[0]:
+            return stream
+        stream.close()
+    raise Wrong("a browser has a place")
+
+
 def run_slow_browsers(bench):
     """Browsers that read nothing, send half a request, or come in crowds, and a device with large points."""
     bench.write("large.profile", LARGE)
@@ -334,9 +346,7 @@ def run_slow_browsers(bench):
     word, unread = word_of(bench), [Events(bench) for _ in range(3)]
     for it in unread:
         it.stream.setsockopt(socket.SOL_SOCKET, socket.SO_RCVBUF, 4096)
-    half = [connected(bench) for _ in range(MOST - len(unread))]
-    for it in half:
-        it.sendall(b"GET / HTTP/1.1\r\nHost: 127.")
+    half = [half_asked(bench) for _ in range(MOST - len(unread))]
     wait_for_refusal(bench, "a ninth browser is refused")
     begin = time.monotonic()
     devices_go_on(bench, adapter, "browsers read nothing and send half a request", ["read 101"] * 200)

@@ -1,13 +1,16 @@
 """Plants: many devices in one process, whose records settle, whose scripts do what they say, and whose files are refused by
 their lines."""
 
-import glob, itertools, os, resource, signal, socket, time
+import errno, glob, itertools, os, resource, signal, socket, time
+from rim.calls import CallFaults
 from rim.host import PRESENT, Station, Untried, need, run, sure, until, wait
 from rim.pages import HOST, PORT, connected, status_of, told, word_of
 
 VALVES, DRIVES, READERS = 4, 3, 2
 RESTART_MS, SCRIPT_MS = 1500, 3500
 DISK_BYTES = 40_000
+PAUSE_MS = 60_000  # of a device that hangs
+STEPS_S = 10.0  # seconds: two steps of a plant's end, of which none takes more than 5 s (rule 34.8)
 AT_ONCE = 0.2  # seconds: a plant looks for typed lines each 20 ms
 MARK = "write 100 c0ffee00"  # the line of a script in front of its cut
 ADAPTER = "adapter 1 {node} 255.255.255.0 0 12 7 2 3\noutput 150 4 zero zero\ninput 100 4\nheartbeat 152 153\n"
@@ -241,11 +244,22 @@ def run_plant_sends(bench):
     bench.clear()
 
 
+def hung(bench, device):
+    """A plant whose device is paused for a minute, and whose input has ended; and when that was."""
+    plant = Plant(bench, device, log="hung")
+    until(lambda: any("adapter at" in line for line in plant.said()), "a device lives")
+    plant.call(f"a pause {PAUSE_MS}", "a status")
+    time.sleep(0.2)
+    plant.process.stdin.close()
+    return plant, time.monotonic()
+
+
 def run_plant_files(bench):
-    """Files that are no plants, and words that are wrong."""
+    """Files that are no plants, and words that are wrong; and a plant that does not wait for its device without end."""
     profiles(bench, 1, 0)
     nodes = bench.network.extra
     device = f"device a plant_adapter.profile {nodes[0]}\n"
+    paused, begin = hung(bench, f"device a plant_adapter.profile {nodes[2]}\n")
     for name, text, status, words in [
         ("unknown", f"{device}dance\n", 3, "line 2"), ("call", f"{device}at 5 dance\n", 3, "line 2"), ("twice", f"{device}{device}", 3, "line 2"),
         ("none", "# nothing\n", 3, ""), ("no_profile", "device a missing.profile\n", 3, "missing.profile cannot be read"),
@@ -264,6 +278,24 @@ def run_plant_files(bench):
     sure(plant.status() == 6 and any("its record cannot be written" in line for line in plant.said()), "a device whose first record cannot be made ends the plant")
     plant = Plant(bench, f"seconds 1\n{device}", "--no-input", log="seconds")
     sure(plant.status() == 0, "a plant whose file says its seconds ends by itself")
+    run_taken_port(bench, device)
+    status = paused.status(2 * STEPS_S)
+    sure(time.monotonic() - begin < 2 * STEPS_S, f"a plant does not wait without end for a device that hangs: status {status}")
+
+
+def run_taken_port(bench, device):
+    """The port of a device is taken for a while as it restarts."""
+    faults = CallFaults(bench, "taken")
+    plant = Plant(bench, device, log="taken_port", env=faults.env())
+    lives = lambda: sum("adapter at" in line for line in plant.said())
+    until(lambda: lives() == 1, "a device lives")
+    faults.set(bind=errno.EADDRINUSE)
+    plant.call("a restart")
+    time.sleep(0.3)
+    need(lives() == 1 and plant.is_running(), f"its port is taken as it restarts: {plant.said()}")
+    faults.set()
+    until(lambda: lives() == 2, "a device whose port is taken as it restarts lives again once it is free")
+    sure(plant.end() == 0, "its plant ends with status 0")
 
 
 def posted(bench, call, token):

@@ -1,7 +1,8 @@
 """What a station refuses before it serves, and how it says so: values of options, files that are none, profiles that no station can
 serve, a state that cannot be kept. And starts that are refused use no incarnation up."""
 
-import os, resource, socket, subprocess, time
+import errno, os, resource, socket, subprocess, time
+from rim.calls import CallFaults
 from rim.host import Station, Wrong, need, sure, wait
 
 LONGEST = 16_777_216
@@ -160,7 +161,10 @@ def run_state(bench):
         got, _, lines = asked.ends("adapter", profile, "--page", str(port), "--page-address", bench.address["adapter"])
         need(got == 5 and f"the TCP port of the page {port} of" in lines[-1], f"a page's port in use: {got}, {lines}")
     need(os.listdir(os.path.dirname(state)).count("counted.profile.state.new") == 0, "nothing is left beside the state")
-    sure("incarnation 17," in begun(), "three starts that are refused use no incarnation up")
+    faults = CallFaults(bench, "medium")
+    faults.set(sync=errno.EIO)
+    asked.says(6, DANGER, "adapter", profile, "--seconds", "1", "--no-input", env={**os.environ, **dict(it.split("=", 1) for it in faults.env())})
+    sure("incarnation 17," in begun(), "four starts that are refused use no incarnation up, one of them since its state would not be on the medium")
     folder = bench.file("closed")
     os.mkdir(folder)
     os.rename(profile, os.path.join(folder, "counted.profile"))

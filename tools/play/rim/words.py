@@ -7,6 +7,7 @@ from rim.peers import INPUT_ONLY, MULTICAST, POINT_TO_POINT, Originator, Silent,
 
 CALLS = ["write POINT HEX", "read POINT", "mode run", "mode idle", "start SLOT", "stop SLOT",
          "get NODE CLASS INSTANCE ATTRIBUTE", "set NODE CLASS INSTANCE ATTRIBUTE HEX", "explicit NODE NUMBER HEX", "answer NUMBER STATUS HEX", "status"]
+TRIES_S = 2.5  # seconds: the first tries wait 1 s each (rule 24.4)
 MUTE = "scanner 32 {owner} 1 101 1000 1000\nslot {adapter} input - 152 100 0 4 10000 10000 2 multicast - -\n"
 FED = "slot {adapter} input - 152 100 0 4 10000 10000 2 p2p - -\n"
 
@@ -89,8 +90,12 @@ def run_states(bench):
 
 def run_scanner_lines(bench):
     peer = re.escape(bench.address["peer"])
+    refuses = rf"eip_station: {peer} refuses a stream; the next try is in \d+ s"
     station = bench.scanner("owner", profile="single", log="nobody")
-    line_of(station, rf"eip_station: {peer} (refuses a stream|does not answer); the next try is in \d+ s")
+    line_of(station, refuses)
+    time.sleep(TRIES_S)
+    told = [line for line in station.said() if re.fullmatch(refuses, line)]
+    sure(len(told) == 1, f"a target that refuses each stream is said once, and not at each try: {told}")
     need(station.end() == 0, "it ends with status 0")
     bench.clear()
     moods = Target(bench, lambda kind, before, _: "refuse" if kind[0] == 0x65 and before == 0 else "serve")
@@ -99,7 +104,8 @@ def run_scanner_lines(bench):
     wait(station.is_established, "the scanner is established")
     moods.stop()
     line_of(station, rf"eip_station: stream \d+ of {peer} ended: its peer cut it")
-    station.end()
+    line_of(station, refuses)
+    need(station.end() == 0, "it ends with status 0")
     bench.clear()
 
 
@@ -124,7 +130,7 @@ def run_attributes(bench):
         "get {} 1 1 7": ('product-name "Valve island"', "product name"),
         "get {} 1 0 1": ("revision 1", "revision of the class"),
         "get {} 245 1 5": (rf'interface address {re.escape(target)} mask .* gateway 0\.0\.0\.0 .* domain ""', "TCP/IP Interface, configuration"),
-        "get {} 245 1 13": (r"inactivity-timeout \d+", "inactivity time-out"),
+        "get {} 245 1 13": ("inactivity-timeout 120", "inactivity time-out"),
         "get {} 246 1 1": (r"speed \d+", "Ethernet Link, speed"),
         "get {} 246 1 3": (r"physical-address [0-9a-f:]{17}", "physical address"),
         "get {} 4 100 4": ("size 4", "Assembly, size"),
