@@ -356,6 +356,7 @@ class UnansweredNotice:
 
 
 Notice = Union[ConnectionNotice, StreamNotice, SlotNotice, ResetNotice, RefusalNotice, UnansweredNotice]
+Item = Union[Frame, Reply, Datagram, Notice]
 
 
 @dataclass(frozen=True)
@@ -389,13 +390,12 @@ class AskedRequest:
 
 @dataclass(frozen=True)
 class Answer:
-    """What a device answers to an event: its verdict, what is to be sent, and what changed."""
+    """What a device answers to an event: its verdict, and what is to be sent and what changed, in this order. `frames`,
+    `replies`, `datagrams` and `notices` are the items of one kind."""
 
     verdict: Verdict
-    frames: tuple[Frame, ...] = ()
-    replies: tuple[Reply, ...] = ()
-    datagrams: tuple[Datagram, ...] = ()
-    notices: tuple[Notice, ...] = ()
+    items: tuple[Item, ...] = ()
+    """What is to be sent, frames and replies first and then datagrams, and then the notices."""
     reply: Optional[ExplicitReply] = None
     """The reply of a target, if the verdict is REPLIED."""
     asked: Optional[AskedRequest] = None
@@ -404,10 +404,25 @@ class Answer:
     """DUPLICATE, UNKNOWN_ID or WRONG_SIZE, if the verdict is DELIVERED."""
 
     @property
+    def frames(self) -> tuple[Frame, ...]:
+        return tuple(it for it in self.items if isinstance(it, Frame))
+
+    @property
+    def replies(self) -> tuple[Reply, ...]:
+        return tuple(it for it in self.items if isinstance(it, Reply))
+
+    @property
+    def datagrams(self) -> tuple[Datagram, ...]:
+        return tuple(it for it in self.items if isinstance(it, Datagram))
+
+    @property
+    def notices(self) -> tuple[Notice, ...]:
+        return tuple(it for it in self.items if not isinstance(it, (Frame, Reply, Datagram)))
+
+    @property
     def is_plain(self) -> bool:
         """Whether it has a verdict alone."""
-        said = self.reply or self.asked or self.delivery is not None
-        return not (self.frames or self.replies or self.datagrams or self.notices or said)
+        return not (self.items or self.reply or self.asked or self.delivery is not None)
 
 
 @dataclass(frozen=True)
@@ -494,30 +509,37 @@ def _notice(kind: NoticeKind, a: int, b: int, c: int, d: int) -> Notice:
     return RefusalNotice(kind, a)
 
 
+def _consumed(datagram: Item, nodes: list[str]) -> Item:
+    """A datagram that these nodes consume."""
+    return replace(datagram, nodes=tuple(nodes)) if isinstance(datagram, Datagram) else datagram
+
+
 def read_answer(raw: bytes) -> Answer:
     """Reads the bytes of an answer: the items that include/eip.h describes."""
     verdict = Verdict.DONE
     reply: Optional[ExplicitReply] = None
     asked: Optional[AskedRequest] = None
     delivery: Optional[Delivery] = None
-    frames: list[Frame] = []
-    replies: list[Reply] = []
-    datagrams: list[tuple[str, list[str], bytes]] = []
-    notices: list[Notice] = []
+    items: list[Item] = []
+    nodes: list[str] = []
     at = 0
     while at < len(raw):
         kind, a, b, c, d, size = _HEAD.unpack_from(raw, at)
         at += _HEAD_SIZE
         data = raw[at : at + size]
         at += size
+        if kind == _CONSUMER:
+            nodes.append(node_text(a))
+            continue
+        if nodes:
+            items[-1] = _consumed(items[-1], nodes)
+            nodes = []
         if kind == _DATAGRAM:
-            datagrams.append((node_text(a), [], data))
-        elif kind == _CONSUMER:
-            datagrams[-1][1].append(node_text(a))
+            items.append(Datagram(node_text(a), (), data))
         elif kind == _FRAME:
-            frames.append(Frame(a, data))
+            items.append(Frame(a, data))
         elif kind == _REPLY:
-            replies.append(Reply(node_text(a), data))
+            items.append(Reply(node_text(a), data))
         elif kind == _ADDITIONAL and reply:
             reply = replace(reply, additional=data)
         elif kind == _ASKED_PATH and asked:
@@ -531,9 +553,10 @@ def read_answer(raw: bytes) -> Answer:
             if kind == _DELIVERED:
                 delivery = _DELIVERIES[a]
         else:
-            notices.append(_notice(_NOTICES[kind], a, b, c, d))
-    sent = tuple(Datagram(address, tuple(nodes), data) for address, nodes, data in datagrams)
-    return Answer(verdict, tuple(frames), tuple(replies), sent, tuple(notices), reply, asked, delivery)
+            items.append(_notice(_NOTICES[kind], a, b, c, d))
+    if nodes:
+        items[-1] = _consumed(items[-1], nodes)
+    return Answer(verdict, tuple(items), reply, asked, delivery)
 
 
 # ADDRESSES

@@ -59,7 +59,7 @@ class Devices(unittest.TestCase):
         self.addCleanup(device.close)
         answer = device.request(OWNER, OPEN)
         opened = ConnectionNotice(NoticeKind.OPENED, 1, 4660, 305419896, 0x10000001)
-        self.assertEqual(answer, Answer(Verdict.DONE, replies=(Reply(OWNER, OPEN_REPLY),), notices=(opened,)))
+        self.assertEqual(answer, Answer(Verdict.DONE, (Reply(OWNER, OPEN_REPLY), opened)))
         return device
 
     def refused(self, status, call, *words):
@@ -86,7 +86,7 @@ class Devices(unittest.TestCase):
         device = self.opened()
         self.assertEqual(device.datagram(OWNER, RUN_DATA), Delivery.APPLIED)
         self.assertEqual(device.read(150), bytes.fromhex("11223344"))
-        self.assertEqual(device.tick(1), Answer(Verdict.DONE, datagrams=(Datagram(OWNER, (OWNER,), INPUT_DATA),)))
+        self.assertEqual(device.tick(1), Answer(Verdict.DONE, (Datagram(OWNER, (OWNER,), INPUT_DATA),)))
         self.assertEqual(device.datagram(OWNER, RUN_DATA), Delivery.OLD)
         self.assertEqual(device.datagram("192.168.1.21", RUN_DATA), Delivery.UNKNOWN_ID)
         self.assertEqual(device.datagram(OWNER, b""), Delivery.MALFORMED)
@@ -213,7 +213,7 @@ class Devices(unittest.TestCase):
         answers = device.run_until(10_000)
         self.assertEqual([it.at_ms for it in answers], [*range(30, 10_001, 10)])
         expired = ConnectionNotice(NoticeKind.EXPIRED, 1, 4660, 305419896)
-        self.assertEqual(answers[-1].answer, Answer(Verdict.DONE, notices=(expired,)))
+        self.assertEqual(answers[-1].answer, Answer(Verdict.DONE, (expired,)))
         self.assertEqual(device.run_until(200_000), [])
         self.assertEqual(device.run_until(0), [])
         self.assertEqual(device.now_ms, 200_000)
@@ -273,7 +273,7 @@ class Devices(unittest.TestCase):
         ]:
             items = [(1, 0, 0, 0, 0), (kind, *numbers)]
             raw = b"".join(b"".join(n.to_bytes(4, "little") for n in item) + bytes(8) for item in items)
-            answer = Answer(Verdict.DONE, notices=(notice,))
+            answer = Answer(Verdict.DONE, (notice,))
             self.assertEqual(read_answer(raw), answer)
             self.assertEqual(outcome_lines(9, answer), ["9 done", f"9 note {words}"])
 
@@ -401,7 +401,7 @@ class OwnObjects(unittest.TestCase):
             self.assertEqual(device.request(OWNER, self.GET).asked, AskedRequest(2, 0x0E, 100, 1, 7, b""))
             self.assertEqual(device.respond(2, 0x14).replies, (Reply(OWNER, bytes.fromhex("8e001400")),))
             answer = device.respond(1, 0, bytes.fromhex("abcd"))
-            self.assertEqual(answer, Answer(Verdict.DONE, replies=(Reply(OWNER, bytes.fromhex("cb000000abcd")),)))
+            self.assertEqual(answer, Answer(Verdict.DONE, (Reply(OWNER, bytes.fromhex("cb000000abcd")),)))
             lines = device.trace().split("\n")
             self.assertEqual(lines[6:8], [f"request {OWNER} 4b02206424010102", "1 asked 1 75 100 1 - 0102"])
             self.assertEqual(lines[10:13], ["answer 2 14 -", "3 done", f"3 reply {OWNER} 8e001400"])
@@ -428,7 +428,7 @@ class OwnObjects(unittest.TestCase):
             for number in range(1, 17):
                 self.assertEqual(device.request(OWNER, self.REQUEST).asked.number, number)
             answer = device.request(OWNER, self.REQUEST)
-            self.assertEqual(answer, Answer(Verdict.DONE, replies=(Reply(OWNER, bytes.fromhex("cb000200")),)))
+            self.assertEqual(answer, Answer(Verdict.DONE, (Reply(OWNER, bytes.fromhex("cb000200")),)))
 
     def test_a_stream_brings_a_request_and_takes_it_along(self):
         """The reply has the session and the sender context of the request; with the stream the request ends."""
@@ -448,6 +448,26 @@ class OwnObjects(unittest.TestCase):
             with self.assertRaises(Refused) as refused:
                 device.respond(2)
             self.assertEqual(refused.exception.status, Status.NOT_ALLOWED_NOW)
+
+    def test_an_answer_keeps_the_order_of_its_items(self):
+        """Two requests that nobody answered in time: the one that came first is answered first, whichever way it came. So does a record."""
+        head = bytes.fromhex("6f00" "1800" "01000000" "00000000" "0102030405060708" "00000000")
+        items = bytes.fromhex("00000000" "0000" "0200" "00000000" "b200" "0800")
+        late = bytes.fromhex(
+            "6f00" "1400" "01000000" "00000000" "0102030405060708" "00000000" "00000000" "0000" "0200" "00000000" "b200" "0400" "cb001f00"
+        )  # fmt: skip
+        frame, reply = (Frame(0, late), f"frame 0 {late.hex()}"), (Reply(OWNER, bytes.fromhex("cb001f00")), f"reply {OWNER} cb001f00")
+        for is_stream_first, order in (True, (frame, reply)), (False, (reply, frame)):
+            with RecordedDevice(self.PROFILE) as device:
+                device.stream(0, OWNER)
+                device.frame(0, REGISTER)
+                calls = [lambda: device.frame(0, head + items + self.REQUEST), lambda: device.request(OWNER, self.REQUEST)]
+                for call in calls if is_stream_first else reversed(calls):
+                    call()
+                answer = device.tick(10_000)
+                self.assertEqual(answer, Answer(Verdict.DONE, tuple(item for item, _ in order)))
+                self.assertEqual((answer.frames, answer.replies), ((frame[0],), (reply[0],)))
+                self.assertEqual(device.trace().split("\n")[-4:-1], ["5 done", *(f"5 {words}" for _, words in order)])
 
     def test_bad_classes(self):
         for lines in "object 4\n", "object 0\n", "object 100\nobject 100\n":
@@ -509,7 +529,7 @@ class ClassThree(unittest.TestCase):
     def test_a_connection_ends_with_its_stream(self):
         device = self.open()
         dropped = ConnectionNotice(NoticeKind.DROPPED, 5, 4660, 305419896)
-        self.assertEqual(device.cut(0), Answer(Verdict.DONE, notices=(dropped,)))
+        self.assertEqual(device.cut(0), Answer(Verdict.DONE, (dropped,)))
 
 
 class Plants(unittest.TestCase):
@@ -625,6 +645,42 @@ class Plants(unittest.TestCase):
         self.assertEqual(self.states(scanner)[-1][1], SlotState.IDLE)
         # (the connection expired meanwhile, and the close that waited in the stream removes it)
         self.assertEqual([n.kind for _, n in adapter.notices], [NoticeKind.OPENED, NoticeKind.EXPIRED, NoticeKind.CLOSED])
+
+    def test_what_waited_for_a_cable_arrives_once(self):
+        """Behind another pull of the cable, which nothing waited for, a message still takes its delay."""
+        plant, adapter, scanner = self.plant(Faults(delay_ms=(10, 10)))
+        plant.run_until(500)
+        adapter.unplug()
+        scanner.stop(0)
+        plant.run_until(520)
+        adapter.plug()
+        plant.run_until(600)
+        scanner.start(0)
+        plant.run_until(700)
+        adapter.unplug()
+        plant.run_until(705)
+        adapter.plug()
+        plant.run_until(708)
+        scanner.stop(0)
+        plant.run_until(730)
+        closed = [ms for ms, notice in adapter.notices if notice.kind == NoticeKind.CLOSED]
+        self.assertEqual(closed, [530, 718])
+
+    def test_a_close_does_not_overtake_what_was_sent(self):
+        """The reply that an adapter sent before it closed the stream arrives before the end, whatever their delays are."""
+        for seed in range(12):
+            plant, adapter, scanner = self.plant(Faults(delay_ms=(0, 9)), seed, RecordedDevice)
+            plant.run_until(500)
+            before = len(scanner.device.trace())
+            adapter.frame(scanner, bytes([4]) + bytes(23))
+            adapter.frame(scanner, UNREGISTER)
+            plant.run_until(510)
+            words = [line.split()[:1] for line in scanner.device.trace()[before:].split("\n")]
+            self.assertEqual([it for it in words if it in (["frame"], ["cut"])], [["frame"], ["cut"]])
+
+    def test_each_delay_of_a_range_is_drawn(self):
+        plant = Plant(1, Faults(delay_ms=(3, 6)))
+        self.assertEqual({plant.delay() for _ in range(200)}, {3, 4, 5, 6})
 
     def test_a_device_takes_sixteen_streams(self):
         plant = Plant()

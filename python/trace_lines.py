@@ -12,8 +12,8 @@ from __future__ import annotations
 from typing import Callable, Optional, TypeVar, Union
 
 from eip import (
-    Address, Answer, AnswerKept, ConnectionNotice, Delivery, Device, Notice, NoticeKind, RefusalNotice, Refused,
-    ResetNotice, SlotNotice, Status, StreamNotice, UnansweredNotice, Verdict, node_number, node_text,
+    Address, Answer, AnswerKept, ConnectionNotice, Datagram, Delivery, Device, Frame, Item, Notice, NoticeKind, RefusalNotice, Refused,
+    Reply, ResetNotice, SlotNotice, Status, StreamNotice, UnansweredNotice, Verdict, node_number, node_text,
 )  # fmt: skip
 
 Outcome = Union[Answer, Delivery, bytes, Refused]
@@ -86,6 +86,17 @@ def notice_words(notice: Notice) -> str:
     return f"refused {notice.slot} {_refusal(notice)}"
 
 
+def item_words(item: Item) -> str:
+    """What is to be sent, or a notice, as a trace has it behind `N`."""
+    if isinstance(item, Reply):
+        return f"reply {item.node} {hex_of(item.data)}"
+    if isinstance(item, Frame):
+        return f"frame {item.stream} {hex_of(item.data)}"
+    if isinstance(item, Datagram):
+        return f"send {item.address} {','.join(item.nodes) or '-'} {hex_of(item.data)}"
+    return f"note {notice_words(item)}"
+
+
 def outcome_lines(number: int, outcome: Outcome) -> list[str]:
     """The outcome of the event of this number, as `eip_line step` prints it."""
     if isinstance(outcome, Refused):
@@ -104,13 +115,7 @@ def outcome_lines(number: int, outcome: Outcome) -> list[str]:
         words = DELIVERIES[outcome.delivery]
     else:
         words = VERDICTS[outcome.verdict]
-    lines = [f"{number} {words}"]
-    lines += [f"{number} reply {reply.node} {hex_of(reply.data)}" for reply in outcome.replies]
-    lines += [f"{number} frame {frame.stream} {hex_of(frame.data)}" for frame in outcome.frames]
-    for sent in outcome.datagrams:
-        lines.append(f"{number} send {sent.address} {','.join(sent.nodes) or '-'} {hex_of(sent.data)}")
-    lines += [f"{number} note {notice_words(notice)}" for notice in outcome.notices]
-    return lines
+    return [f"{number} {words}", *(f"{number} {item_words(item)}" for item in outcome.items)]
 
 
 # EVENTS
