@@ -68,13 +68,22 @@ def run_sums(bench):
     bench.write("large.profile", LARGE)
     trace, wrong = bench.file("sums.trace"), bench.file("wrong_sum.trace")
     adapter = bench.adapter("--record", trace, profile="large", log="sums")
-    Originator(bench, rpi_ms=10, input=101, in_len=1400).open(INPUT_ONLY)
-    time.sleep(0.3)
+    reader = Originator(bench, rpi_ms=10, input=101, in_len=1400)
+    with served("two connections open and close"):
+        connections = [reader.open(INPUT_ONLY) for _ in range(2)]
+        time.sleep(0.3)
+        for it in connections:
+            it.close()
+    adapter.call("status")
+    said = re.compile(r"\d+ at \d+ status .* sent (\d+) .*")
+    wait(lambda: any(map(said.fullmatch, adapter.lines())), "the state is said")
+    told_sent = next(int(found[1]) for found in map(said.fullmatch, adapter.lines()) if found)
     need(adapter.end() == 0, "the adapter ends with status 0")
     printed = replays(bench, "a record with sums", trace)
     sent = printed.count(b" send ")
     told, pcap = run(bench.program, "explain", trace), run(bench.program, "pcap", trace)
     need(sent > 10 and told.returncode == 0 and pcap.returncode == 0, f"{sent} datagrams are sent, and the record is told and captured")
+    need(told_sent == sent, f"status counts each datagram that was sent, {sent} by the record, and not {told_sent}")
     at, packets = 24, 0
     while at < len(pcap.stdout):
         length = struct.unpack("<IIII", pcap.stdout[at:at + 16])[2]
