@@ -1,6 +1,6 @@
-//! The page, in one text: its markup and its style, up to its word. Nothing of it comes from elsewhere.
+//! The page, in one text: its markup, its style and what it reckons of snapshots, up to its word. Nothing of it comes from elsewhere.
 
-/// The page up to its word, which its script shows with each request.
+/// The page up to its word, which its script shows with each request. The first script has the functions that touch no element.
 pub const PAGE_FRONT: &str = "\
 <!doctype html>
 <html lang='en'>
@@ -47,6 +47,9 @@ code, .bytes { font: 12.5px/1.5 ui-monospace, monospace; }
 .bytes button:focus-visible, .fold:focus-visible { outline: 2px solid var(--blue); }
 .bytes button.chosen { background: var(--blue); color: #fff; }
 .fold { color: var(--dim); padding: 3px 8px; margin-top: 6px; border: 1px solid var(--line); }
+.tools { margin-left: 10px; font-weight: 400; }
+.tools .fold { padding: 1px 8px; margin: 0; }
+#troubles { max-height: 124px; }
 .bits { display: inline-block; max-width: 36ch; color: var(--dim); font-size: 11.5px; }
 .badge { display: inline-block; padding: 0 8px; margin-right: 2px; border-radius: 9px; color: #fff; background: var(--none); font-size: 12px;
   white-space: nowrap; }
@@ -82,16 +85,20 @@ form button { background: var(--blue); color: #fff; border: 0; cursor: pointer; 
 <body>
 <header>
   <h1 id='title'>station</h1><select id='device' aria-label='device' hidden></select><span id='contact' class='badge'>no contact yet</span>
+  <span id='own-mode' class='badge' title='the mode of the scanner' hidden></span>
   <span id='clock'></span>
   <span class='right' id='files'></span>
 </header>
 <div id='bar' role='alert' hidden></div>
 <main id='main'>
   <section class='wide' id='plant' hidden><h2>Devices</h2><div id='devices'></div></section>
+  <section class='wide of'><h2>What went wrong</h2><ol id='troubles'></ol></section>
   <section class='wide of'><h2>Points</h2><div id='points'></div></section>
   <section class='wide of' id='rows'><h2 id='rows-title'>Connections</h2><div id='connections'></div>
     <button class='fold' id='fold' aria-expanded='false' aria-controls='earlier' hidden></button><div id='earlier' hidden></div></section>
-  <section class='wide of'><h2>The last three minutes</h2><canvas id='chart' role='img' aria-label='datagrams a second, and chosen bytes'></canvas>
+  <section class='wide of'><h2>Datagrams, gaps between them, and time-outs</h2><div id='gaps'></div></section>
+  <section class='wide of'><h2>The last three minutes <span class='tools'><button class='fold' id='freeze' aria-pressed='false'>freeze</button>
+    <button class='fold' id='export' title='the numbers of the lines below, with their times'>save as a table</button></span></h2><canvas id='chart' role='img' aria-label='datagrams a second, and chosen bytes'></canvas>
     <div class='key' id='key'></div></section>
   <section class='of'><h2>Totals</h2><div id='totals'></div></section>
   <section id='writes' hidden><h2>Calls</h2>
@@ -102,8 +109,259 @@ form button { background: var(--blue); color: #fff; border: 0; cursor: pointer; 
     <form data-call='slot'><label>slot <select id='slot'></select></label>
       <select id='slot-call' aria-label='call'><option>start</option><option>stop</option></select><button>call</button></form>
     <div id='said' class='none'></div></section>
-  <section class='wide of'><h2>The last events</h2><ol id='events'></ol></section>
+  <section class='wide of'><h2>The last events <span class='tools'><select id='event-kind' aria-label='which events'></select>
+    <input id='event-text' aria-label='a text of the events' placeholder='with this text' size='16'></span></h2><ol id='events'></ol></section>
 </main>
+<script>
+'use strict';
+// WHAT THE PAGE RECKONS OF SNAPSHOTS: no element is touched here
+const KEPT_MS = 180000, STALE_MS = 1500, SILENT_MS = 5000, RATE_MS = 190, TICK_MS = 250, LINE_BYTES = 16;
+const MINUTE_MS = 60000, WINDOW_MS = 10000, KEPT_TROUBLES = 200, KEPT_EVENTS = 400, LF = String.fromCharCode(10);
+
+function freshView() {
+  return { samples: [], last: null, known: new Map(), heard: 0, late: 0, quickest: [], isCut: false, isUnfolded: false, lives: 0,
+    silence: 0,
+    newest: undefined, newestTrouble: undefined, lastTrouble: null, troubles: new Map(), losses: new Map(), refusals: new Map(), streams: new Map(), since: new Map(), meters: new Map() };
+}
+
+// TIME OF DAY
+
+// (the parts of a date are cheap, and its text is not)
+function clockOf(ms) {
+  const it = new Date(ms);
+  return [it.getHours(), it.getMinutes(), it.getSeconds()].map((part) => String(part).padStart(2, '0')).join(':');
+}
+
+// the wall's time of a time of the device
+function wallOf(snapshot, ms) { return (snapshot.wall_ms ?? Date.now()) - (snapshot.ms - ms); }
+
+function spanOf(ms) { return ms < 10000 ? `${Math.round(ms)} ms` : `${Math.round(ms / 1000)} s`; }
+
+// CONNECTIONS OF THE PRESENT
+
+const pairOf = (row) => `${row.peer} ${row.consumed} ${row.produced}`;
+
+// The connections of the present: the established ones, and of each peer and its points the newest that is lost, if none has followed
+// it. All others are earlier ones. The newest connection is the last one.
+function sorted(connections) {
+  const followed = new Set(connections.filter((it) => it.established).map(pairOf)), lost = new Set();
+  for (const it of [...connections].reverse()) {
+    if (it.established || followed.has(pairOf(it))) continue;
+    followed.add(pairOf(it));
+    lost.add(it);
+  }
+  const isPresent = (it) => it.established || lost.has(it);
+  return { present: connections.filter(isPresent), earlier: connections.filter((it) => !isPresent(it)), lost: lost.size };
+}
+
+// each connection with a key: its peer, kind and points, and how many such ones are before it
+function keyed(connections) {
+  const counts = new Map();
+  return connections.map((it) => {
+    const name = `${it.kind} ${pairOf(it)}`, count = counts.get(name) ?? 0;
+    counts.set(name, count + 1);
+    return [`${name} ${count}`, it];
+  });
+}
+
+// each slot, or each connection of the present, with its key and the words for it
+function rowsOf(snapshot) {
+  if (snapshot.slots) return snapshot.slots.map((it) => [`slot ${it.slot}`, it, `slot ${it.slot}`]);
+  return keyed(sorted(snapshot.connections).present).map(([key, it]) => [key, it, `${it.peer}, points ${it.consumed} and ${it.produced}`]);
+}
+
+// the rows whose datagrams are counted; without counts of their own all together
+function countedRows(snapshot) {
+  const rows = rowsOf(snapshot);
+  return rows.every(([, it]) => it.lost === undefined) ? [['all', snapshot.counts, 'its connections']] : rows;
+}
+
+// what a connection is at present
+function modeOf(row) {
+  if (!row.established) return ['lost', 'bad'];
+  if (row.mode === 'run') return ['run', 'good'];
+  if (row.mode === 'idle') return ['idle', 'warn'];
+  return row.has_data ? ['open', 'good'] : ['waiting', 'wait'];
+}
+
+// What a slot is at present. One that nobody stopped, and that is not open, is no calm one.
+function slotState(it) {
+  if (it.state === 'established') return it.has_data ? ['established', 'good'] : ['waiting', 'wait'];
+  if (it.state === 'timed_out') return ['timed out', 'bad'];
+  if (it.state === 'idle') return it.wait && it.wait !== 'stopped' ? ['not open', 'bad'] : [it.wait ?? 'idle', ''];
+  return [it.state, 'warn'];
+}
+
+// WHAT WENT WRONG
+
+const BAD = /timed out|dropped, a|not opened|none is left|ended with its stream|is not answered|requests a reset/;
+
+// of an event the lines that say what went wrong; a report of the station without its name in front
+function badWords(words) {
+  const lines = words.split(LF).map((it) => it.trim()).filter((it) => it), bad = lines.slice(1).filter((it) => BAD.test(it));
+  return (bad.length ? bad : lines).join('; ').replace(/^eip_station: /, '');
+}
+
+function addTrouble(view, key, wall, words) {
+  const own = view.troubles.get(key);
+  view.lastTrouble = Object.assign(own ?? { wall }, { words });
+  if (!own) view.troubles.set(key, view.lastTrouble);
+  if (view.troubles.size > KEPT_TROUBLES) view.troubles.delete(view.troubles.keys().next().value);
+  return own === undefined;
+}
+
+// A trouble says why a slot is not open, or why there is no stream to a target.
+function noteReason(view, ms, wall, words) {
+  for (const part of words.split('; slot').map((it, at) => at ? `slot${it}` : it)) {
+    const refusal = /^slot ([0-9]+) is not opened: (.*)$/.exec(part);
+    if (refusal) view.refusals.set(Number(refusal[1]), { ms, wall, words: refusal[2] });
+  }
+  const stream = /^([0-9.]+) (refuses a stream|does not answer); the next try is in ([0-9]+) s$/.exec(words);
+  if (stream) view.streams.set(stream[1], { ms, words: stream[2], retry_ms: 1000 * Number(stream[3]) });
+}
+
+// the troubles of a snapshot, if one of them is new
+function newTroubles(view, snapshot) {
+  const said = snapshot.troubles ?? snapshot.events, last = said[said.length - 1], newest = last && `${last.number} ${last.ms} ${last.words}`;
+  if (newest === view.newestTrouble) return [];
+  view.newestTrouble = newest;
+  return snapshot.troubles ?? said.filter((event) => BAD.test(event.words));
+}
+
+// The troubles of a snapshot, and what is seen from the one before to it: numbers that were lost. The time of day of each is that of when
+// the page saw it first, so a clock that jumps moves none.
+function keepTroubles(view, snapshot, before) {
+  const troubles = newTroubles(view, snapshot);
+  for (const it of troubles) {
+    if (it.words.trimEnd().endsWith(' is open')) continue;
+    const words = badWords(it.words), wall = wallOf(snapshot, it.ms);
+    if (addTrouble(view, `${view.lives} ${it.number} ${it.ms} ${it.words}`, wall, words)) noteReason(view, it.ms, wall, words);
+  }
+  if (!before) return;
+  const known = new Map(countedRows(before).map(([key, it]) => [key, it]));
+  for (const [key, it, name] of countedRows(snapshot)) {
+    const old = known.get(key), more = old && it.received >= old.received ? it.lost - old.lost : 0;
+    if (!(more > 0)) continue;
+    const place = `${view.lives} lost ${key} ${Math.floor(snapshot.ms / WINDOW_MS)}`, count = (view.losses.get(place) ?? 0) + more;
+    view.losses = new Map([...view.losses].slice(-100)).set(place, count);
+    addTrouble(view, place, wallOf(snapshot, snapshot.ms), `${count} sequence ${count === 1 ? 'number' : 'numbers'} of ${name} lost`);
+  }
+}
+
+// A device is heard of again behind a silence, or has started again.
+function noteReturn(view, snapshot, isAnew) {
+  if (isAnew) {
+    addTrouble(view, `${view.lives} start`, wallOf(snapshot, snapshot.ms), 'the device has started again');
+  } else if (view.silence && view.late < STALE_MS) {
+    addTrouble(view, `${view.lives} silent ${snapshot.ms}`, wallOf(snapshot, snapshot.ms), `no contact for ${spanOf(view.silence)}`);
+  }
+  if (view.late < STALE_MS) view.silence = 0;
+}
+
+// Why a slot is not open: what it waits for, and the last refusal of its state.
+function reasonOf(view, it, snapshot, more) {
+  const now = snapshot.ms + more, refusal = view.refusals.get(it.slot), stream = view.streams.get(it.target);
+  const why = refusal && it.since_ms !== undefined && refusal.ms + 2000 >= it.since_ms ? refusal.words : '';
+  if (it.state === 'established') return '';
+  if (it.wait === 'stopped') return 'stopped by a call, or never started';
+  if (it.wait === 'no stream' && stream) return `no stream: ${it.target} ${stream.words}; the next try is in ${spanLeft(stream.ms + stream.retry_ms - now)}`;
+  if (it.wait === 'no stream') return 'no stream to its target';
+  if (it.wait === 'no session') return 'no session with its target';
+  const next = it.wait === 'next try' ? `the next try is in ${spanLeft(it.wait_ms - more)}` : '';
+  return [next, why].filter((part) => part).join('; ');
+}
+
+function spanLeft(ms) { return `${Math.max(0, ms / 1000).toFixed(1)} s`; }
+
+// SINCE WHEN
+
+// Notes since when each row is what it is, as far as the page saw it. A station says it of its slots.
+function noteSince(view, snapshot, before) {
+  const held = new Map();
+  for (const [key, it] of rowsOf(snapshot)) {
+    const state = it.state ?? String(it.established), own = view.since.get(key);
+    const is = own && own.state === state && before ? own : { state, wall: wallOf(snapshot, snapshot.ms), isSeen: Boolean(before), timeOuts: own?.timeOuts ?? 0 };
+    if (own && is !== own && before && state === 'false') Object.assign(is, { timeOuts: own.timeOuts + 1, last: is.wall });
+    held.set(key, is);
+  }
+  view.since = held;
+}
+
+function sinceOf(view, key, it, snapshot) {
+  if (it.since_ms !== undefined) return clockOf(wallOf(snapshot, it.since_ms));
+  if (it.established && !it.has_data) return clockOf(wallOf(snapshot, snapshot.ms - it.age_ms));
+  const own = view.since.get(key);
+  return own ? `${own.isSeen ? '' : 'before '}${clockOf(own.wall)}` : '';
+}
+
+// GAPS
+
+// Notes the sums of a row once a second, the longest gap of each ten seconds, and the longest silence that was seen.
+function noteGaps(view, snapshot) {
+  const held = new Map();
+  for (const [key, it] of rowsOf(snapshot)) {
+    const old = view.meters.get(key), isSame = old && (it.gaps?.count ?? 0) >= (old.gaps?.count ?? 0) && snapshot.ms >= old.ms;
+    const own = isSame ? old : { sums: [], windows: new Map(), silent: new Map(), longest: 0 };
+    const isUp = it.established ?? it.state === 'established', window = Math.floor(snapshot.ms / WINDOW_MS);
+    Object.assign(own, { ms: snapshot.ms, gaps: it.gaps });
+    if (isUp && it.age_ms !== undefined) {
+      own.silent.set(window, Math.max(own.silent.get(window) ?? 0, it.age_ms));
+      own.longest = Math.max(own.longest, it.age_ms);
+    }
+    if (it.gaps) {
+      own.windows.set(it.gaps.window, it.gaps.recent_ms);
+      own.windows.set(it.gaps.window - 1, it.gaps.before_ms);
+      if (!own.sums.length || snapshot.ms - own.sums[own.sums.length - 1].ms >= 1000) own.sums.push({ ms: snapshot.ms, ...it.gaps });
+      while (own.sums.length > 1 && own.sums[1].ms <= snapshot.ms - MINUTE_MS) own.sums.shift();
+    }
+    for (const part of [own.windows, own.silent]) {
+      for (const number of part.keys()) if (number < window - MINUTE_MS / WINDOW_MS) part.delete(number);
+    }
+    held.set(key, own);
+  }
+  view.meters = held;
+}
+
+// mean, longest and jitter of gaps in milliseconds, of a difference of sums
+function gapWords(count, sum, moved, longest) {
+  const tenth = (ms) => String(Math.round(10 * ms) / 10);
+  return count > 0 ? `mean ${tenth(sum / count)}, longest ${longest}, jitter ${tenth(moved / Math.max(1, count))}` : longest ? `longest silence ${longest}` : '';
+}
+
+// the gaps of the last minute, and those since the connection opened; without a meter of the station the longest silence that the page saw
+function gapsOf(view, key, it) {
+  const own = view.meters.get(key);
+  if (!own) return ['', ''];
+  const most = (part) => Math.max(0, ...part.values());
+  if (!it.gaps) return [gapWords(0, 0, 0, most(own.silent)), gapWords(0, 0, 0, own.longest)];
+  const { count, sum_ms, moved_ms, greatest_ms } = it.gaps, first = own.sums[0];
+  const minute = [count - first.count, sum_ms - first.sum_ms, moved_ms - first.moved_ms];
+  return [gapWords(...minute, Math.max(most(own.windows), most(own.silent))), gapWords(count, sum_ms, moved_ms, Math.max(greatest_ms, own.longest))];
+}
+
+// EVENTS, CHOSEN
+
+const EVENT_KINDS = {
+  'all': () => true,
+  'troubles': (words) => BAD.test(words),
+  'openings and ends': (words) => /opened|closed|timed out|dropped|slot [0-9]+ is/.test(words),
+  'calls': (words) => /^the application/.test(words),
+  'all but calls': (words) => !/^the application/.test(words),
+};
+
+function isChosen(event, kind, text) {
+  return EVENT_KINDS[kind](event.words) && event.words.toLowerCase().includes(text.toLowerCase());
+}
+
+// NUMBERS AS A FILE
+
+// the samples of a chart, a line each, with the time of day and what each line of the chart has
+function tableOf(samples, wallOfSample, lines) {
+  const head = ['time', 'ms', ...lines.map(([name]) => name)];
+  const rows = samples.map((it) => [new Date(wallOfSample(it)).toISOString(), it.ms, ...lines.map(([, value]) => value(it) ?? '')]);
+  return [head, ...rows].map((row) => row.join(',')).join(LF) + LF;
+}
+</script>
 <script>
 'use strict';
 const word = '";

@@ -4,7 +4,6 @@
 /// elements that are there, so that a click, a selection and the focus stay where they are.
 pub const PAGE_REST: &str = "\
 ';
-const KEPT_MS = 180000, STALE_MS = 1500, SILENT_MS = 5000, RATE_MS = 190, TICK_MS = 250, LINE_BYTES = 16;
 const COLOURS = ['#3b78dd', '#1f8a54', '#cf4040', '#9a55d3', '#b87410', '#1b9a9c', '#cf4a8c', '#7b8592'];
 const token = location.hash.slice(1);
 const byId = (id) => document.getElementById(id);
@@ -12,13 +11,12 @@ const chosen = new Set();  // the bytes of the chart, as `150:0`, and `output 2:
 const opened = Date.now(), openedAt = performance.now();
 let station = { writes: false, record: false, name: 'station', devices: [] };
 let shown = 0, marks = 0;
+let frozen = null;  // the samples of a chart that is held, and their end
 // what is known of each device: one of a station
 const views = new Map();
 
 function viewOf(device) {
-  if (!views.has(device)) {
-    views.set(device, { samples: [], last: null, known: new Map(), heard: 0, late: 0, quickest: [], isCut: false, isUnfolded: false });
-  }
+  if (!views.has(device)) views.set(device, freshView());
   return views.get(device);
 }
 
@@ -28,8 +26,6 @@ function viewOf(device) {
 function ageOf(view) { return view.last ? performance.now() - view.heard + view.late : performance.now() - openedAt; }
 
 function isStale(view) { return ageOf(view) > STALE_MS; }
-
-function clockOf(ms) { return new Date(ms).toTimeString().slice(0, 8); }
 
 function since(view) { return `no contact since ${clockOf(view.last ? view.last.wall_ms ?? view.receivedWall : opened)}`; }
 
@@ -52,6 +48,10 @@ function element(name, text, kind) {
   return made;
 }
 
+// (a selection is asked for only while there is one, since each answer has the whole page laid out)
+let isSelected = false;
+document.onselectionchange = () => { isSelected = !getSelection().isCollapsed; };
+
 // Puts a text into an element. A selection that ends in it stays, as far as the text reaches.
 function put(node, text) {
   const reported = String(text), own = node.firstChild;
@@ -60,6 +60,10 @@ function put(node, text) {
     return;
   }
   if (own.data === reported) return;
+  if (!isSelected) {
+    own.data = reported;
+    return;
+  }
   const selection = getSelection(), { anchorNode, anchorOffset, focusNode, focusOffset } = selection;
   own.data = reported;
   if (anchorNode !== own && focusNode !== own) return;
@@ -180,47 +184,24 @@ function dataAge(row, more) {
   return row.has_data ? age : `no data for ${age}`;
 }
 
-// what a connection is at present
-function modeOf(row) {
-  if (!row.established) return ['lost', 'bad'];
-  if (row.mode === 'run') return ['run', 'good'];
-  if (row.mode === 'idle') return ['idle', 'warn'];
-  return row.has_data ? ['open', 'good'] : ['waiting', 'wait'];
+// NAMES
+
+const atNode = new Map();  // the device of a plant at an address
+
+// an address, with the name of the plant's device there
+function named(address) {
+  const name = station.devices[atNode.get(address)];
+  return name === undefined ? address : `${address} (${name})`;
 }
 
-// CONNECTIONS OF THE PRESENT
-
-const pairOf = (row) => `${row.peer} ${row.consumed} ${row.produced}`;
-
-// The connections of the present: the established ones, and of each peer and its points the newest that is lost, if none has followed
-// it. All others are earlier ones. The newest connection is the last one.
-function sorted(connections) {
-  const followed = new Set(connections.filter((it) => it.established).map(pairOf)), lost = new Set();
-  for (const it of [...connections].reverse()) {
-    if (it.established || followed.has(pairOf(it))) continue;
-    followed.add(pairOf(it));
-    lost.add(it);
-  }
-  const isPresent = (it) => it.established || lost.has(it);
-  return { present: connections.filter(isPresent), earlier: connections.filter((it) => !isPresent(it)), lost: lost.size };
-}
-
-// each connection with a key: its peer, kind and points, and how many such ones are before it
-function keyed(connections) {
-  const counts = new Map();
-  return connections.map((it) => {
-    const name = `${it.kind} ${pairOf(it)}`, count = counts.get(name) ?? 0;
-    counts.set(name, count + 1);
-    return [`${name} ${count}`, it];
-  });
-}
+function withNames(words) { return station.devices.length ? words.replace(/[0-9]+[.][0-9]+[.][0-9]+[.][0-9]+/g, (it) => named(it)) : words; }
 
 // PARTS OF THE PAGE
 
 function ownerOf(output, snapshot, more) {
-  if (output.owner) return said([modeOf(output.owner)], `${output.owner.peer}, ${dataAge(output.owner, more)}`);
+  if (output.owner) return said([modeOf(output.owner)], `${named(output.owner.peer)}, ${dataAge(output.owner, more)}`);
   const lost = snapshot.connections.findLast((it) => it.kind === 'exclusive' && it.consumed === output.point);
-  return lost ? said([['lost', 'bad']], lost.peer) : said([['no owner', '']]);
+  return lost ? said([['lost', 'bad']], named(lost.peer)) : said([['no owner', '']]);
 }
 
 function pointRow(kind, point, bytes, says, name = point) {
@@ -242,25 +223,24 @@ function renderPoints(snapshot, more) {
   for (const it of snapshot.outputs ?? []) rows.push(pointRow('output', it.point, it.bytes, ownerOf(it, snapshot, more)));
   for (const it of snapshot.inputs ?? []) rows.push(pointRow('input', it.point, it.bytes, consumersOf(it)));
   for (const it of snapshot.slots ?? []) {
-    rows.push(pointRow('image', it.slot, it.bytes, said([], `from ${it.target}`)));
-    if (it.output !== '-') rows.push(pointRow('output', it.slot, it.output, said([], `to ${it.target}`), outputOf(it)));
+    rows.push(pointRow('image', it.slot, it.bytes, said([], `from ${named(it.target)}`)));
+    if (it.output !== '-') rows.push(pointRow('output', it.slot, it.output, said([], `to ${named(it.target)}`), outputOf(it)));
   }
   fillTable(byId('points'), POINT_HEADS, rows);
 }
 
-const STATES = { established: 'good', opening: 'warn', closing: 'warn', timed_out: 'bad', idle: '' };
-const SLOT_HEADS = ['slot', 'target', 'state', 'intervals', 'age of its data'];
-const CONNECTION_HEADS = ['peer', 'kind', 'consumes', 'produces', 'state', 'intervals', 'age of its data'];
+const SLOT_HEADS = ['slot', 'target', 'kind', 'consumes', 'produces', 'state', 'since', 'intervals', 'age of its data'];
+const CONNECTION_HEADS = ['peer', 'kind', 'consumes', 'produces', 'state', 'since', 'intervals', 'age of its data'];
 
-function slotRow(it, more) {
-  const isUp = it.state === 'established';
-  const state = isUp && !it.has_data ? ['waiting', 'wait'] : [it.state.replace('_', ' '), STATES[it.state]];
-  return { key: String(it.slot), cells: [it.slot, it.target, said([state]), isUp ? `${it.o_t_ms} ms out, ${it.t_o_ms} ms in` : '',
-    isUp ? dataAge(it, more) : ''] };
+function slotRow(view, it, snapshot, more) {
+  const isUp = it.state === 'established', key = `slot ${it.slot}`;
+  return { key, cells: [it.slot, named(it.target), it.kind ?? '', it.consumed ?? '', it.produced ?? '',
+    said([slotState(it)], withNames(reasonOf(view, it, snapshot, more))), sinceOf(view, key, it, snapshot),
+    isUp ? `${it.o_t_ms} ms out, ${it.t_o_ms} ms in` : '', isUp ? dataAge(it, more) : ''] };
 }
 
-function connectionRow([key, it], badge, kind, more) {
-  return { key, kind, cells: [it.peer, it.kind, it.consumed, it.produced, said([badge]), `${it.o_t_ms} ms in, ${it.t_o_ms} ms out`,
+function connectionRow([key, it], badge, kind, more, since = '') {
+  return { key, kind, cells: [named(it.peer), it.kind, it.consumed, it.produced, said([badge]), since, `${it.o_t_ms} ms in, ${it.t_o_ms} ms out`,
     dataAge(it, more)] };
 }
 
@@ -272,9 +252,9 @@ function renderConnections(view, snapshot, more) {
   }
   const { present, earlier } = sorted(snapshot.connections ?? []);
   if (snapshot.slots) {
-    fillTable(place, SLOT_HEADS, snapshot.slots.map((it) => slotRow(it, more)));
+    fillTable(place, SLOT_HEADS, snapshot.slots.map((it) => slotRow(view, it, snapshot, more)));
   } else {
-    fillTable(place, CONNECTION_HEADS, keyed(present).map((it) => connectionRow(it, modeOf(it[1]), '', more)));
+    fillTable(place, CONNECTION_HEADS, keyed(present).map((it) => connectionRow(it, modeOf(it[1]), '', more, sinceOf(view, it[0], it[1], snapshot))));
   }
   const fold = byId('fold'), isOpen = view.isUnfolded && earlier.length > 0;
   put(fold, `${earlier.length} earlier`);
@@ -289,6 +269,26 @@ byId('fold').onclick = () => {
   renderShown();
 };
 
+const GAP_HEADS = ['', 'received', 'lost', 'repeated', 'old', 'wrong size', 'gaps of the last minute, ms', 'gaps since it opened, ms', 'time-outs, the last'];
+
+// how often a row timed out, and when last
+function timeOutsOf(view, key, it, snapshot) {
+  if (it.time_outs !== undefined) {
+    return it.time_outs ? `${it.time_outs}, ${clockOf(wallOf(snapshot, it.last_time_out_ms))}` : '0';
+  }
+  const own = view.since.get(key), held = (snapshot.connections ?? []).filter((other) => !other.established && pairOf(other) === pairOf(it)).length;
+  const count = Math.max(own?.timeOuts ?? 0, held);
+  return own?.last ? `${count}, ${clockOf(own.last)}` : String(count);
+}
+
+function renderGaps(view, snapshot) {
+  const rows = rowsOf(snapshot).map(([key, it, name]) => {
+    const [minute, since] = gapsOf(view, key, it), numbers = [it.received, it.lost, it.duplicate, it.old, it.wrong_size];
+    return { key, cells: [withNames(name), ...numbers.map((number) => number ?? ''), minute, since, timeOutsOf(view, key, it, snapshot)] };
+  });
+  fillTable(byId('gaps'), GAP_HEADS, rows);
+}
+
 function renderTotals(snapshot) {
   const { totals, counts, connections } = snapshot;
   const up = connections ? connections.filter((it) => it.established).length : totals.connections;
@@ -300,25 +300,44 @@ function renderTotals(snapshot) {
   fillTable(byId('totals'), ['', ''], rows.map((cells) => ({ key: cells[0], cells })));
 }
 
-function renderEvents(view) {
-  const list = [...view.known.values()].sort((a, b) => b.number - a.number);
-  const keys = list.length ? list.map((it) => String(it.number)) : ['none'];
-  keep(byId('events'), keys, () => element('li'), (line, at) => {
+// lines of a list, each with a time in front
+function fillLines(place, lines, none) {
+  keep(place, lines.length ? lines.map(([key]) => key) : ['none'], () => element('li'), (line, at) => {
     if (!line.firstChild) line.append(element('b'), element('span'));
-    put(line.firstChild, list[at] ? `${list[at].number}. ${(list[at].ms / 1000).toFixed(3)} s  ` : '');
-    put(line.lastChild, list[at] ? list[at].words : 'nothing has happened');
+    put(line.firstChild, lines[at] ? `${lines[at][1]}  ` : '');
+    put(line.lastChild, lines[at] ? withNames(lines[at][2]) : none);
   });
 }
 
-function keepEvents(view, events) {
-  for (const event of events) view.known.set(event.number, event);
-  const kept = [...view.known.keys()].sort((a, b) => a - b).slice(-100);
+function renderTroubles(view) {
+  const lines = [...view.troubles].reverse().map(([key, it]) => [key, clockOf(it.wall), it.words]);
+  fillLines(byId('troubles'), lines, 'nothing that is known');
+}
+
+function renderEvents(view) {
+  const list = [...view.known.values()].sort((a, b) => b.number - a.number);
+  const lines = list.filter((it) => isChosen(it, byId('event-kind').value, byId('event-text').value)).slice(0, 100);
+  const none = list.length ? 'no event of this choice' : 'nothing has happened';
+  fillLines(byId('events'), lines.map((it) => [String(it.number), `${it.number}. ${clockOf(it.wall)}, ${(it.ms / 1000).toFixed(3)} s`, it.words]), none);
+}
+
+for (const id of ['event-kind', 'event-text']) byId(id).oninput = () => renderEvents(viewOf(shown));
+byId('event-kind').append(...Object.keys(EVENT_KINDS).map((name) => element('option', name)));
+
+function keepEvents(view, snapshot) {
+  const newest = snapshot.events[snapshot.events.length - 1]?.number;
+  if (newest === view.newest) return;
+  view.newest = newest;
+  for (const event of snapshot.events) {
+    view.known.set(event.number, { ...event, wall: view.known.get(event.number)?.wall ?? wallOf(snapshot, event.ms) });
+  }
+  const kept = [...view.known.keys()].sort((a, b) => a - b).slice(-KEPT_EVENTS);
   if (kept.length < view.known.size) view.known = new Map(kept.map((number) => [number, view.known.get(number)]));
 }
 
 // THE DEVICES OF A PLANT
 
-const DEVICE_HEADS = ['device', '', 'established', 'datagrams received, sent', 'lost', 'contact'];
+const DEVICE_HEADS = ['device', '', 'established', 'datagrams received, sent', 'lost', 'contact', 'last trouble'];
 
 // how many slots of a scanner are established; how many connections of an adapter are, and how many are lost
 function summaryOf(last) {
@@ -341,10 +360,14 @@ const linked = (name, device) => (cell) => {
 
 function deviceRow(name, device) {
   const view = viewOf(device), { last } = view, key = String(device), kind = isStale(view) ? 'stale' : '';
-  if (!last) return { key, kind, cells: [linked(name, device), '', said([], 'nothing yet'), '', '', kind ? since(view) : ''] };
-  return { key, kind, cells: [linked(name, device), last.slots ? 'scanner' : 'adapter', said(summaryOf(last)),
-    `${last.counts.received}, ${last.counts.sent}`, last.counts.lost, kind ? since(view) : 'live'] };
+  if (!last) return { key, kind, cells: [linked(name, device), '', said([], 'nothing yet'), '', '', kind ? since(view) : '', ''] };
+  const trouble = view.lastTrouble, mode = last.mode ? `, ${last.mode}` : '';
+  return { key, kind, cells: [linked(name, device), last.slots ? `scanner${mode}` : 'adapter', said(summaryOf(last)),
+    `${last.counts.received}, ${last.counts.sent}`, last.counts.lost, kind ? since(view) : 'live',
+    trouble ? `${clockOf(trouble.wall)} ${shortened(withNames(trouble.words))}` : ''] };
 }
+
+function shortened(words) { return words.length > 80 ? `${words.slice(0, 77)}..` : words; }
 
 function renderDevices() {
   if (station.devices.length) fillTable(byId('devices'), DEVICE_HEADS, station.devices.map(deviceRow));
@@ -359,6 +382,7 @@ function choose(device) {
   shown = device;
   byId('device').value = String(device);
   chosen.clear();
+  frozen = null;
   marks += 1;
   renderAll();
 }
@@ -401,24 +425,42 @@ function takeSample(view, snapshot) {
 
 function byteAt(sample, key) {
   const at = key.lastIndexOf(':'), hex = sample.values[key.slice(0, at)], byte = Number(key.slice(at + 1));
-  return hex && hex !== '-' && 2 * byte < hex.length ? parseInt(hex.slice(2 * byte, 2 * byte + 2), 16) / 255 : undefined;
+  return hex && hex !== '-' && 2 * byte < hex.length ? parseInt(hex.slice(2 * byte, 2 * byte + 2), 16) : undefined;
 }
 
+// the lines of the chart: a name, the value of a sample, and the value at the top
 function linesOfChart(most) {
-  const rates = [['received a second', 'received'], ['sent a second', 'sent'], ['lost a second', 'lost']]
-    .map(([name, field]) => [name, (it) => it[field] === undefined ? undefined : it[field] / most]);
-  return [...rates, ...[...chosen].map((key) => [`byte ${key.replace(':', '.')}`, (it) => byteAt(it, key)])];
+  const rates = [['received a second', 'received'], ['sent a second', 'sent'], ['lost a second', 'lost']].map(([name, field]) => [name, (it) => it[field], most]);
+  return [...rates, ...[...chosen].map((key) => [`byte ${key.replace(':', '.')}`, (it) => byteAt(it, key), 255])];
 }
+
+byId('freeze').onclick = () => {
+  const view = viewOf(shown), isHeld = !frozen && view.last;
+  frozen = isHeld ? { samples: [...view.samples], end: view.last.ms + ageOf(view), snapshot: view.last } : null;
+  renderShown();
+};
+
+byId('export').onclick = () => {
+  const view = viewOf(shown), { samples, snapshot } = frozen ?? { samples: view.samples, snapshot: view.last };
+  if (!snapshot) return;
+  const text = tableOf(samples, (it) => wallOf(snapshot, it.ms), linesOfChart(1)), link = element('a');
+  link.href = URL.createObjectURL(new Blob([text], { type: 'text/csv' }));
+  link.download = 'chart.csv';
+  link.click();
+  setTimeout(() => URL.revokeObjectURL(link.href), 10000);
+};
 
 function drawChart(view, more) {
   const canvas = byId('chart'), scale = window.devicePixelRatio || 1;
-  const width = canvas.clientWidth, height = canvas.clientHeight, { samples } = view;
+  const width = canvas.clientWidth, height = canvas.clientHeight, { samples } = frozen ?? view;
   canvas.width = width * scale;
   canvas.height = height * scale;
+  put(byId('freeze'), frozen ? `go on, frozen at ${clockOf(wallOf(frozen.snapshot, frozen.end))}` : 'freeze');
+  byId('freeze').setAttribute('aria-pressed', String(frozen !== null));
   if (!samples.length) return;
   const pen = canvas.getContext('2d');
   pen.scale(scale, scale);
-  const end = samples[samples.length - 1].ms + more, left = 46, right = 34, top = 20, foot = 22;
+  const end = frozen ? frozen.end : samples[samples.length - 1].ms + more, left = 46, right = 34, top = 20, foot = 22;
   const across = (ms) => width - right - (end - ms) / KEPT_MS * (width - left - right);
   const up = (share) => height - foot - share * (height - top - foot);
   const most = Math.max(10, ...samples.map((it) => Math.max(it.received ?? 0, it.sent ?? 0, it.lost ?? 0))) * 1.1;
@@ -427,7 +469,7 @@ function drawChart(view, more) {
   pen.rect(left, 0, width - left - right, height);
   pen.clip();
   const lines = linesOfChart(most);
-  lines.forEach(([, share], at) => stroke(pen, samples, across, (it) => share(it) === undefined ? undefined : up(share(it)), COLOURS[at % COLOURS.length]));
+  lines.forEach(([, value, top], at) => stroke(pen, samples, across, (it) => value(it) === undefined ? undefined : up(value(it) / top), COLOURS[at % COLOURS.length]));
   keep(byId('key'), lines.map(([name]) => name), () => element('span'), (mark, at) => {
     if (!mark.firstChild) mark.append(element('i'), lines[at][0]);
     mark.firstChild.style.background = COLOURS[at % COLOURS.length];
@@ -448,7 +490,7 @@ function drawAxes(pen, { width, height, left, right, end, across, up, most }) {
   }
   const step = width < 600 ? 60 : 30;
   for (let s = KEPT_MS / 1000; s >= 0; s -= step) {
-    const text = s ? `-${Math.floor(s / 60)}:${String(s % 60).padStart(2, '0')} min` : 'now';
+    const text = s ? `-${Math.floor(s / 60)}:${String(s % 60).padStart(2, '0')} min` : frozen ? 'then' : 'now';
     const x = across(end - s * 1000) - (s === 0 ? 22 : s === KEPT_MS / 1000 ? 0 : 20);
     pen.fillText(text, x, height - 6);
   }
@@ -518,7 +560,9 @@ function renderShown() {
   const more = ageOf(view), wall = last.wall_ms === undefined ? '' : `${clockOf(last.wall_ms)}, `;
   put(byId('clock'), `${wall}event ${last.number}, ${(last.ms / 1000).toFixed(1)} s`);
   renderPoints(last, more);
+  renderTroubles(view);
   renderConnections(view, last, more);
+  renderGaps(view, last);
   renderTotals(last);
   renderEvents(view);
   fillChoices(last);
@@ -528,7 +572,7 @@ function renderShown() {
 // (a device of a plant of which nothing is known shows nothing of another one)
 function clearParts() {
   put(byId('clock'), '');
-  for (const id of ['points', 'connections', 'earlier', 'totals', 'events', 'key']) byId(id).replaceChildren();
+  for (const id of ['points', 'troubles', 'connections', 'earlier', 'gaps', 'totals', 'events', 'key']) byId(id).replaceChildren();
   byId('fold').hidden = true;
 }
 
@@ -544,6 +588,9 @@ function showContact(view) {
   for (const part of document.querySelectorAll('section:not(#plant)')) part.classList.toggle('stale', stale);
   put(byId('bar'), stale ? since(view) + name : '');
   byId('bar').hidden = !stale;
+  const mode = view.last?.mode;
+  byId('own-mode').hidden = !mode;
+  if (mode) dress(byId('own-mode'), mode, stale ? 'badge' : `badge ${mode === 'run' ? 'good' : 'warn'}`);
 }
 
 function showStation() {
@@ -577,12 +624,32 @@ function takeStation(text) {
 function takeSnapshot(device, snapshot) {
   const view = viewOf(device), { last } = view;
   const before = last && !view.isCut && last.number <= snapshot.number && last.ms <= snapshot.ms ? last : null;
-  if (!before) Object.assign(view, { samples: [], known: new Map(), quickest: [], isCut: false });
+  view.silence = Math.max(view.silence, last && isStale(view) ? ageOf(view) : 0);
+  if (!before) Object.assign(view, { samples: [], known: new Map(), quickest: [], isCut: false, newest: undefined, newestTrouble: undefined, lives: view.lives + 1, refusals: new Map(), streams: new Map() });
+  if (!before && device === shown) frozen = null;
   view.late = latenessOf(view, snapshot, before);
   Object.assign(view, { last: snapshot, heard: performance.now(), receivedWall: Date.now() });
-  keepEvents(view, snapshot.events);
+  if (snapshot.node !== undefined) atNode.set(snapshot.node, device);
+  keepEvents(view, snapshot);
+  keepTroubles(view, snapshot, before);
+  noteReturn(view, snapshot, last && !before);
+  noteSince(view, snapshot, before);
+  noteGaps(view, snapshot);
   takeSample(view, snapshot);
-  if (device === shown) renderShown(); else renderDevice(device);
+  renderSoon(device);
+}
+
+// Several snapshots that wait are shown at once, so that a page that is slow stays of the present.
+const due = new Set();
+
+function renderSoon(device) {
+  if (!due.size) setTimeout(renderDue, 0);
+  due.add(device);
+}
+
+function renderDue() {
+  for (const device of due) if (device === shown) renderShown(); else renderDevice(device);
+  due.clear();
 }
 
 function listen() {
