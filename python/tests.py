@@ -405,7 +405,9 @@ class OwnObjects(unittest.TestCase):
             lines = device.trace().split("\n")
             self.assertEqual(lines[6:8], [f"request {OWNER} 4b02206424010102", "1 asked 1 75 100 1 - 0102"])
             self.assertEqual(lines[10:13], ["answer 2 14 -", "3 done", f"3 reply {OWNER} 8e001400"])
-            for number in 1, 3:
+            device.request(OWNER, self.REQUEST)
+            # (it has the number 3)
+            for number in 1, 4, 0x1_0000_0003:
                 with self.assertRaises(Refused) as refused:
                     device.respond(number)
                 self.assertEqual(refused.exception.status, Status.NOT_ALLOWED_NOW)

@@ -1,5 +1,5 @@
 /* Calls of a device at values worked by hand: when an adapter needs time, what its points take and hold, what a refused tick
- * leaves, two devices of one history, and the life of a connection. Prints each check that fails. c_calls. */
+ * leaves, two devices of one history, the life of a connection, and the number of a request to the application. Prints each check that fails. c_calls. */
 #include "c_events.h"
 
 static const char profile[] = "adapter 16 192.168.1.10 255.255.255.0 1 12 7 2 3\noutput 150 4 zero zero\ninput 100 4\n"
@@ -229,11 +229,31 @@ static void check_life(void)
     eip_free(&device);
 }
 
+/* A request to the application has a number of 64 bits: both halves are read, and both halves are answered. */
+static void check_asked(void)
+{
+    static const char own[] = "adapter 16 192.168.1.10 255.255.255.0 1 12 7 2 3\noutput 150 4 zero zero\ninput 100 4\nobject 100\n"
+                              "heartbeat 152 153\n";
+    static const uint8_t request[] = {0x4b, 0x02, 0x20, 0x64, 0x24, 0x01}, reply[] = {0xcb, 0, 0, 0};
+    eip_item item = {0};
+    eip_device device = {0};
+    uint64_t wrong = 0;
+    item.a = 5;
+    item.b = 1;
+    check(eip_asked(&item) == 0x100000005, "the number of a request has both halves");
+    check(eip_new(&device, own, strlen(own), &wrong) == EIP_DONE, "an adapter with an object of its maker's own");
+    check(eip_request(&device, (uint32_t)OWNER, request, sizeof request, out, ROOM, &size) == EIP_DONE, "a request to it");
+    check(eip_respond(&device, 0x100000001, 0, NULL, 0, out, ROOM, &size) == EIP_NOT_ALLOWED_NOW, "an answer with another upper half");
+    check(eip_respond(&device, 1, 0, NULL, 0, out, ROOM, &size) == EIP_DONE && is_answer(EIP_ITEM_REPLY, reply, sizeof reply), "its answer");
+    eip_free(&device);
+}
+
 int main(void)
 {
     check_wakes();
     check_points();
     check_two();
     check_life();
+    check_asked();
     return failed;
 }
