@@ -198,8 +198,10 @@ def run_long_record(bench, *options, meanwhile=lambda: None):
         calls = 100 * (turn + 1)
         wait(lambda: len(adapter.lines()) > calls, "the calls are taken", 30)
     feeder.stop()
+    stopped = time.time()
     meanwhile()
     sure(adapter.end() == 0, "an adapter that records 18 MB ends with status 0")
+    ended = time.time()
     sizes = [os.path.getsize(it) if os.path.exists(it) else 0 for it in (first, second)]
     sure(sizes[0] <= FILE_BYTES and sizes[1] > 0 and sum(sizes) > FILE_BYTES, f"a full file is followed by FILE.2: {sizes}")
     printed = replays(bench, "the record of two files", first, second)
@@ -217,13 +219,13 @@ def run_long_record(bench, *options, meanwhile=lambda: None):
     sure(abs((from_time - begin).total_seconds()) < 10, f"its first line has the time: {line.strip()}")
     told = run(bench.program, "explain", first, second)
     sure(told.returncode == 0 and b"Forward_Open" in told.stdout, "both files are told in words")
-    run_pcap(bench, begin.timestamp(), first, second)
+    run_pcap(bench, (begin.timestamp(), stopped, ended), first, second)
     limit = lambda: resource.setrlimit(resource.RLIMIT_AS, (LITTLE_MEMORY, LITTLE_MEMORY))
     done = run(bench.program, "replay", first, second, preexec_fn=limit)
     sure(done.returncode == 0 and done.stdout == printed, f"the replay of {sum(sizes)} bytes takes less than {LITTLE_MEMORY} bytes of memory")
 
 
-def run_pcap(bench, begin, *files):
+def run_pcap(bench, moments, *files):
     done = run(bench.program, "pcap", *files)
     need(done.returncode == 0, f"pcap has status {done.returncode}: {done.stderr.decode().strip()}")
     times, at = [], 24
@@ -233,8 +235,10 @@ def run_pcap(bench, begin, *files):
         times, at = times + [seconds + micro / 1e6], at + 16 + length
     need(at == len(done.stdout) and len(times) > 10, f"pcap: {len(times)} whole packets")
     need(times == sorted(times), "pcap: its packets are in the order of their times")
-    sure(abs(times[0] - begin) < 10 and abs(times[-1] - time.time()) < 60, f"pcap has the time of day: {len(times)} packets from "
-         f"{times[0]:.3f} to {times[-1]:.3f}")
+    # (an owner sends until it stops, and is answered until its time-out)
+    begin, stopped, ended = moments
+    sure(begin - 1 < times[0] and stopped - 10 < times[-1] < ended + 1, f"pcap has the time of day: {len(times)} packets from {times[0]:.3f} to "
+         f"{times[-1]:.3f}, of a run from {begin:.3f} to {ended:.3f}")
 
 
 def run_later_record(bench):

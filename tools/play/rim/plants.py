@@ -117,6 +117,16 @@ def run_plant(bench):
     sure(status == 0 and said.startswith("settled: 10 records, "), f"the records of ten devices settle: {said}")
 
 
+def hung(bench, device):
+    """A plant whose device is paused for a minute, and whose input has ended; and when that was."""
+    plant = Plant(bench, device, log="hung")
+    until(lambda: any("adapter at" in line for line in plant.said()), "a device lives")
+    plant.call(f"a pause {PAUSE_MS}", "a status")
+    time.sleep(0.2)
+    plant.process.stdin.close()
+    return plant, time.monotonic()
+
+
 def run_plant_scripts(bench):
     """What scripts do: a cut, a pause, restarts with the next incarnation and with the same one, losses, and bytes that nobody
     sends."""
@@ -125,6 +135,8 @@ def run_plant_scripts(bench):
     os.makedirs(bench.file("scripts"), exist_ok=True)
     for life in 2, 3:
         bench.write_exactly(f"scripts/adapter-0.{life}.trace", "of an earlier run\n")
+    profiles(bench, 3, 1)
+    paused, begin = hung(bench, f"device a plant_adapter.profile {bench.network.extra[9]}\n")
     plant = begun(bench, 3, 1, lambda name: told.get(name, ""), log="scripts")
     until(lambda: sum(" life " in line and "adapter-2: " in line for line in plant.said()) == 3, "a device restarts twice")
     time.sleep(0.5)
@@ -144,6 +156,8 @@ def run_plant_scripts(bench):
     sure(cut >= opened, f"a cut ends each stream that is open, before anything else comes over one: {sorted(cut)} of {sorted(opened)}")
     paths = replays(bench, "scripts")
     sure(len(paths) == 8, f"five devices have eight lives, and no record of an earlier run is left")
+    status = paused.status(2 * STEPS_S)
+    sure(time.monotonic() - begin < 2 * STEPS_S, f"a plant does not wait without end for a device that hangs: status {status}")
 
 
 def streams_cut(trace):
@@ -244,22 +258,11 @@ def run_plant_sends(bench):
     bench.clear()
 
 
-def hung(bench, device):
-    """A plant whose device is paused for a minute, and whose input has ended; and when that was."""
-    plant = Plant(bench, device, log="hung")
-    until(lambda: any("adapter at" in line for line in plant.said()), "a device lives")
-    plant.call(f"a pause {PAUSE_MS}", "a status")
-    time.sleep(0.2)
-    plant.process.stdin.close()
-    return plant, time.monotonic()
-
-
 def run_plant_files(bench):
-    """Files that are no plants, and words that are wrong; and a plant that does not wait for its device without end."""
+    """Files that are no plants, and words that are wrong; and the port of a device that restarts is taken."""
     profiles(bench, 1, 0)
     nodes = bench.network.extra
     device = f"device a plant_adapter.profile {nodes[0]}\n"
-    paused, begin = hung(bench, f"device a plant_adapter.profile {nodes[2]}\n")
     for name, text, status, words in [
         ("unknown", f"{device}dance\n", 3, "line 2"), ("call", f"{device}at 5 dance\n", 3, "line 2"), ("twice", f"{device}{device}", 3, "line 2"),
         ("none", "# nothing\n", 3, ""), ("no_profile", "device a missing.profile\n", 3, "missing.profile cannot be read"),
@@ -279,8 +282,6 @@ def run_plant_files(bench):
     plant = Plant(bench, f"seconds 1\n{device}", "--no-input", log="seconds")
     sure(plant.status() == 0, "a plant whose file says its seconds ends by itself")
     run_taken_port(bench, device)
-    status = paused.status(2 * STEPS_S)
-    sure(time.monotonic() - begin < 2 * STEPS_S, f"a plant does not wait without end for a device that hangs: status {status}")
 
 
 def run_taken_port(bench, device):

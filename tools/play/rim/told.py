@@ -1,7 +1,7 @@
 """What a reader of a station's lines holds: outputs and images are told again until they are taken, at the begin of a life and at its end."""
 
 import os, random, signal, subprocess, threading, time
-from rim.host import Pipe, listens, need, sure, until, usual, wait
+from rim.host import Pipe, Untried, listens, need, sure, until, usual, wait
 from rim.lives import script_words
 from rim.outputs import LOST_OUT, replays
 from rim.peers import INPUT_ONLY, POINT_TO_POINT, Originator, served
@@ -10,6 +10,7 @@ WIDE = "adapter 16 {adapter} 255.255.255.0 1 12 7 2 3\noutput 150 1400 zero zero
 WIDE_DATA, WIDE_ZEROS = "11223344" * 350, "00000000" * 350
 RUN_DATA, ZEROS = "11223344", "00000000"
 PAUSES_MS = (1, 4)
+FILL_S = 40
 MOST_TEXTS = 4096  # the queue of an output has so many
 
 
@@ -60,6 +61,15 @@ class Stranger:
         self.thread.join()
 
 
+def filled(stranger):
+    """A stranger has opened and closed so often that the queue of the output is full: each time takes two texts or more."""
+    end = time.monotonic() + FILL_S
+    while stranger.opened <= MOST_TEXTS // 2:
+        if time.monotonic() > end:
+            raise Untried(f"this machine let a stranger open no more than {stranger.opened} times in {FILL_S} s")
+        time.sleep(0.01)
+
+
 def run_slow_reader(bench):
     """The owner of an output stops while a stranger opens and closes, and lines are read slowly."""
     bench.write("wide.profile", WIDE)
@@ -70,7 +80,7 @@ def run_slow_reader(bench):
     feeder = bench.later(owner.feed(owner.open(out_len=1400), WIDE_DATA))
     wait(lambda: watch.read(150) == WIDE_DATA, "the owner's data reach the output")
     stranger = Stranger(bench)
-    wait(lambda: stranger.opened > MOST_TEXTS, "the queue of the output is full", 60)
+    filled(stranger)
     reader = bench.later(SlowReader(out))
     held = lambda: reader.held.get(("output", "150"))
     wait(lambda: held() == WIDE_DATA, "the reader has the run data")

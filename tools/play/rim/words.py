@@ -7,7 +7,7 @@ from rim.peers import INPUT_ONLY, MULTICAST, POINT_TO_POINT, Originator, Silent,
 
 CALLS = ["write POINT HEX", "read POINT", "mode run", "mode idle", "start SLOT", "stop SLOT",
          "get NODE CLASS INSTANCE ATTRIBUTE", "set NODE CLASS INSTANCE ATTRIBUTE HEX", "explicit NODE NUMBER HEX", "answer NUMBER STATUS HEX", "status"]
-TRIES_S = 2.5  # seconds: the first tries wait 1 s each (rule 24.4)
+TRIES_S = 1.5  # seconds, in which there is another try: the first ones wait 1 s each (rule 24.4)
 MUTE = "scanner 32 {owner} 1 101 1000 1000\nslot {adapter} input - 152 100 0 4 10000 10000 2 multicast - -\n"
 FED = "slot {adapter} input - 152 100 0 4 10000 10000 2 p2p - -\n"
 
