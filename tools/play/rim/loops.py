@@ -2,7 +2,7 @@
 
 import contextlib, errno, socket, struct, subprocess, threading, time
 from rim.calls import CallFaults
-from rim.host import first_in_line, free_port, need, sure, usual, wait
+from rim.host import Untried, first_in_line, free_port, need, sure, usual, wait
 from rim.peers import EXCLUSIVE, POINT_TO_POINT, REGISTER, originator, served
 from rim.sockets import NOTHING, is_joined, sockets_of, streams_of
 
@@ -10,6 +10,7 @@ HERE = "127.0.0.1"
 TURNS = 1_000_000  # more than any of these runs makes
 OWNED = (1, (0x0106,))  # the status of an opening whose output another connection owns
 WATCHED = 11.5  # seconds: a connection whose first data do not come ends after 10
+TIME_OUT_S = 0.16  # of a connection of a line: 16 packet intervals of 10 ms
 TRIES = 4
 PATIENCE = 60.0
 STREAMS = 16  # of an adapter; the scanner of the line has one of them
@@ -56,6 +57,11 @@ class Loop:
     def is_running(self):
         return self.process.poll() is None
 
+    def kept(self):
+        """The seconds for which the line was ready and had no processor, so far."""
+        with open(f"/proc/{self.process.pid}/schedstat") as file:
+            return int(file.read().split()[1]) / 1e9
+
     def ended(self):
         """The status, and what was said on standard error."""
         said = self.process.communicate(timeout=10)[1].decode().strip()
@@ -73,6 +79,7 @@ class Watch:
 
     def __init__(self, lines):
         self.lines, self.fault, self.looks = lines, None, 0
+        self.before = [line.kept() for line in lines]
         self.thread = threading.Thread(target=self.look, daemon=True)
         self.thread.start()
 
@@ -90,6 +97,10 @@ class Watch:
     def join(self):
         self.thread.join()
         return self.fault
+
+    def kept(self):
+        """The longest time for which a line was kept from the processor meanwhile, in seconds."""
+        return max(line.kept() - before for line, before in zip(self.lines, self.before))
 
 
 # PEERS
@@ -239,6 +250,8 @@ def run_lines(bench):
     while fault and tries < TRIES:  # (on a busy machine a connection times out; without data each one does, in each try)
         watch, tries = Watch(watch.lines), tries + 1
         fault = watch.join()
+    if fault and watch.kept() >= TIME_OUT_S:
+        raise Untried(f"this machine kept a line from the processor for {watch.kept():.2f} s, and its time-out is {TIME_OUT_S} s: {fault}")
     sure(fault is None, f"two lines at once: each owner keeps its output for {WATCHED} s, {watch.looks} looks {fault or ''}")
     bench.clear()
 

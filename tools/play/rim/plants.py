@@ -320,6 +320,17 @@ def devices_shown(bench, count):
     return text.partition(b"event: station\n")[2].split(b"\n")[0], shown
 
 
+def run_plant_turns(bench):
+    """Forty devices of a page have something new all the time, more than it tells: they take turns."""
+    nodes, count = bench.network.extra, len(bench.network.extra)
+    bench.write_exactly("turns.profile", SCANNER.format(node=nodes[0], number=100) + READ.format(node=bench.address["reader"]))
+    plant = Plant(bench, "".join(f"device s{at} turns.profile {nodes[at]}\n  every 20 mode run\n" for at in range(count)), "--page", str(PORT), log="turns")
+    until(lambda: sum("scanner at" in line for line in plant.said()) == count, f"{count} devices live")
+    _, shown = devices_shown(bench, count)
+    sure(shown == set(range(count)), f"each of {count} devices is shown, and {len(shown)} are")
+    need(plant.end() == 0, "the plant ends with status 0")
+
+
 def run_plant_page(bench):
     """The page of a plant has all devices, and hands calls on by their names."""
     plant = begun(bench, 3, 1, lambda name: "", "--page", str(PORT), "--page-writes", log="paged")
