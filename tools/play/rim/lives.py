@@ -1,6 +1,6 @@
 """Many lives of a station: nothing of one is taken for another's. Who a station says that it is."""
 
-import os, re, shutil, signal, socket, struct, subprocess, time
+import contextlib, os, re, shutil, signal, socket, struct, subprocess, time
 from rim.host import ADAPTER, TOP, Station, free_port, listens, need, run, sure, until, wait
 from rim.peers import Originator, originator, served
 
@@ -14,10 +14,10 @@ MARK = "EIP_TEST_FOLDER"  # names a variable of the environment, by which proces
 
 
 def incarnation_of(trace):
-    """The incarnation of a record's profile."""
-    with open(trace) as file:
+    """The incarnation of a record's profile, or of a state; None before it is there. (A station's port is open before its record begins.)"""
+    with contextlib.suppress(FileNotFoundError), open(trace) as file:
         for line in file:
-            if line.split()[:1] in (["adapter"], ["scanner"]):
+            if line.split()[:1] in (["adapter"], ["scanner"], ["incarnation"]):
                 return int(line.split()[1])
 
 
@@ -98,7 +98,7 @@ def run_counting(bench):
     for life in range(3):
         trace = bench.file(f"count{life}.trace")
         adapter = bench.adapter("--record", trace, log="count")
-        wait(lambda: incarnation_of(trace), "the record has its profile")
+        wait(lambda: incarnation_of(trace) and incarnation_of(trace) == incarnation_of(state), "the record has its profile, and the start is counted")
         seen.append(incarnation_of(trace))
         adapter.kill()
     with open(state) as file:

@@ -275,7 +275,7 @@ def run_strangers_bytes(bench):
     with bench.network.inside("peer"):
         udp = bench.later(socket.socket(socket.AF_INET, socket.SOCK_DGRAM))
         udp.bind((bench.network.extra[3], 0))
-    wait(lambda: os.path.getsize(trace) > 0, "the record begins")
+    wait(lambda: os.path.exists(trace) and os.path.getsize(trace) > 0, "the record begins")
     before = os.path.getsize(trace)
     unknown = struct.pack("<HHHIIHH", 2, 0x8002, 8, 77, 1, 0xB1, 1400) + bytes(1400)
     for _ in range(100):

@@ -197,6 +197,10 @@ def run_plant_times(bench):
          f"in front of it too: the scanner sees both at {restarted} and {other} ms")
     after = [line for line in plant.of("scanner-0") if line.endswith(f" image 0 {own}")]
     need(len(after) <= 1, f"a line of the script that was taken is not taken in the next life: {after}")
+    opened = noted(plant, 2, "opened")
+    plant.call("scanner-0 restart")
+    until(lambda: noted(plant, 2, "opened") >= opened + 2, "a scanner loses its power, and opens its slots again")
+    sure(noted(plant, 2, "closed") == 0, "it closes no connection first")
     sure(plant.end() == 0, "the plant ends with status 0")
     bench.clear()
 

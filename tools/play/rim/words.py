@@ -89,22 +89,20 @@ def run_states(bench):
 
 
 def run_scanner_lines(bench):
+    """What a scanner says of a target that refuses its streams, refuses a session, serves, and goes."""
     peer = re.escape(bench.address["peer"])
-    refuses = rf"eip_station: {peer} refuses a stream; the next try is in \d+ s"
+    refuses = re.compile(rf"eip_station: {peer} refuses a stream; the next try is in 1 s")
     station = bench.scanner("owner", profile="single", log="nobody")
-    line_of(station, refuses)
+    told = lambda: sum(bool(refuses.fullmatch(line)) for line in station.said())
+    line_of(station, refuses.pattern)
     time.sleep(TRIES_S)
-    told = [line for line in station.said() if re.fullmatch(refuses, line)]
-    sure(len(told) == 1, f"a target that refuses each stream is said once, and not at each try: {told}")
-    need(station.end() == 0, "it ends with status 0")
-    bench.clear()
+    sure(told() == 1, f"a target that refuses each stream is said once, and not at each try: {station.said()}")
     moods = Target(bench, lambda kind, before, _: "refuse" if kind[0] == 0x65 and before == 0 else "serve")
-    station = bench.scanner("owner", profile="single", log="refused")
     line_of(station, rf"eip_station: stream \d+ of {peer} ended: its session was refused")
     wait(station.is_established, "the scanner is established")
     moods.stop()
     line_of(station, rf"eip_station: stream \d+ of {peer} ended: its peer cut it")
-    line_of(station, refuses)
+    until(lambda: told() == 2, "that it refuses each stream is said again behind the good one")
     need(station.end() == 0, "it ends with status 0")
     bench.clear()
 
