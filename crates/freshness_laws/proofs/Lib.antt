@@ -1,0 +1,11 @@
+mod Lists
+mod Clocks
+mod Ahead
+mod WatchSteps
+mod WatchRuns
+mod OutputSteps
+mod OutputRuns
+mod ScannerClocks
+mod ImageSteps
+mod ImageRuns
+mod Samples

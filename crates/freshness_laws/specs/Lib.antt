@@ -1,0 +1,4 @@
+pub mod Passing
+pub mod InTime
+pub mod Outputs
+pub mod Images
