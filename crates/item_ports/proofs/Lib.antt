@@ -1,2 +1,3 @@
 pub mod Messages
+mod Alone
 mod Samples

@@ -5,7 +5,7 @@ ghost use Rattle.std.specs.Option.{option_map};
 ghost use Rattle.item_ports.specs.Editing.{head, takes_item, with_item, without_item};
 
 use crate::bytes::behind;
-use crate::named::{BEFORE_REQUEST, ITEM_BYTES, MOST_BYTES};
+use crate::named::{BEFORE_REQUEST, COUNT_AT, ITEM_BYTES, MOST_BYTES};
 use crate::opening::opening_len;
 use cip_encap::{HEADER_LEN, SocketAddress, put_socket};
 use cip_types::fields::{put_bytes, put_u16, u16_in};
@@ -14,9 +14,6 @@ use std::alloc::Global;
 
 /// The bytes of a message up to the number of its items, this among them.
 const BEFORE_HEADS: usize = 32;
-
-/// The position of the number of items.
-const COUNT_AT: usize = 30;
 
 /// The items of a request, and the one that names its port.
 const ITEMS_WITH_PORT: u16 = 3;

@@ -21,6 +21,12 @@ pub(crate) const BEFORE_REQUEST: usize = 40;
 /// Volume 2, chapter 2, socket address item.
 pub(crate) const ITEM_BYTES: usize = 20;
 
+/// The position of the number of items in a message.
+pub(crate) const COUNT_AT: usize = 30;
+
+/// The items of a message without one behind its request: the null address item, and the data item.
+const ITEMS_ALONE: u16 = 2;
+
 /// A message with a request and an item has no fewer bytes.
 const LEAST_BYTES: usize = 64;
 
@@ -51,6 +57,10 @@ pub fn named_port(message: &[u8]) -> Option<NamedPort>
     ensures most { IfSome result (λ _. length message.now ≤ 2072) }
 {
     if message.len() < LEAST_BYTES || message.len() > MOST_BYTES {
+        return None;
+    }
+    // (most requests have no item behind them; their device alone reads them)
+    if u16_in(message, COUNT_AT) == ITEMS_ALONE {
         return None;
     }
     let len = opening_len(message)?;

@@ -135,6 +135,10 @@ impl ItemPorts {
         ensures requested_kept { self.new.requested ≡ self.old.requested }
     {
         let named = requested_on(stream, self.requested);
+        // (where no originator has named a port, no reply is read)
+        if named.is_none() && self.held.is_empty() {
+            return Ok(());
+        }
         match peer {
             Some(peer) => note_reply(&mut self.held, peer, named, reply_outcome(message)),
             None => Ok(()),
