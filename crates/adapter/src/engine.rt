@@ -21,11 +21,11 @@ use adapter_objects::{ObjectRequest, OwnRequest, own_request};
 use adapter_replies::{Route, unserved_answer};
 use adapter_state::AdapterState;
 use cip_tables::{
-    Answer, Config, ConnectionReport, ConsumerCounts, Delivery, Device, DeviceTable, DeviceTotals,
-    Event, NewFault, Outcome, RouterRequest, SlotReport, StepFault, TableCopy, Verdict,
-    read_router_request,
+    Answer, AnyConnection, Class3Report, Config, ConnectionReport, ConsumerCounts, Delivery,
+    Device, DeviceTable, DeviceTotals, Event, NewFault, Outcome, RouterRequest, SlotReport,
+    StepFault, StreamReport, TableCopy, Verdict, read_router_request,
 };
-use cip_types::{Ms, Node, OutOfMemory};
+use cip_types::{Ms, Node, OutOfMemory, Triad};
 use connection_list::ConnectionTable;
 use std::alloc::Global;
 use std::marker::Model;
@@ -197,8 +197,20 @@ impl<T: ConnectionTable> Device for Adapter<T> {
         self.state.connection(place)
     }
 
+    fn class3_connection(&self, place: u32) -> Option<Class3Report> {
+        self.state.class3_connection(place)
+    }
+
+    fn connection_of(&self, triad: Triad) -> Option<AnyConnection> {
+        self.state.connection_of(triad)
+    }
+
     fn slot(&self, _number: u32) -> Option<SlotReport> {
         None
+    }
+
+    fn stream(&self, place: u32) -> Option<StreamReport> {
+        self.state.stream(place)
     }
 
     fn totals(&self) -> DeviceTotals {

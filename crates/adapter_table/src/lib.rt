@@ -25,7 +25,10 @@ pub use profile::{Action, Description, InputPoint, OutputPoint, Profile};
 pub use profile_check::{
     LARGEST_CLASS, LONGEST_INACTIVITY, MOST_OWN_CLASSES, PHYSICAL_ADDRESS, is_free_class,
 };
-pub use report::{ConnectionReport, ConsumerCounts, consumes, report_of};
+pub use report::{
+    AnyConnection, Class3Report, ConnectionReport, ConsumerCounts, class3_report, consumes,
+    report_of,
+};
 pub use row::{Connection, Mode, Row, State};
 pub use rows::{
     drives, has_triad, holds_triad, is_established, is_member, is_of_kind, is_of_node,

@@ -1,20 +1,26 @@
 //! What an adapter says of its connections.
 
 ghost use Rattle.std.specs.Prelude.{◌≡◌, ◌≤◌, ◌^◌};
-ghost use Rattle.adapter_table.specs.States.{report_of, consumes};
+ghost use Rattle.adapter_table.specs.States.{class3_report, report_of, consumes};
 
 use crate::row::{Mode, Row};
 use crate::rows::is_established;
 use cip_productions::{Age, Kind, age_of};
-use cip_types::{Ms, Node};
+use cip_types::{ConnId, Ms, Node, Triad};
+use messaging::Class3Connection;
 
-/// What is known of a connection of an adapter.
+/// What is known of a class 1 connection of an adapter.
 ///
 /// Volume 1, chapter 3, connection object instance attributes.
 #[derive(Clone, Copy, PartialEq, Eq)]
 pub struct ConnectionReport {
+    pub triad: Triad,
     /// The originator.
     pub peer: Node,
+    /// The connection id of the datagrams that it accepts.
+    pub o_t_id: ConnId,
+    /// The connection id of the datagrams that are produced for it.
+    pub t_o_id: ConnId,
     pub kind: Kind,
     /// The point that it consumes: an output, or a heartbeat.
     pub consumed: u32,
@@ -33,6 +39,37 @@ pub struct ConnectionReport {
     pub age: Age,
 }
 
+/// What is known of a class 3 connection of an adapter.
+///
+/// Volume 1, chapter 3, connection object instance attributes and transport class 3.
+#[derive(Clone, Copy, PartialEq, Eq)]
+pub struct Class3Report {
+    pub triad: Triad,
+    /// The originator.
+    pub peer: Node,
+    /// The stream that it lives on.
+    pub stream: u16,
+    /// The connection id of its requests.
+    pub o_t_id: ConnId,
+    /// The connection id of their replies.
+    pub t_o_id: ConnId,
+    /// The actual packet interval from originator to target, in milliseconds.
+    pub o_t_api_ms: u32,
+    /// The actual packet interval from target to originator, in milliseconds.
+    pub t_o_api_ms: u32,
+}
+
+/// A connection of an adapter, of either class.
+///
+/// Volume 1, chapter 3, transport classes.
+#[derive(Clone, Copy, PartialEq, Eq)]
+pub enum AnyConnection {
+    /// One of class 1: implicit messages, as datagrams.
+    Class1(ConnectionReport),
+    /// One of class 3: explicit messages, over its stream.
+    Class3(Class3Report),
+}
+
 /// How many established connections consume an input, by their kinds.
 #[derive(Clone, Copy, PartialEq, Eq)]
 pub struct ConsumerCounts {
@@ -48,7 +85,10 @@ pub fn report_of(row: &Row, clock: Ms) -> ConnectionReport
     ensures { result ≡ report_of clock row.now }
 {
     ConnectionReport {
+        triad: row.triad,
         peer: row.peer,
+        o_t_id: row.o_t_id,
+        t_o_id: row.t_o_id,
         kind: row.kind,
         consumed: row.consumed,
         produced: row.produced,
@@ -57,6 +97,21 @@ pub fn report_of(row: &Row, clock: Ms) -> ConnectionReport
         t_o_api_ms: row.t_o_api_ms,
         mode: row.mode,
         age: age_of(clock, row.last, row.watchdog, row.deadline),
+    }
+}
+
+/// What is known of a class 3 connection. Takes no memory.
+pub fn class3_report(connection: &Class3Connection) -> Class3Report
+    ensures { result ≡ class3_report connection.now }
+{
+    Class3Report {
+        triad: connection.triad,
+        peer: connection.peer,
+        stream: connection.stream,
+        o_t_id: connection.o_t_id,
+        t_o_id: connection.t_o_id,
+        o_t_api_ms: connection.o_t_api_ms,
+        t_o_api_ms: connection.t_o_api_ms,
     }
 }
 

@@ -2,11 +2,12 @@
 
 use crate::copy::TableCopy;
 use crate::device::Device;
+use crate::streams::StreamReport;
 use crate::table::Config;
 use crate::totals::DeviceTotals;
-use adapter_table::{ConnectionReport, ConsumerCounts};
+use adapter_table::{AnyConnection, Class3Report, ConnectionReport, ConsumerCounts};
 use cip_events::{Delivery, Event, NewFault, Outcome, StepFault};
-use cip_types::{Ms, Node, OutOfMemory};
+use cip_types::{Ms, Node, OutOfMemory, Triad};
 use scanner_table::SlotReport;
 use std::alloc::Global;
 
@@ -105,10 +106,31 @@ impl<A: Device, S: Device> Device for AnyDevice<A, S> {
         }
     }
 
+    fn class3_connection(&self, place: u32) -> Option<Class3Report> {
+        match self {
+            AnyDevice::Adapter(device) => device.class3_connection(place),
+            AnyDevice::Scanner(device) => device.class3_connection(place),
+        }
+    }
+
+    fn connection_of(&self, triad: Triad) -> Option<AnyConnection> {
+        match self {
+            AnyDevice::Adapter(device) => device.connection_of(triad),
+            AnyDevice::Scanner(device) => device.connection_of(triad),
+        }
+    }
+
     fn slot(&self, number: u32) -> Option<SlotReport> {
         match self {
             AnyDevice::Adapter(device) => device.slot(number),
             AnyDevice::Scanner(device) => device.slot(number),
+        }
+    }
+
+    fn stream(&self, place: u32) -> Option<StreamReport> {
+        match self {
+            AnyDevice::Adapter(device) => device.stream(place),
+            AnyDevice::Scanner(device) => device.stream(place),
         }
     }
 

@@ -4,7 +4,7 @@ ghost use Rattle.std.specs.Prelude.{◌≡◌, ◌≢◌, ◌≤◌, Bool, false
 ghost use Rattle.cip_tables.specs.declared.table.Config.{Config};
 ghost use Rattle.cip_tables.specs.declared.table.DeviceTable.{DeviceTable};
 ghost use Rattle.cip_tables.specs.Step.{step, opening_table, config_fault, bytes_in, produces_at_once, no_such, is_datagram};
-ghost use Rattle.cip_tables.specs.States.{owner_in, consumers_in, connection_in, slot_in, totals_of};
+ghost use Rattle.cip_tables.specs.States.{owner_in, consumers_in, connection_in, class3_in, connection_with, slot_in, stream_in, totals_of};
 ghost use Rattle.cip_tables.specs.Wakes.{IsQuietFor, due_in};
 ghost use Rattle.cip_events.specs.Answers.{plain_answer, value_answer};
 ghost use Rattle.cip_events.specs.Clock.{longest_tick};
@@ -15,11 +15,12 @@ ghost use Rattle.cip_tables.specs.Whole.{IsWholeDevice};
 ghost use Rattle.cip_events.specs.Faults.{IsRefusedAs};
 
 use crate::copy::TableCopy;
+use crate::streams::StreamReport;
 use crate::table::Config;
 use crate::totals::DeviceTotals;
-use adapter_table::{ConnectionReport, ConsumerCounts, laws};
+use adapter_table::{AnyConnection, Class3Report, ConnectionReport, ConsumerCounts, laws};
 use cip_events::{Delivery, Event, NewFault, Outcome, StepFault, Verdict};
-use cip_types::{Ms, Node, OutOfMemory};
+use cip_types::{Ms, Node, OutOfMemory, Triad};
 use scanner_table::{SlotReport, steps_keep_tables_whole};
 use std::alloc::Global;
 
@@ -89,15 +90,30 @@ pub trait Device {
     fn consumers(&self, input: u32) -> ConsumerCounts
         ensures { result ≡ consumers_in (table self.now) input };
 
-    /// The connection of an adapter at a place of the opening order, from 0 on, timed-out ones included. None behind
-    /// the last one, and at a scanner. Takes no memory.
+    /// The class 1 connection of an adapter at a place of the opening order, from 0 on, timed-out ones included. None
+    /// behind the last one, and at a scanner. Takes no memory.
     fn connection(&self, place: u32) -> Option<ConnectionReport>
         ensures { result ≡ connection_in (table self.now) place };
+
+    /// The class 3 connection of an adapter at a place of the opening order, from 0 on. None behind the last one, and
+    /// at a scanner. Takes no memory.
+    fn class3_connection(&self, place: u32) -> Option<Class3Report>
+        ensures { result ≡ class3_in (table self.now) place };
+
+    /// The connection of an adapter that has this triad, as a notice names it: one of class 1, timed-out ones
+    /// included, or one of class 3. None if there is none, and at a scanner. Takes no memory.
+    fn connection_of(&self, triad: Triad) -> Option<AnyConnection>
+        ensures { result ≡ connection_with (table self.now) triad };
 
     /// The state of a scanner's slot, and of an established one the packet intervals and the age of its data. None if
     /// there is no such slot, and at an adapter. Takes no memory.
     fn slot(&self, number: u32) -> Option<SlotReport>
         ensures { result ≡ slot_in (table self.now) number };
+
+    /// The open stream at a place of the order in which they were opened, from 0 on, with its session. None behind the
+    /// last one. Takes no memory.
+    fn stream(&self, place: u32) -> Option<StreamReport>
+        ensures { result ≡ stream_in (table self.now) place };
 
     /// How many streams, sessions, and connections of class 1 and 3 there are, and how many connection ids are left. Takes
     /// no memory.

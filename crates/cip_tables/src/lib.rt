@@ -7,12 +7,14 @@ mod any_device;
 mod copy;
 mod device;
 pub mod laws;
+mod streams;
 mod table;
 mod totals;
 
 pub use adapter_table::{
-    Action, AdapterTable, Admission, ConnectionReport, ConsumedPoint, ConsumerCounts, InputPoint,
-    MakerLimits, Mode, NodeLimits, OutputPoint, Places, PointValue, Profile, Row, State, Stream,
+    Action, AdapterTable, Admission, AnyConnection, Class3Report, ConnectionReport, ConsumedPoint,
+    ConsumerCounts, InputPoint, MakerLimits, Mode, NodeLimits, OutputPoint, Places, PointValue,
+    Profile, Row, State, Stream,
 };
 pub use any_device::AnyDevice;
 pub use cip_events::{
@@ -29,5 +31,6 @@ pub use scanner_table::{
     PendingClose, PendingOpen, ScannerProfile, ScannerTable, Session, Slot, SlotConfig,
     SlotConnection, SlotReport, SlotState, Stage, TargetReport, TargetStream,
 };
+pub use streams::StreamReport;
 pub use table::{Config, DeviceTable};
 pub use totals::DeviceTotals;

@@ -9,10 +9,11 @@ pub use cip_encap::SocketAddress;
 pub use cip_events::Arrival;
 pub use cip_netparams::Trigger;
 pub use cip_tables::{
-    Action, Age, Answer, AnyDevice, Config, ConnectionReport, ConsumerCounts, Delivery, Device,
-    DeviceTotals, Event, Frame, InputPoint, Kind, MakerLimits, Mode, NewFault, NodeLimits, Notice,
-    Outcome, OutgoingDatagram, OutputPoint, Places, Profile, ProfileFault, Reason, Recipient,
-    ScannerProfile, SlotConfig, SlotReport, StepFault, TableCopy, TargetReport, Verdict, run,
+    Action, Age, Answer, AnyConnection, AnyDevice, Class3Report, Config, ConnectionReport,
+    ConsumerCounts, Delivery, Device, DeviceTotals, Event, Frame, InputPoint, Kind, MakerLimits,
+    Mode, NewFault, NodeLimits, Notice, Outcome, OutgoingDatagram, OutputPoint, Places, Profile,
+    ProfileFault, Reason, Recipient, ScannerProfile, SlotConfig, SlotReport, StepFault,
+    StreamReport, TableCopy, TargetReport, Verdict, run,
 };
 pub use cip_types::{ConnId, Fault, Identity, Items, Mismatch, Ms, Node, OutOfMemory, Triad};
 pub use device_lock::{Book, BookFault, History, LockedDevice, Receipt, Segment};

@@ -1,15 +1,22 @@
 -- Samples of what an adapter says of itself: the owner of an output, its mode and the age of its data, the connections
--- of an input, and totals.
+-- of an input and of a triad, streams, and totals.
 use Rattle.std.proofs.Common.{◌≡◌, refl, ℕ, true, false, List, [], ◌∷◌, ◌++◌, Option, Some, None}
 use Rattle.cip_events.specs.declared.event.Event.{Event}
 use Rattle.cip_events.specs.declared.event.Event.TheVariants.{Datagram, StreamOpened, Tick}
 use Rattle.cip_productions.specs.declared.age.Age.{Age}
 use Rattle.cip_productions.specs.declared.age.Age.TheVariants.{SinceOpening, SinceAccepted}
 use Rattle.cip_productions.specs.declared.kind.Kind.TheVariants.{ExclusiveOwner, InputOnly}
+use Rattle.adapter_table.specs.declared.report.AnyConnection.TheVariants.{Class1, Class3}
 use Rattle.adapter_table.specs.declared.report.ConnectionReport.{ConnectionReport}
 use Rattle.adapter_table.specs.declared.row.Mode.{Mode}
 use Rattle.adapter_table.specs.declared.row.Mode.TheVariants.{Idle, Run}
-use Rattle.cip_tables.specs.States.{owner_in, connection_in, consumers_in, slot_in, totals_of}
+use Rattle.adapter_table.specs.Step.{adapter_table}
+use Rattle.cip_tables.specs.States.{owner_in, connection_in, class3_in, connection_with, consumers_in, slot_in, stream_in, totals_of}
+use Rattle.cip_tables.specs.declared.table.DeviceTable.{DeviceTable}
+use Rattle.cip_tables.specs.declared.table.DeviceTable.TheVariants.{Adapter}
+use Rattle.cip_types.specs.declared.names.ConnId.{ConnId}
+use Rattle.cip_types.specs.declared.names.Triad.{Triad}
+use Rattle.messaging.specs.declared.class3.Class3Connection.{Class3Connection}
 use Rattle.samples.specs.Hex.{hex}
 use Rattle.samples.specs.Devices.{common, double, fresh, peer}
 use Rattle.samples.specs.Requests.{OpeningRequest, owner, gatherer, listener, consumer}
@@ -28,10 +35,20 @@ idles number count = Datagram peer (datagram 0x10000001 number count (idling (he
 abbrev owner_after : List Event → Option ConnectionReport
 owner_after events = owner_in (after common (opens owner ∷ events)) 150
 
--- the owner, with the mode of its newest data and their age
-abbrev owned : Option Mode → Age → Option ConnectionReport
-owned mode age = Some (record {
+-- the triad of the first originator with this serial number
+abbrev triad_of : ℕ → Triad
+triad_of serial = record { serial = serial; vendor = 0x1234; originator = 0x12345678 }
+
+abbrev id : ℕ → ConnId
+id number = record { 0 = number }
+
+-- the owner of this O->T id, with the mode of its newest data and their age
+abbrev owned_by : ℕ → Option Mode → Age → Option ConnectionReport
+owned_by number mode age = Some (record {
+  triad = triad_of 1;
   peer = peer;
+  o_t_id = id number;
+  t_o_id = id 0x20000001;
   kind = ExclusiveOwner;
   consumed = 150;
   produced = 100;
@@ -41,6 +58,10 @@ owned mode age = Some (record {
   mode = mode;
   age = age;
 })
+
+-- the first owner
+abbrev owned : Option Mode → Age → Option ConnectionReport
+owned mode age = owned_by 0x10000001 mode age
 
 abbrev since_opening : ℕ → Age
 since_opening ms = SinceOpening (record { 0 = ms })
@@ -113,8 +134,8 @@ an_old_one_says_nothing : owner_after (runs 2 2 ∷ Tick 7 ∷ idles 1 1 ∷ [])
 unfolding computing
 an_old_one_says_nothing = refl
 
--- a later owner begins without a mode
-the_next_owner_has_no_mode : owner_after (runs 1 1 ∷ closes peer owner ∷ opens owner ∷ []) ≡ owned None (since_opening 0)
+-- a later owner has an id of its own, and begins without a mode
+the_next_owner_has_no_mode : owner_after (runs 1 1 ∷ closes peer owner ∷ opens owner ∷ []) ≡ owned_by 0x10000002 None (since_opening 0)
 unfolding computing
 the_next_owner_has_no_mode = refl
 
@@ -125,7 +146,10 @@ slow = record owner { multiplier = 7; o_t_rpi = 10000000 }
 
 a_long_first_time_out : owner_in (after common (opens slow ∷ Tick 25 ∷ [])) 150
     ≡ Some (record {
+      triad = triad_of 1;
       peer = peer;
+      o_t_id = id 0x10000001;
+      t_o_id = id 0x20000001;
       kind = ExclusiveOwner;
       consumed = 150;
       produced = 100;
@@ -146,7 +170,10 @@ heartbeat = Datagram peer (datagram 0x10000002 1 1 [])
 -- a heartbeat has no mode
 the_second_connection : connection_in (after common (opens owner ∷ Tick 1 ∷ opens (consumer 7) ∷ heartbeat ∷ Tick 4 ∷ [])) 1
     ≡ Some (record {
+      triad = triad_of 7;
       peer = peer;
+      o_t_id = id 0x10000002;
+      t_o_id = id 0x20000002;
       kind = InputOnly;
       consumed = 152;
       produced = 100;
@@ -166,7 +193,10 @@ there_is_no_third = refl
 -- a timed-out connection remains until it is closed or replaced
 a_timed_out_one_remains : connection_in (after common (opens owner ∷ runs 1 1 ∷ Tick 160 ∷ [])) 0
     ≡ Some (record {
+      triad = triad_of 1;
       peer = peer;
+      o_t_id = id 0x10000001;
+      t_o_id = id 0x20000001;
       kind = ExclusiveOwner;
       consumed = 150;
       produced = 100;
@@ -178,6 +208,79 @@ a_timed_out_one_remains : connection_in (after common (opens owner ∷ runs 1 1 
     })
 unfolding computing
 a_timed_out_one_remains = refl
+
+-- ---- the connection of a triad
+
+-- a timed-out one too
+of_a_triad : connection_with (after common (opens owner ∷ runs 1 1 ∷ Tick 160 ∷ [])) (triad_of 1)
+    ≡ Some (Class1 (record {
+      triad = triad_of 1;
+      peer = peer;
+      o_t_id = id 0x10000001;
+      t_o_id = id 0x20000001;
+      kind = ExclusiveOwner;
+      consumed = 150;
+      produced = 100;
+      established = false;
+      o_t_api_ms = 10;
+      t_o_api_ms = 10;
+      mode = Some Run;
+      age = since_accepted 160;
+    }))
+unfolding computing
+of_a_triad = refl
+
+another_triad_has_none : connection_with (after common (opens owner ∷ [])) (triad_of 2) ≡ None
+unfolding computing
+another_triad_has_none = refl
+
+-- one of class 3, over stream 3
+abbrev explicit : Class3Connection
+explicit = record {
+  triad = triad_of 9;
+  peer = peer;
+  stream = 3;
+  o_t_id = id 0x10000005;
+  t_o_id = id 0x20000009;
+  o_t_api_ms = 1000;
+  t_o_api_ms = 2000;
+  o_t_size = 500;
+  t_o_size = 504;
+  watchdog = record { 0 = 4000 };
+  opening = 5;
+  last = Some 1;
+  reply = [];
+  deadline = record { 0 = 4000 };
+}
+
+abbrev with_explicit : DeviceTable
+with_explicit = Adapter (record (adapter_table common) { messaging = record { class3_connections = explicit ∷ []; waiting = []; next_number = 1 } })
+
+the_first_of_class_3 : class3_in with_explicit 0
+    ≡ Some (record { triad = triad_of 9; peer = peer; stream = 3; o_t_id = id 0x10000005; t_o_id = id 0x20000009; o_t_api_ms = 1000; t_o_api_ms = 2000 })
+the_first_of_class_3 = refl
+
+there_is_no_second : class3_in with_explicit 1 ≡ None
+there_is_no_second = refl
+
+a_triad_of_class_3 : connection_with with_explicit (triad_of 9)
+    ≡ Some (Class3 (record { triad = triad_of 9; peer = peer; stream = 3; o_t_id = id 0x10000005; t_o_id = id 0x20000009; o_t_api_ms = 1000; t_o_api_ms = 2000 }))
+a_triad_of_class_3 = refl
+
+-- ---- streams
+
+-- the handle of a session is one above the number of its stream
+abbrev one_session : DeviceTable
+one_session = Adapter (record (adapter_table common) { streams = record { number = 3; peer = peer; registered = false } ∷ record { number = 0; peer = peer; registered = true } ∷ [] })
+
+no_session_yet : stream_in one_session 0 ≡ Some (record { number = 3; peer = peer; session = None })
+no_session_yet = refl
+
+a_session : stream_in one_session 1 ≡ Some (record { number = 0; peer = peer; session = Some 1 })
+a_session = refl
+
+no_third_stream : stream_in one_session 2 ≡ None
+no_third_stream = refl
 
 -- ---- the connections of an input, by kinds
 

@@ -7,7 +7,7 @@ use Rattle.cip_productions.specs.declared.age.Age.TheVariants.{SinceOpening, Sin
 use Rattle.scanner_table.specs.declared.report.SlotReport.{SlotReport}
 use Rattle.scanner_table.specs.declared.report.SlotReport.TheVariants.{Idle, Opening, Established, TimedOut, Closing}
 use Rattle.cip_tables.specs.declared.table.DeviceTable.TheVariants.{Scanner}
-use Rattle.cip_tables.specs.States.{owner_in, slot_in, totals_of}
+use Rattle.cip_tables.specs.States.{owner_in, slot_in, stream_in, totals_of}
 use Rattle.samples.proofs.SmallScanner.{target, after, opened_frame, connected}
 use Rattle.samples.proofs.Scanners.{computing}
 
@@ -17,7 +17,14 @@ slot_after events = slot_in (Scanner (after connected events)) 0
 
 -- an open connection, both packet intervals of which are 10 ms
 abbrev open_for : Age → Option SlotReport
-open_for age = Some (Established (record { o_t_api_ms = 10; t_o_api_ms = 10; age = age }))
+open_for age = Some (Established (record {
+  triad = record { serial = 1; vendor = 0x1234; originator = 0x12345678 };
+  o_t_id = record { 0 = 0x10000001 };
+  t_o_id = record { 0 = 0x20000001 };
+  o_t_api_ms = 10;
+  t_o_api_ms = 10;
+  age = age;
+}))
 
 abbrev since_opening : ℕ → Age
 since_opening ms = SinceOpening (record { 0 = ms })
@@ -97,6 +104,12 @@ one_of_each = refl
 no_connection_yet : totals_of (Scanner (after connected (Start 0 ∷ []))) ≡ record { streams = 1; sessions = 1; connections = 0; class3_connections = 0; ids_left = 16777214 }
 unfolding computing
 no_connection_yet = refl
+
+-- ---- streams
+
+its_session : stream_in (Scanner connected) 0 ≡ Some (record { number = 0; peer = target; session = Some 1 })
+unfolding computing
+its_session = refl
 
 -- ---- a scanner has no outputs that are owned
 

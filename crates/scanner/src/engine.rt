@@ -2,10 +2,11 @@
 
 use crate::slots::ScannerSlots;
 use cip_tables::{
-    Config, ConnectionReport, ConsumerCounts, Delivery, Device, DeviceTable, DeviceTotals, Event,
-    NewFault, Outcome, SlotReport, StepFault, TableCopy,
+    AnyConnection, Class3Report, Config, ConnectionReport, ConsumerCounts, Delivery, Device,
+    DeviceTable, DeviceTotals, Event, NewFault, Outcome, SlotReport, StepFault, StreamReport,
+    TableCopy,
 };
-use cip_types::{Ms, Node, OutOfMemory};
+use cip_types::{Ms, Node, OutOfMemory, Triad};
 use scanner_data::{receive, slot_report};
 use scanner_slots::Hints;
 use scanner_table::{fresh_tables_are_whole, steps_keep_tables_whole};
@@ -128,8 +129,20 @@ impl<H: Hints> Device for Scanner<H> {
         None
     }
 
+    fn class3_connection(&self, _place: u32) -> Option<Class3Report> {
+        None
+    }
+
+    fn connection_of(&self, _triad: Triad) -> Option<AnyConnection> {
+        None
+    }
+
     fn slot(&self, number: u32) -> Option<SlotReport> {
         slot_report(&self.slots.profile, &self.slots.state, number)
+    }
+
+    fn stream(&self, place: u32) -> Option<StreamReport> {
+        self.slots.stream(place)
     }
 
     fn totals(&self) -> DeviceTotals {

@@ -1,14 +1,14 @@
 //! What a scanner says of its slots, its streams and its numbers.
 
 ghost use Rattle.std.specs.Prelude.{◌≡◌, length, filter};
-ghost use Rattle.cip_tables.specs.States.{totals_of};
+ghost use Rattle.cip_tables.specs.States.{handle_at, stream_in, target_stream, totals_of};
 ghost use Rattle.cip_tables.specs.declared.table.DeviceTable.{DeviceTable};
 ghost use Rattle.scanner_table.specs.States.{is_open, is_up};
 ghost use Rattle.scanner_table.specs.WellFormed.{IsWellFormed};
 ghost use Rattle.scanner.specs.Tables.{table_in};
 
 use crate::slots::ScannerSlots;
-use cip_tables::DeviceTotals;
+use cip_tables::{DeviceTotals, StreamReport};
 use cip_types::limits::IDS_PER_INCARNATION;
 use scanner_table::{Slot, SlotState, Stage, TargetStream};
 
@@ -47,7 +47,35 @@ fn up_count(streams: &[TargetStream]) -> usize
     streams.iter().filter(|stream| is_up(stream)).count()
 }
 
+/// Returns the handle of the session that is registered on a stream.
+fn handle_at(stage: Stage) -> Option<u32>
+    ensures { result ≡ handle_at stage }
+{
+    match stage {
+        Stage::Up(handle) => Some(handle),
+        Stage::Waiting | Stage::Unused => None,
+    }
+}
+
+/// Returns what is known of a stream.
+fn target_stream(stream: &TargetStream) -> StreamReport
+    ensures { result ≡ target_stream stream.now }
+{
+    StreamReport {
+        number: stream.number,
+        peer: stream.peer,
+        session: handle_at(stream.stage),
+    }
+}
+
 impl ScannerSlots {
+    /// Returns what is known of the stream at a place of the order in which they were opened. Takes no memory.
+    pub fn stream(&self, place: u32) -> Option<StreamReport>
+        ensures { result ≡ stream_in (DeviceTable.Scanner (table_in self.now)) place }
+    {
+        Some(target_stream(self.state.streams.get(place as usize)?))
+    }
+
     /// Returns how many streams, sessions and connections there are, and how many ids are left. Takes no memory.
     pub fn totals(&self) -> DeviceTotals
         requires { IsWellFormed (table_in self.now) }

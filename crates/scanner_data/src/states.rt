@@ -17,6 +17,9 @@ fn target_report(clock: Ms, connection: &SlotConnection) -> TargetReport
     ensures { result ≡ target_report clock connection.now }
 {
     TargetReport {
+        triad: connection.link.triad,
+        o_t_id: connection.link.o_t_id,
+        t_o_id: connection.link.t_o_id,
         o_t_api_ms: connection.o_t_api_ms,
         t_o_api_ms: connection.t_o_api_ms,
         age: age_of(

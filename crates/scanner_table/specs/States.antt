@@ -22,6 +22,9 @@ use Rattle.scanner_table.specs.Slots.{IndexedSlot, slot_at}
 -- what is known of an open connection at a time
 abbrev pub target_report : Ms → SlotConnection → TargetReport
 target_report clock c = record {
+  triad = c.link.triad;
+  o_t_id = c.link.o_t_id;
+  t_o_id = c.link.t_o_id;
   o_t_api_ms = c.o_t_api_ms;
   t_o_api_ms = c.t_o_api_ms;
   age = age_of clock c.last c.watchdog c.deadline;

@@ -1,12 +1,18 @@
 //! What a scanner says of its slots.
 
 use cip_productions::Age;
+use cip_types::{ConnId, Triad};
 
 /// What is known of an open connection of a slot.
 ///
 /// Volume 1, chapter 3, connection object instance attributes.
 #[derive(Clone, Copy, PartialEq, Eq)]
 pub struct TargetReport {
+    pub triad: Triad,
+    /// The connection id of the datagrams that the slot sends.
+    pub o_t_id: ConnId,
+    /// The connection id of the datagrams that the target sends.
+    pub t_o_id: ConnId,
     /// The actual packet interval from scanner to target, in milliseconds.
     pub o_t_api_ms: u32,
     /// The actual packet interval from target to scanner, in milliseconds.

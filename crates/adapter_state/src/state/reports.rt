@@ -1,18 +1,21 @@
 //! What an adapter says of itself.
 
 ghost use Rattle.std.specs.Prelude.{◌≡◌, ◌≤◌, filter, length};
-ghost use Rattle.adapter_table.specs.States.{connection_at, consumers_of, owner_of, is_registered};
+ghost use Rattle.adapter_table.specs.States.{class3_at, connection_at, connection_of, consumers_of, owner_of, is_registered};
 ghost use Rattle.cip_events.specs.Clock.{longest_tick};
 ghost use Rattle.cip_tables.specs.declared.table.DeviceTable.TheVariants as tables;
-ghost use Rattle.cip_tables.specs.States.{totals_of};
+ghost use Rattle.cip_tables.specs.States.{adapter_stream, stream_in, totals_of};
 ghost use Rattle.cip_tables.specs.Wakes.{IsQuietFor, due_in};
 
 use super::AdapterState;
-use adapter_table::{ConnectionReport, ConsumerCounts, report_of};
-use cip_tables::{DeviceTotals, Kind, Stream};
-use cip_types::Ms;
+use adapter_table::{
+    AnyConnection, Class3Report, ConnectionReport, ConsumerCounts, class3_report, report_of,
+};
+use cip_tables::{DeviceTotals, Kind, Stream, StreamReport};
 use cip_types::limits::{IDS_PER_INCARNATION, LONGEST_TICK_MS};
+use cip_types::{Ms, Triad};
 use connection_list::ConnectionTable;
+use session_streams::session_of;
 
 impl<T: ConnectionTable> AdapterState<T> {
     /// The established exclusive owner of an output. Takes no memory.
@@ -42,6 +45,32 @@ impl<T: ConnectionTable> AdapterState<T> {
         Some(report_of(&row, self.clock))
     }
 
+    /// The connection of class 3 at a place of the opening order. Takes no memory.
+    pub fn class3_connection(&self, place: u32) -> Option<Class3Report>
+        ensures { result ≡ class3_at self.now place }
+    {
+        let class3 = self.messaging.class3_connections().get(place as usize)?;
+        Some(class3_report(class3))
+    }
+
+    /// The connection of a triad, of class 1 or 3. Takes no memory.
+    pub fn connection_of(&self, triad: Triad) -> Option<AnyConnection>
+        ensures { result ≡ connection_of self.now triad }
+    {
+        if let Some(row) = self.table.find(triad) {
+            return Some(AnyConnection::Class1(report_of(&row, self.clock)));
+        }
+        let class3 = self.messaging.find_triad(triad)?;
+        Some(AnyConnection::Class3(class3_report(class3)))
+    }
+
+    /// The stream at a place of the order in which they were opened. Takes no memory.
+    pub fn stream(&self, place: u32) -> Option<StreamReport>
+        ensures { result ≡ stream_in (tables.Adapter self.now) place }
+    {
+        Some(stream_report(self.streams.get(place as usize)?))
+    }
+
     /// How many streams, sessions and connections there are, and how many ids are left. Takes no memory.
     pub fn totals(&self) -> DeviceTotals
         ensures { result ≡ totals_of (tables.Adapter self.now) }
@@ -65,6 +94,17 @@ impl<T: ConnectionTable> AdapterState<T> {
         let due = rows.0.min(messages.0);
         let wait = due.saturating_sub(self.clock.0);
         Ms(wait.min(u64::from(LONGEST_TICK_MS)))
+    }
+}
+
+/// What is known of a stream.
+fn stream_report(stream: &Stream) -> StreamReport
+    ensures { result ≡ adapter_stream stream.now }
+{
+    StreamReport {
+        number: stream.number,
+        peer: stream.peer,
+        session: stream.registered.then_some(session_of(stream)),
     }
 }
 
