@@ -15,7 +15,7 @@ use port_groups::DataGroup;
 use station_lines::{EventMoment, LineSink, has_news, push_own};
 use station_record::{RecordFault, RecordSink, Recorder};
 use station_watch::{
-    ClosingSlots, ConnectedPeers, LinkReport, SlotWatches, Starved, StationTraffic,
+    ClosingSlots, LinkReport, SlotWatches, Starved, StationTraffic, changes_connections,
 };
 use status_words::push_refusals;
 use std::alloc::Global;
@@ -31,7 +31,8 @@ pub struct StationObserver<W, O, E> {
     err: E,
     now_ms: u64,
     closing: ClosingSlots,
-    peers: ConnectedPeers,
+    /// Whether the connections of an adapter may have changed since the port was told of them.
+    reconnected: bool,
     slots: SlotWatches,
     traffic: StationTraffic,
     requested: PendingAttributes,
@@ -61,7 +62,7 @@ impl<W: RecordSink + Drop, O: LineSink, E: LineSink> StationObserver<W, O, E> {
             err,
             now_ms: 0,
             closing: ClosingSlots::none(alloc)?,
-            peers: ConnectedPeers::none(alloc),
+            reconnected: false,
             slots: SlotWatches::of(alloc, config)?,
             traffic: StationTraffic::of(alloc, config)?,
             requested: PendingAttributes::none(alloc),
@@ -152,11 +153,13 @@ impl<W: RecordSink + Drop, O: LineSink, E: LineSink> StationObserver<W, O, E> {
         self.closing.any()
     }
 
-    /// Appends the peers that have connections, if they may have changed since the last time. Whether they may have.
-    pub fn push_peers(&mut self, peers: &mut Vec<Node>) -> Result<bool, OutOfMemory>
+    /// Whether the connections of an adapter may have changed since this was asked last.
+    pub fn take_reconnected(&mut self) -> bool
         ensures kept { self.new.recorder ≡ self.old.recorder }
     {
-        self.peers.push_changed(peers)
+        let reconnected = self.reconnected;
+        self.reconnected = false;
+        reconnected
     }
 
     /// Appends the groups of the slots, each once, if they may have changed since the last time. Whether they may have.
@@ -270,7 +273,12 @@ impl<W: RecordSink + Drop, O: LineSink, E: LineSink> StationObserver<W, O, E> {
     }
 
     /// Notes what the device has done.
-    fn note(&mut self, event: &Event, outcome: &Outcome) -> Result<(), OutOfMemory>
+    fn note<D: Device>(
+        &mut self,
+        device: &D,
+        event: &Event,
+        outcome: &Outcome,
+    ) -> Result<(), OutOfMemory>
         ensures kept { self.new.recorder ≡ self.old.recorder }
     {
         if let Event::Tick { ms } = event {
@@ -279,31 +287,42 @@ impl<W: RecordSink + Drop, O: LineSink, E: LineSink> StationObserver<W, O, E> {
             }
         }
         match outcome {
-            Ok(answer) => self.note_answer(event, answer),
+            Ok(answer) => self.note_answer(device, event, answer),
             Err(_) => Ok(()),
         }
     }
 
     /// Notes what an answer says of connections and slots, and counts datagrams.
-    fn note_answer(&mut self, event: &Event, answer: &Answer) -> Result<(), OutOfMemory>
+    fn note_answer<D: Device>(
+        &mut self,
+        device: &D,
+        event: &Event,
+        answer: &Answer,
+    ) -> Result<(), OutOfMemory>
         ensures kept { self.new.recorder ≡ self.old.recorder }
     {
         let notices = answer.notices.as_slice();
         self.closing.note(notices);
-        self.peers.note(event, notices)?;
-        self.slots.note(event, answer)?;
-        self.traffic.note(event, answer)?;
+        self.reconnected |= changes_connections(notices);
+        self.slots.note(device, event, answer)?;
+        self.traffic.note(device, event, answer)?;
         self.requested.note(event)
     }
 
     /// Notes a step. Reports why the record has ended, if it has, and prints what there is to print.
-    fn report_step(&mut self, event: &Event, outcome: &Outcome, ended: Option<RecordFault>)
+    fn report_step<D: Device>(
+        &mut self,
+        device: &D,
+        event: &Event,
+        outcome: &Outcome,
+        ended: Option<RecordFault>,
+    )
         ensures kept { self.new.recorder ≡ self.old.recorder }
     {
         if let Some(fault) = ended {
             self.report_end(fault);
         }
-        if self.note(event, outcome).is_err() {
+        if self.note(device, event, outcome).is_err() {
             self.fault = Some(EarlyEnd::OutOfMemory);
         }
         if self.print_news(event, outcome).is_err() {
@@ -325,15 +344,15 @@ impl<W: RecordSink + Drop, O: LineSink, E: LineSink> Observer for StationObserve
 
     ghost notes = { λ old event outcome new. Notes W.contents old.recorder event outcome new.recorder };
 
-    fn stepped(&mut self, event: &Event, outcome: &Outcome) {
+    fn stepped<D: Device>(&mut self, device: &D, event: &Event, outcome: &Outcome) {
         let ended = self.recorder.note(event, outcome);
-        self.report_step(event, outcome, ended);
+        self.report_step(device, event, outcome, ended);
         self.note_page(event, outcome);
     }
 
-    fn delivered(&mut self, event: &Event, delivery: Delivery) {
+    fn delivered<D: Device>(&mut self, device: &D, event: &Event, delivery: Delivery) {
         // (an answer of a verdict alone takes no memory)
         let outcome = Ok(Answer::plain(self.alloc, Verdict::Delivered(delivery)));
-        self.stepped(event, &outcome);
+        self.stepped(device, event, &outcome);
     }
 }

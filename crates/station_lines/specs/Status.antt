@@ -18,7 +18,7 @@ use Rattle.station_lines.specs.declared.points.PointKind.{PointKind}
 use Rattle.station_lines.specs.declared.points.PointKind.TheVariants.{Output, Image}
 use Rattle.station_lines.specs.declared.points.SlotTerms.{SlotTerms}
 use Rattle.station_lines.specs.declared.points.WatchedPoint.{WatchedPoint}
-use Rattle.station_watch.specs.Traffic.{TrafficSeen}
+use Rattle.station_watch.specs.Traffic.{TrafficSeen, counted_of}
 use Rattle.datagram_counts.specs.declared.counts.DatagramCounts.{DatagramCounts}
 use Rattle.station_watch.specs.declared.traffic.CountedConnection.{CountedConnection}
 use Rattle.station_watch.specs.declared.traffic.TrafficTotals.{TrafficTotals}
@@ -106,16 +106,15 @@ connection_line at counted report =
     connection_head at counted.id ++ (node_word report.peer ++ (purpose_text report ++ (age_text report.age ++ counts_text counted.counts)))
 
 -- the line of what was counted of a connection, and of what the device says of it
-abbrev pub connection_at : EventMoment → Option CountedConnection → Option ConnectionReport → List ℕ
-connection_at at None report = []
-connection_at at (Some counted) None = []
-connection_at at (Some counted) (Some report) = connection_line at counted report
+abbrev pub connection_at : EventMoment → List CountedConnection → Option ConnectionReport → List ℕ
+connection_at at connections None = []
+connection_at at connections (Some report) = connection_line at (counted_of connections report) report
 
 -- the lines of the connections at the first places
 abbrev pub lines_to : EventMoment → DeviceTable → List CountedConnection → ℕ → List ℕ
 lines_to at table connections zero = []
 lines_to at table connections (suc place) =
-    lines_to at table connections place ++ connection_at at (slice_get connections place) (connection_in table place)
+    lines_to at table connections place ++ connection_at at connections (connection_in table place)
 
 -- the lines of all, of which there are at most 64
 unfoldable pub connection_lines : EventMoment → DeviceTable → List CountedConnection → List ℕ

@@ -11,7 +11,7 @@ use cip_tables::{Age, ConnectionReport, Device, DeviceTotals, Mode, SlotReport, 
 use cip_types::OutOfMemory;
 use cip_types::limits::MOST_CONNECTIONS;
 use datagram_counts::DatagramCounts;
-use station_watch::{CountedConnection, StationTraffic, TrafficTotals};
+use station_watch::{CountedConnection, StationTraffic, TrafficTotals, counted_of};
 use trace_lines::kind_name;
 use trace_outcomes::push_verdict;
 use trace_words::{push_digits, push_node, push_text};
@@ -146,15 +146,12 @@ fn push_connection_at<D: Device>(
     at: EventMoment,
 ) -> Result<(), OutOfMemory>
     ensures { OnOk result (string_bytes out.new ≡ string_bytes out.old
-        ++ connection_at at (slice_get connections.now place) (connection_in (D.table device.now) place)) }
+        ++ connection_at at connections.now (connection_in (D.table device.now) place)) }
 {
-    let Some(counted) = connections.get(place as usize) else {
-        return Ok(());
-    };
     let Some(report) = device.connection(place) else {
         return Ok(());
     };
-    push_connection(out, *counted, report, at)
+    push_connection(out, counted_of(connections, &report), report, at)
 }
 
 /// Appends the line of a connection.

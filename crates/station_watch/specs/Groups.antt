@@ -1,4 +1,4 @@
--- What the reply to a Forward_Open says of the T->O datagrams, and of their group
+-- The group of the T->O datagrams, as the reply to a Forward_Open names it
 -- (Volume 2, chapter 2, common packet format; Volume 1, chapter 3, Forward_Open service).
 use Rattle.std.specs.Prelude.{ℕ, ◌||◌, ◌==◌, not, nat_lt, if◌then◌else◌, Bool, List, length, take, drop, Option, Some, None, Result, Ok, Err}
 use Rattle.std.specs.Int.{w16, w32, from_be_bytes}
@@ -11,7 +11,6 @@ use Rattle.cip_encap.specs.Packet.{PacketFields}
 use Rattle.cip_encap.specs.PacketReading.{packet_reading}
 use Rattle.port_groups.specs.GroupUse.{group_port, is_group}
 use Rattle.port_groups.specs.declared.group.DataGroup.{DataGroup}
-use Rattle.station_watch.specs.declared.groups.OpenedData.{OpenedData}
 use Rattle.station_watch.specs.declared.groups.SocketItem.{SocketItem}
 
 -- the group that an item names, if its address is that of a group
@@ -60,23 +59,18 @@ number_of (Some found) = Some found.0
 abbrev pub u32_behind : List ℕ → ℕ → Option ℕ
 u32_behind bytes before = number_of (field_at w32 (drop before bytes))
 
--- what is said of the datagrams of this id
-abbrev pub data_with : Option ℕ → Option DataGroup → Option OpenedData
-data_with None group = None
-data_with (Some id) group = Some (record { id = id; group = group })
+-- other items are behind the reply, which 16 bytes precede
+abbrev pub group_of_packet : List ℕ → Result PacketFields ItemFault → Option DataGroup
+group_of_packet items (Err fault) = None
+group_of_packet items (Ok packet) = group_in (drop (length packet.payload) (drop 16 items))
 
--- the T->O id is behind 8 bytes of the reply, and other items are behind the reply, which 16 bytes precede
-abbrev pub data_of_packet : List ℕ → Result PacketFields ItemFault → Option OpenedData
-data_of_packet items (Err fault) = None
-data_of_packet items (Ok packet) = data_with (u32_behind packet.payload 8) (group_in (drop (length packet.payload) (drop 16 items)))
+abbrev pub group_behind : List ℕ → Option DataGroup
+group_behind items = group_of_packet items (packet_reading items)
 
-abbrev pub data_of_items : List ℕ → Option OpenedData
-data_of_items items = data_of_packet items (packet_reading items)
+abbrev pub group_of_message : Result MessageFields EncapFault → Option DataGroup
+group_of_message (Err fault) = None
+group_of_message (Ok message) = group_behind message.payload
 
-abbrev pub data_of_message : Result MessageFields EncapFault → Option OpenedData
-data_of_message (Err fault) = None
-data_of_message (Ok message) = data_of_items message.payload
-
--- what the reply that opened a connection says of the T->O datagrams
-abbrev pub opened_data : List ℕ → Option OpenedData
-opened_data bytes = data_of_message (message_reading bytes)
+-- the group that the reply names which opened a connection
+abbrev pub opened_group : List ℕ → Option DataGroup
+opened_group bytes = group_of_message (message_reading bytes)

@@ -1,6 +1,5 @@
 pub mod Closing
 pub mod Groups
-pub mod Openings
 pub mod Peers
 pub mod Slots
 pub mod Traffic

@@ -1,61 +1,62 @@
 -- The peers of an adapter that have connections, and those that own outputs (Volume 1, chapter 3, application connection types).
-use Rattle.std.specs.Prelude.{◌==◌, ◌&&◌, not, nat_lt, if◌then◌else◌, Bool, true, false, List, [], ◌∷◌, ◌++◌, length, filter, Option, Some, None}
+use Rattle.std.specs.Prelude.{ℕ, zero, suc, ◌==◌, ◌&&◌, if◌then◌else◌, Bool, true, false, List, [], ◌∷◌, ◌++◌, Option, Some, None}
+use Rattle.std.specs.List.{list_any}
+use Rattle.adapter_table.specs.declared.report.Class3Report.{Class3Report}
 use Rattle.adapter_table.specs.declared.report.ConnectionReport.{ConnectionReport}
-use Rattle.cip_productions.specs.declared.kind.Kind.{Kind}
-use Rattle.cip_productions.specs.declared.kind.Kind.TheVariants.{ExclusiveOwner}
+use Rattle.cip_productions.specs.Kinds.{is_owner}
+use Rattle.cip_tables.specs.declared.table.DeviceTable.{DeviceTable}
+use Rattle.cip_tables.specs.States.{class3_in, connection_in}
 use Rattle.cip_types.specs.declared.names.Node.{Node}
-use Rattle.cip_types.specs.declared.names.Triad.{Triad}
 use Rattle.cip_events.specs.declared.event.Notice.{Notice}
 use Rattle.cip_events.specs.declared.event.Notice.TheVariants as notice
-use Rattle.station_watch.specs.declared.peers.PeerConnection.{PeerConnection}
-use Rattle.station_watch.specs.declared.peers.ConnectionChange.{ConnectionChange}
-use Rattle.station_watch.specs.declared.peers.ConnectionChange.TheVariants as change
 
--- what a notice says of the connections of peers
-abbrev pub change_of : Notice → ConnectionChange
-change_of (notice.Opened triad id) = change.Added triad
-change_of (notice.Closed triad) = change.Removed triad
-change_of (notice.Expired triad) = change.Removed triad
-change_of (notice.Dropped triad) = change.Removed triad
-change_of (notice.Replaced triad) = change.Removed triad
-change_of other = change.Nothing
-
--- a connection was opened or has ended
-abbrev pub changes : ConnectionChange → Bool
-changes change.Nothing = false
-changes other = true
-
+-- a connection of an adapter was opened or has ended
 abbrev pub is_change : Notice → Bool
-is_change given = changes (change_of given)
+is_change (notice.Opened triad id) = true
+is_change (notice.Closed triad) = true
+is_change (notice.Expired triad) = true
+is_change (notice.Dropped triad) = true
+is_change (notice.Replaced triad) = true
+is_change other = false
 
-abbrev pub has_triad : Triad → PeerConnection → Bool
-has_triad triad held = held.triad.serial == triad.serial && (held.triad.vendor == triad.vendor && held.triad.originator == triad.originator)
+-- LISTS OF PEERS
 
--- the connections but the one of a triad
-abbrev pub without : Triad → List PeerConnection → List PeerConnection
-without triad held = filter (λ other. not (has_triad triad other)) held
+abbrev pub is_node : Node → Node → Bool
+is_node node other = other.0 == node.0
 
--- with one more, if there are fewer than 128: 64 of class 1, and 64 of class 3
-abbrev pub with_connection : PeerConnection → List PeerConnection → List PeerConnection
-with_connection new held = if nat_lt (length held) 128 then held ++ new ∷ [] else held
+-- with one more, if it is not among them
+abbrev pub with_peer : Option Node → List Node → List Node
+with_peer None peers = peers
+with_peer (Some peer) peers = if list_any (is_node peer) peers then peers else peers ++ peer ∷ []
 
--- the connections after a notice of an answer to this peer: the newest opening of a triad counts
-abbrev pub connections_after : Option Node → ConnectionChange → List PeerConnection → List PeerConnection
-connections_after peer change.Nothing held = held
-connections_after peer (change.Removed triad) held = without triad held
-connections_after None (change.Added triad) held = without triad held
-connections_after (Some peer) (change.Added triad) held = with_connection (record { triad = triad; peer = peer }) (without triad held)
+-- WHO HAS CONNECTIONS
 
--- the connections after all notices of an answer
-abbrev pub connections_through : Option Node → List Notice → List PeerConnection → List PeerConnection
-connections_through peer [] held = held
-connections_through peer (first ∷ notices) held = connections_through peer notices (connections_after peer (change_of first) held)
+-- the peer of a class 1 connection that is established
+abbrev pub connected_by : Option ConnectionReport → Option Node
+connected_by None = None
+connected_by (Some report) = if report.established then Some report.peer else None
 
--- the owner by a connection of this kind
-abbrev pub owning : Kind → ConnectionReport → Option Node
-owning ExclusiveOwner report = if report.established then Some report.peer else None
-owning kind report = None
+-- the peer of a class 3 connection
+abbrev pub class3_peer : Option Class3Report → Option Node
+class3_peer None = None
+class3_peer (Some report) = Some report.peer
+
+abbrev pub with_both : Option ConnectionReport → Option Class3Report → List Node → List Node
+with_both class1 class3 peers = with_peer (class3_peer class3) (with_peer (connected_by class1) peers)
+
+-- these peers, and those of the connections at the first places, each once
+abbrev pub connected_below : DeviceTable → List Node → ℕ → List Node
+connected_below table peers zero = peers
+connected_below table peers (suc place) = with_both (connection_in table place) (class3_in table place) (connected_below table peers place)
+
+-- WHO OWNS OUTPUTS
 
 -- the peer of a connection that owns an output
-abbrev pub owner_of : ConnectionReport → Option Node
-owner_of report = owning report.kind report
+abbrev pub owner_of : Option ConnectionReport → Option Node
+owner_of None = None
+owner_of (Some report) = if report.established && is_owner report.kind then Some report.peer else None
+
+-- the owners by the connections at the first places, each once
+abbrev pub owners_below : DeviceTable → ℕ → List Node
+owners_below table zero = []
+owners_below table (suc place) = with_peer (owner_of (connection_in table place)) (owners_below table place)

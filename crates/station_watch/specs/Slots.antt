@@ -7,7 +7,6 @@ use Rattle.cip_events.specs.declared.event.Notice.{Notice}
 use Rattle.cip_events.specs.declared.event.Notice.TheVariants as notice
 use Rattle.port_groups.specs.GroupUse.{with_group}
 use Rattle.port_groups.specs.declared.group.DataGroup.{DataGroup}
-use Rattle.station_watch.specs.declared.groups.OpenedData.{OpenedData}
 use Rattle.station_watch.specs.declared.slots.LinkReport.{LinkReport}
 use Rattle.station_watch.specs.declared.slots.LinkReport.TheVariants as link_report
 use Rattle.station_watch.specs.declared.slots.SlotWatch.{SlotWatch}
@@ -42,10 +41,10 @@ link_report_of given other = None
 
 -- WHAT COMES
 
--- its connection was established, and the reply said this of its datagrams
-abbrev pub opened : SlotWatch → Option OpenedData → SlotWatch
-opened watch (Some said) = record watch { unfed = true; id = Some said.id; group = said.group }
-opened watch None = record watch { unfed = false; id = None; group = None }
+-- its connection was established, with this id of its datagrams, and the reply named this group
+abbrev pub opened : SlotWatch → Option ℕ → Option DataGroup → SlotWatch
+opened watch (Some id) group = record watch { unfed = true; id = Some id; group = group }
+opened watch None group = record watch { unfed = false; id = None; group = None }
 
 -- this is the id
 abbrev pub is_id : Option ℕ → ℕ → Bool

@@ -1,7 +1,7 @@
 -- What a station counts of its datagrams: those of each connection, and all (Volume 2, chapter 2, sequenced address item).
-use Rattle.std.specs.Prelude.{ℕ, ◌==◌, ◌&&◌, not, nat_lt, if◌then◌else◌, Bool, true, false, List, [], ◌∷◌, ◌++◌, length, map, filter, find, slice_get, slice_set, Option, Some, None}
+use Rattle.std.specs.Prelude.{ℕ, zero, suc, ◌==◌, ◌&&◌, if◌then◌else◌, Bool, true, false, List, [], ◌∷◌, ◌++◌, length, map, find, slice_get, slice_set, Option, Some, None}
+use Rattle.std.specs.List.{list_any}
 use Rattle.cip_types.specs.declared.names.Node.{Node}
-use Rattle.cip_types.specs.declared.names.Triad.{Triad}
 use Rattle.cip_events.specs.declared.event.Answer.{Answer}
 use Rattle.cip_events.specs.declared.event.Delivery.{Delivery}
 use Rattle.cip_events.specs.declared.event.Delivery.TheVariants as delivery
@@ -13,20 +13,22 @@ use Rattle.cip_events.specs.declared.event.Verdict.{Verdict}
 use Rattle.cip_events.specs.declared.event.Verdict.TheVariants as verdict
 use Rattle.cip_events.specs.declared.slot_phase.SlotPhase.TheVariants as phase
 use Rattle.cip_events.specs.Phases.{phase_number}
+use Rattle.adapter_table.specs.declared.report.ConnectionReport.{ConnectionReport}
 use Rattle.cip_tables.specs.declared.table.Config.{Config}
 use Rattle.cip_tables.specs.declared.table.Config.TheVariants as config
+use Rattle.cip_tables.specs.declared.table.DeviceTable.{DeviceTable}
+use Rattle.cip_tables.specs.States.{connection_in, slot_in}
 use Rattle.scanner_table.specs.declared.profile.SlotConfig.{SlotConfig}
+use Rattle.scanner_table.specs.declared.report.SlotReport.{SlotReport}
+use Rattle.scanner_table.specs.declared.report.SlotReport.TheVariants as slot
 use Rattle.datagram_counts.specs.Counts.{counted, is_accepted, missed, no_counts, with_more}
-use Rattle.station_watch.specs.Groups.{opened_data, u32_behind}
-use Rattle.station_watch.specs.Openings.{opens_class3}
-use Rattle.station_watch.specs.declared.groups.OpenedData.{OpenedData}
+use Rattle.station_watch.specs.Groups.{u32_behind}
+use Rattle.station_watch.specs.Peers.{is_change}
 use Rattle.station_watch.specs.declared.traffic.CountedConnection.{CountedConnection}
-use Rattle.station_watch.specs.declared.traffic.DataSource.{DataSource}
-use Rattle.station_watch.specs.declared.traffic.DataSource.TheVariants as source
 use Rattle.station_watch.specs.declared.traffic.ArrivedDatagram.{ArrivedDatagram}
 use Rattle.station_watch.specs.declared.traffic.TrafficTotals.{TrafficTotals}
 
--- what was counted: of the connections of an adapter in the order of their openings, or of the slots of a scanner; and of all
+-- what was counted: of the connections of an adapter, or of the slots of a scanner in the order of their numbers; and of all
 pub record TrafficSeen : Type 0 where
   pub connections : List CountedConnection
   pub totals : TrafficTotals
@@ -34,11 +36,11 @@ pub record TrafficSeen : Type 0 where
 -- A BEGINNING
 
 -- a connection whose counts begin
-abbrev pub begun : DataSource → Option ℕ → CountedConnection
-begun from id = record { source = from; id = id; counts = no_counts }
+abbrev pub begun : Option Node → Option ℕ → CountedConnection
+begun sender id = record { sender = sender; id = id; counts = no_counts }
 
 abbrev pub fresh_slot : SlotConfig → CountedConnection
-fresh_slot slot = begun (source.Target slot.target) None
+fresh_slot slot = begun (Some slot.target) None
 
 abbrev pub fresh_connections : Config → List CountedConnection
 fresh_connections (config.Adapter profile) = []
@@ -53,10 +55,10 @@ fresh_traffic configured = record {
 
 -- A DATAGRAM AT ITS CONNECTION
 
--- a datagram of this peer may be of this source: of an adapter's connections no two have one id
-abbrev pub is_from : Node → DataSource → Bool
-is_from peer (source.Originator triad) = true
-is_from peer (source.Target target) = target.0 == peer.0
+-- a datagram of this peer may be of this sender: of an adapter's connections no two have one id
+abbrev pub is_from : Node → Option Node → Bool
+is_from peer None = true
+is_from peer (Some target) = target.0 == peer.0
 
 -- this is the id
 abbrev pub is_id : Option ℕ → ℕ → Bool
@@ -65,7 +67,7 @@ is_id (Some id) expected = id == expected
 
 -- the datagram is for the connection
 abbrev pub is_for : ArrivedDatagram → CountedConnection → Bool
-is_for datagram connection = is_from datagram.peer connection.source && is_id connection.id datagram.id
+is_for datagram connection = is_from datagram.peer connection.sender && is_id connection.id datagram.id
 
 -- the connection after a datagram, which is counted if it is for this one
 abbrev pub counted_one : ArrivedDatagram → CountedConnection → CountedConnection
@@ -123,26 +125,55 @@ abbrev pub after_event : Event → Verdict → TrafficSeen → TrafficSeen
 after_event (event.Datagram peer bytes) said traffic = of_verdict peer bytes said traffic
 after_event other said traffic = traffic
 
--- CONNECTIONS THAT BEGIN AND END
+-- THE CONNECTIONS OF AN ADAPTER
 
-abbrev pub is_originator : Triad → DataSource → Bool
-is_originator triad (source.Originator other) = other.serial == triad.serial && (other.vendor == triad.vendor && other.originator == triad.originator)
-is_originator triad (source.Target target) = false
+abbrev pub has_id : ℕ → CountedConnection → Bool
+has_id id connection = is_id connection.id id
 
--- the connection is that of the triad
-abbrev pub is_of : Triad → CountedConnection → Bool
-is_of triad connection = is_originator triad connection.source
+-- nothing was counted of a connection of which there is no entry
+abbrev pub entry_or : ℕ → Option CountedConnection → CountedConnection
+entry_or id None = begun None (Some id)
+entry_or id (Some found) = found
 
-abbrev pub without_originator : Triad → List CountedConnection → List CountedConnection
-without_originator triad connections = filter (λ other. not (is_of triad other)) connections
+-- what was counted of the connection of this O->T id
+abbrev pub entry_of : List CountedConnection → ℕ → CountedConnection
+entry_of connections id = entry_or id (find (has_id id) connections)
 
--- with one more, if there are fewer than 64
-abbrev pub with_connection : CountedConnection → List CountedConnection → List CountedConnection
-with_connection new connections = if nat_lt (length connections) 64 then connections ++ new ∷ [] else connections
+-- what was counted of a connection
+abbrev pub counted_of : List CountedConnection → ConnectionReport → CountedConnection
+counted_of connections report = entry_of connections report.o_t_id.0
+
+-- the entry of the connection at a place, if there is one
+abbrev pub counted_at_place : List CountedConnection → Option ConnectionReport → List CountedConnection
+counted_at_place connections None = []
+counted_at_place connections (Some report) = counted_of connections report ∷ []
+
+-- the entries of the connections at the first places
+abbrev pub counted_below : DeviceTable → List CountedConnection → ℕ → List CountedConnection
+counted_below table connections zero = []
+counted_below table connections (suc place) = counted_below table connections place ++ counted_at_place connections (connection_in table place)
+
+-- an entry for each connection of an adapter, of which there are at most 64
+unfoldable pub counted_in : DeviceTable → List CountedConnection → List CountedConnection
+counted_in table connections = counted_below table connections 64
+
+-- the entries after notices: those of the connections that there are, if one was opened or has ended
+abbrev pub current : DeviceTable → List Notice → List CountedConnection → List CountedConnection
+current table notices connections = if list_any is_change notices then counted_in table connections else connections
+
+-- THE SLOTS OF A SCANNER
+
+abbrev pub id_of_slot : Option SlotReport → Option ℕ
+id_of_slot (Some (slot.Established target)) = Some target.t_o_id.0
+id_of_slot other = None
+
+-- the connection id of the datagrams that a slot receives, if its connection is open
+abbrev pub slot_id : DeviceTable → ℕ → Option ℕ
+slot_id table number = id_of_slot (slot_in table number)
 
 -- the counts of a slot begin as its connection is established, and stay as it ends
 abbrev pub slot_changed : Bool → Option ℕ → CountedConnection → CountedConnection
-slot_changed true id slot = begun slot.source id
+slot_changed true id slot = begun slot.sender id
 slot_changed false id slot = record slot { id = None }
 
 abbrev pub changed_at : List CountedConnection → ℕ → Bool → Option ℕ → Option CountedConnection → List CountedConnection
@@ -152,33 +183,15 @@ changed_at connections slot established id (Some found) = slice_set connections 
 abbrev pub with_slot : ℕ → Bool → Option ℕ → List CountedConnection → List CountedConnection
 with_slot slot established id connections = changed_at connections slot established id (slice_get connections slot)
 
-abbrev pub id_of : Option OpenedData → Option ℕ
-id_of None = None
-id_of (Some said) = Some said.id
-
--- the connection id of the T->O datagrams in the reply that an event brings
-abbrev pub reply_id : Event → Option ℕ
-reply_id (event.Frame stream bytes) = id_of (opened_data bytes)
-reply_id other = None
-
--- a connection that was opened is the last one; one of class 3 has no datagrams, and no place
-abbrev pub with_opened : Event → Triad → ℕ → List CountedConnection → List CountedConnection
-with_opened given triad id connections =
-    if opens_class3 given then connections else with_connection (begun (source.Originator triad) (Some id)) (without_originator triad connections)
-
--- after a notice in the answer to an event: a connection that has ended gives its place up, and one that timed out keeps it
-abbrev pub after_notice : Event → Notice → List CountedConnection → List CountedConnection
-after_notice given (notice.Opened triad id) connections = with_opened given triad id.0 connections
-after_notice given (notice.Closed triad) connections = without_originator triad connections
-after_notice given (notice.Dropped triad) connections = without_originator triad connections
-after_notice given (notice.Replaced triad) connections = without_originator triad connections
-after_notice given (notice.Slot slot state) connections = with_slot slot (state == phase_number phase.Established) (reply_id given) connections
-after_notice given other connections = connections
+-- after a notice of a slot's state
+abbrev pub after_notice : DeviceTable → Notice → List CountedConnection → List CountedConnection
+after_notice table (notice.Slot slot state) connections = with_slot slot (state == phase_number phase.Established) (slot_id table slot) connections
+after_notice table other connections = connections
 
 -- after all notices of an answer
-abbrev pub after_notices : Event → List Notice → List CountedConnection → List CountedConnection
-after_notices given [] connections = connections
-after_notices given (first ∷ notices) connections = after_notices given notices (after_notice given first connections)
+abbrev pub after_notices : DeviceTable → List Notice → List CountedConnection → List CountedConnection
+after_notices table [] connections = connections
+after_notices table (first ∷ notices) connections = after_notices table notices (after_notice table first connections)
 
 -- ONE STEP
 
@@ -186,11 +199,11 @@ after_notices given (first ∷ notices) connections = after_notices given notice
 abbrev pub sent_totals : TrafficTotals → ℕ → TrafficTotals
 sent_totals totals sent = record totals { sent = with_more totals.sent sent }
 
-abbrev pub with_notices : Event → List Notice → TrafficSeen → TrafficSeen
-with_notices given notices traffic = record traffic { connections = after_notices given notices traffic.connections }
+abbrev pub with_notices : DeviceTable → List Notice → TrafficSeen → TrafficSeen
+with_notices table notices traffic = record traffic { connections = after_notices table notices (current table notices traffic.connections) }
 
--- what is counted after an event and its answer
-abbrev pub noted : Event → Answer → TrafficSeen → TrafficSeen
-noted given answer traffic =
-    with_notices given answer.notices
+-- what is counted after an event and its answer, at a device with this table then
+abbrev pub noted : DeviceTable → Event → Answer → TrafficSeen → TrafficSeen
+noted table given answer traffic =
+    with_notices table answer.notices
     (after_event given answer.verdict (record traffic { totals = sent_totals traffic.totals (length answer.datagrams) }))

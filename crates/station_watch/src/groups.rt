@@ -1,8 +1,9 @@
-//! What the reply to a Forward_Open says of the T->O datagrams.
+//! The group to which the T->O datagrams of a connection go, as the reply to its Forward_Open says. (A device does not read it: its
+//! datagrams reach it by any address.)
 
 ghost use Rattle.std.specs.Prelude.{◌≡◌, drop};
 ghost use Rattle.cip_types.specs.Fields.{Finds};
-ghost use Rattle.station_watch.specs.Groups.{as_group, data_of_items, data_with, group_in, u32_behind, last_group, opened_data, socket_at};
+ghost use Rattle.station_watch.specs.Groups.{as_group, group_behind, group_in, u32_behind, last_group, opened_group, socket_at};
 
 use cip_encap::{read_items, read_message};
 use cip_types::Node;
@@ -20,12 +21,6 @@ const BEFORE_DATA: usize = 16;
 /// Volume 2, chapter 2, socket address item.
 const T_O_SOCKET_ADDRESS: u16 = 0x8001;
 
-/// The bytes of a reply before its T->O id: the service, a reserved byte, the status and the size of its extension, and the
-/// O->T id.
-///
-/// Volume 1, chapter 3, Forward_Open service.
-const BEFORE_ID: usize = 8;
-
 /// The bytes of a datagram before its connection id: the number of items, and the head of the first item.
 const BEFORE_DATAGRAM_ID: usize = 6;
 
@@ -35,15 +30,6 @@ const BEFORE_SEQUENCE: usize = 10;
 /// The bytes of a socket address.
 const SOCKET_ADDRESS_BYTES: u16 = 16;
 
-/// What the reply to a Forward_Open says of the T->O datagrams.
-#[derive(Clone, Copy, PartialEq, Eq)]
-pub struct OpenedData {
-    /// Their connection id.
-    pub id: u32,
-    /// The group to which they go, if the reply names one.
-    pub group: Option<DataGroup>,
-}
-
 /// A socket address item: its type, and the address and the port that it names.
 #[derive(Clone, Copy, PartialEq, Eq)]
 struct SocketItem {
@@ -52,36 +38,23 @@ struct SocketItem {
     port: u16,
 }
 
-/// What the reply that opened a connection says of the T->O datagrams.
-pub fn opened_data(message: &[u8]) -> Option<OpenedData>
-    ensures { result ≡ opened_data message.now }
+/// The group that the reply names which opened a connection.
+pub fn opened_group(message: &[u8]) -> Option<DataGroup>
+    ensures { result ≡ opened_group message.now }
 {
     match read_message(message) {
-        Ok(message) => data_of_items(message.data),
+        Ok(message) => group_behind(message.data),
         Err(_) => None,
     }
 }
 
-/// What the items of the reply that opened a connection say of the T->O datagrams.
-fn data_of_items(items: &[u8]) -> Option<OpenedData>
-    ensures { result ≡ data_of_items items.now }
+/// The group that the items behind a reply name.
+fn group_behind(items: &[u8]) -> Option<DataGroup>
+    ensures { result ≡ group_behind items.now }
 {
     match read_items(items) {
-        Ok(packet) => {
-            let others = behind(behind(items, BEFORE_DATA), packet.data.len());
-            data_with(u32_behind(packet.data, BEFORE_ID), group_in(others))
-        }
+        Ok(packet) => group_in(behind(behind(items, BEFORE_DATA), packet.data.len())),
         Err(_) => None,
-    }
-}
-
-/// What is said of the datagrams of this id, if there is one.
-fn data_with(id: Option<u32>, group: Option<DataGroup>) -> Option<OpenedData>
-    ensures { result ≡ data_with id group }
-{
-    match id {
-        Some(id) => Some(OpenedData { id, group }),
-        None => None,
     }
 }
 

@@ -4,12 +4,11 @@
 
 mod closing;
 mod groups;
-mod openings;
 mod peers;
 mod slots;
 mod traffic;
 
 pub use closing::ClosingSlots;
-pub use peers::{ConnectedPeers, owners_of};
+pub use peers::{changes_connections, owners_of, push_connected};
 pub use slots::{LinkReport, SlotWatches, Starved};
-pub use traffic::{CountedConnection, DataSource, StationTraffic, TrafficTotals};
+pub use traffic::{CountedConnection, StationTraffic, TrafficTotals, counted_of};

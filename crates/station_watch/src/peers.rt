@@ -1,197 +1,92 @@
 //! The peers of an adapter that have connections, and those that own outputs.
 
-ghost use Rattle.std.specs.Prelude.{◌≡◌, OnOk};
-ghost use Rattle.station_watch.specs.Peers.{change_of, has_triad, connections_after, connections_through, is_change, owner_of, with_connection, without};
+ghost use Rattle.std.specs.Prelude.{◌≡◌, IfOk, OnOk};
+ghost use Rattle.std.specs.List.{list_any};
+ghost use Rattle.station_watch.specs.Peers.{class3_peer, connected_below, connected_by, is_change, is_node, owner_of, owners_below, with_both, with_peer};
 
-use adapter_table::ConnectionReport;
-use cip_events::{Event, Notice};
+use adapter_table::{Class3Report, ConnectionReport};
+use cip_events::Notice;
 use cip_productions::Kind;
 use cip_tables::Device;
-use cip_types::limits::MOST_STREAMS;
-use cip_types::{Node, OutOfMemory, Triad};
+use cip_types::limits::MOST_CONNECTIONS;
+use cip_types::{Node, OutOfMemory};
 use std::alloc::Global;
 
-/// An adapter has at most 64 connections of class 1, and as many of class 3.
-const MOST_HELD: usize = 128;
-
-/// A connection of an adapter, and the peer that opened it.
-#[derive(Clone, Copy, PartialEq, Eq)]
-pub struct PeerConnection {
-    pub triad: Triad,
-    pub peer: Node,
-}
-
-/// What a notice says of the connections of peers.
-#[derive(Clone, Copy, PartialEq, Eq)]
-pub enum ConnectionChange {
-    /// A connection was opened.
-    Added(Triad),
-    /// A connection has ended.
-    Removed(Triad),
-    /// Nothing.
-    Nothing,
-}
-
-/// The peers of an adapter's streams, and its connections, of class 1 and 3, with their peers.
-#[derive(Drop)]
-pub struct ConnectedPeers {
-    streams: [Option<Node>; MOST_STREAMS],
-    held: Vec<PeerConnection>,
-    changed: bool,
-}
-
-impl ConnectedPeers {
-    /// No stream and no connection.
-    pub fn none(alloc: Global) -> ConnectedPeers {
-        ConnectedPeers {
-            streams: [None; MOST_STREAMS],
-            held: Vec::new(alloc),
-            changed: false,
-        }
-    }
-
-    /// Notes an event and the notices of its answer. The fault: an allocation was refused, and the connections that the
-    /// answer opened are not all noted.
-    pub fn note(&mut self, event: &Event, notices: &[Notice]) -> Result<(), OutOfMemory> {
-        match event {
-            Event::StreamOpened { stream, peer } => self.put(*stream, Some(*peer)),
-            Event::StreamCut { stream } => self.put(*stream, None),
-            _ => {}
-        }
-        let peer = self.peer_of(event);
-        self.changed |= notices.iter().any(is_change);
-        note_all(&mut self.held, notices, peer)
-    }
-
-    /// The peer whose request an event brings.
-    fn peer_of(&self, event: &Event) -> Option<Node> {
-        match event {
-            Event::Request { peer, bytes: _ } => Some(*peer),
-            Event::Frame { stream, bytes: _ } => *self.streams.get(usize::from(*stream))?,
-            _ => None,
-        }
-    }
-
-    /// Appends the peers that have connections, each once, if they may have changed since the last time. Whether they may
-    /// have.
-    pub fn push_changed(&mut self, peers: &mut Vec<Node>) -> Result<bool, OutOfMemory> {
-        if !self.changed {
-            return Ok(false);
-        }
-        for held in self.held.iter() {
-            let peer = held.peer;
-            if !peers.iter().any(|other| *other == peer) {
-                peers.push(peer)?;
-            }
-        }
-        self.changed = false;
-        Ok(true)
-    }
-
-    fn put(&mut self, stream: u16, peer: Option<Node>) {
-        if let Some(place) = self.streams.get_mut(usize::from(stream)) {
-            *place = peer;
-        }
-    }
-}
-
-/// What a notice says of the connections of peers.
-fn change_of(notice: &Notice) -> ConnectionChange
-    ensures { result ≡ change_of notice.now }
+/// Whether notices say that a connection of an adapter was opened or has ended.
+pub fn changes_connections(notices: &[Notice]) -> bool
+    ensures { result ≡ list_any is_change notices.now }
 {
-    match notice {
-        Notice::Opened(triad, _id) => ConnectionChange::Added(*triad),
-        Notice::Closed(triad) => ConnectionChange::Removed(*triad),
-        Notice::Expired(triad) => ConnectionChange::Removed(*triad),
-        Notice::Dropped(triad) => ConnectionChange::Removed(*triad),
-        Notice::Replaced(triad) => ConnectionChange::Removed(*triad),
-        _ => ConnectionChange::Nothing,
-    }
+    notices.iter().any(is_change)
 }
 
-/// Whether a notice says that a connection was opened or has ended.
+/// Whether a notice says that a connection of an adapter was opened or has ended.
 fn is_change(notice: &Notice) -> bool
     ensures { result ≡ is_change notice.now }
 {
-    match change_of(notice) {
-        ConnectionChange::Nothing => false,
-        _ => true,
+    match notice {
+        Notice::Opened(_, _) => true,
+        Notice::Closed(_) => true,
+        Notice::Expired(_) => true,
+        Notice::Dropped(_) => true,
+        Notice::Replaced(_) => true,
+        _ => false,
     }
 }
 
-/// Notes the notices of an answer to this peer. The fault: an allocation was refused.
-fn note_all(
-    held: &mut Vec<PeerConnection>,
-    notices: &[Notice],
-    peer: Option<Node>,
-) -> Result<(), OutOfMemory>
-    ensures { OnOk result (held.new.items ≡ connections_through peer notices.now held.old.items) }
+/// Appends the peers that have connections with an adapter, established ones of class 1 or ones of class 3, each peer once. No
+/// one has one with a scanner. The fault: an allocation was refused, and not all are appended.
+pub fn push_connected<D: Device>(peers: &mut Vec<Node>, device: &D) -> Result<(), OutOfMemory>
+    ensures { OnOk result (peers.new.items ≡ connected_below (D.table device.now) peers.old.items 64) }
 {
-    for notice in notices {
-        note_change(held, change_of(notice), peer)?;
-    }
-    Ok(())
-}
-
-/// Notes what a notice of an answer to this peer says. The fault: an allocation was refused.
-fn note_change(
-    held: &mut Vec<PeerConnection>,
-    change: ConnectionChange,
-    peer: Option<Node>,
-) -> Result<(), OutOfMemory>
-    ensures { OnOk result (held.new.items ≡ connections_after peer change held.old.items) }
-{
-    match change {
-        ConnectionChange::Nothing => Ok(()),
-        ConnectionChange::Removed(triad) => {
-            remove(held, triad);
-            Ok(())
-        }
-        ConnectionChange::Added(triad) => {
-            remove(held, triad);
-            match peer {
-                Some(peer) => add(held, PeerConnection { triad, peer }),
-                None => Ok(()),
-            }
-        }
-    }
-}
-
-/// Whether a connection has this triad.
-fn has_triad(held: &PeerConnection, triad: Triad) -> bool
-    ensures { result ≡ has_triad triad held.now }
-{
-    held.triad == triad
-}
-
-/// Removes a connection.
-fn remove(held: &mut Vec<PeerConnection>, triad: Triad)
-    ensures { held.new.items ≡ without triad held.old.items }
-{
-    held.retain(|other| !has_triad(other, triad));
-}
-
-/// Adds a connection, if there are fewer than 128. The fault: an allocation was refused, and none is added.
-fn add(held: &mut Vec<PeerConnection>, new: PeerConnection) -> Result<(), OutOfMemory>
-    ensures { OnOk result (held.new.items ≡ with_connection new held.old.items) }
-{
-    if held.len() < MOST_HELD {
-        held.push(new)?;
+    for place in 0..MOST_CONNECTIONS as u32 {
+        add_both(
+            peers,
+            device.connection(place),
+            device.class3_connection(place),
+        )?;
     }
     Ok(())
+}
+
+/// Appends the peers of a connection of class 1 and of one of class 3. The fault: an allocation was refused.
+fn add_both(
+    peers: &mut Vec<Node>,
+    class1: Option<ConnectionReport>,
+    class3: Option<Class3Report>,
+) -> Result<(), OutOfMemory>
+    ensures { OnOk result (peers.new.items ≡ with_both class1 class3 peers.old.items) }
+{
+    add_peer(peers, connected_by(class1))?;
+    add_peer(peers, class3_peer(class3))
+}
+
+/// The peer of a class 1 connection that is established.
+fn connected_by(report: Option<ConnectionReport>) -> Option<Node>
+    ensures { result ≡ connected_by report }
+{
+    match report {
+        Some(report) if report.established => Some(report.peer),
+        _ => None,
+    }
+}
+
+/// The peer of a class 3 connection.
+fn class3_peer(report: Option<Class3Report>) -> Option<Node>
+    ensures { result ≡ class3_peer report }
+{
+    match report {
+        Some(report) => Some(report.peer),
+        None => None,
+    }
 }
 
 /// The peers that own outputs of an adapter, each once. None own one of a scanner. The fault: an allocation was refused.
-pub fn owners_of<D: Device>(alloc: Global, device: &D) -> Result<Vec<Node>, OutOfMemory> {
+pub fn owners_of<D: Device>(alloc: Global, device: &D) -> Result<Vec<Node>, OutOfMemory>
+    ensures { IfOk result (λ owners. owners.items ≡ owners_below (D.table device.now) 64) }
+{
     let mut owners = Vec::new(alloc);
-    for place in 0..u32::MAX {
-        let Some(report) = device.connection(place) else {
-            return Ok(owners);
-        };
-        match owner_of(&report) {
-            Some(owner) if !owners.contains(&owner) => owners.push(owner)?,
-            _ => {}
-        }
+    for place in 0..MOST_CONNECTIONS as u32 {
+        add_peer(&mut owners, owner_of(device.connection(place)))?;
     }
     Ok(owners)
 }
@@ -199,11 +94,40 @@ pub fn owners_of<D: Device>(alloc: Global, device: &D) -> Result<Vec<Node>, OutO
 /// The peer of a connection that owns an output: an established exclusive owner.
 ///
 /// Volume 1, chapter 3, application connection types.
-fn owner_of(report: &ConnectionReport) -> Option<Node>
-    ensures { result ≡ owner_of report.now }
+fn owner_of(report: Option<ConnectionReport>) -> Option<Node>
+    ensures { result ≡ owner_of report }
 {
-    match report.kind {
-        Kind::ExclusiveOwner if report.established => Some(report.peer),
+    match report {
+        Some(report) if report.established && report.kind == Kind::ExclusiveOwner => {
+            Some(report.peer)
+        }
         _ => None,
     }
+}
+
+/// Whether this is the node.
+fn is_node(other: &Node, node: Node) -> bool
+    ensures { result ≡ is_node node other.now }
+{
+    other.0 == node.0
+}
+
+/// Appends a peer, if there is one and it is not among them. The fault: an allocation was refused, and none is appended.
+fn add_peer(peers: &mut Vec<Node>, peer: Option<Node>) -> Result<(), OutOfMemory>
+    ensures { OnOk result (peers.new.items ≡ with_peer peer peers.old.items) }
+{
+    let Some(peer) = peer else {
+        return Ok(());
+    };
+    if !has_peer(peers.as_slice(), peer) {
+        peers.push(peer)?;
+    }
+    Ok(())
+}
+
+/// Whether a peer is among these.
+fn has_peer(peers: &[Node], peer: Node) -> bool
+    ensures { result ≡ list_any (is_node peer) peers.now }
+{
+    peers.iter().any(|other| is_node(other, peer))
 }

@@ -3,9 +3,10 @@
 ghost use Rattle.std.specs.Prelude.{◌≡◌, OnOk};
 ghost use Rattle.station_watch.specs.Slots.{link_report_of, fed, idle_slot, is_id, is_starved, is_tick, opened, with_groups};
 
-use crate::groups::{OpenedData, datagram_id, opened_data};
+use crate::groups::{datagram_id, opened_group};
+use crate::traffic::slot_id;
 use cip_events::{Answer, Delivery, Event, Notice, SlotPhase, Verdict};
-use cip_tables::Config;
+use cip_tables::{Config, Device};
 use cip_types::{Node, OutOfMemory};
 use port_groups::{DataGroup, add_group};
 use std::alloc::Global;
@@ -74,8 +75,14 @@ impl SlotWatches {
         })
     }
 
-    /// Notes an event and its answer. The fault: an allocation was refused, and not all that is to be told is kept.
-    pub fn note(&mut self, event: &Event, answer: &Answer) -> Result<(), OutOfMemory> {
+    /// Notes an event and its answer at a device, which is as the event left it. The fault: an allocation was refused, and not all
+    /// that is to be told is kept.
+    pub fn note<D: Device>(
+        &mut self,
+        device: &D,
+        event: &Event,
+        answer: &Answer,
+    ) -> Result<(), OutOfMemory> {
         if let Event::Datagram { peer, bytes } = event {
             if is_accepted(&answer.verdict) {
                 self.feed(*peer, datagram_id(bytes.as_slice()));
@@ -84,7 +91,7 @@ impl SlotWatches {
         for notice in answer.notices.as_slice() {
             if let Some(link_report) = link_report_of(event, notice) {
                 self.link_reports.push(link_report)?;
-                self.follow(event, link_report)?;
+                self.follow(device, event, link_report)?;
             }
             self.forget(notice);
         }
@@ -102,12 +109,17 @@ impl SlotWatches {
     }
 
     /// Notes what a report on a link says of its slot.
-    fn follow(&mut self, event: &Event, link_report: LinkReport) -> Result<(), OutOfMemory> {
+    fn follow<D: Device>(
+        &mut self,
+        device: &D,
+        event: &Event,
+        link_report: LinkReport,
+    ) -> Result<(), OutOfMemory> {
         match link_report {
             LinkReport::Succeed(slot) => {
-                let data = reply_data(event);
+                let (id, group) = (slot_id(device, slot), reply_group(event));
                 if let Some(place) = watch_mut(&mut self.slots, slot) {
-                    *place = opened(*place, data);
+                    *place = opened(*place, id, group);
                     self.regrouped = true;
                 }
                 Ok(())
@@ -207,10 +219,10 @@ fn watch_mut(slots: &mut Vec<SlotWatch>, slot: u32) -> Option<&mut SlotWatch> {
     slots.get_mut(usize::try_from(slot).ok()?)
 }
 
-/// What the reply of an event says of the T->O datagrams.
-fn reply_data(event: &Event) -> Option<OpenedData> {
+/// The group that the reply of an event names.
+fn reply_group(event: &Event) -> Option<DataGroup> {
     match event {
-        Event::Frame { stream: _, bytes } => opened_data(bytes.as_slice()),
+        Event::Frame { stream: _, bytes } => opened_group(bytes.as_slice()),
         _ => None,
     }
 }
@@ -252,15 +264,16 @@ fn is_accepted(verdict: &Verdict) -> bool {
     }
 }
 
-/// A slot after its connection was established, with what the reply said. Without a readable reply it is not watched.
-fn opened(watch: SlotWatch, reply: Option<OpenedData>) -> SlotWatch
-    ensures { result ≡ opened watch reply }
+/// A slot after its connection was established, with the id of its datagrams and the group that the reply named. Without an id it
+/// is not watched.
+fn opened(watch: SlotWatch, id: Option<u32>, group: Option<DataGroup>) -> SlotWatch
+    ensures { result ≡ opened watch id group }
 {
-    match reply {
-        Some(said) => SlotWatch {
+    match id {
+        Some(id) => SlotWatch {
             unfed: true,
-            id: Some(said.id),
-            group: said.group,
+            id: Some(id),
+            group,
             ..watch
         },
         None => SlotWatch {

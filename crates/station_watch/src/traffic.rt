@@ -1,31 +1,24 @@
 //! What a station counts of its datagrams: those of each connection, and all.
 
-ghost use Rattle.std.specs.Prelude.{◌≡◌, find, map, IfOk, OnOk};
-ghost use Rattle.station_watch.specs.Traffic.{after_datagram, after_event, after_notice, after_notices, applied_by, arrived, begun, counted_one, fresh_slot, fresh_traffic, is_for, is_from, is_id, is_of, lost_by, lost_of, noted, received_datagram, reply_id, sent_totals, slot_changed, totals_after, with_connection, with_slot, without_originator};
+ghost use Rattle.std.specs.Prelude.{◌≡◌, ◌++◌, find, map, IfOk, OnOk};
+ghost use Rattle.station_watch.specs.Traffic.{after_datagram, after_event, after_notice, after_notices, applied_by, arrived, begun, counted_at_place, counted_in, counted_of, counted_one, current, entry_of, entry_or, fresh_slot, fresh_traffic, has_id, id_of_slot, is_for, is_from, is_id, lost_by, lost_of, noted, received_datagram, sent_totals, slot_changed, slot_id, totals_after, with_slot};
 
-use crate::groups::{datagram_id, datagram_sequence, opened_data};
-use crate::openings::opens_class3;
+use crate::groups::{datagram_id, datagram_sequence};
+use crate::peers::changes_connections;
+use adapter_table::ConnectionReport;
 use cip_events::{Answer, Delivery, Event, Notice, SlotPhase, Verdict};
-use cip_tables::{Config, SlotConfig};
+use cip_tables::{Config, Device, SlotConfig, SlotReport};
 use cip_types::limits::MOST_CONNECTIONS;
-use cip_types::{Node, OutOfMemory, Triad};
+use cip_types::{Node, OutOfMemory};
 use datagram_counts::{DatagramCounts, counted, is_accepted, missed};
 use std::alloc::Global;
 use std::marker::Model;
 
-/// Who sends the datagrams of a connection.
-#[derive(Clone, Copy, PartialEq, Eq)]
-pub enum DataSource {
-    /// The originator of a connection of an adapter, which has this triad.
-    Originator(Triad),
-    /// The target of a scanner's slot.
-    Target(Node),
-}
-
 /// A connection of an adapter or the slot of a scanner, with the counts of its datagrams.
 #[derive(Clone, Copy, PartialEq, Eq)]
 pub struct CountedConnection {
-    pub source: DataSource,
+    /// The target of a slot, which sends them. None of a connection of an adapter: its id alone names it.
+    pub sender: Option<Node>,
     /// The connection id of its datagrams; None of a slot without an open connection.
     pub id: Option<u32>,
     /// Of a slot the counts of the connection that it has, or had last.
@@ -47,10 +40,11 @@ pub struct TrafficTotals {
 
 /// What is counted of a device's datagrams: those of each connection, and all.
 ///
-/// The connections of an adapter are in the order of their openings, timed-out ones included, and so at their places in
-/// the device. The slots of a scanner are in the order of their numbers.
+/// Of an adapter there is an entry for each connection of class 1, which the device names: as many as it has, timed-out
+/// ones included. The slots of a scanner are in the order of their numbers.
 #[derive(Drop)]
 pub struct StationTraffic {
+    alloc: Global,
     connections: Vec<CountedConnection>,
     totals: TrafficTotals,
 }
@@ -85,24 +79,34 @@ impl StationTraffic {
         };
         match config {
             Config::Adapter(_) => Ok(StationTraffic {
+                alloc,
                 connections: Vec::new(alloc),
                 totals,
             }),
             Config::Scanner(profile) => Ok(StationTraffic {
+                alloc,
                 connections: fresh_slots(alloc, profile.slots.as_slice())?,
                 totals,
             }),
         }
     }
 
-    /// Counts an event and its answer. The fault: an allocation was refused, and a connection that the answer opened is not
-    /// counted.
-    pub fn note(&mut self, event: &Event, answer: &Answer) -> Result<(), OutOfMemory>
-        ensures { OnOk result (self.new ≡ noted event.now answer.now self.old) }
+    /// Counts an event and its answer at a device, which is as the event left it. The fault: an allocation was refused, and a
+    /// connection that the answer opened is not counted.
+    pub fn note<D: Device>(
+        &mut self,
+        device: &D,
+        event: &Event,
+        answer: &Answer,
+    ) -> Result<(), OutOfMemory>
+        ensures { OnOk result (self.new ≡ noted (D.table device.now) event.now answer.now self.old) }
     {
+        let notices = answer.notices.as_slice();
         self.totals = sent_totals(self.totals, answer.datagrams.as_slice().len());
         self.note_event(event, &answer.verdict);
-        note_all(&mut self.connections, event, answer.notices.as_slice())
+        bring_up(self.alloc, &mut self.connections, device, notices)?;
+        note_all(&mut self.connections, device, notices);
+        Ok(())
     }
 
     /// The connections of an adapter or the slots of a scanner.
@@ -167,15 +171,15 @@ fn fresh_slots(alloc: Global, slots: &[SlotConfig]) -> Result<Vec<CountedConnect
 fn fresh_slot(config: &SlotConfig) -> CountedConnection
     ensures { result ≡ fresh_slot config.now }
 {
-    begun(DataSource::Target(config.target), None)
+    begun(Some(config.target), None)
 }
 
 /// A connection whose counts begin.
-fn begun(source: DataSource, id: Option<u32>) -> CountedConnection
-    ensures { result ≡ begun source id }
+fn begun(sender: Option<Node>, id: Option<u32>) -> CountedConnection
+    ensures { result ≡ begun sender id }
 {
     CountedConnection {
-        source,
+        sender,
         id,
         counts: DatagramCounts::none(),
     }
@@ -226,14 +230,14 @@ fn received_datagram(peer: Node, bytes: &[u8], delivery: Delivery) -> Option<Arr
     })
 }
 
-/// Whether a datagram of this peer may be of this source. Of an adapter's connections no two have one id, so the id alone
+/// Whether a datagram of this peer may be of this sender. Of an adapter's connections no two have one id, so the id alone
 /// names one.
-fn is_from(source: DataSource, peer: Node) -> bool
-    ensures { result ≡ is_from peer source }
+fn is_from(sender: Option<Node>, peer: Node) -> bool
+    ensures { result ≡ is_from peer sender }
 {
-    match source {
-        DataSource::Originator(_) => true,
-        DataSource::Target(target) => target == peer,
+    match sender {
+        Some(target) => target == peer,
+        None => true,
     }
 }
 
@@ -251,7 +255,7 @@ fn is_id(id: Option<u32>, expected: u32) -> bool
 fn is_for(connection: &CountedConnection, datagram: ArrivedDatagram) -> bool
     ensures { result ≡ is_for datagram connection.now }
 {
-    is_from(connection.source, datagram.peer) && is_id(connection.id, datagram.id)
+    is_from(connection.sender, datagram.peer) && is_id(connection.id, datagram.id)
 }
 
 /// The connection that a datagram is for.
@@ -309,84 +313,130 @@ fn counted_one(connection: CountedConnection, datagram: ArrivedDatagram) -> Coun
     }
 }
 
-/// Notes the notices in the answer to an event. The fault: an allocation was refused.
-fn note_all(
+/// An entry for each connection that an adapter has, if notices say that one was opened or has ended. The fault: an allocation
+/// was refused, and the entries are as they were.
+fn bring_up<D: Device>(
+    alloc: Global,
     connections: &mut Vec<CountedConnection>,
-    event: &Event,
+    device: &D,
     notices: &[Notice],
 ) -> Result<(), OutOfMemory>
-    ensures { OnOk result (connections.new.items ≡ after_notices event.now notices.now connections.old.items) }
+    ensures { OnOk result
+        (connections.new.items ≡ current (D.table device.now) notices.now connections.old.items) }
+{
+    if changes_connections(notices) {
+        *connections = counted_in(alloc, device, connections.as_slice())?;
+    }
+    Ok(())
+}
+
+/// An entry for each connection that an adapter has, in the order of the openings, with what was counted of it. The fault: an
+/// allocation was refused.
+fn counted_in<D: Device>(
+    alloc: Global,
+    device: &D,
+    connections: &[CountedConnection],
+) -> Result<Vec<CountedConnection>, OutOfMemory>
+    ensures { IfOk result (λ list. list.items ≡ counted_in (D.table device.now) connections.now) }
+{
+    let mut list = Vec::new(alloc);
+    for place in 0..MOST_CONNECTIONS as u32 {
+        add(&mut list, connections, device.connection(place))?;
+    }
+    Ok(list)
+}
+
+/// Adds the entry of a connection, if there is one. The fault: an allocation was refused, and none is added.
+fn add(
+    list: &mut Vec<CountedConnection>,
+    connections: &[CountedConnection],
+    report: Option<ConnectionReport>,
+) -> Result<(), OutOfMemory>
+    ensures { OnOk result (list.new.items ≡ list.old.items ++ counted_at_place connections.now report) }
+{
+    if let Some(report) = report {
+        list.push(counted_of(connections, &report))?;
+    }
+    Ok(())
+}
+
+/// What was counted of a connection of an adapter: nothing, if there is no entry of it.
+pub fn counted_of(connections: &[CountedConnection], report: &ConnectionReport) -> CountedConnection
+    ensures { result ≡ counted_of connections.now report.now }
+{
+    entry_of(connections, report.o_t_id.0)
+}
+
+/// What was counted of the connection of an O->T id.
+fn entry_of(connections: &[CountedConnection], id: u32) -> CountedConnection
+    ensures { result ≡ entry_of connections.now id }
+{
+    entry_or(id, entry_with(connections, id))
+}
+
+/// The entry of a connection id.
+fn entry_with(connections: &[CountedConnection], id: u32) -> Option<CountedConnection>
+    ensures { result ≡ find (has_id id) connections.now }
+{
+    connections.iter().copied().find(|other| has_id(other, id))
+}
+
+/// The entry of a connection id, or one whose counts begin.
+fn entry_or(id: u32, found: Option<CountedConnection>) -> CountedConnection
+    ensures { result ≡ entry_or id found }
+{
+    match found {
+        Some(found) => found,
+        None => begun(None, Some(id)),
+    }
+}
+
+/// Whether an entry has this connection id.
+fn has_id(connection: &CountedConnection, id: u32) -> bool
+    ensures { result ≡ has_id id connection.now }
+{
+    is_id(connection.id, id)
+}
+
+/// Notes what notices say of slots.
+fn note_all<D: Device>(connections: &mut [CountedConnection], device: &D, notices: &[Notice])
+    ensures { connections.new ≡ after_notices (D.table device.now) notices.now connections.old }
 {
     for notice in notices {
-        note_one(connections, event, notice)?;
-    }
-    Ok(())
-}
-
-/// Notes a notice in the answer to an event: a connection that was opened is the last one, one that has ended gives its place
-/// up, and one that timed out keeps it. A class 3 connection has no place. The fault: an allocation was refused.
-fn note_one(
-    connections: &mut Vec<CountedConnection>,
-    event: &Event,
-    notice: &Notice,
-) -> Result<(), OutOfMemory>
-    ensures { OnOk result (connections.new.items ≡ after_notice event.now notice.now connections.old.items) }
-{
-    match notice {
-        Notice::Opened(_, _) if opens_class3(event) => Ok(()),
-        Notice::Opened(triad, id) => {
-            remove(connections, *triad);
-            add(
-                connections,
-                begun(DataSource::Originator(*triad), Some(id.0)),
-            )
-        }
-        Notice::Closed(triad) => Ok(remove(connections, *triad)),
-        Notice::Dropped(triad) => Ok(remove(connections, *triad)),
-        Notice::Replaced(triad) => Ok(remove(connections, *triad)),
-        Notice::Slot(slot, state) => {
-            let established = *state == SlotPhase::Established.number();
-            Ok(change_slot(connections, *slot, established, reply_id(event)))
-        }
-        _ => Ok(()),
+        note_one(connections, device, notice);
     }
 }
 
-/// Whether a connection is that of this triad.
-fn is_of(connection: &CountedConnection, triad: Triad) -> bool
-    ensures { result ≡ is_of triad connection.now }
+/// Notes what a notice says of a slot.
+fn note_one<D: Device>(connections: &mut [CountedConnection], device: &D, notice: &Notice)
+    ensures { connections.new ≡ after_notice (D.table device.now) notice.now connections.old }
 {
-    match connection.source {
-        DataSource::Originator(other) => other == triad,
-        DataSource::Target(_) => false,
+    if let Notice::Slot(slot, state) = notice {
+        let established = *state == SlotPhase::Established.number();
+        change_slot(connections, *slot, established, slot_id(device, *slot));
     }
 }
 
-/// Removes the connection of a triad.
-fn remove(connections: &mut Vec<CountedConnection>, triad: Triad)
-    ensures { connections.new.items ≡ without_originator triad connections.old.items }
+/// The connection id of the datagrams that a slot receives, if its connection is open.
+pub(crate) fn slot_id<D: Device>(device: &D, slot: u32) -> Option<u32>
+    ensures { result ≡ slot_id (D.table device.now) slot }
 {
-    connections.retain(|other| !is_of(other, triad));
+    id_of_slot(device.slot(slot))
 }
 
-/// Adds a connection, if there are fewer than 64. The fault: an allocation was refused, and none is added.
-fn add(connections: &mut Vec<CountedConnection>, new: CountedConnection) -> Result<(), OutOfMemory>
-    ensures { OnOk result (connections.new.items ≡ with_connection new connections.old.items) }
+/// The connection id of the datagrams that a slot in this state receives.
+fn id_of_slot(report: Option<SlotReport>) -> Option<u32>
+    ensures { result ≡ id_of_slot report }
 {
-    if connections.len() < MOST_CONNECTIONS {
-        connections.push(new)?;
+    match report {
+        Some(SlotReport::Established(target)) => Some(target.t_o_id.0),
+        _ => None,
     }
-    Ok(())
 }
 
 /// Changes a slot, if there is one of this number.
-fn change_slot(
-    connections: &mut Vec<CountedConnection>,
-    slot: u32,
-    established: bool,
-    id: Option<u32>,
-)
-    ensures { connections.new.items ≡ with_slot slot established id connections.old.items }
+fn change_slot(connections: &mut [CountedConnection], slot: u32, established: bool, id: Option<u32>)
+    ensures { connections.new ≡ with_slot slot established id connections.old }
 {
     let index = slot as usize;
     if index < connections.len() {
@@ -400,17 +450,7 @@ fn slot_changed(slot: CountedConnection, established: bool, id: Option<u32>) -> 
     ensures { result ≡ slot_changed established id slot }
 {
     if established {
-        return begun(slot.source, id);
+        return begun(slot.sender, id);
     }
     CountedConnection { id: None, ..slot }
-}
-
-/// The connection id of the T->O datagrams in the reply that an event brings.
-fn reply_id(event: &Event) -> Option<u32>
-    ensures { result ≡ reply_id event.now }
-{
-    match event {
-        Event::Frame { stream: _, bytes } => Some(opened_data(bytes.as_slice())?.id),
-        _ => None,
-    }
 }

@@ -3,6 +3,7 @@
 ghost use Rattle.std.specs.Prelude.{◌≡◌};
 
 use cip_events::{Delivery, Event, Outcome};
+use cip_tables::Device;
 
 /// Sees the steps of a device, one after another: a recorder, a printer, a counter.
 ///
@@ -17,12 +18,12 @@ pub trait Observer {
 
     ghost notes: { Self → Event → Outcome → Self → Type 0 };
 
-    /// The device was stepped by this event, with this outcome. Its answer is not sent yet.
-    fn stepped(&mut self, event: &Event, outcome: &Outcome)
+    /// The device was stepped by this event, with this outcome, and is as it was left. Its answer is not sent yet.
+    fn stepped<D: Device>(&mut self, device: &D, event: &Event, outcome: &Outcome)
         ensures { notes self.old event.now outcome.now self.new };
 
-    /// The device was delivered the datagram of this event: a step whose answer has this verdict alone.
-    fn delivered(&mut self, event: &Event, delivery: Delivery)
+    /// The device was delivered the datagram of this event, and is as it was left: a step whose answer has this verdict alone.
+    fn delivered<D: Device>(&mut self, device: &D, event: &Event, delivery: Delivery)
         ensures { notes self.old event.now (Ok (plain_answer (Delivered delivery))) self.new };
 }
 
@@ -33,7 +34,7 @@ pub struct Unobserved;
 impl Observer for Unobserved {
     ghost notes = { λ old event outcome new. new ≡ old };
 
-    fn stepped(&mut self, _event: &Event, _outcome: &Outcome) {}
+    fn stepped<D: Device>(&mut self, _device: &D, _event: &Event, _outcome: &Outcome) {}
 
-    fn delivered(&mut self, _event: &Event, _delivery: Delivery) {}
+    fn delivered<D: Device>(&mut self, _device: &D, _event: &Event, _delivery: Delivery) {}
 }

@@ -195,7 +195,7 @@ fn deliver<P: Port, D: Device, O: Observer>(
     let delivery = device.deliver(peer, bytes.as_slice());
     // (no byte is copied: the event has them until the observer has seen it)
     let event = Event::Datagram { peer, bytes };
-    observer.delivered(&event, delivery);
+    observer.delivered(device, &event, delivery);
     give_back(port, event);
 }
 
@@ -285,6 +285,6 @@ fn step<D: Device, O: Observer>(device: &mut D, observer: &mut O, event: &Event)
     ensures noted { O.notes observer.old event.now result observer.new }
 {
     let outcome = device.step(event);
-    observer.stepped(event, &outcome);
+    observer.stepped(device, event, &outcome);
     outcome
 }

@@ -1,4 +1,0 @@
-mod PlaceCounts
-mod PlaceEffects
-mod PlaceLemmas
-mod PlaceSteps
