@@ -1,28 +1,25 @@
 //! An adapter over any table of connections.
 
-mod class3_connections;
 mod messages;
 mod objects;
 mod own;
 mod streams;
 
 ghost use Rattle.std.specs.Prelude.{◌≡◌, ◌≢◌, Ok, Err, None, IfOk, IfErr, true};
-ghost use Rattle.std.specs.Option.{option_map};
 ghost use Rattle.cip_router.specs.Requests.{view_router_request};
-ghost use Rattle.adapter_objects.specs.Views.{view_own};
-ghost use Rattle.adapter_table.specs.Own.{own_of};
-ghost use Rattle.adapter_table.specs.Requests.{requested, served};
-ghost use Rattle.adapter_replies.specs.Routes.{peer_of, routed};
+ghost use Rattle.adapter_table.specs.Requests.{requested};
+ghost use Rattle.adapter_replies.specs.Serving.{IsOpenRoute, barred_service, finished, requested_on, served_on, service_served};
 ghost use Rattle.adapter_table.specs.Step.{adapter_step};
 ghost use Rattle.cip_events.specs.Outcomes.{Follows};
 ghost use Rattle.cip_tables.specs.Step.{is_datagram};
 
-use adapter_objects::{ObjectRequest, OwnRequest, own_request};
+use adapter_objects::{ObjectRequest, own_request};
 use adapter_replies::{Route, unserved_answer};
 use adapter_state::AdapterState;
+use cip_fwdopen::service::FORWARD_CLOSE;
 use cip_tables::{
     Answer, AnyConnection, Class3Report, Config, ConnectionReport, ConsumerCounts, Delivery,
-    Device, DeviceTable, DeviceTotals, Event, NewFault, Outcome, RouterRequest, SlotReport,
+    Device, DeviceTable, DeviceTotals, Event, NewFault, Outcome, RouterRequest, SlotReport, Status,
     StepFault, StreamReport, TableCopy, Verdict, read_router_request,
 };
 use cip_types::{Ms, Node, OutOfMemory, Triad};
@@ -46,16 +43,32 @@ impl<T: ConnectionTable> Model for Adapter<T> {
 
 // REQUESTS
 
+/// The service that is refused on a route, since no message of a class 3 connection opens or closes a connection.
+fn barred_service(route: Route, request: &RouterRequest<'_>) -> Option<u8>
+    ensures { result ≡ barred_service route (view_router_request request.now) }
+{
+    if !route.is_connected() {
+        return None;
+    }
+    match request {
+        RouterRequest::Closing(_) => Some(FORWARD_CLOSE),
+        RouterRequest::Opening(service, _) => Some(service.code()),
+        RouterRequest::Nothing | RouterRequest::Refused(..) | RouterRequest::Object(..) => None,
+    }
+}
+
 impl<T: ConnectionTable> Adapter<T> {
-    /// A request on a route, to no object of the maker's own.
-    pub(crate) fn serve(&mut self, route: Route, request: RouterRequest<'_>) -> Outcome
-        ensures { Follows (Ok (routed self.old route
-            (served self.old (peer_of route) (view_router_request request.entry)))) self.old result self.new }
+    /// A request by its service, on a route that can bring it.
+    fn serve_service(&mut self, route: Route, request: RouterRequest<'_>) -> Outcome
+        requires open { IsOpenRoute self.old route }
+        requires unbarred { barred_service route (view_router_request request) ≡ None }
+        ensures { Follows (Ok (finished self.old route
+            (service_served self.old route (view_router_request request.entry)))) self.old result self.new }
     {
         match request {
             RouterRequest::Nothing => Ok(unserved_answer(self.state.alloc(), route)?),
             RouterRequest::Refused(service, why) => self.state.refuse(route, service, why),
-            RouterRequest::Closing(request) => self.end_connection(route, &request),
+            RouterRequest::Closing(request) => self.state.forward_close(route, &request),
             RouterRequest::Object(service, class, instance, attribute, body) => {
                 let request = ObjectRequest {
                     service,
@@ -70,24 +83,37 @@ impl<T: ConnectionTable> Adapter<T> {
         }
     }
 
-    /// The request, if it is to an object of the maker's own.
-    pub(crate) fn own_request<'b>(&self, request: &RouterRequest<'b>) -> Option<OwnRequest<'b>>
-        ensures { option_map view_own result
-            ≡ own_of self.now.profile.objects (view_router_request request.now) }
+    /// A request to no object of the maker's own.
+    fn serve_router(&mut self, route: Route, request: RouterRequest<'_>) -> Outcome
+        requires { IsOpenRoute self.old route }
+        ensures { Follows (Ok (finished self.old route (served_on self.old route (view_router_request request.entry))))
+            self.old result self.new }
     {
-        own_request(self.state.profile().objects.as_slice(), request)
+        match barred_service(route, &request) {
+            Some(service) => self.state.refuse(route, service, Status::Service),
+            None => self.serve_service(route, request),
+        }
     }
 
-    /// A request of a peer.
-    #[tactic(auto, unfolding(adapter_table::specs::Requests::requested), using(adapter_replies::specs::RouteLaws::routed_to_peer))]
+    /// A request on its route: one to an object of the maker's own asks the application.
+    #[tactic(auto, unfolding(adapter_replies::specs::Serving::requested_on))]
+    pub(crate) fn serve(&mut self, route: Route, bytes: &[u8]) -> Outcome
+        requires { IsOpenRoute self.old route }
+        ensures { Follows (Ok (requested_on self.old route bytes.now)) self.old result self.new }
+    {
+        let request = read_router_request(bytes);
+        match own_request(self.state.profile().objects.as_slice(), &request) {
+            Some(own) => self.state.ask(route, &own),
+            None => self.serve_router(route, request),
+        }
+    }
+
+    /// A request of a peer, over no stream.
+    #[tactic(auto, using(adapter_replies::specs::RouteLaws::peer_is))]
     fn request(&mut self, peer: Node, bytes: &[u8]) -> Outcome
         ensures { Follows (Ok (requested self.old peer bytes.now)) self.old result self.new }
     {
-        let request = read_router_request(bytes);
-        match self.own_request(&request) {
-            Some(own) => self.ask_of_peer(peer, &own),
-            None => self.serve(Route::Peer(peer), request),
-        }
+        self.serve(Route::Peer(peer), bytes)
     }
 }
 

@@ -1,3 +1,4 @@
 pub mod Routes
 pub mod Messages
+pub mod Serving
 pub mod RouteLaws

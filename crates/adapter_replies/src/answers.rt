@@ -1,14 +1,17 @@
 //! Answers, which the adapter makes before its table changes.
 
-ghost use Rattle.std.specs.Prelude.{◌≡◌, ◌∷◌, ◌++◌, [], map, IfOk, OnOk, ◌≤◌};
+ghost use Rattle.std.specs.Prelude.{◌≡◌, ◌∷◌, ◌++◌, [], map, None, IfOk, OnOk, ◌≤◌, length};
+ghost use Rattle.cip_encap.specs.Message.{message_text};
+ghost use Rattle.cip_router.specs.Frames.{refused, reply_message};
 ghost use Rattle.cip_router.specs.Replies.{view_reply};
 ghost use Rattle.adapter_table.specs.Class3Opening.{class3_opened};
 ghost use Rattle.adapter_table.specs.Opening.{opened_reply, opened_address, replaced_notices};
 ghost use Rattle.adapter_table.specs.Ticks.{expired_notice};
-ghost use Rattle.adapter_replies.specs.Routes.{view_request_header, view_frame_reply, IsWritable, IsWritableFrame, routed_answer, framed_answer, unserved_answer};
+ghost use Rattle.adapter_replies.specs.Routes.{view_request_header, view_frame_reply, IsWritable, IsWritableFrame, routed_frame, routed_answer, framed_answer, unserved_answer, kept_text, message_text_of};
 
+use crate::messages::{message_frame, message_text};
 use crate::replies::{FrameReply, write_frame_reply};
-use crate::routes::{RequestHeader, Route};
+use crate::routes::{ConnectionRoute, RequestHeader, Route};
 use adapter_table::{Row, State};
 use cip_events::{Answer, Frame, Notice, OutgoingDatagram, Recipient, Verdict};
 use cip_fwdopen::Opened;
@@ -58,28 +61,70 @@ pub fn late_answer(
 }
 
 /// An answer with one frame.
-pub(crate) fn answer_of(
+pub(crate) fn one_frame_answer(
     alloc: Global,
-    to: Recipient,
-    bytes: Vec<u8>,
+    frame: Frame,
     notices: Vec<Notice>,
 ) -> Result<Answer, OutOfMemory>
     ensures { IfOk result (λ answer. answer
-        ≡ record {
-          frames = record { to = to; bytes = bytes.items }
-              ∷ [];
-          datagrams = [];
-          verdict = Verdict.Done;
-          notices = notices.items;
-        }) }
+        ≡ record { frames = frame ∷ []; datagrams = []; verdict = Verdict.Done; notices = notices.items }) }
 {
-    let bytes = Items::from_vec(bytes);
     Ok(Answer {
-        frames: Items::one(alloc, Frame { to, bytes })?,
+        frames: Items::one(alloc, frame)?,
         datagrams: Items::new(alloc),
         verdict: Verdict::Done,
         notices: Items::from_vec(notices),
     })
+}
+
+/// The frame of a reply to a frame of a stream. Out of memory is the only fault.
+pub(crate) fn stream_frame(
+    alloc: Global,
+    number: u16,
+    request_header: RequestHeader,
+    reply: &FrameReply<'_>,
+) -> Result<Frame, OutOfMemory>
+    requires { IsWritableFrame (view_frame_reply reply.now) }
+    ensures { IfOk result (λ frame. frame
+        ≡ record {
+          to = Recipient.Stream number;
+          bytes = message_text (reply_message (view_request_header request_header) (view_frame_reply reply.now));
+        }) }
+{
+    let bytes = write_frame_reply(alloc, request_header, reply)?;
+    Ok(Frame {
+        to: Recipient::Stream(number),
+        bytes: Items::from_vec(bytes),
+    })
+}
+
+/// The frame with a reply on its route; the one that answers an unconnected request over a stream has the multicast
+/// address of a connection that was opened. Out of memory is the only fault.
+pub(crate) fn reply_frame(
+    alloc: Global,
+    route: Route,
+    reply: &Reply<'_>,
+    address: Option<Node>,
+) -> Result<Frame, OutOfMemory>
+    // A value that is replied has at most 1,400 bytes, and a refusal a status that says so.
+    requires { IsWritable (view_reply reply.now) }
+    ensures { IfOk result (λ frame. frame ≡ routed_frame route (view_reply reply.now) address) }
+{
+    match route {
+        Route::Peer(peer) => {
+            let bytes = Items::from_vec(reply.write(alloc)?);
+            let to = Recipient::Peer(peer);
+            Ok(Frame { to, bytes })
+        }
+        Route::Stream(stream, request_header) => {
+            let reply = FrameReply::Router(*reply, address);
+            stream_frame(alloc, stream.number, request_header, &reply)
+        }
+        Route::Connection(way) => {
+            let text = message_text(alloc, &way, reply)?;
+            message_frame(alloc, &way, &text)
+        }
+    }
 }
 
 /// The answer with a reply on its route; over a stream it has the multicast address of a connection that it opened. Out
@@ -91,19 +136,50 @@ pub fn reply_answer(
     address: Option<Node>,
     notices: Vec<Notice>,
 ) -> Result<Answer, OutOfMemory>
-    // A value that is replied has at most 1,400 bytes, and a refusal a status that says so.
     requires { IsWritable (view_reply reply.now) }
     ensures { IfOk result (λ answer. answer ≡ routed_answer route (view_reply reply.now) address notices.items) }
 {
-    match route {
-        Route::Peer(peer) => {
-            answer_of(alloc, Recipient::Peer(peer), reply.write(alloc)?, notices)
-        }
-        Route::Stream(number, _, request_header) => {
-            let reply = FrameReply::Router(*reply, address);
-            frame_answer(alloc, number, request_header, &reply, notices)
-        }
+    let frame = reply_frame(alloc, route, reply, address)?;
+    one_frame_answer(alloc, frame, notices)
+}
+
+/// The answer with a reply on the route of a message, and the text of the reply.
+fn message_reply(
+    alloc: Global,
+    way: ConnectionRoute,
+    reply: &Reply<'_>,
+    notices: Vec<Notice>,
+) -> Result<(Answer, Vec<u8>), OutOfMemory>
+    requires { IsWritable (view_reply reply.now) }
+    ensures answer { IfOk result (λ made. made.0
+        ≡ routed_answer (Route.Connection way) (view_reply reply.now) None notices.items) }
+    ensures text { IfOk result (λ made. made.1.items ≡ message_text_of way (view_reply reply.now)) }
+    ensures few { IfOk result (λ made. length made.1.items ≤ 1404) }
+{
+    let text = message_text(alloc, &way, reply)?;
+    let frame = message_frame(alloc, &way, &text)?;
+    let answer = one_frame_answer(alloc, frame, notices)?;
+    Ok((answer, text))
+}
+
+/// The answer with a reply on its route, and the text of it that a class 3 connection keeps, none on other routes. Out
+/// of memory is the only fault.
+pub fn reply_and_text(
+    alloc: Global,
+    route: Route,
+    reply: &Reply<'_>,
+    notices: Vec<Notice>,
+) -> Result<(Answer, Vec<u8>), OutOfMemory>
+    requires { IsWritable (view_reply reply.now) }
+    ensures answer { IfOk result (λ made. made.0 ≡ routed_answer route (view_reply reply.now) None notices.items) }
+    ensures text { IfOk result (λ made. made.1.items ≡ kept_text route (view_reply reply.now)) }
+    ensures few { IfOk result (λ made. length made.1.items ≤ 1404) }
+{
+    if let Route::Connection(way) = route {
+        return message_reply(alloc, way, reply, notices);
     }
+    let answer = reply_answer(alloc, route, reply, None, notices)?;
+    Ok((answer, Vec::new(alloc)))
 }
 
 /// The answer with the reply to a frame of a stream. Out of memory is the only fault.
@@ -118,8 +194,21 @@ pub fn frame_answer(
     ensures { IfOk result (λ answer. answer
         ≡ framed_answer number (view_request_header request_header) (view_frame_reply reply.now) notices.items) }
 {
-    let bytes = write_frame_reply(alloc, request_header, reply)?;
-    answer_of(alloc, Recipient::Stream(number), bytes, notices)
+    let frame = stream_frame(alloc, number, request_header, reply)?;
+    one_frame_answer(alloc, frame, notices)
+}
+
+/// The refusal of data without a request.
+fn refused_data(
+    alloc: Global,
+    number: u16,
+    request_header: RequestHeader,
+) -> Result<Answer, OutOfMemory>
+    ensures { IfOk result (λ answer. answer ≡ framed_answer number (view_request_header request_header)
+        (refused EncapStatus.IncorrectData) []) }
+{
+    let reply = FrameReply::Refused(EncapStatus::IncorrectData);
+    frame_answer(alloc, number, request_header, &reply, Vec::new(alloc))
 }
 
 /// The answer to bytes that are no request. Out of memory is the only fault.
@@ -128,10 +217,8 @@ pub fn unserved_answer(alloc: Global, route: Route) -> Result<Answer, OutOfMemor
 {
     match route {
         Route::Peer(_) => Ok(Answer::plain(alloc, Verdict::BadFrame)),
-        Route::Stream(number, _, request_header) => {
-            let reply = FrameReply::Refused(EncapStatus::IncorrectData);
-            frame_answer(alloc, number, request_header, &reply, Vec::new(alloc))
-        }
+        Route::Stream(stream, request_header) => refused_data(alloc, stream.number, request_header),
+        Route::Connection(way) => refused_data(alloc, way.number, way.request_header),
     }
 }
 

@@ -16,13 +16,11 @@ pub use addresses::address_of;
 pub use answers::{
     class3_opened, closed_notices, cut_answer, ended_answer, expiry_notices, frame_answer,
     late_answer, late_notices, notices_answer, one_notice, opened_address, opened_reply,
-    opening_notices, reply_answer, unserved_answer,
+    opening_notices, reply_and_text, reply_answer, unserved_answer,
 };
 pub use frames::{FrameView, is_protocol, read_frame};
-pub use messages::{
-    MessageRoute, message_answer, message_text, object_notices, object_reply, repeated_answer,
-};
-pub use objects::{inquiry_answer, object_answer};
-pub use own::{late_frames, referred_answer, response_frame, response_route};
+pub use messages::repeated_answer;
+pub use objects::{inquiry_answer, object_notices, object_reply};
+pub use own::{found_last, late_frames, referred_answer};
 pub use replies::{FrameReply, write_frame_reply};
-pub use routes::{RequestHeader, Route};
+pub use routes::{ConnectionRoute, RequestHeader, Route};

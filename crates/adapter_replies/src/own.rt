@@ -1,24 +1,17 @@
 //! Requests to objects of the maker's own: what the application is asked, and its answers on the routes of the requests.
 
-ghost use Rattle.std.specs.Prelude.{◌≡◌, ◌∷◌, [], Some, IfOk, option_to_list};
+ghost use Rattle.std.specs.Prelude.{◌≡◌, IfOk, option_to_list};
 ghost use Rattle.std.specs.List.{flat_map};
 ghost use Rattle.std.specs.Option.{option_map};
-ghost use Rattle.cip_encap.specs.Message.{message_text};
-ghost use Rattle.cip_router.specs.Frames.{reply_message};
-ghost use Rattle.cip_router.specs.Replies.{view_reply};
 ghost use Rattle.messaging.specs.Times.{late_waiting, without_late_class3_connections};
 ghost use Rattle.adapter_objects.specs.Views.{view_own};
-ghost use Rattle.adapter_table.specs.Answering.{class3_frames};
 ghost use Rattle.adapter_table.specs.Ticks.{late_frames};
-ghost use Rattle.adapter_replies.specs.Messages.{referred_answer, found_last, response_frames, response_route};
-ghost use Rattle.adapter_replies.specs.Routes.{IsWritable, IsWritableFrame, view_frame_reply, view_request_header};
+ghost use Rattle.adapter_replies.specs.Messages.{referred_answer, found_last};
 
-use crate::messages::{MessageRoute, message_text};
-use crate::replies::{FrameReply, write_frame_reply};
-use crate::routes::RequestHeader;
+use crate::answers::reply_frame;
+use crate::routes::Route;
 use adapter_objects::OwnRequest;
-use cip_encap::command::{SEND_RR_DATA, SEND_UNIT_DATA};
-use cip_events::{Answer, Frame, Recipient, Verdict};
+use cip_events::{Answer, Frame, Verdict};
 use cip_router::{Reply, Status};
 use cip_types::{Items, Ms, OutOfMemory};
 use messaging::{Class3Connection, MessagingState, Requester, Waiting};
@@ -48,106 +41,24 @@ pub fn referred_answer(
 
 // ITS ANSWERS
 
-/// The route of the answer to the last message of a class 3 connection, whose sequence count this is.
-///
-/// Volume 2, chapter 2, SendUnitData.
-pub fn response_route(class3: &Class3Connection, count: u16) -> MessageRoute
-    ensures { result ≡ response_route class3.now count }
-{
-    MessageRoute {
-        number: class3.stream,
-        request_header: RequestHeader {
-            command: SEND_UNIT_DATA,
-            session: u32::from(class3.stream) + 1,
-            context: 0,
-        },
-        t_o_id: class3.t_o_id,
-        t_o_size: class3.t_o_size,
-        count,
-    }
-}
-
-/// The frame of a reply over a stream.
-fn stream_frame(
-    alloc: Global,
-    number: u16,
-    request_header: RequestHeader,
-    reply: &FrameReply<'_>,
-) -> Result<Frame, OutOfMemory>
-    requires { IsWritableFrame (view_frame_reply reply.now) }
-    ensures { IfOk result (λ frame. frame
-        ≡ record {
-          to = Recipient.Stream number;
-          bytes = message_text (reply_message (view_request_header request_header) (view_frame_reply reply.now));
-        }) }
-{
-    let bytes = write_frame_reply(alloc, request_header, reply)?;
-    Ok(Frame {
-        to: Recipient::Stream(number),
-        bytes: Items::from_vec(bytes),
-    })
-}
-
-/// The frame of a reply to the last message of a class 3 connection.
-fn class3_frame(
-    alloc: Global,
-    class3: &Class3Connection,
-    count: u16,
-    service: u8,
-    reply: &Reply<'_>,
-) -> Result<Frame, OutOfMemory>
-    requires { IsWritable (view_reply reply.now) }
-    ensures { IfOk result (λ frame. frame ∷ []
-        ≡ class3_frames count service (view_reply reply.now) (Some class3.now)) }
-{
-    let route = response_route(class3, count);
-    let text = message_text(alloc, &route, service, reply)?;
-    let reply = FrameReply::Connected(route.t_o_id, count, &text);
-    stream_frame(alloc, route.number, route.request_header, &reply)
-}
-
-/// The frame of an answer of the application, or of the device in its place, on the route of the request. `class3`
-/// is the class 3 connection whose last message is the request, if it is open; without it such a request has no frame.
-/// `OutOfMemory` is the only error.
-///
-/// Volume 2, chapter 2, SendRRData and SendUnitData.
-pub fn response_frame(
-    alloc: Global,
-    asker: Requester,
-    class3: Option<&Class3Connection>,
-    service: u8,
-    reply: &Reply<'_>,
-) -> Result<Option<Frame>, OutOfMemory>
-    requires { IsWritable (view_reply reply.now) }
-    ensures { IfOk result (λ frame. option_to_list frame
-        ≡ response_frames asker (option_map (λ lent. lent.now) class3.entry) service (view_reply reply.now)) }
+/// The class 3 connection whose last message is the request, if it is open.
+pub fn found_last(messaging: &MessagingState, asker: Requester) -> Option<&Class3Connection>
+    ensures { option_map (λ lent. lent.now) result ≡ found_last messaging.now asker }
 {
     match asker {
-        Requester::Peer(node) => {
-            let bytes = Items::from_vec(reply.write(alloc)?);
-            let to = Recipient::Peer(node);
-            Ok(Some(Frame { to, bytes }))
-        }
-        Requester::Stream { number, context } => {
-            let request_header = RequestHeader {
-                command: SEND_RR_DATA,
-                session: u32::from(number) + 1,
-                context,
-            };
-            let reply = FrameReply::Router(*reply, None);
-            Ok(Some(stream_frame(alloc, number, request_header, &reply)?))
-        }
-        Requester::Class3Connection { count, .. } => match class3 {
-            Some(class3) => Ok(Some(class3_frame(alloc, class3, count, service, reply)?)),
-            None => Ok(None),
-        },
+        Requester::Class3Connection { id, count } => messaging.find_last(id, count),
+        Requester::Peer(_) | Requester::Stream { .. } => None,
     }
 }
 
 // ANSWERS IN PLACE OF THE APPLICATION
 
 /// The class 3 connection whose last message is the request, if it is still open once the late ones have ended.
-fn found_last(messaging: &MessagingState, clock: Ms, asker: Requester) -> Option<&Class3Connection>
+fn found_on_time(
+    messaging: &MessagingState,
+    clock: Ms,
+    asker: Requester,
+) -> Option<&Class3Connection>
     ensures { option_map (λ lent. lent.now) result
         ≡ found_last (without_late_class3_connections clock messaging.now) asker }
 {
@@ -158,7 +69,6 @@ fn found_last(messaging: &MessagingState, clock: Ms, asker: Requester) -> Option
 }
 
 /// The frame that answers a late request, if it can still be answered.
-#[tactic(auto, using(crate::specs::RouteLaws::late_is_response))]
 fn late_frame(
     alloc: Global,
     messaging: &MessagingState,
@@ -168,10 +78,13 @@ fn late_frame(
     ensures { IfOk result (λ frame. option_to_list frame
         ≡ late_frames (without_late_class3_connections clock messaging.now) request.now) }
 {
-    let class3 = found_last(messaging, clock, request.asker);
+    let class3 = found_on_time(messaging, clock, request.asker);
+    let Some(route) = Route::of_waiting(request, class3) else {
+        return Ok(None);
+    };
     let status = Status::VendorSpecific.fault().general;
     let reply = Reply::Own(request.service, status, &[]);
-    response_frame(alloc, request.asker, class3, request.service, &reply)
+    Ok(Some(reply_frame(alloc, route, &reply, None)?))
 }
 
 /// The frames that answer these late requests, in their order, where they can still be answered.

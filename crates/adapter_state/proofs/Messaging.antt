@@ -1,5 +1,7 @@
 -- Messages of class 3 connections, and answers of the application: what they leave at the connections.
-use Rattle.std.proofs.Common.{◌≤◌, ℕ, List, [], length, None, arith}
+use Rattle.std.proofs.Common.{◌≡◌, ◌≤◌, ℕ, Bool, true, false, cond, ◌||◌, List, [], ◌∷◌, length, find, Option, Some, None, refl, arith}
+use Rattle.std.specs.List.{list_any}
+use Rattle.std.specs.Option.{is_some}
 use Rattle.cip_types.specs.declared.names.ConnId.{ConnId}
 use Rattle.cip_types.specs.declared.names.Triad.{Triad}
 use Rattle.messaging.specs.declared.class3.Class3Connection.{Class3Connection}
@@ -59,3 +61,14 @@ of_triad triad = record {
   reply = [];
   deadline = record { 0 = 0 };
 }
+
+-- ---- what is found
+
+found_by : {A : Type 0} (b : Bool) (x : A) (rest : Option A) (c : Bool) → is_some rest ≡ c → is_some (cond b (Some x) rest) ≡ (b || c)
+found_by true x rest c is = refl
+found_by false x rest c is = is
+
+-- one is found, if one passes the test
+pub some_is_any : {A : Type 0} (p : A → Bool) (xs : List A) → is_some (find p xs) ≡ list_any p xs
+some_is_any p [] = refl
+some_is_any p (x ∷ xs) = found_by (p x) x (find p xs) (list_any p xs) (some_is_any p xs)

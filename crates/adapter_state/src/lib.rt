@@ -5,4 +5,3 @@
 mod state;
 
 pub use state::AdapterState;
-pub use state::messages::Message;

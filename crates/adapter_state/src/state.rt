@@ -3,7 +3,7 @@
 mod class3_connections;
 mod closings;
 mod datagrams;
-pub mod messages;
+mod messages;
 mod openings;
 mod own;
 mod points;

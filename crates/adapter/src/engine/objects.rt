@@ -1,8 +1,10 @@
 //! Services of objects beside the Connection Manager, and inquiries.
 
-ghost use Rattle.std.specs.Prelude.{◌≡◌, Ok, Some, IfOk, false, ◌==◌};
+ghost use Rattle.std.specs.Prelude.{◌≡◌, ◌≤◌, Ok, Some, None, IfOk, false, ◌==◌, length};
 ghost use Rattle.std.specs.Option.{option_map};
-ghost use Rattle.adapter_replies.specs.Routes.{routed};
+ghost use Rattle.adapter_replies.specs.Messages.{object_fields, object_notices};
+ghost use Rattle.adapter_replies.specs.Routes.{kept_text, routed_answer};
+ghost use Rattle.adapter_replies.specs.Serving.{finished};
 ghost use Rattle.cip_events.specs.Outcomes.{Follows};
 ghost use Rattle.adapter_table.specs.Objects.{object_answer};
 ghost use Rattle.adapter_table.specs.Inquiries.{inquiry_reply, inquired};
@@ -14,7 +16,7 @@ use super::Adapter;
 use adapter_objects::{
     ObjectAnswer, ObjectRequest, assembly_answer, described_answer, is_bare_message,
 };
-use adapter_replies::{Route, inquiry_answer, object_answer};
+use adapter_replies::{Route, inquiry_answer, object_notices, object_reply, reply_and_text};
 use cip_epath::class::ASSEMBLY;
 use cip_events::Recipient;
 use cip_tables::{Answer, Outcome, Status, Verdict};
@@ -54,7 +56,7 @@ impl<T: ConnectionTable> Adapter<T> {
 
     /// What the device answers to a service of an object.
     #[tactic(auto, using(adapter_objects::specs::SaidLaws::assembly_is))]
-    pub(crate) fn object_answer(
+    fn object_answer(
         &self,
         class: u32,
         instance: u32,
@@ -76,21 +78,46 @@ impl<T: ConnectionTable> Adapter<T> {
         self.described_answer(class, instance, request)
     }
 
-    /// A service of an object beside the Connection Manager's own.
-    #[tactic(auto, unfolding(adapter_table::specs::Requests::served_object), using(adapter_replies::specs::RouteLaws::routed_object))]
-    pub(crate) fn object(
+    /// The answer to a service of an object, and the text that a class 3 connection keeps of the reply.
+    fn object_reply(
         &self,
         route: Route,
         class: u32,
         instance: u32,
         request: ObjectRequest<'_>,
-    ) -> Outcome
-        ensures { Follows (Ok (routed self.now route (Some
-            (served_object self.now request.entry.service class instance request.entry.attribute
-            request.entry.body.now)))) self.now result self.now }
+    ) -> Result<(Answer, Vec<u8>), OutOfMemory>
+        ensures answer { IfOk result (λ made. made.0
+            ≡ routed_answer route (object_fields request.entry.service (object_answer self.now request.entry.service
+            class instance request.entry.attribute request.entry.body.now)) None
+            (object_notices (object_answer self.now request.entry.service class instance request.entry.attribute
+            request.entry.body.now))) }
+        ensures text { IfOk result (λ made. made.1.items
+            ≡ kept_text route (object_fields request.entry.service (object_answer self.now request.entry.service
+            class instance request.entry.attribute request.entry.body.now))) }
+        ensures few { IfOk result (λ made. length made.1.items ≤ 1404) }
     {
         let answer = self.object_answer(class, instance, request)?;
-        Ok(object_answer(self.state.alloc(), route, request.service, &answer)?)
+        let notices = object_notices(self.state.alloc(), &answer)?;
+        let reply = object_reply(request.service, &answer);
+        let made = reply_and_text(self.state.alloc(), route, &reply, notices)?;
+        Ok(made)
+    }
+
+    /// A service of an object beside the Connection Manager's own.
+    #[tactic(auto, unfolding(adapter_table::specs::Requests::served_object), using(adapter_replies::specs::RouteLaws::object_on))]
+    pub(crate) fn object(
+        &mut self,
+        route: Route,
+        class: u32,
+        instance: u32,
+        request: ObjectRequest<'_>,
+    ) -> Outcome
+        ensures { Follows (Ok (finished self.old route (Some
+            (served_object self.old request.entry.service class instance request.entry.attribute
+            request.entry.body.now)))) self.old result self.new }
+    {
+        let (answer, text) = self.object_reply(route, class, instance, request)?;
+        self.state.keep(route, text, answer)
     }
 }
 

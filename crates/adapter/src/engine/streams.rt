@@ -14,14 +14,12 @@ ghost use Rattle.cip_router.specs.Frames.{frame_reading};
 
 use super::Adapter;
 use adapter_replies::{
-    FrameReply, FrameView, RequestHeader, cut_answer, ended_answer, frame_answer, inquiry_answer,
-    is_protocol, read_frame,
+    FrameReply, FrameView, RequestHeader, Route, cut_answer, ended_answer, frame_answer,
+    inquiry_answer, is_protocol, read_frame,
 };
 use cip_encap::read_items;
 use cip_events::Recipient;
-use cip_tables::{
-    Answer, Command, EncapStatus, Outcome, StepFault, Stream, Verdict, read_router_request,
-};
+use cip_tables::{Answer, Command, EncapStatus, Outcome, StepFault, Stream, Verdict};
 use cip_types::OutOfMemory;
 use connection_list::ConnectionTable;
 use open_streams::{drop_stream, find_stream};
@@ -151,6 +149,7 @@ impl<T: ConnectionTable> Adapter<T> {
 
 impl<T: ConnectionTable> Adapter<T> {
     /// SendRRData.
+    #[tactic(auto, using(adapter_replies::specs::RouteLaws::stream_is))]
     fn send_rr_data(
         &mut self,
         stream: &Stream,
@@ -168,7 +167,7 @@ impl<T: ConnectionTable> Adapter<T> {
         let Ok(packet) = read_items(body) else {
             return self.refuse_frame(stream.number, request_header, EncapStatus::IncorrectData);
         };
-        self.stream_request(stream, request_header, read_router_request(packet.data))
+        self.serve(Route::Stream(*stream, request_header), packet.data)
     }
 
     /// A whole message, by its command.

@@ -3,26 +3,26 @@
 ghost use Rattle.std.specs.Prelude.{◌≡◌, ◌+◌, [], Ok, Some, None, ◌≤◌, ◌∷◌};
 ghost use Rattle.cip_fwdopen.specs.Open.{view_open};
 ghost use Rattle.cip_fwdopen.specs.Services.{is_large_open};
-ghost use Rattle.adapter_replies.specs.Routes.{routed, view_request_header};
+ghost use Rattle.adapter_replies.specs.Routes.{routed};
 ghost use Rattle.cip_events.specs.Outcomes.{Follows};
-ghost use Rattle.adapter_table.specs.Class3Opening.{admitted_class3, class3_refusal, class3_view, opened_class3};
-ghost use Rattle.adapter_table.specs.Encapsulation.{framed, request_replied};
+ghost use Rattle.adapter_table.specs.Class3Opening.{admitted_class3, class3_refusal, class3_view, opened_class3, served_class3};
 ghost use Rattle.adapter_table.specs.Messages.{with_messages};
 ghost use Rattle.adapter_table.specs.MessagesSound.{IsCarried};
 ghost use Rattle.app_rules.specs.Stages.{class3_times};
+ghost use Rattle.app_rules.specs.Views.{seen_class3_connections};
 ghost use Rattle.cip_router.specs.Replies.{closed};
 ghost use Rattle.messaging.specs.Changes.{without_class3};
 ghost use Rattle.cip_events.specs.declared.event.Notice.TheVariants as notice;
 
 use super::AdapterState;
-use adapter_replies::{RequestHeader, Route, class3_opened, one_notice, reply_answer};
+use adapter_replies::{Route, class3_opened, one_notice, reply_answer};
 use adapter_table::laws::tables_are_whole;
-use app_rules::Class3Times;
+use app_rules::{Class3Times, Class3View, admit_class3};
 use cip_events::Notice;
 use cip_fwdopen::{OpenRequest, OpenService};
 use cip_productions::first_deadline;
 use cip_tables::{Outcome, Reply, Stream};
-use cip_types::{Items, Triad, connection_id};
+use cip_types::{Items, Node, Triad, connection_id};
 use connection_list::ConnectionTable;
 use messaging::Class3Connection;
 
@@ -60,10 +60,10 @@ impl<T: ConnectionTable> AdapterState<T> {
 
     /// Opens the class 3 connection of an admitted request.
     #[tactic(auto, unfolding(adapter_table::specs::Messages::messages_table))]
-    pub fn open_class3(
+    fn open_class3(
         &mut self,
+        route: Route,
         stream: &Stream,
-        request_header: RequestHeader,
         service: OpenService,
         request: &OpenRequest<&[u8]>,
         times: Class3Times,
@@ -72,9 +72,8 @@ impl<T: ConnectionTable> AdapterState<T> {
         requires admitted { class3_refusal (class3_view self.old stream.now.peer request.now.triad)
             (view_open request.now) ≡ None }
         requires times { times ≡ class3_times (view_open request.now) }
-        ensures { Follows (Ok (framed stream.now.number (view_request_header request_header)
-            (request_replied self.old (Some (admitted_class3 self.old (is_large_open service)
-            (opened_class3 self.old stream.now (view_open request.now))))))) self.old result self.new }
+        ensures { Follows (Ok (routed self.old route (Some (admitted_class3 self.old (is_large_open service)
+            (opened_class3 self.old stream.now (view_open request.now)))))) self.old result self.new }
     {
         // The table stays whole.
         tables_are_whole();
@@ -82,7 +81,6 @@ impl<T: ConnectionTable> AdapterState<T> {
         let notice = Notice::Opened(class3.triad, class3.o_t_id);
         let notices = one_notice(self.alloc, notice)?;
         let reply = Reply::Opened(service, class3_opened(&class3));
-        let route = Route::Stream(stream.number, stream.peer, request_header);
         let answer = reply_answer(self.alloc, route, &reply, None, notices)?;
         let openings = self.counted_openings(class3.peer)?;
         self.messaging.open(class3)?;
@@ -91,9 +89,46 @@ impl<T: ConnectionTable> AdapterState<T> {
         Ok(answer)
     }
 
+    /// The state that the checks of a class 3 connection read, for a triad that a peer requests.
+    #[tactic(auto, using(crate::proofs::Messaging::some_is_any))]
+    fn class3_view(&self, peer: Node, triad: Triad) -> Class3View<'_>
+        ensures { seen_class3_connections result ≡ class3_view self.now peer triad }
+    {
+        Class3View {
+            profile: self.assemblies.profile(),
+            in_use: self.table.find(triad).is_some() || self.messaging.has_triad(triad),
+            next_id: self.next_id,
+            count: self.messaging.class3_connections().len(),
+            node_count: self.messaging.class3_count(peer),
+            opened_enough: self.has_opened_enough(peer),
+        }
+    }
+
+    /// A Forward_Open of a class 3 connection, which lives on the stream.
+    #[tactic(auto, unfolding(adapter_table::specs::Class3Opening::served_class3))]
+    pub(super) fn forward_open_class3(
+        &mut self,
+        route: Route,
+        stream: &Stream,
+        service: OpenService,
+        request: &OpenRequest<&[u8]>,
+    ) -> Outcome
+        requires { IsCarried self.old.streams stream.now.number }
+        ensures { Follows (Ok (routed self.old route (Some (served_class3 self.old stream.now
+            (is_large_open service) (view_open request.now))))) self.old result self.new }
+    {
+        match admit_class3(&self.class3_view(stream.peer, request.triad), request) {
+            Ok(times) => self.open_class3(route, stream, service, request, times),
+            Err(why) => {
+                let reply = Reply::Refused(service.code(), why.fault(), Some(request.triad));
+                Ok(self.reply(route, reply)?)
+            }
+        }
+    }
+
     /// The close of the class 3 connection of a triad.
     #[tactic(auto, unfolding(adapter_table::specs::Messages::messages_table))]
-    pub fn close_class3(&mut self, route: Route, triad: Triad) -> Outcome
+    pub(super) fn close_class3(&mut self, route: Route, triad: Triad) -> Outcome
         ensures { Follows (Ok (routed self.old route (Some (record {
           reply = closed triad;
           address = None;

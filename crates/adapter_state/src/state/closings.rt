@@ -1,9 +1,9 @@
-//! Replies without an effect, and the closing of connections of class 1.
+//! Replies without an effect, and the closing of connections.
 
 ghost use Rattle.std.specs.Prelude.{◌≡◌, ◌≢◌, [], Ok, Some, None, IfOk};
 ghost use Rattle.cip_fwdopen.specs.Close.{view_close};
 ghost use Rattle.cip_router.specs.Replies.{view_reply};
-ghost use Rattle.adapter_table.specs.Requests.{router_refusal, known_close, refused_close, found_close, served_close};
+ghost use Rattle.adapter_table.specs.Requests.{known_close, refused_close, found_close, served_close, served_end};
 ghost use Rattle.adapter_replies.specs.Routes.{peer_of, routed, routed_answer, IsWritable};
 ghost use Rattle.adapter_table.specs.Closing.{closed_values};
 ghost use Rattle.adapter_table.specs.Ticks.{expired_values};
@@ -22,19 +22,11 @@ use connection_list::ConnectionTable;
 
 impl<T: ConnectionTable> AdapterState<T> {
     /// A reply without an effect, on a route.
-    pub fn reply(&self, route: Route, reply: Reply<'_>) -> Result<Answer, OutOfMemory>
+    pub(super) fn reply(&self, route: Route, reply: Reply<'_>) -> Result<Answer, OutOfMemory>
         requires { IsWritable (view_reply reply) }
         ensures { IfOk result (λ answer. answer ≡ routed_answer route (view_reply reply.entry) None []) }
     {
         reply_answer(self.alloc, route, &reply, None, Vec::new(self.alloc))
-    }
-
-    /// A request that the message router refuses.
-    pub fn refuse(&mut self, route: Route, service: u8, why: Status) -> Outcome
-        ensures { Follows (Ok (routed self.old route (Some (router_refusal self.old service why))))
-            self.old result self.new }
-    {
-        Ok(self.reply(route, Reply::Refused(service, why.fault(), None))?)
     }
 
     /// The close of a connection.
@@ -54,12 +46,7 @@ impl<T: ConnectionTable> AdapterState<T> {
     }
 
     /// A close that is refused, with its triad.
-    pub fn refuse_close(
-        &mut self,
-        route: Route,
-        request: &CloseRequest<&[u8]>,
-        fault: Fault,
-    ) -> Outcome
+    fn refuse_close(&mut self, route: Route, request: &CloseRequest<&[u8]>, fault: Fault) -> Outcome
         requires { fault.general ≢ 0 }
         ensures { Follows (Ok (routed self.old route (Some (refused_close self.old (view_close request.now) fault))))
             self.old result self.new }
@@ -84,7 +71,7 @@ impl<T: ConnectionTable> AdapterState<T> {
 
     /// A Forward_Close of a connection of class 1.
     #[tactic(auto, unfolding(adapter_table::specs::Requests::served_close))]
-    pub fn forward_close(&mut self, route: Route, request: &CloseRequest<&[u8]>) -> Outcome
+    fn forward_close_class1(&mut self, route: Route, request: &CloseRequest<&[u8]>) -> Outcome
         ensures { Follows (Ok (routed self.old route (Some (served_close self.old (peer_of route)
             (view_close request.now))))) self.old result self.new }
     {
@@ -92,6 +79,25 @@ impl<T: ConnectionTable> AdapterState<T> {
             Some(row) => self.close_found(route, request, &row),
             None => self.refuse_close(route, request, Refusal::NotFound.fault()),
         }
+    }
+
+    /// A Forward_Close: a class 3 connection of the triad is looked for first. Another node than the one that opened
+    /// it is refused, if the maker says so.
+    #[tactic(auto, unfolding(adapter_table::specs::Requests::served_end))]
+    pub fn forward_close(&mut self, route: Route, request: &CloseRequest<&[u8]>) -> Outcome
+        ensures { Follows (Ok (routed self.old route (Some (served_end self.old (peer_of route)
+            (view_close request.now))))) self.old result self.new }
+    {
+        let Some(class3) = self.messaging.find_triad(request.triad) else {
+            return self.forward_close_class1(route, request);
+        };
+        let limits = self.assemblies.profile().limits;
+        let triad = class3.triad;
+        if limits.is_wrong_ender(route.peer(), class3) {
+            let fault = Status::PrivilegeViolation.fault();
+            return self.refuse_close(route, request, fault);
+        }
+        self.close_class3(route, triad)
     }
 }
 

@@ -1,4 +1,4 @@
-//! Connections of class 1 are opened.
+//! Connections are opened.
 
 ghost use Rattle.std.specs.Prelude.{◌≡◌, ◌+◌, Ok, Some, IfOk, ◌≤◌, length};
 ghost use Rattle.std.specs.Option.{option_map, ForSome};
@@ -9,6 +9,8 @@ ghost use Rattle.adapter_table.specs.StatedLimits.{limited_admission};
 ghost use Rattle.adapter_table.specs.Opening.{opened_row, opened_production, opened_state, opened_t_o_id, configured};
 ghost use Rattle.adapter_table.specs.Requests.{admitted_open, served_open};
 ghost use Rattle.adapter_replies.specs.Routes.{peer_of, routed};
+ghost use Rattle.adapter_replies.specs.Serving.{IsOpenRoute, opening_served, stream_opening};
+ghost use Rattle.adapter_table.specs.MessagesSound.{IsCarried};
 ghost use Rattle.cip_events.specs.Outcomes.{Follows};
 ghost use Rattle.assembly_set.specs.Assemblies.{config_len};
 
@@ -20,8 +22,9 @@ use adapter_table::laws::{admitted_requests_fit, tables_are_whole};
 use app_rules::{View, admit};
 use assembly_set::AssemblySet;
 use cip_fwdopen::{OpenRequest, OpenService};
+use cip_netparams::is_message_trigger;
 use cip_productions::{first_deadline, first_production, pace_of};
-use cip_tables::{Admission, Outcome, Production, Refusal, Reply, Row, State};
+use cip_tables::{Admission, Outcome, Production, Refusal, Reply, Row, State, Stream};
 use cip_types::{ConnId, Node, connection_id};
 use connection_list::ConnectionTable;
 
@@ -156,9 +159,9 @@ impl<T: ConnectionTable> AdapterState<T> {
         Ok(answer)
     }
 
-    /// A Forward_Open of either size.
+    /// A Forward_Open of a connection of class 1.
     #[tactic(auto, unfolding(adapter_table::specs::Requests::served_open))]
-    pub fn forward_open(
+    fn forward_open_class1(
         &mut self,
         route: Route,
         service: OpenService,
@@ -173,6 +176,44 @@ impl<T: ConnectionTable> AdapterState<T> {
             Err(why) => {
                 let reply = Reply::Refused(service.code(), why.fault(), Some(request.triad));
                 Ok(self.reply(route, reply)?)
+            }
+        }
+    }
+
+    /// A Forward_Open over a stream: a class 3 connection lives on the stream, one of another class on none.
+    fn forward_open_over(
+        &mut self,
+        route: Route,
+        stream: &Stream,
+        service: OpenService,
+        request: &OpenRequest<&[u8]>,
+    ) -> Outcome
+        requires carried { IsCarried self.old.streams stream.now.number }
+        requires peer { peer_of route ≡ stream.now.peer }
+        ensures { Follows (Ok (routed self.old route (Some (stream_opening self.old stream.now
+            (is_large_open service) (view_open request.now))))) self.old result self.new }
+    {
+        if is_message_trigger(request.trigger) {
+            return self.forward_open_class3(route, stream, service, request);
+        }
+        self.forward_open_class1(route, service, request)
+    }
+
+    /// A Forward_Open of either size, by its class and route.
+    pub fn forward_open(
+        &mut self,
+        route: Route,
+        service: OpenService,
+        request: &OpenRequest<&[u8]>,
+    ) -> Outcome
+        requires { IsOpenRoute self.old route }
+        ensures { Follows (Ok (routed self.old route (Some (opening_served self.old route (is_large_open service)
+            (view_open request.now))))) self.old result self.new }
+    {
+        match route {
+            Route::Stream(stream, _) => self.forward_open_over(route, &stream, service, request),
+            Route::Peer(_) | Route::Connection(_) => {
+                self.forward_open_class1(route, service, request)
             }
         }
     }

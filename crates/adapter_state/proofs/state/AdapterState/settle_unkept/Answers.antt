@@ -5,7 +5,7 @@ use Rattle.cip_router.specs.Replies.{own}
 use Rattle.messaging.specs.declared.requests.Requester.TheVariants as asker
 use Rattle.messaging.specs.declared.requests.Waiting.{Waiting}
 use Rattle.adapter_table.specs.Lemmas.MessageLemmas.{goes_answered}
-use Rattle.adapter_state.proofs.state.AdapterState.settle.Goals as goal
+use Rattle.adapter_state.proofs.state.AdapterState.settle_unkept.Goals as goal
 
 -- a request of this number that a peer brought: its answer is kept nowhere
 pub invariant_of-self : goal.invariant_of-self

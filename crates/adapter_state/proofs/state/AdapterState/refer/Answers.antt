@@ -1,7 +1,7 @@
 use Rattle.adapter_table.specs.declared.table.AdapterTable.{AdapterTable}
 use Rattle.adapter_table.specs.Messages.{messages_table}
 use Rattle.adapter_table.specs.Lemmas.MessageLemmas.{goes_referred}
-use Rattle.adapter_state.proofs.state.AdapterState.ask.Goals as goal
+use Rattle.adapter_state.proofs.state.AdapterState.refer.Goals as goal
 
 pub invariant_of-self-2 : goal.invariant_of-self-2
 unfolding messages_table
