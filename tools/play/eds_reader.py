@@ -104,6 +104,12 @@ class Profile:
         self.inputs = {int(line[0]): int(line[1]) for line in of("input")}
         self.config = {int(line[0]): int(line[1]) for line in of("config")}
         self.input_only, self.listen_only = map(int, of("heartbeat")[0])
+        # what the maker states: the shortest packet interval, places by kind, and numbers that are not far ahead
+        self.least = max([1000] + [int(line[0]) for line in of("least-rpi")])
+        counts = [list(map(int, line[:3])) for line in of("places")]
+        self.places = dict(zip(("exclusive owner", "input only", "listen only"), counts[0] if counts else (64, 64, 64)))
+        self.most = sum(counts[0]) if counts else 64
+        self.triggers = {"cyclic"} if of("newer") else {"cyclic", "change of state"}
 
     def connections(self):
         """Each connection that it admits: kind, consumed point and bytes, produced point and bytes."""
@@ -112,6 +118,10 @@ class Profile:
                 yield "exclusive owner", consumed, bytes_out, produced, bytes_in
             yield "input only", self.input_only, 0, produced, bytes_in
             yield "listen only", self.listen_only, 0, produced, bytes_in
+
+    def offered(self):
+        """Those of a kind that has a place."""
+        return [it for it in self.connections() if self.places[it[0]]]
 
 
 def segment(first, value):
@@ -131,13 +141,13 @@ def check_device(device, profile):
         need(len(device[key]) == 1 and text_of(device[key][0], key), f"{key} is a text")
 
 
-def check_params(params):
+def check_params(params, profile):
     same(list(params), ["Param1"], "the parameters")
     fields = params["Param1"]
     same(len(fields), 21, "the number of fields of Param1")
     same((number_of(fields[4], "type"), number_of(fields[5], "bytes")), (0xC8, 4), "the type of Param1")
     least, greatest, first = (number_of(field, "a value of Param1") for field in fields[9:12])
-    need(1 <= least <= first <= greatest == 10_000_000, f"the packet interval: {least}, {greatest}, {first}")
+    same((least, greatest, first), (profile.least, 10_000_000, max(10_000, profile.least)), "the packet interval")
 
 
 def check_points(points, profile):
@@ -155,7 +165,7 @@ def check_connection(name, fields, profile):
     same(len(fields), 15, f"the number of fields of {name}")
     transport, params = number_of(fields[0], name), number_of(fields[1], name)
     same(transport & 0xFFFF, 1 << 1, f"{name}: transport classes")
-    same(set_bits(transport, TRIGGERS), {"cyclic", "change of state"}, f"{name}: triggers")
+    same(set_bits(transport, TRIGGERS), profile.triggers, f"{name}: triggers")
     kinds = set_bits(transport, KINDS)
     need(len(kinds) == 1 and transport < 1 << 28, f"{name}: kinds {kinds}")
     kind = kinds.pop()
@@ -187,7 +197,7 @@ def check_manager(manager, profile):
     manager.pop("Object_Name")
     same(list(manager), [f"Connection{number + 1}" for number in range(len(manager))], "the connections")
     found = [check_connection(name, fields, profile) for name, fields in manager.items()]
-    same(sorted(found), sorted(profile.connections()), "the connections")
+    same(sorted(found), sorted(profile.offered()), "the connections")
     names = [text_of(fields[12], "name") for fields in manager.values()]
     need(len(set(names)) == len(names), f"two connections have one name: {names}")
 
@@ -197,14 +207,15 @@ def check(profile, sheet):
          "the sections")
     check_device(sheet["Device"], profile)
     same(sheet["Device Classification"], {"Class1": [("word", "EtherNetIP")]}, "the class of the device")
-    check_params(sheet["Params"])
+    check_params(sheet["Params"], profile)
     check_points(sheet["Assembly"], profile)
     check_manager(sheet["Connection Manager"], profile)
     same([number_of(sheet["Port"]["Object_Class_Code"][0], "class"), sheet["Port"]["Port1"][0]], [0xF4, ("word", "TCP")], "the port")
     same(bytes.fromhex(text_of(sheet["Port"]["Port1"][2], "path")), segment(0x20, 0xF5) + segment(0x24, 1), "the path of the port")
     capacity = {key: [field[1] for field in fields] for key, fields in sheet["Capacity"].items()}
-    same(capacity, {"TSpec1": ["TxRx", "1406", "1000"], "MaxIOConnections": ["64"],
-                    "MaxIOMcastProducers": [str(len(profile.inputs))], "MaxConsumersPerMcast": ["64"]}, "the capacity")
+    rate = -(-1_000_000 // profile.least)
+    same(capacity, {"TSpec1": ["TxRx", "1406", str(rate)], "MaxIOConnections": [str(profile.most)],
+                    "MaxIOMcastProducers": [str(len(profile.inputs))], "MaxConsumersPerMcast": [str(profile.most)]}, "the capacity")
 
 
 def main():

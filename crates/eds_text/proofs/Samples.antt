@@ -1,6 +1,7 @@
 -- Parts of data sheets, worked by hand, of a device with outputs 300 of 2 bytes and 151 of 1 byte, and input 70000 of 2 bytes.
-use Rattle.std.specs.Prelude.{ℕ, ◌≡◌, List, [], ◌∷◌, codes, Option, Some, None, true, false, refl}
+use Rattle.std.specs.Prelude.{ℕ, ◌≡◌, List, [], ◌∷◌, map, codes, Option, Some, None, true, false, refl}
 use Rattle.adapter_table.specs.declared.profile.Description.{Description}
+use Rattle.adapter_table.specs.declared.maker_limits.MakerLimits.{MakerLimits}
 use Rattle.adapter_table.specs.declared.profile.Profile.{Profile}
 use Rattle.adapter_table.specs.Profiles.{no_limits}
 use Rattle.adapter_table.specs.declared.profile.Action.TheVariants.{Zero}
@@ -9,7 +10,8 @@ use Rattle.cip_epath.specs.Written.{path_text}
 use Rattle.eds_text.specs.declared.connections.SheetConnection.{SheetConnection}
 use Rattle.eds_text.specs.Connections.{connections_of}
 use Rattle.eds_text.specs.Device.{name_line}
-use Rattle.eds_text.specs.Manager.{o_t_line, sheet_path}
+use Rattle.eds_text.specs.Manager.{kind_lines, o_t_line, sheet_path}
+use Rattle.eds_text.specs.Offer.{capacity_of, offered_intervals}
 use Rattle.eds_text.specs.Names.{is_name, is_name_byte, product_name}
 
 island : Profile
@@ -29,16 +31,16 @@ island = record {
 }
 
 owner : SheetConnection
-owner = record { kind = ExclusiveOwner; consumed = 300; o_t_len = 2; produced = 70000; t_o_len = 2 }
+owner = record { kind = ExclusiveOwner; changes = true; consumed = 300; o_t_len = 2; produced = 70000; t_o_len = 2 }
 
 reader : SheetConnection
-reader = record { kind = InputOnly; consumed = 152; o_t_len = 0; produced = 70000; t_o_len = 2 }
+reader = record { kind = InputOnly; changes = true; consumed = 152; o_t_len = 0; produced = 70000; t_o_len = 2 }
 
 all_connections : connections_of island ≡
     owner
-    ∷ record { kind = ExclusiveOwner; consumed = 151; o_t_len = 1; produced = 70000; t_o_len = 2 }
+    ∷ record { kind = ExclusiveOwner; changes = true; consumed = 151; o_t_len = 1; produced = 70000; t_o_len = 2 }
     ∷ reader
-    ∷ record { kind = ListenOnly; consumed = 153; o_t_len = 0; produced = 70000; t_o_len = 2 }
+    ∷ record { kind = ListenOnly; changes = true; consumed = 153; o_t_len = 0; produced = 70000; t_o_len = 2 }
     ∷ []
 unfolding island owner reader
 all_connections = refl
@@ -91,3 +93,38 @@ no_described_name = refl
 an_empty_name : product_name None (described []) ≡ None
 unfolding is_name is_name_byte
 an_empty_name = refl
+
+-- WHAT THE MAKER STATES
+
+-- no interval below 20 ms, no owner, four input-only and two listen-only connections, and numbers that are not far ahead
+abbrev slow : MakerLimits
+slow = record { least_rpi = Some 20000; places = Some (record { owners = 0; readers = 4; listeners = 2; class3_connections = None }); node_connections = None; own_closers = false; newer = Some 1000 }
+
+intervals_by_the_maker : map offered_intervals (no_limits ∷ slow ∷ record no_limits { least_rpi = Some 500 } ∷ record no_limits { least_rpi = Some 9000 } ∷ [])
+    ≡ record { least = 1000; most = 10000000; first = 10000 }
+    ∷ record { least = 20000; most = 10000000; first = 20000 }
+    ∷ record { least = 1000; most = 10000000; first = 10000 }
+    ∷ record { least = 9000; most = 10000000; first = 10000 }
+    ∷ []
+intervals_by_the_maker = refl
+
+capacity_by_the_maker : map (λ limits. capacity_of (record island { limits = limits })) (no_limits ∷ slow ∷ record no_limits { least_rpi = Some 30000 } ∷ [])
+    ≡ record { rate = 1000; connections = 64; producers = 1 }
+    ∷ record { rate = 50; connections = 6; producers = 1 }
+    ∷ record { rate = 34; connections = 64; producers = 1 }
+    ∷ []
+unfolding island
+capacity_by_the_maker = refl
+
+no_owner_has_a_place : connections_of (record island { limits = slow }) ≡
+    record { kind = InputOnly; changes = false; consumed = 152; o_t_len = 0; produced = 70000; t_o_len = 2 }
+    ∷ record { kind = ListenOnly; changes = false; consumed = 153; o_t_len = 0; produced = 70000; t_o_len = 2 }
+    ∷ []
+unfolding island
+no_owner_has_a_place = refl
+
+-- a listen-only connection of both triggers, and an input-only one that is cyclic alone
+words_of_bits : kind_lines true ListenOnly ∷ kind_lines false InputOnly ∷ []
+    ≡ codes "                0x01030002,\n                0x44240305,\n" ∷ codes "                0x02010002,\n                0x44640305,\n" ∷ []
+unfolding kind_lines
+words_of_bits = refl

@@ -12,7 +12,7 @@
 --   configuration of a proxy  bytes; assembly
 --   configuration             bytes; assembly
 --   name; help; path          the path of a Forward_Open, in hexadecimal digits
-use Rattle.std.specs.Prelude.{ℕ, ◌+◌, List, [], ◌∷◌, ◌++◌, codes, decimal, flat_map, Option, Some, None}
+use Rattle.std.specs.Prelude.{ℕ, ◌+◌, Bool, true, false, List, [], ◌∷◌, ◌++◌, codes, decimal, flat_map, Option, Some, None}
 use Rattle.std.specs.Option.{option_map}
 use Rattle.hex.specs.Hex.{encode_upper}
 use Rattle.adapter_table.specs.declared.profile.InputPoint.{InputPoint}
@@ -22,12 +22,27 @@ use Rattle.cip_productions.specs.declared.kind.Kind.{Kind}
 use Rattle.cip_productions.specs.declared.kind.Kind.TheVariants.{ExclusiveOwner, InputOnly, ListenOnly}
 use Rattle.eds_text.specs.declared.connections.SheetConnection.{SheetConnection}
 
--- class 1, cyclic or change of state; fixed sizes, scheduled; point to point O->T. The O->T format is a run/idle header, or a
--- heartbeat. T->O is data alone, multicast or point to point, and multicast alone of listen only
-unfoldable pub kind_lines : Kind → List ℕ
-kind_lines ExclusiveOwner = codes "                0x04030002,\n                0x44640405,\n"
-kind_lines InputOnly = codes "                0x02030002,\n                0x44640305,\n"
-kind_lines ListenOnly = codes "                0x01030002,\n                0x44240305,\n"
+-- the digits of the kind
+abbrev pub kind_bits : Kind → List ℕ
+kind_bits ExclusiveOwner = codes "04"
+kind_bits InputOnly = codes "02"
+kind_bits ListenOnly = codes "01"
+
+-- those of the triggers: cyclic, and change of state or not
+abbrev pub trigger_bits : Bool → List ℕ
+trigger_bits true = codes "03"
+trigger_bits false = codes "01"
+
+-- fixed sizes, scheduled; point to point O->T. The O->T format is a run/idle header, or a heartbeat. T->O is data alone,
+-- multicast or point to point, and multicast alone of listen only
+abbrev pub format_bits : Kind → List ℕ
+format_bits ExclusiveOwner = codes "44640405"
+format_bits InputOnly = codes "44640305"
+format_bits ListenOnly = codes "44240305"
+
+-- class 1, its triggers and its kind; its formats
+unfoldable pub kind_lines : Bool → Kind → List ℕ
+kind_lines changes kind = codes "                0x" ++ (kind_bits kind ++ (trigger_bits changes ++ (codes "0002,\n                0x" ++ (format_bits kind ++ codes ",\n"))))
 
 -- the packet interval of Param1, and a point
 unfoldable pub point_line : (len instance : ℕ) → List ℕ
@@ -71,7 +86,7 @@ path_line config c = codes "                \"" ++ (byte_words (path_text (sheet
 -- the fields of a connection
 unfoldable pub fields_lines : Option InputPoint → SheetConnection → List ℕ
 fields_lines config c =
-    kind_lines c.kind
+    kind_lines c.changes c.kind
     ++ (o_t_line c
     ++ (point_line c.t_o_len c.produced
     ++ (config_lines config

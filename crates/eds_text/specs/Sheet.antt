@@ -1,27 +1,41 @@
 -- The electronic data sheet of an adapter's profile, section by section (Volume 1, chapter 7, electronic data sheets).
-use Rattle.std.specs.Prelude.{ℕ, List, ◌++◌, codes, decimal, length}
+use Rattle.std.specs.Prelude.{ℕ, List, ◌++◌, codes, decimal}
 use Rattle.adapter_table.specs.declared.profile.Profile.{Profile}
 use Rattle.eds_text.specs.Connections.{connections_of}
 use Rattle.eds_text.specs.Device.{device_text}
 use Rattle.eds_text.specs.Manager.{manager_text}
 use Rattle.eds_text.specs.Names.{ShownNames, sheet_names}
 use Rattle.eds_text.specs.Points.{points_text}
-use Rattle.eds_text.specs.Texts.{file_text, params_text, port_text}
+use Rattle.eds_text.specs.Offer.{capacity_of, offered_intervals}
+use Rattle.eds_text.specs.Texts.{file_text, port_text}
+use Rattle.eds_text.specs.declared.offer.OfferedIntervals.{OfferedIntervals}
+use Rattle.eds_text.specs.declared.offer.SheetCapacity.{SheetCapacity}
+use Rattle.eds_text.specs.declared.offer.TheConstants.{LONGEST_DATAGRAM}
 
--- how much the adapter takes: datagrams of a connection of the greatest size at the shortest interval; connections; producers
--- of groups, one for each of so many inputs
-unfoldable pub capacity_text : (inputs : ℕ) → List ℕ
-capacity_text inputs =
-    codes "\n[Capacity]\n        TSpec1 = TxRx, 1406, 1000;\n        MaxIOConnections = 64;\n        MaxIOMcastProducers = "
-    ++ (decimal inputs ++ codes ";\n        MaxConsumersPerMcast = 64;\n")
+-- the requested packet interval: a number of 32 bits (C8), in microseconds. The fields of a parameter are: 0; size and bytes
+-- of a path; descriptor; type; bytes; name, unit, help; least, greatest and first value; four numbers of its scale, four of
+-- what they are linked to; places behind the point.
+unfoldable pub params_text : OfferedIntervals → List ℕ
+params_text intervals =
+    codes "\n[Params]\n        Param1 =\n                0,\n                ,,\n                0x0000,\n                0xC8,\n                4,\n                \"RPI\",\n                \"microsecond\",\n                \"\",\n                "
+    ++ (decimal intervals.least ++ (codes "," ++ (decimal intervals.most ++ (codes "," ++ (decimal intervals.first
+    ++ codes ",\n                ,,,,\n                ,,,,\n                ;\n")))))
+
+-- how much the adapter takes: datagrams of the greatest size in a second; connections; producers of groups; consumers of one
+unfoldable pub capacity_text : SheetCapacity → List ℕ
+capacity_text capacity =
+    codes "\n[Capacity]\n        TSpec1 = TxRx, " ++ (decimal LONGEST_DATAGRAM ++ (codes ", " ++ (decimal capacity.rate
+    ++ (codes ";\n        MaxIOConnections = " ++ (decimal capacity.connections
+    ++ (codes ";\n        MaxIOMcastProducers = " ++ (decimal capacity.producers
+    ++ (codes ";\n        MaxConsumersPerMcast = " ++ (decimal capacity.connections ++ codes ";\n")))))))))
 
 -- the data sheet
 unfoldable pub sheet_text : ShownNames → Profile → List ℕ
 sheet_text names profile =
     file_text
     ++ (device_text (sheet_names names profile.description) profile.identity
-    ++ (params_text
+    ++ (params_text (offered_intervals profile.limits)
     ++ (points_text profile
     ++ (manager_text profile.config (connections_of profile)
     ++ (port_text
-    ++ capacity_text (length profile.inputs))))))
+    ++ capacity_text (capacity_of profile))))))

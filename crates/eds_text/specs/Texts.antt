@@ -8,12 +8,6 @@ use Rattle.std.specs.Prelude.{ℕ, List, codes}
 unfoldable pub file_text : List ℕ
 file_text = codes "$ Electronic data sheet of an EtherNet/IP adapter\n\n[File]\n        DescText = \"EtherNet/IP adapter\";\n        CreateDate = 01-01-2026;\n        CreateTime = 00:00:00;\n        Revision = 1.0;\n"
 
--- the requested packet interval: a number of 32 bits (C8), in microseconds, 1,000 to 10,000,000, at first 10,000. The fields
--- of a parameter are: 0; size and bytes of a path; descriptor; type; bytes; name, unit, help; least, greatest and first value;
--- four numbers of its scale, four of what they are linked to; places behind the point.
-unfoldable pub params_text : List ℕ
-params_text = codes "\n[Params]\n        Param1 =\n                0,\n                ,,\n                0x0000,\n                0xC8,\n                4,\n                \"RPI\",\n                \"microsecond\",\n                \"\",\n                1000,10000000,10000,\n                ,,,,\n                ,,,,\n                ;\n"
-
 -- the port: Ethernet, whose object is the TCP/IP Interface
 unfoldable pub port_text : List ℕ
 port_text = codes "\n[Port]\n        Object_Name = \"Port Object\";\n        Object_Class_Code = 0xF4;\n        Port1 =\n                TCP,\n                \"EtherNet/IP port\",\n                \"20 F5 24 01\",\n                1;\n"

@@ -7,6 +7,7 @@ mod connections;
 mod device;
 mod manager;
 mod names;
+mod offer;
 mod points;
 mod sheet;
 

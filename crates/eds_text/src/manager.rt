@@ -3,7 +3,7 @@
 ghost use Rattle.std.specs.Prelude.{◌≡◌, ◌++◌, ◌∷◌, [], OnOk, string_bytes, flat_map, codes};
 ghost use Rattle.hex.specs.Hex.{encode_upper};
 ghost use Rattle.cip_epath.specs.Path.{view_path};
-ghost use Rattle.eds_text.specs.Manager.{byte_words, config_lines, connection_text, connections_text, fields_lines, keyword_line, kind_lines, kind_word, manager_text, name_lines, o_t_line, path_line, point_line, sheet_path};
+ghost use Rattle.eds_text.specs.Manager.{byte_words, config_lines, connection_text, connections_text, fields_lines, format_bits, keyword_line, kind_bits, kind_lines, kind_word, manager_text, name_lines, o_t_line, path_line, point_line, sheet_path, trigger_bits};
 
 use crate::connections::SheetConnection;
 use adapter_table::InputPoint;
@@ -83,7 +83,7 @@ fn push_fields(
 ) -> Result<(), OutOfMemory>
     ensures { OnOk result (string_bytes out.new ≡ string_bytes out.old ++ fields_lines config connection.now) }
 {
-    push_kind(out, connection.kind)?;
+    push_kind(out, connection.changes, connection.kind)?;
     push_o_t(out, connection)?;
     push_point(out, connection.t_o_len, connection.produced)?;
     push_config(out, config)?;
@@ -93,22 +93,42 @@ fn push_fields(
 
 /// Appends trigger, transport and connection parameters of a kind.
 #[tactic(auto, unfolding(crate::specs::Manager::kind_lines))]
-fn push_kind(out: &mut String, kind: Kind) -> Result<(), OutOfMemory>
-    ensures { OnOk result (string_bytes out.new ≡ string_bytes out.old ++ kind_lines kind) }
+fn push_kind(out: &mut String, changes: bool, kind: Kind) -> Result<(), OutOfMemory>
+    ensures { OnOk result (string_bytes out.new ≡ string_bytes out.old ++ kind_lines changes kind) }
+{
+    let (bits, triggers, formats) = (kind_bits(kind), trigger_bits(changes), format_bits(kind));
+    Ok(write!(
+        out,
+        "                0x{bits}{triggers}0002,\n                0x{formats},\n"
+    )?)
+}
+
+/// The digits of a kind.
+fn kind_bits(kind: Kind) -> &'static str
+    ensures { result.now ≡ kind_bits kind }
 {
     match kind {
-        Kind::ExclusiveOwner => push_text(
-            out,
-            "                0x04030002,\n                0x44640405,\n",
-        ),
-        Kind::InputOnly => push_text(
-            out,
-            "                0x02030002,\n                0x44640305,\n",
-        ),
-        Kind::ListenOnly => push_text(
-            out,
-            "                0x01030002,\n                0x44240305,\n",
-        ),
+        Kind::ExclusiveOwner => "04",
+        Kind::InputOnly => "02",
+        Kind::ListenOnly => "01",
+    }
+}
+
+/// The digits of the triggers: cyclic, and change of state or not.
+fn trigger_bits(changes: bool) -> &'static str
+    ensures { result.now ≡ trigger_bits changes }
+{
+    if changes { "03" } else { "01" }
+}
+
+/// The digits of sizes, priorities, types and formats.
+fn format_bits(kind: Kind) -> &'static str
+    ensures { result.now ≡ format_bits kind }
+{
+    match kind {
+        Kind::ExclusiveOwner => "44640405",
+        Kind::InputOnly => "44640305",
+        Kind::ListenOnly => "44240305",
     }
 }
 

@@ -2,13 +2,16 @@
 
 ghost use Rattle.std.specs.Prelude.{◌≡◌, ◌++◌, IfOk, OnOk, string_bytes};
 ghost use Rattle.eds_text.specs.Names.{shown_names};
-ghost use Rattle.eds_text.specs.Sheet.{capacity_text, sheet_text};
-ghost use Rattle.eds_text.specs.Texts.{params_text, port_text};
+ghost use Rattle.eds_text.specs.Sheet.{capacity_text, params_text, sheet_text};
+ghost use Rattle.eds_text.specs.Texts.{port_text};
 
 use crate::connections::connections_of;
 use crate::device::{push_device, push_file};
 use crate::manager::push_manager;
 use crate::names::{SheetNames, sheet_names};
+use crate::offer::{
+    LONGEST_DATAGRAM, OfferedIntervals, SheetCapacity, capacity_of, offered_intervals,
+};
 use crate::points::push_points;
 use adapter_table::Profile;
 use cip_types::OutOfMemory;
@@ -32,20 +35,21 @@ pub fn write_sheet(
     push_file(&mut out)?;
     let names = sheet_names(names, &profile.description);
     push_device(&mut out, &names, profile.identity)?;
-    push_params(&mut out)?;
+    push_params(&mut out, offered_intervals(&profile.limits))?;
     push_points(&mut out, profile)?;
     push_manager(alloc, &mut out, profile.config, connections.as_slice())?;
     push_port(&mut out)?;
-    push_capacity(&mut out, profile.inputs.as_slice().len())?;
+    push_capacity(&mut out, capacity_of(profile))?;
     Ok(out)
 }
 
 /// Appends the section of the parameters, which has the requested packet interval.
-#[tactic(auto, unfolding(crate::specs::Texts::params_text))]
-fn push_params(out: &mut String) -> Result<(), OutOfMemory>
-    ensures { OnOk result (string_bytes out.new ≡ string_bytes out.old ++ params_text) }
+#[tactic(auto, unfolding(crate::specs::Sheet::params_text))]
+fn push_params(out: &mut String, intervals: OfferedIntervals) -> Result<(), OutOfMemory>
+    ensures { OnOk result (string_bytes out.new ≡ string_bytes out.old ++ params_text intervals) }
 {
-    push_text(
+    let (least, most, first) = (intervals.least, intervals.most, intervals.first);
+    Ok(write!(
         out,
         "
 [Params]
@@ -58,12 +62,12 @@ fn push_params(out: &mut String) -> Result<(), OutOfMemory>
                 \"RPI\",
                 \"microsecond\",
                 \"\",
-                1000,10000000,10000,
+                {least},{most},{first},
                 ,,,,
                 ,,,,
                 ;
-",
-    )
+"
+    )?)
 }
 
 /// Appends the section of the port.
@@ -86,19 +90,20 @@ fn push_port(out: &mut String) -> Result<(), OutOfMemory>
     )
 }
 
-/// Appends the section of the capacity of an adapter with so many inputs.
+/// Appends the section of the capacity.
 #[tactic(auto, unfolding(crate::specs::Sheet::capacity_text))]
-fn push_capacity(out: &mut String, inputs: usize) -> Result<(), OutOfMemory>
-    ensures { OnOk result (string_bytes out.new ≡ string_bytes out.old ++ capacity_text inputs) }
+fn push_capacity(out: &mut String, capacity: SheetCapacity) -> Result<(), OutOfMemory>
+    ensures { OnOk result (string_bytes out.new ≡ string_bytes out.old ++ capacity_text capacity) }
 {
+    let (rate, connections, producers) = (capacity.rate, capacity.connections, capacity.producers);
     Ok(write!(
         out,
         "
 [Capacity]
-        TSpec1 = TxRx, 1406, 1000;
-        MaxIOConnections = 64;
-        MaxIOMcastProducers = {inputs};
-        MaxConsumersPerMcast = 64;
+        TSpec1 = TxRx, {LONGEST_DATAGRAM}, {rate};
+        MaxIOConnections = {connections};
+        MaxIOMcastProducers = {producers};
+        MaxConsumersPerMcast = {connections};
 "
     )?)
 }

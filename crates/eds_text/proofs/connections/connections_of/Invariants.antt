@@ -1,6 +1,0 @@
-use Rattle.std.proofs.Common.{◌≡◌, flat_map, take}
-use Rattle.eds_text.specs.Connections.{owners_of}
-use Rattle.eds_text.proofs.connections.connections_of.Given as goal
-
-abbrev pub invariant-loop-output : goal.invariant-loop-output
-invariant-loop-output l = l.list.items ≡ flat_map (owners_of l.inputs) (take l.output-index l.output-items)

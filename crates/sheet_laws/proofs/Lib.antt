@@ -1,0 +1,2 @@
+mod OfferedPoints
+mod AdmittedOffers
