@@ -121,7 +121,7 @@ const MINUTE_MS = 60000, WINDOW_MS = 10000, KEPT_TROUBLES = 200, KEPT_EVENTS = 4
 function freshView() {
   return { samples: [], last: null, known: new Map(), heard: 0, late: 0, quickest: [], isCut: false, isUnfolded: false, lives: 0,
     silence: 0,
-    newest: undefined, newestTrouble: undefined, lastTrouble: null, troubles: new Map(), losses: new Map(), refusals: new Map(), streams: new Map(), since: new Map(), meters: new Map() };
+    newest: undefined, newestTrouble: undefined, lastTrouble: null, seen: new Set(), troubles: new Map(), losses: new Map(), refusals: new Map(), streams: new Map(), since: new Map(), meters: new Map() };
 }
 
 // TIME OF DAY
@@ -202,13 +202,21 @@ function badWords(words) {
   return (bad.length ? bad : lines).join('; ').replace(/^eip_station: /, '');
 }
 
-function addTrouble(view, key, wall, words) {
-  const own = view.troubles.get(key);
-  view.lastTrouble = Object.assign(own ?? { wall }, { words });
-  if (!own) view.troubles.set(key, view.lastTrouble);
+// Adds a trouble, unless that of the key was seen. One that comes again, as a refusal each second, is one line: how often, and when last.
+// What stands at a place of its own has its newest words alone. The newest one is the last.
+function addTrouble(view, key, wall, words, place) {
+  if (view.seen.has(key)) return false;
+  view.seen.add(key);
+  if (view.seen.size > 2 * KEPT_TROUBLES) view.seen.delete(view.seen.values().next().value);
+  const at = place ?? words, own = view.troubles.get(at) ?? { first: wall, count: 0 };
+  view.troubles.delete(at);
+  view.lastTrouble = Object.assign(own, { wall, words, count: place ? 1 : own.count + 1 });
+  view.troubles.set(at, own);
   if (view.troubles.size > KEPT_TROUBLES) view.troubles.delete(view.troubles.keys().next().value);
-  return own === undefined;
+  return true;
 }
+
+function troubleWords(it) { return it.count > 1 ? `${it.words} (${it.count} times since ${clockOf(it.first)})` : it.words; }
 
 // A trouble says why a slot is not open, or why there is no stream to a target.
 function noteReason(view, ms, wall, words) {
@@ -244,7 +252,7 @@ function keepTroubles(view, snapshot, before) {
     if (!(more > 0)) continue;
     const place = `${view.lives} lost ${key} ${Math.floor(snapshot.ms / WINDOW_MS)}`, count = (view.losses.get(place) ?? 0) + more;
     view.losses = new Map([...view.losses].slice(-100)).set(place, count);
-    addTrouble(view, place, wallOf(snapshot, snapshot.ms), `${count} sequence ${count === 1 ? 'number' : 'numbers'} of ${name} lost`);
+    addTrouble(view, `${place} ${count}`, wallOf(snapshot, snapshot.ms), `${count} sequence ${count === 1 ? 'number' : 'numbers'} of ${name} lost`, place);
   }
 }
 

@@ -310,7 +310,7 @@ function fillLines(place, lines, none) {
 }
 
 function renderTroubles(view) {
-  const lines = [...view.troubles].reverse().map(([key, it]) => [key, clockOf(it.wall), it.words]);
+  const lines = [...view.troubles].reverse().map(([key, it]) => [key, clockOf(it.wall), troubleWords(it)]);
   fillLines(byId('troubles'), lines, 'nothing that is known');
 }
 
