@@ -9,6 +9,8 @@ use Rattle.scanner_table.specs.declared.report.SlotReport.{SlotReport}
 use Rattle.scanner_table.specs.declared.report.SlotReport.TheVariants as slot
 use Rattle.scanner_table.specs.declared.report.TargetReport.{TargetReport}
 use Rattle.trace_words.specs.Words.{node_word}
+use Rattle.page_feed.specs.declared.rows.RowFacts.{RowFacts}
+use Rattle.page_feed.specs.Rows.{row_text}
 use Rattle.trace_lines.specs.Kinds.{kind_word}
 
 -- the mode of the newest data
@@ -52,14 +54,21 @@ mode_text report =
     ++ (codes ",\"t_o_ms\":" ++ (decimal report.t_o_api_ms
     ++ (codes ",\"mode\":\"" ++ (mode_word report.mode
     ++ (codes "\",\"age_ms\":" ++ (decimal (age_ms report.age)
-    ++ (codes ",\"has_data\":" ++ (bool_word (has_data report.age)
-    ++ codes "}"))))))))
+    ++ (codes ",\"has_data\":" ++ bool_word (has_data report.age))))))))
 
 abbrev pub connection_rest : ConnectionReport → List ℕ
 connection_rest report = kind_text report ++ (established_text report.established ++ mode_text report)
 
+-- a connection, without its end
+abbrev pub begun_connection : ConnectionReport → List ℕ
+begun_connection report = connection_head report ++ connection_rest report
+
 abbrev pub connection_text : ConnectionReport → List ℕ
-connection_text report = connection_head report ++ connection_rest report
+connection_text report = begun_connection report ++ codes "}"
+
+-- a connection in the list of all, with what was counted of it
+abbrev pub listed_text : Option RowFacts → ConnectionReport → List ℕ
+listed_text row report = begun_connection report ++ (row_text row ++ codes "}")
 
 -- the owner of an output, if it has one
 abbrev pub owner_text : Option ConnectionReport → List ℕ

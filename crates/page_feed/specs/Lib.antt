@@ -1,6 +1,10 @@
 pub mod Connections
 pub mod Facts
+pub mod Gaps
 pub mod Pauses
 pub mod Points
+pub mod Rows
 pub mod Snapshots
+pub mod Troubles
 pub mod Turns
+pub mod Waits

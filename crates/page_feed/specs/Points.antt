@@ -8,11 +8,17 @@ use Rattle.cip_tables.specs.declared.table.DeviceTable.TheVariants.{Adapter, Sca
 use Rattle.cip_tables.specs.States.{consumers_in, owner_in, slot_in}
 use Rattle.cip_tables.specs.Step.{bytes_in}
 use Rattle.cip_types.specs.declared.names.Node.{Node}
+use Rattle.scanner_table.specs.declared.profile.SlotConfig.{SlotConfig}
 use Rattle.scanner_table.specs.declared.report.SlotReport.{SlotReport}
 use Rattle.scanner_table.specs.declared.report.SlotReport.TheVariants.{Idle}
 use Rattle.scanner_table.specs.declared.slot.Slot.{Slot}
 use Rattle.trace_words.specs.Words.{bytes_word, node_word}
+use Rattle.trace_lines.specs.Kinds.{kind_word}
+use Rattle.page_feed.specs.declared.rows.RowFacts.{RowFacts}
+use Rattle.page_feed.specs.declared.waits.SlotWait.{SlotWait}
 use Rattle.page_feed.specs.Connections.{owner_text, state_text}
+use Rattle.page_feed.specs.Rows.{slot_row_text}
+use Rattle.page_feed.specs.Waits.{wait_text}
 
 -- the bytes of a point; a dash where there is none
 abbrev pub found_bytes : Option (List ℕ) → List ℕ
@@ -68,7 +74,7 @@ sent_by None = []
 abbrev pub output_at : List Slot → ℕ → List ℕ
 output_at slots number = sent_by (slice_get slots number)
 
--- a slot: its number, its target, its image, its output, its state
+-- a slot: its number, its target, its kind and points, its image, its output, its state, what it waits for, what was noted of it
 abbrev pub slot_state : Option SlotReport → SlotReport
 slot_state (Some report) = report
 slot_state None = Idle
@@ -76,15 +82,24 @@ slot_state None = Idle
 abbrev pub slot_head : ℕ → Node → List ℕ
 slot_head number target = codes "{\"slot\":" ++ (decimal number ++ (codes ",\"target\":\"" ++ node_word target))
 
+abbrev pub slot_terms : SlotConfig → List ℕ
+slot_terms config =
+    codes "\",\"kind\":\"" ++ (kind_word config.kind
+    ++ (codes "\",\"consumed\":" ++ (decimal config.consumed
+    ++ (codes ",\"produced\":" ++ decimal config.produced))))
+
 abbrev pub slot_image : DeviceTable → ℕ → List ℕ
-slot_image table number = codes "\",\"bytes\":\"" ++ bytes_text table number
+slot_image table number = codes ",\"bytes\":\"" ++ bytes_text table number
 
 abbrev pub slot_output : List ℕ → List ℕ
 slot_output output = codes "\",\"output\":\"" ++ (bytes_word output ++ codes "\",\"state\":")
 
-abbrev pub slot_end : SlotReport → List ℕ
-slot_end report = state_text report ++ codes "}"
+abbrev pub slot_end : SlotReport → SlotWait → Option RowFacts → List ℕ
+slot_end report wait row = state_text report ++ (wait_text wait ++ (slot_row_text row ++ codes "}"))
 
-abbrev pub slot_text : DeviceTable → ℕ → Node → List ℕ → List ℕ
-slot_text table number target output =
-    slot_head number target ++ (slot_image table number ++ (slot_output output ++ slot_end (slot_state (slot_in table number))))
+abbrev pub slot_front : ℕ → SlotConfig → List ℕ
+slot_front number config = slot_head number config.target ++ slot_terms config
+
+abbrev pub slot_text : DeviceTable → ℕ → SlotConfig → List ℕ → SlotWait → Option RowFacts → List ℕ
+slot_text table number config output wait row =
+    slot_front number config ++ (slot_image table number ++ (slot_output output ++ slot_end (slot_state (slot_in table number)) wait row))

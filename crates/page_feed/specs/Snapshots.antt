@@ -1,20 +1,24 @@
 -- What a snapshot says of a device, as JSON (RFC 8259): it is made of the device's table, its configuration and what was counted.
-use Rattle.std.specs.Prelude.{ℕ, ◌^◌, ◌-◌, zero, suc, min, length, ◌==◌, if◌then◌else◌, List, [], ◌++◌, codes, decimal, slice_get, Option, Some, None}
+use Rattle.std.specs.Prelude.{ℕ, ◌^◌, ◌-◌, zero, suc, min, length, ◌==◌, if◌then◌else◌, Bool, true, false, List, [], ◌++◌, codes, decimal, slice_get, Option, Some, None}
 use Rattle.adapter_table.specs.declared.profile.InputPoint.{InputPoint}
 use Rattle.adapter_table.specs.declared.profile.OutputPoint.{OutputPoint}
 use Rattle.adapter_table.specs.declared.report.ConnectionReport.{ConnectionReport}
 use Rattle.cip_tables.specs.declared.table.Config.{Config}
 use Rattle.cip_tables.specs.declared.table.Config.TheVariants as config
 use Rattle.cip_tables.specs.declared.table.DeviceTable.{DeviceTable}
+use Rattle.cip_tables.specs.declared.table.DeviceTable.TheVariants.{Adapter, Scanner}
 use Rattle.cip_tables.specs.declared.totals.DeviceTotals.{DeviceTotals}
 use Rattle.cip_tables.specs.States.{connection_in, totals_of}
 use Rattle.cip_types.specs.declared.names.Node.{Node}
 use Rattle.scanner_table.specs.declared.profile.SlotConfig.{SlotConfig}
-use Rattle.scanner_table.specs.declared.slot.Slot.{Slot}
-use Rattle.page_feed.specs.Connections.{connection_text}
+use Rattle.trace_words.specs.Words.{node_word}
+use Rattle.page_feed.specs.Connections.{listed_text}
 use Rattle.page_feed.specs.declared.facts.StationFacts.{StationFacts}
+use Rattle.page_feed.specs.declared.rows.RowFacts.{RowFacts}
+use Rattle.page_feed.specs.declared.waits.SlotWait.{SlotWait}
 use Rattle.page_feed.specs.Facts.{counts_text, moment_text}
 use Rattle.page_feed.specs.Points.{inputs_text, output_at, outputs_text, slot_text, slots_in}
+use Rattle.page_feed.specs.Waits.{wait_at}
 
 -- what stands before the one at a place
 abbrev pub separator : ℕ → List ℕ
@@ -23,21 +27,21 @@ separator place = if place == 0 then codes "" else codes ","
 -- THE CONNECTIONS OF AN ADAPTER
 
 -- a connection behind those before
-abbrev pub placed_text : ℕ → Option ConnectionReport → List ℕ
-placed_text place (Some report) = separator place ++ connection_text report
-placed_text place None = []
+abbrev pub placed_text : ℕ → Option RowFacts → Option ConnectionReport → List ℕ
+placed_text place row (Some report) = separator place ++ listed_text row report
+placed_text place row None = []
 
-abbrev pub connection_at_text : DeviceTable → ℕ → List ℕ
-connection_at_text table place = placed_text place (connection_in table place)
+abbrev pub connection_at_text : List RowFacts → DeviceTable → ℕ → List ℕ
+connection_at_text rows table place = placed_text place (slice_get rows place) (connection_in table place)
 
 -- the connections at the places below this one
-abbrev pub connections_below : DeviceTable → ℕ → List ℕ
-connections_below table zero = []
-connections_below table (suc place) = connections_below table place ++ connection_at_text table place
+abbrev pub connections_below : List RowFacts → DeviceTable → ℕ → List ℕ
+connections_below rows table zero = []
+connections_below rows table (suc place) = connections_below rows table place ++ connection_at_text rows table place
 
 -- those at so many places, and the end of their array
-abbrev pub connections_text : DeviceTable → ℕ → List ℕ
-connections_text table most = connections_below table most ++ codes "]"
+abbrev pub connections_text : List RowFacts → DeviceTable → ℕ → List ℕ
+connections_text rows table most = connections_below rows table most ++ codes "]"
 
 abbrev pub all_outputs : List OutputPoint → DeviceTable → List ℕ
 all_outputs outputs table = codes ",\"outputs\":[" ++ (outputs_text table outputs ++ codes "],\"inputs\":[")
@@ -46,43 +50,61 @@ abbrev pub all_inputs : List InputPoint → DeviceTable → List ℕ
 all_inputs inputs table = inputs_text table inputs ++ codes "],\"connections\":["
 
 -- its points and connections, which are at most 64
-abbrev pub adapter_text : List OutputPoint → List InputPoint → DeviceTable → List ℕ
-adapter_text outputs inputs table = all_outputs outputs table ++ (all_inputs inputs table ++ connections_text table 64)
+abbrev pub adapter_text : List OutputPoint → List InputPoint → List RowFacts → DeviceTable → List ℕ
+adapter_text outputs inputs rows table = all_outputs outputs table ++ (all_inputs inputs table ++ connections_text rows table 64)
 
 -- THE SLOTS OF A SCANNER
 
 -- a slot behind those before
-abbrev pub placed_slot : DeviceTable → ℕ → Node → List ℕ → List ℕ
-placed_slot table number target output = separator number ++ slot_text table number target output
+abbrev pub placed_slot : List RowFacts → DeviceTable → ℕ → SlotConfig → List ℕ → SlotWait → List ℕ
+placed_slot rows table number config output wait = separator number ++ slot_text table number config output wait (slice_get rows number)
 
-abbrev pub slot_with : DeviceTable → ℕ → Option SlotConfig → List ℕ → List ℕ
-slot_with table number (Some slot) output = placed_slot table number slot.target output
-slot_with table number None output = []
+-- a slot of a profile, with what a copy of the table says of its output and its wait
+abbrev pub slot_with : List RowFacts → DeviceTable → DeviceTable → ℕ → Option SlotConfig → List ℕ
+slot_with rows copy table number (Some config) =
+    placed_slot rows table number config (output_at (slots_in copy) number) (wait_at copy number config.target)
+slot_with rows copy table number None = []
 
--- the slot of a number, of these profiles and of these slots of the table
-abbrev pub slot_at_text : List SlotConfig → List Slot → DeviceTable → ℕ → List ℕ
-slot_at_text configs slots table number = slot_with table number (slice_get configs number) (output_at slots number)
+abbrev pub slot_at_text : List SlotConfig → List RowFacts → DeviceTable → DeviceTable → ℕ → List ℕ
+slot_at_text configs rows copy table number = slot_with rows copy table number (slice_get configs number)
 
 -- the slots of numbers below this one
-abbrev pub slots_below : List SlotConfig → List Slot → DeviceTable → ℕ → List ℕ
-slots_below configs slots table zero = []
-slots_below configs slots table (suc number) = slots_below configs slots table number ++ slot_at_text configs slots table number
+abbrev pub slots_below : List SlotConfig → List RowFacts → DeviceTable → DeviceTable → ℕ → List ℕ
+slots_below configs rows copy table zero = []
+slots_below configs rows copy table (suc number) = slots_below configs rows copy table number ++ slot_at_text configs rows copy table number
 
-abbrev pub slots_text : List SlotConfig → List Slot → DeviceTable → List ℕ
-slots_text configs slots table = slots_below configs slots table (min (length configs) (2 ^ 32 - 1))
+abbrev pub slots_text : List SlotConfig → List RowFacts → DeviceTable → DeviceTable → List ℕ
+slots_text configs rows copy table = slots_below configs rows copy table (min (length configs) (2 ^ 32 - 1))
 
-abbrev pub array_text : List SlotConfig → List Slot → DeviceTable → List ℕ
-array_text configs slots table = codes ",\"slots\":[" ++ (slots_text configs slots table ++ codes "]")
+abbrev pub array_text : List SlotConfig → List RowFacts → DeviceTable → DeviceTable → List ℕ
+array_text configs rows copy table = codes ",\"slots\":[" ++ (slots_text configs rows copy table ++ codes "]")
 
--- its slots, with the outputs of the table
-abbrev pub scanner_text : List SlotConfig → DeviceTable → List ℕ
-scanner_text configs table = array_text configs (slots_in table) table
+-- whether the application of a scanner runs
+abbrev pub run_text : Bool → List ℕ
+run_text true = codes ",\"mode\":\"run\""
+run_text false = codes ",\"mode\":\"idle\""
+
+abbrev pub own_mode_text : DeviceTable → List ℕ
+own_mode_text (Adapter t) = []
+own_mode_text (Scanner t) = run_text t.run
+
+-- its mode, and its slots with the outputs and waits of the table
+abbrev pub scanner_text : List SlotConfig → List RowFacts → DeviceTable → List ℕ
+scanner_text configs rows table = own_mode_text table ++ array_text configs rows table table
 
 -- THE WHOLE
 
-abbrev pub parts_text : Config → DeviceTable → List ℕ
-parts_text (config.Adapter profile) table = adapter_text profile.outputs profile.inputs table
-parts_text (config.Scanner profile) table = scanner_text profile.slots table
+abbrev pub parts_text : Config → List RowFacts → DeviceTable → List ℕ
+parts_text (config.Adapter profile) rows table = adapter_text profile.outputs profile.inputs rows table
+parts_text (config.Scanner profile) rows table = scanner_text profile.slots rows table
+
+-- its address
+abbrev pub address_of : Config → Node
+address_of (config.Adapter profile) = profile.node
+address_of (config.Scanner profile) = profile.node
+
+abbrev pub address_text : Node → List ℕ
+address_text node = codes ",\"node\":\"" ++ (node_word node ++ codes "\"")
 
 -- how much of a device is in use
 abbrev pub in_use_text : DeviceTotals → List ℕ
@@ -97,6 +119,9 @@ totals_text totals =
     ++ (codes ",\"class_3\":" ++ (decimal totals.class3_connections
     ++ (codes ",\"ids_left\":" ++ (decimal totals.ids_left ++ codes "}"))))
 
+abbrev pub front_text : Config → StationFacts → List ℕ
+front_text given facts = moment_text facts ++ address_text (address_of given)
+
 -- what a device of a configuration is at a moment, without the events, the beginning and the end of the object
-abbrev pub device_text : Config → DeviceTable → StationFacts → List ℕ
-device_text given table facts = moment_text facts ++ (parts_text given table ++ (totals_text (totals_of table) ++ counts_text facts))
+abbrev pub device_text : Config → DeviceTable → StationFacts → List RowFacts → List ℕ
+device_text given table facts rows = front_text given facts ++ (parts_text given rows table ++ (totals_text (totals_of table) ++ counts_text facts))

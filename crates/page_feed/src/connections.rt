@@ -1,8 +1,9 @@
 //! Connections and slots in a snapshot.
 
 ghost use Rattle.std.specs.Prelude.{◌≡◌, ◌++◌, OnOk, string_bytes};
-ghost use Rattle.page_feed.specs.Connections.{age_ms, bool_word, connection_head, connection_rest, connection_text, established_text, has_data, kind_text, mode_text, mode_word, owner_text, state_text, target_text};
+ghost use Rattle.page_feed.specs.Connections.{age_ms, begun_connection, bool_word, connection_head, connection_rest, connection_text, established_text, has_data, kind_text, listed_text, mode_text, mode_word, owner_text, state_text, target_text};
 
+use crate::rows::{RowFacts, push_row};
 use adapter_table::{ConnectionReport, Mode};
 use cip_productions::Age;
 use cip_types::OutOfMemory;
@@ -23,6 +24,28 @@ pub fn push_owner(out: &mut String, owner: Option<ConnectionReport>) -> Result<(
 /// Appends a connection of an adapter.
 pub fn push_connection(out: &mut String, report: ConnectionReport) -> Result<(), OutOfMemory>
     ensures { OnOk result (string_bytes out.new ≡ string_bytes out.old ++ connection_text report) }
+{
+    push_begun(out, report)?;
+    push_text(out, "}")
+}
+
+/// Appends a connection of an adapter in the list of all, with what was counted of it.
+pub fn push_listed(
+    out: &mut String,
+    report: ConnectionReport,
+    row: Option<RowFacts>,
+) -> Result<(), OutOfMemory>
+    ensures { OnOk result (string_bytes out.new ≡ string_bytes out.old ++ listed_text row report) }
+{
+    push_begun(out, report)?;
+    push_row(out, row)?;
+    push_text(out, "}")?;
+    Ok(())
+}
+
+/// Appends a connection, without its end.
+fn push_begun(out: &mut String, report: ConnectionReport) -> Result<(), OutOfMemory>
+    ensures { OnOk result (string_bytes out.new ≡ string_bytes out.old ++ begun_connection report) }
 {
     push_connection_head(out, report)?;
     push_connection_rest(out, report)
@@ -76,7 +99,7 @@ fn push_mode(out: &mut String, report: ConnectionReport) -> Result<(), OutOfMemo
     let (age, data) = (age_ms(report.age), has_data(report.age));
     write!(
         out,
-        "{o_t},\"t_o_ms\":{t_o},\"mode\":\"{mode}\",\"age_ms\":{age},\"has_data\":{data}}}"
+        "{o_t},\"t_o_ms\":{t_o},\"mode\":\"{mode}\",\"age_ms\":{age},\"has_data\":{data}"
     )?;
     Ok(())
 }

@@ -1,15 +1,19 @@
-//! What stations tell their page: snapshots of a device with the last events in words, through a place for one text of
-//! each device.
+//! What stations tell their page: snapshots of a device with the last events and troubles in words, through a place for one
+//! text of each device.
 #![tactic(auto)]
 
 mod connections;
 mod facts;
 mod feed;
+mod gaps;
 mod last_events;
 mod pauses;
 mod place;
 mod points;
+mod rows;
 mod snapshots;
+mod troubles;
+mod waits;
 
 pub use facts::StationFacts;
 pub use feed::{PageFeed, page_wait_ms};

@@ -2,13 +2,16 @@
 
 ghost use Rattle.std.specs.Prelude.{◌≡◌, ◌++◌, OnOk, string_bytes, flat_map, codes};
 ghost use Rattle.cip_tables.specs.States.{slot_in};
-ghost use Rattle.page_feed.specs.Points.{bytes_text, consumers_text, input_text, inputs_text, output_at, output_text, outputs_text, slot_end, slot_head, slot_image, slot_output, slot_state, slot_text, slots_in};
+ghost use Rattle.page_feed.specs.Points.{bytes_text, consumers_text, input_text, inputs_text, output_at, output_text, outputs_text, slot_end, slot_front, slot_head, slot_image, slot_output, slot_state, slot_terms, slot_text, slots_in};
 
 use crate::connections::{push_owner, push_state};
+use crate::rows::{RowFacts, push_slot_row};
+use crate::waits::{SlotWait, push_wait};
 use adapter_table::{ConsumerCounts, InputPoint, OutputPoint};
 use cip_tables::{Device, DeviceTable};
 use cip_types::{Node, OutOfMemory};
-use scanner_table::{Slot, SlotReport};
+use scanner_table::{Slot, SlotConfig, SlotReport};
+use trace_lines::kind_name;
 use trace_words::{push_bytes, push_node, push_text};
 
 /// Appends the bytes that a device has at a point; a dash for none.
@@ -149,21 +152,45 @@ pub fn output_at(slots: &[Slot], number: u32) -> &[u8]
     }
 }
 
-/// Appends a slot: its number, its target, its image, its output, its state.
+/// Appends a slot: its number, its target, its kind and points, its image, its output, its state, what it waits for, and what was
+/// noted of it.
 pub fn push_slot<D: Device>(
     out: &mut String,
     device: &D,
     number: u32,
-    target: Node,
+    config: &SlotConfig,
     output: &[u8],
+    wait: SlotWait,
+    row: Option<RowFacts>,
 ) -> Result<(), OutOfMemory>
     ensures { OnOk result (string_bytes out.new ≡ string_bytes out.old
-        ++ slot_text (D.table device.now) number target output.now) }
+        ++ slot_text (D.table device.now) number config.now output.now wait row) }
 {
-    push_slot_head(out, number, target)?;
+    push_slot_front(out, number, config)?;
     push_slot_image(out, device, number)?;
     push_slot_output(out, output)?;
-    push_slot_end(out, device, number)?;
+    push_slot_end(out, device, number, wait, row)?;
+    Ok(())
+}
+
+/// Appends the number of a slot, its target, its kind and points.
+fn push_slot_front(out: &mut String, number: u32, config: &SlotConfig) -> Result<(), OutOfMemory>
+    ensures { OnOk result (string_bytes out.new ≡ string_bytes out.old ++ slot_front number config.now) }
+{
+    push_slot_head(out, number, config.target)?;
+    push_slot_terms(out, config)
+}
+
+/// Appends the kind and the points of a slot's connection.
+fn push_slot_terms(out: &mut String, config: &SlotConfig) -> Result<(), OutOfMemory>
+    ensures { OnOk result (string_bytes out.new ≡ string_bytes out.old ++ slot_terms config.now) }
+{
+    let kind = kind_name(config.kind);
+    let (consumed, produced) = (config.consumed, config.produced);
+    write!(
+        out,
+        "\",\"kind\":\"{kind}\",\"consumed\":{consumed},\"produced\":{produced}"
+    )?;
     Ok(())
 }
 
@@ -180,7 +207,7 @@ fn push_slot_image<D: Device>(out: &mut String, device: &D, number: u32) -> Resu
     ensures { OnOk result (string_bytes out.new ≡ string_bytes out.old
         ++ slot_image (D.table device.now) number) }
 {
-    push_text(out, "\",\"bytes\":\"")?;
+    push_text(out, ",\"bytes\":\"")?;
     push_point_bytes(out, device, number)
 }
 
@@ -194,28 +221,42 @@ fn push_slot_output(out: &mut String, output: &[u8]) -> Result<(), OutOfMemory>
     Ok(())
 }
 
-/// Appends the state of a slot, and the end of the object.
-fn push_slot_end<D: Device>(out: &mut String, device: &D, number: u32) -> Result<(), OutOfMemory>
+/// Appends the state of a slot, what it waits for, what was noted of it, and the end of the object.
+fn push_slot_end<D: Device>(
+    out: &mut String,
+    device: &D,
+    number: u32,
+    wait: SlotWait,
+    row: Option<RowFacts>,
+) -> Result<(), OutOfMemory>
     ensures { OnOk result (string_bytes out.new ≡ string_bytes out.old
-        ++ slot_end (slot_state (slot_in (D.table device.now) number))) }
+        ++ slot_end (slot_state (slot_in (D.table device.now) number)) wait row) }
 {
-    push_slot_state(out, device.slot(number))
+    push_ended_state(out, slot_state(device.slot(number)), wait, row)
 }
 
-/// Appends a state of a slot, and the end of the object. A slot that is not there is idle.
-fn push_slot_state(out: &mut String, report: Option<SlotReport>) -> Result<(), OutOfMemory>
-    ensures { OnOk result (string_bytes out.new ≡ string_bytes out.old ++ slot_end (slot_state report)) }
+/// A slot that is not there is idle.
+fn slot_state(report: Option<SlotReport>) -> SlotReport
+    ensures { result ≡ slot_state report }
 {
     match report {
-        Some(report) => push_ended_state(out, report),
-        None => push_ended_state(out, SlotReport::Idle),
+        Some(report) => report,
+        None => SlotReport::Idle,
     }
 }
 
-/// Appends a state, and the end of the object.
-fn push_ended_state(out: &mut String, report: SlotReport) -> Result<(), OutOfMemory>
-    ensures { OnOk result (string_bytes out.new ≡ string_bytes out.old ++ slot_end report) }
+/// Appends a state, what a slot waits for, what was noted of it, and the end of the object.
+fn push_ended_state(
+    out: &mut String,
+    report: SlotReport,
+    wait: SlotWait,
+    row: Option<RowFacts>,
+) -> Result<(), OutOfMemory>
+    ensures { OnOk result (string_bytes out.new ≡ string_bytes out.old ++ slot_end report wait row) }
 {
     push_state(out, report)?;
-    push_text(out, "}")
+    push_wait(out, wait)?;
+    push_slot_row(out, row)?;
+    push_text(out, "}")?;
+    Ok(())
 }

@@ -2,41 +2,77 @@
 
 ghost use Rattle.std.specs.Prelude.{◌≡◌, ◌++◌, OnOk, string_bytes};
 ghost use Rattle.cip_tables.specs.States.{totals_of};
-ghost use Rattle.page_feed.specs.Snapshots.{adapter_text, all_inputs, all_outputs, array_text, connection_at_text, connections_below, connections_text, device_text, parts_text, placed_slot, scanner_text, separator, slot_at_text, slots_text, totals_text};
+ghost use Rattle.page_feed.specs.Snapshots.{adapter_text, address_of, address_text, all_inputs, all_outputs, array_text, connection_at_text, connections_below, connections_text, device_text, front_text, own_mode_text, parts_text, placed_slot, run_text, scanner_text, separator, slot_at_text, slots_text, totals_text};
 
-use crate::connections::push_connection;
+use crate::connections::push_listed;
 use crate::facts::{StationFacts, push_counts, push_moment};
 use crate::points::{output_at, push_inputs, push_outputs, push_slot, slots_in};
+use crate::rows::{RowFacts, row_at};
+use crate::waits::{SlotWait, wait_at};
 use adapter_table::{InputPoint, OutputPoint};
-use cip_tables::{Config, Device, DeviceTotals};
+use cip_tables::{Config, Device, DeviceTable, DeviceTotals};
 use cip_types::{Node, OutOfMemory};
-use scanner_table::{Slot, SlotConfig};
-use trace_words::push_text;
+use scanner_table::SlotConfig;
+use trace_words::{push_node, push_text};
 
 /// An adapter has at most so many connections.
 const MOST_PLACES: u32 = 64;
 
-/// Appends what a device of a configuration is at a moment, without the beginning and the end of the object.
+/// Appends what a device of a configuration is at a moment, and what was noted of its connections or slots, in their order, without
+/// the beginning and the end of the object.
 pub fn push_device<D: Device>(
     out: &mut String,
     config: &Config,
     device: &D,
     facts: StationFacts,
+    rows: &[RowFacts],
 ) -> Result<(), OutOfMemory>
     ensures { OnOk result (string_bytes out.new ≡ string_bytes out.old
-        ++ device_text config.now (D.table device.now) facts) }
+        ++ device_text config.now (D.table device.now) facts rows.now) }
 {
-    push_moment(out, facts)?;
-    push_parts(out, config, device)?;
+    push_front(out, config, facts)?;
+    push_parts(out, config, device, rows)?;
     push_totals(out, device)?;
     push_counts(out, facts)?;
     Ok(())
 }
 
+/// Appends the moment, and the address of the device.
+fn push_front(out: &mut String, config: &Config, facts: StationFacts) -> Result<(), OutOfMemory>
+    ensures { OnOk result (string_bytes out.new ≡ string_bytes out.old ++ front_text config.now facts) }
+{
+    push_moment(out, facts)?;
+    push_address(out, address_of(config))
+}
+
+/// The address of a device.
+fn address_of(config: &Config) -> Node
+    ensures { result ≡ address_of config.now }
+{
+    match config {
+        Config::Adapter(adapter) => adapter.node,
+        Config::Scanner(scanner) => scanner.node,
+    }
+}
+
+fn push_address(out: &mut String, node: Node) -> Result<(), OutOfMemory>
+    ensures { OnOk result (string_bytes out.new ≡ string_bytes out.old ++ address_text node) }
+{
+    push_text(out, ",\"node\":\"")?;
+    push_node(out, node)?;
+    push_text(out, "\"")?;
+    Ok(())
+}
+
 /// Appends the points and connections of an adapter, or the slots of a scanner.
-fn push_parts<D: Device>(out: &mut String, config: &Config, device: &D) -> Result<(), OutOfMemory>
+fn push_parts<D: Device>(
+    out: &mut String,
+    config: &Config,
+    device: &D,
+    rows: &[RowFacts],
+) -> Result<(), OutOfMemory>
     ensures { OnOk result (string_bytes out.new ≡ string_bytes out.old
-        ++ parts_text config.now (D.table device.now)) }
+        ++ parts_text config.now rows.now (D.table device.now)) }
 {
     match config {
         Config::Adapter(profile) => push_adapter(
@@ -44,8 +80,9 @@ fn push_parts<D: Device>(out: &mut String, config: &Config, device: &D) -> Resul
             profile.outputs.as_slice(),
             profile.inputs.as_slice(),
             device,
+            rows,
         ),
-        Config::Scanner(profile) => push_scanner(out, profile.slots.as_slice(), device),
+        Config::Scanner(profile) => push_scanner(out, profile.slots.as_slice(), device, rows),
     }
 }
 
@@ -55,13 +92,14 @@ fn push_adapter<D: Device>(
     outputs: &[OutputPoint],
     inputs: &[InputPoint],
     device: &D,
+    rows: &[RowFacts],
 ) -> Result<(), OutOfMemory>
     ensures { OnOk result (string_bytes out.new ≡ string_bytes out.old
-        ++ adapter_text outputs.now inputs.now (D.table device.now)) }
+        ++ adapter_text outputs.now inputs.now rows.now (D.table device.now)) }
 {
     push_all_outputs(out, outputs, device)?;
     push_all_inputs(out, inputs, device)?;
-    push_connections(out, device, MOST_PLACES)?;
+    push_connections(out, device, rows, MOST_PLACES)?;
     Ok(())
 }
 
@@ -94,22 +132,32 @@ fn push_all_inputs<D: Device>(
 }
 
 /// Appends the connections of an adapter, in the order of their openings, at so many places.
-fn push_connections<D: Device>(out: &mut String, device: &D, most: u32) -> Result<(), OutOfMemory>
+fn push_connections<D: Device>(
+    out: &mut String,
+    device: &D,
+    rows: &[RowFacts],
+    most: u32,
+) -> Result<(), OutOfMemory>
     ensures { OnOk result (string_bytes out.new ≡ string_bytes out.old
-        ++ connections_text (D.table device.now) most) }
+        ++ connections_text rows.now (D.table device.now) most) }
 {
-    push_places(out, device, most)?;
+    push_places(out, device, rows, most)?;
     push_text(out, "]")?;
     Ok(())
 }
 
 /// Appends the connections at so many places.
-fn push_places<D: Device>(out: &mut String, device: &D, most: u32) -> Result<(), OutOfMemory>
+fn push_places<D: Device>(
+    out: &mut String,
+    device: &D,
+    rows: &[RowFacts],
+    most: u32,
+) -> Result<(), OutOfMemory>
     ensures { OnOk result (string_bytes out.new ≡ string_bytes out.old
-        ++ connections_below (D.table device.now) most) }
+        ++ connections_below rows.now (D.table device.now) most) }
 {
     for place in 0..most {
-        push_connection_at(out, device, place)?;
+        push_connection_at(out, device, rows, place)?;
     }
     Ok(())
 }
@@ -118,16 +166,17 @@ fn push_places<D: Device>(out: &mut String, device: &D, most: u32) -> Result<(),
 fn push_connection_at<D: Device>(
     out: &mut String,
     device: &D,
+    rows: &[RowFacts],
     place: u32,
 ) -> Result<(), OutOfMemory>
     ensures { OnOk result (string_bytes out.new ≡ string_bytes out.old
-        ++ connection_at_text (D.table device.now) place) }
+        ++ connection_at_text rows.now (D.table device.now) place) }
 {
     let Some(report) = device.connection(place) else {
         return Ok(());
     };
     push_text(out, separator(place))?;
-    push_connection(out, report)
+    push_listed(out, report, row_at(rows, place))
 }
 
 /// What stands before the one at a place.
@@ -137,31 +186,56 @@ fn separator(place: u32) -> &'static str
     if place == 0 { "" } else { "," }
 }
 
-/// Appends the slots of a scanner. Their outputs are those of a copy of its table, since a device reads out images alone.
+/// Appends the mode of a scanner and its slots. Mode, outputs and waits are those of a copy of its table, since a device reads out
+/// images alone.
 fn push_scanner<D: Device>(
     out: &mut String,
     configs: &[SlotConfig],
     device: &D,
+    rows: &[RowFacts],
 ) -> Result<(), OutOfMemory>
     ensures { OnOk result (string_bytes out.new ≡ string_bytes out.old
-        ++ scanner_text configs.now (D.table device.now)) }
+        ++ scanner_text configs.now rows.now (D.table device.now)) }
 {
     let copy = device.copy()?;
-    push_array(out, configs, slots_in(copy.table()), device)
+    push_own_mode(out, copy.table())?;
+    push_array(out, configs, copy.table(), device, rows)
+}
+
+/// Appends the mode of a scanner.
+fn push_own_mode(out: &mut String, table: &DeviceTable) -> Result<(), OutOfMemory>
+    ensures { OnOk result (string_bytes out.new ≡ string_bytes out.old ++ own_mode_text table.now) }
+{
+    match table {
+        DeviceTable::Scanner(table) => push_text(out, run_text(table.run)),
+        DeviceTable::Adapter(_) => Ok(()),
+    }
+}
+
+/// Whether a scanner's application runs.
+fn run_text(is: bool) -> &'static str
+    ensures { result.now ≡ run_text is }
+{
+    if is {
+        ",\"mode\":\"run\""
+    } else {
+        ",\"mode\":\"idle\""
+    }
 }
 
 /// Appends the slots of a scanner, as an array.
 fn push_array<D: Device>(
     out: &mut String,
     configs: &[SlotConfig],
-    slots: &[Slot],
+    copy: &DeviceTable,
     device: &D,
+    rows: &[RowFacts],
 ) -> Result<(), OutOfMemory>
     ensures { OnOk result (string_bytes out.new ≡ string_bytes out.old
-        ++ array_text configs.now slots.now (D.table device.now)) }
+        ++ array_text configs.now rows.now copy.now (D.table device.now)) }
 {
     push_text(out, ",\"slots\":[")?;
-    push_slots(out, configs, slots, device)?;
+    push_slots(out, configs, copy, device, rows)?;
     push_text(out, "]")
 }
 
@@ -169,15 +243,16 @@ fn push_array<D: Device>(
 fn push_slots<D: Device>(
     out: &mut String,
     configs: &[SlotConfig],
-    slots: &[Slot],
+    copy: &DeviceTable,
     device: &D,
+    rows: &[RowFacts],
 ) -> Result<(), OutOfMemory>
     ensures { OnOk result (string_bytes out.new ≡ string_bytes out.old
-        ++ slots_text configs.now slots.now (D.table device.now)) }
+        ++ slots_text configs.now rows.now copy.now (D.table device.now)) }
 {
     let count = u32::try_from(configs.len()).unwrap_or(u32::MAX);
     for number in 0..count {
-        push_slot_at(out, configs, slots, device, number)?;
+        push_slot_at(out, configs, copy, device, rows, number)?;
     }
     Ok(())
 }
@@ -186,33 +261,38 @@ fn push_slots<D: Device>(
 fn push_slot_at<D: Device>(
     out: &mut String,
     configs: &[SlotConfig],
-    slots: &[Slot],
+    copy: &DeviceTable,
     device: &D,
+    rows: &[RowFacts],
     number: u32,
 ) -> Result<(), OutOfMemory>
     ensures { OnOk result (string_bytes out.new ≡ string_bytes out.old
-        ++ slot_at_text configs.now slots.now (D.table device.now) number) }
+        ++ slot_at_text configs.now rows.now copy.now (D.table device.now) number) }
 {
-    let output = output_at(slots, number);
-    match configs.get(number as usize) {
-        Some(slot) => push_placed_slot(out, device, number, slot.target, output),
-        None => Ok(()),
-    }
+    let Some(slot) = configs.get(number as usize) else {
+        return Ok(());
+    };
+    let output = output_at(slots_in(copy), number);
+    let wait = wait_at(copy, number, slot.target);
+    push_placed_slot(out, device, rows, number, slot, output, wait)
 }
 
 /// Appends a slot behind those before.
 fn push_placed_slot<D: Device>(
     out: &mut String,
     device: &D,
+    rows: &[RowFacts],
     number: u32,
-    target: Node,
+    config: &SlotConfig,
     output: &[u8],
+    wait: SlotWait,
 ) -> Result<(), OutOfMemory>
     ensures { OnOk result (string_bytes out.new ≡ string_bytes out.old
-        ++ placed_slot (D.table device.now) number target output.now) }
+        ++ placed_slot rows.now (D.table device.now) number config.now output.now wait) }
 {
     push_text(out, separator(number))?;
-    push_slot(out, device, number, target, output)
+    let row = row_at(rows, number);
+    push_slot(out, device, number, config, output, wait, row)
 }
 
 /// Appends how much of a device is in use.

@@ -85,7 +85,7 @@ impl<W: RecordSink + Drop, O: LineSink, E: LineSink> StationObserver<W, O, E> {
     {
         let facts = self.facts();
         if let Some(page) = &mut self.page {
-            page.show(device, facts);
+            page.show(device, facts, self.traffic.connections());
         }
     }
 
@@ -232,6 +232,10 @@ impl<W: RecordSink + Drop, O: LineSink, E: LineSink> StationObserver<W, O, E> {
     pub fn report(&mut self, text: &[u8])
         ensures kept { self.new.recorder ≡ self.old.recorder }
     {
+        let facts = self.facts();
+        if let Some(page) = &mut self.page {
+            page.note_report(facts, text);
+        }
         self.err.line(text);
     }
 

@@ -9,6 +9,7 @@ from rim.plants import begun
 REQUEST_S = 3.0  # seconds in which a request has to arrive, however many reads that takes
 MOST_EVENTS = 32
 COUNTS = {"received": 5, "applied": 4, "lost": 3}  # those of the numbers 1, 2, 3, 7, and 7 again
+ROW = COUNTS | {"duplicate": 0, "old": 1, "wrong_size": 0}  # those of their connection
 PAUSE_MS = 4500  # a pause of a device: nearly as long as the 5 s after which a browser opens its event stream again
 LONGEST_GAP = 3.5  # seconds
 SOON = 15.0  # seconds: 3 for a write that waits, and the time until the system keeps no more of what is not read
@@ -138,6 +139,7 @@ def run_page_numbers(bench):
     need(abs(later["ms"] / 1000 - (time.monotonic() - begun_at)) < 1.5, f"a snapshot has the milliseconds of its device: {later['ms']}")
     found = [(it["o_t_ms"], it["t_o_ms"], it["mode"], it["consumed"], it["produced"]) for it in later["connections"]]
     sure(found == [(500, 200, "run", 150, 100)], f"a snapshot has what arrived, was applied and lost, what was sent, and both intervals: {found}")
+    run_row(connection, owner, events, later["connections"][0])
     run_last_events(bench, adapter, events)
     need(adapter.end() == 0, "the adapter ends with status 0")
     adapter = bench.adapter("--page", str(PORT), "--record", bench.file("page_numbers.trace"), log="page_numbers_again")
@@ -145,6 +147,24 @@ def run_page_numbers(bench):
     sure(allowed == {"writes": False, "record": True}, f"a page says whether it takes calls, and whether it has a record: {allowed}")
     need(adapter.end() == 0, "the adapter ends with status 0")
     bench.clear()
+
+
+def run_row(connection, owner, events, row):
+    """A connection has its counts, and the gaps between what was accepted: three of four datagrams, then one of a second and more."""
+    need({name: row[name] for name in ROW} == ROW and row["gaps"]["count"] == 3, f"a connection has its counts and gaps: {row}")
+    connection.sequence = 7
+    connection.produce(owner.udp, bytes([0, 0, 0, 8]))
+    later = events.next(lambda it: it["connections"][0]["gaps"]["count"] == 4)
+    need(later, "a gap ends with the next accepted datagram")
+    gaps = later["connections"][0]["gaps"]
+    long = gaps["greatest_ms"]
+    need(950 <= long < 5000 and long <= gaps["sum_ms"] < long + 200 and long - 200 < gaps["moved_ms"] <= gaps["sum_ms"] + 200,
+         f"the gap is about as long as the pause: {gaps}")
+    need(gaps["recent_ms"] == long and gaps["window"] in (later["ms"] // 10000, later["ms"] // 10000 - 1), f"it is the longest of its ten seconds: {gaps}")
+    connection.sequence = 8
+    connection.produce(owner.udp, bytes(5))
+    wrong = events.next(lambda it: it["connections"][0]["wrong_size"] == 1)
+    sure(wrong and wrong["connections"][0]["gaps"]["count"] == 4, f"a connection has its counts, its gaps ({gaps}), and what has a wrong size")
 
 
 def run_last_events(bench, adapter, events):

@@ -1,6 +1,6 @@
 """The live page of a station: who gets it, what it takes, and that it slows no device."""
 
-import contextlib, json, os, re, select, socket, struct, subprocess, threading, time
+import contextlib, json, os, re, select, signal, socket, struct, subprocess, threading, time
 from rim.host import OWNER, Wrong, free_port, holds, last, need, run, sure, until, wait
 from rim.outputs import LARGE, devices_go_on
 from rim.peers import Originator
@@ -160,6 +160,7 @@ def run_quiet(bench, events):
         feeder.stop()
         lost = events.next(lambda it: output(it)["owner"] is None)
         need(lost, "it is lost")
+        need("timed out" in lost["troubles"][-1]["words"], "its time-out is the last trouble")
         late.append(lost["ms"] - lost["events"][-1]["ms"])
         owner.close()
         bench.closing.remove(owner)
@@ -185,6 +186,21 @@ def run_page_scanner(bench):
     sure(events.next(lambda it: it["slots"][0]["output"] == "11223344" and it["slots"][0]["bytes"] == "0a0b0c0d"),
          "it shows what the slot sends, and what it receives")
     need(events.next()["slots"][1]["output"] == "-", "a slot that sends no data has no output")
+    terms = [[it[name] for name in ("kind", "consumed", "produced")] for it in events.next()["slots"]]
+    need(terms == [["exclusive", 150, 100], ["input", 152, 100]], f"each slot has its kind and its points: {terms}")
+    scanner.call("mode idle")
+    need(events.next(lambda it: it["mode"] == "idle"), "the scanner's own mode is idle")
+    scanner.call("mode run", "stop 1")
+    stopped = events.next(lambda it: it["mode"] == "run" and it["slots"][1].get("wait") == "stopped")
+    sure(stopped and "wait" not in stopped["slots"][0], "it shows its own mode, and that a call has stopped a slot")
+    adapter.process.send_signal(signal.SIGSTOP)
+    gone = events.next(lambda it: it["slots"][0]["time_outs"] == 1, 20)
+    adapter.process.send_signal(signal.SIGCONT)
+    need(gone, "a slot counts its time-outs")
+    slot = gone["slots"][0]
+    need(slot["last_time_out_ms"] == slot["since_ms"] or slot["state"] != "timed_out", f"and says when the last was: {slot}")
+    sure(any("slot 0 is timed out" in it["words"] for it in gone["troubles"]), "a time-out is among the troubles")
+    need(events.next(lambda it: it["slots"][0]["state"] == "established", 20), "the slot opens again")
     need(scanner.end() == 0 == adapter.end(), "both end with status 0")
     bench.clear()
 
