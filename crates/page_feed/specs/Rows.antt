@@ -1,5 +1,6 @@
 -- What a station has noted of a connection or a slot, beside its device's table.
 use Rattle.std.specs.Prelude.{ℕ, ◌==◌, ◌&&◌, if◌then◌else◌, Bool, true, false, List, [], ◌++◌, codes, decimal, find, Option, Some, None}
+use Rattle.cip_types.specs.declared.names.Node.{Node}
 use Rattle.cip_events.specs.declared.slot_phase.SlotPhase.TheVariants as phase
 use Rattle.cip_events.specs.Phases.{phase_number}
 use Rattle.datagram_counts.specs.Counts.{with_more}
@@ -8,8 +9,6 @@ use Rattle.page_feed.specs.declared.gaps.GapMeter.{GapMeter}
 use Rattle.page_feed.specs.declared.rows.RowFacts.{RowFacts}
 use Rattle.page_feed.specs.declared.rows.SlotNote.{SlotNote}
 use Rattle.station_watch.specs.declared.traffic.CountedConnection.{CountedConnection}
-use Rattle.station_watch.specs.declared.traffic.DataSource.{DataSource}
-use Rattle.station_watch.specs.declared.traffic.DataSource.TheVariants as source
 
 -- A SLOT'S STATE
 
@@ -26,10 +25,10 @@ changed_note ms state note =
 
 -- A CONNECTION AND ITS METER
 
--- the datagrams of a meter may be of this source: of an adapter's connections no two have one id
-abbrev pub is_sender : DataSource → GapMeter → Bool
-is_sender (source.Originator triad) meter = true
-is_sender (source.Target target) meter = target.0 == meter.peer.0
+-- the datagrams of a meter may be of this sender: of an adapter's connections no two have one id
+abbrev pub is_sender : Option Node → GapMeter → Bool
+is_sender None meter = true
+is_sender (Some target) meter = target.0 == meter.peer.0
 
 abbrev pub has_id : Option ℕ → GapMeter → Bool
 has_id None meter = false
@@ -37,7 +36,7 @@ has_id (Some own) meter = own == meter.id
 
 -- the meter is of the connection that was counted
 abbrev pub measures : CountedConnection → GapMeter → Bool
-measures counted meter = is_sender counted.source meter && has_id counted.id meter
+measures counted meter = is_sender counted.sender meter && has_id counted.id meter
 
 abbrev pub row_of : CountedConnection → List GapMeter → SlotNote → RowFacts
 row_of counted meters note = record { counts = counted.counts; gaps = find (measures counted) meters; note = note }

@@ -5,9 +5,9 @@ ghost use Rattle.page_feed.specs.Rows.{changed_note, counted_text, gaps_text, ha
 
 use crate::gaps::GapMeter;
 use cip_events::SlotPhase;
-use cip_types::OutOfMemory;
+use cip_types::{Node, OutOfMemory};
 use datagram_counts::DatagramCounts;
-use station_watch::{CountedConnection, DataSource};
+use station_watch::CountedConnection;
 
 /// Since when a slot has its state, and how often its connections timed out.
 #[derive(Clone, Copy, PartialEq, Eq)]
@@ -95,16 +95,16 @@ fn meter_of(counted: CountedConnection, meters: &[GapMeter]) -> Option<GapMeter>
 fn measures(counted: CountedConnection, meter: &GapMeter) -> bool
     ensures { result ≡ measures counted meter.now }
 {
-    is_sender(counted.source, meter) && has_id(counted.id, meter)
+    is_sender(counted.sender, meter) && has_id(counted.id, meter)
 }
 
-/// Whether the datagrams of a meter may be of this source.
-fn is_sender(source: DataSource, meter: &GapMeter) -> bool
-    ensures { result ≡ is_sender source meter.now }
+/// Whether the datagrams of a meter may be of this sender.
+fn is_sender(sender: Option<Node>, meter: &GapMeter) -> bool
+    ensures { result ≡ is_sender sender meter.now }
 {
-    match source {
-        DataSource::Originator(_) => true,
-        DataSource::Target(target) => target == meter.peer,
+    match sender {
+        Some(target) => target == meter.peer,
+        None => true,
     }
 }
 
