@@ -1,7 +1,7 @@
 """Plants: many devices in one process, whose records settle, whose scripts do what they say, and whose files are refused by
 their lines."""
 
-import errno, glob, itertools, os, resource, signal, socket, time
+import errno, glob, os, resource, signal, socket, time
 from rim.calls import CallFaults
 from rim.host import PRESENT, Station, Untried, need, run, sure, until, wait
 from rim.pages import HOST, PORT, connected, status_of, told, word_of
@@ -13,6 +13,7 @@ PAUSE_MS = 60_000  # of a device that hangs
 STEPS_S = 10.0  # seconds: two steps of a plant's end, of which none takes more than 5 s (rule 34.8)
 AT_ONCE = 0.2  # seconds: a plant looks for typed lines each 20 ms
 MARK = "write 100 c0ffee00"  # the line of a script in front of its cut
+MOST_TICKS = 12  # of the turns of a cut: a device that goes on without it has a hundred in a second, one that was kept from the processor a long one
 ADAPTER = "adapter 1 {node} 255.255.255.0 0 12 7 2 3\noutput 150 4 zero zero\ninput 100 4\nheartbeat 152 153\n"
 OWNED = "slot {node} exclusive - 150 100 4 4 10000 10000 2 multicast - -\n"
 READ = "slot {node} input - 152 100 0 4 10000 10000 2 multicast - -\n"
@@ -150,10 +151,11 @@ def run_plant_scripts(bench):
     sure(len(begun_with) == 3, "each of its lives begins with the line of its output")
     ended = {name: [line.split()[4] for line in plant.of("scanner-0") if line.split()[1:3] == ["note", "slot"] and line.split()[3] == slot] for name, slot in (("cut", "0"), ("pause", "1"))}
     sure("4" in ended["pause"] and "4" not in ended["cut"], "a pause ends a connection, and a cut does not: it outlives its stream")
-    opened, cut = streams_cut(bench.file("scripts/adapter-0.1.trace"))
+    opened, cut, ticks = streams_cut(bench.file("scripts/adapter-0.1.trace"))
     if len(opened) < 2:
         raise Untried(f"this machine was late: of two streams {len(opened)} were open as the script cut them")
-    sure(cut >= opened, f"a cut ends each stream that is open, before anything else comes over one: {sorted(cut)} of {sorted(opened)}")
+    sure(cut >= opened and ticks <= MOST_TICKS, f"a cut ends each stream that is open, before anything else comes over one: {sorted(cut)} of "
+         f"{sorted(opened)}, with {ticks} ticks in between")
     paths = replays(bench, "scripts")
     sure(len(paths) == 8, f"five devices have eight lives, and no record of an earlier run is left")
     status = paused.status(2 * STEPS_S)
@@ -161,17 +163,24 @@ def run_plant_scripts(bench):
 
 
 def streams_cut(trace):
-    """The streams of a record that are open where MARK is written, and those that are cut next, before anything else comes over a
-    stream. (The turn behind MARK may take one arrival. Each cut is taken by a turn of its own, in front of which a tick may be.)"""
+    """The streams of a record that are open where MARK is written, those that are cut next, before anything else comes over a stream, and how
+    many ticks are in between. (The turn behind MARK may take one arrival. Each cut is taken by a turn of its own, in front of which a tick
+    may be.)"""
     with open(trace) as file:
-        events = [words for words in map(str.split, file) if words[:1] in (["stream"], ["frame"], ["cut"]) or words == MARK.split()]
-    at, opened = events.index(MARK.split()), set()
+        events = [words for words in map(str.split, file) if words[:1] in (["stream"], ["frame"], ["cut"], ["tick"]) or words == MARK.split()]
+    at, opened, cut, ticks, others = events.index(MARK.split()), set(), set(), 0, 0
     for kind, stream, *_ in events[:at]:
-        (opened.discard if kind == "cut" else opened.add)(stream)
-    behind = events[at + 1:]
-    if behind[0][0] != "cut":
-        del behind[0]
-    return opened, {stream for _, stream, *_ in itertools.takewhile(lambda words: words[0] == "cut", behind)}
+        if kind != "tick":
+            (opened.discard if kind == "cut" else opened.add)(stream)
+    for kind, stream, *_ in events[at + 1:]:
+        ticks, others = ticks + (kind == "tick"), others + (kind in ("stream", "frame"))
+        if kind == "cut":
+            cut.add(stream)
+        elif kind != "tick" and (cut or others > 1):
+            break
+        if cut >= opened:
+            break
+    return opened, cut, ticks
 
 
 def shown_at(plant, name, slot, data, behind=None):
