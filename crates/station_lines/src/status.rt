@@ -148,10 +148,22 @@ fn push_connection_at<D: Device>(
     ensures { OnOk result (string_bytes out.new ≡ string_bytes out.old
         ++ connection_at at connections.now (connection_in (D.table device.now) place)) }
 {
-    let Some(report) = device.connection(place) else {
-        return Ok(());
-    };
-    push_connection(out, counted_of(connections, &report), report, at)
+    push_connection_of(out, connections, device.connection(place), at)
+}
+
+/// Appends the line of a connection, if there is one, with what was counted of it.
+fn push_connection_of(
+    out: &mut String,
+    connections: &[CountedConnection],
+    report: Option<ConnectionReport>,
+    at: EventMoment,
+) -> Result<(), OutOfMemory>
+    ensures { OnOk result (string_bytes out.new ≡ string_bytes out.old ++ connection_at at connections.now report) }
+{
+    match report {
+        Some(report) => push_connection(out, counted_of(connections, &report), report, at),
+        None => Ok(()),
+    }
 }
 
 /// Appends the line of a connection.
