@@ -1,27 +1,31 @@
 //! A device at a port with a clock.
 
-ghost use Rattle.std.specs.Prelude.{◌≡◌, Ok, IfOk, OnOk};
+ghost use Rattle.std.specs.Prelude.{◌≡◌, ◌∷◌, [], Ok, IfOk, OnOk};
 ghost use Rattle.std.specs.List.{list_any};
+ghost use Rattle.station.specs.Ended.{Ended, Ends};
 ghost use Rattle.station.specs.Faults.{failures_after_call, failures_after_turn};
 ghost use Rattle.station.specs.Recorded.{Recorded};
-ghost use Rattle.station.specs.Rests.{Rests};
+ghost use Rattle.station.specs.Rests.{Rests, Unstepped};
+ghost use Rattle.station.specs.Sessions.{sessions_of};
 ghost use Rattle.station.specs.Turned.{Turned};
 ghost use Rattle.station_watch.specs.Closing.{is_marked};
 
 use crate::fault::{EarlyEnd, failures_after_call, failures_after_turn};
 use crate::observer::StationObserver;
 use crate::point_lines::patience_ms;
+use crate::sessions::{sessions_of, unregister_message};
 use attribute_lines::{AttributeCall, call_event};
 use cip_tables::{Config, Device, Event};
 use cip_types::{Ms, Node, OutOfMemory};
 use port_groups::{DataGroup, GroupPort};
+use scanner_table::Session;
 use station_lines::{
     InputLine, LineSink, Points, push_report, push_starved, push_unbound, read_line,
 };
 use station_record::{RecordFault, RecordSink};
 use station_watch::{LinkReport, StationTraffic, owners_of, push_connected};
 use std::alloc::Global;
-use udp_runner::{Clock, RunFault, act, turn_in_time};
+use udp_runner::{Clock, Output, RunFault, act, turn_in_time};
 
 /// At most so many reports of the port are told behind one turn.
 const MOST_REPORTS: u32 = 64;
@@ -374,6 +378,45 @@ impl<P: GroupPort, C: Clock, D: Device, W: RecordSink + Drop, O: LineSink, E: Li
         ensures { result ≡ list_any is_marked self.now.observer.closing }
     {
         self.observer.is_closing()
+    }
+
+    /// Ends each session of the device: sends UnRegisterSession, and closes the stream.
+    pub fn unregister(&mut self) -> Result<(), EarlyEnd>
+        ensures unstepped { Unstepped self.old self.new }
+        ensures ended { OnOk result (Ended P.is_scripted P.tape P.failed D.table self.old self.new) }
+    {
+        let copy = self.device.copy()?;
+        let sessions = sessions_of(self.alloc, copy.table())?;
+        self.end_sessions(sessions.as_slice())
+    }
+
+    /// Ends these sessions, one after another.
+    fn end_sessions(&mut self, sessions: &[Session]) -> Result<(), EarlyEnd>
+        ensures unstepped { Unstepped self.old self.new }
+        ensures ended { OnOk result (Ends P.is_scripted P.tape P.failed sessions.now self.old self.new) }
+    {
+        for session in sessions {
+            self.end_session(*session)?;
+        }
+        Ok(())
+    }
+
+    /// Sends UnRegisterSession over the stream of a session, and closes it.
+    fn end_session(&mut self, session: Session) -> Result<(), EarlyEnd>
+        ensures unstepped { Unstepped self.old self.new }
+        ensures ended { OnOk result (Ends P.is_scripted P.tape P.failed (session ∷ []) self.old self.new) }
+    {
+        if self.port.failures() == u64::MAX {
+            return Err(EarlyEnd::Port);
+        }
+        let message = unregister_message(self.alloc, session.handle)?;
+        let (stream, bytes) = (session.stream, message.as_slice());
+        // (a stream that has broken takes no message; that is no fault of the station)
+        if self.port.send(&Output::Frame { stream, bytes }).is_err() {
+            return Ok(());
+        }
+        let _ = self.port.send(&Output::Close { stream });
+        Ok(())
     }
 
     /// Offers the lines that are due of points. The fault: there was no memory for an outcome or a line.

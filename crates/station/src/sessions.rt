@@ -1,81 +1,72 @@
-//! How the sessions of a station's device end.
+//! The sessions of a device, and the message that ends one.
 
-ghost use Rattle.std.specs.Prelude.{◌≡◌, IfOk, OnOk};
-ghost use Rattle.station.specs.Ended.{Ended, Ends};
-ghost use Rattle.station.specs.Rests.{Unstepped};
-ghost use Rattle.station.specs.Sessions.{unregister_text, with_end, with_end_on};
+ghost use Rattle.std.specs.Prelude.{◌≡◌, IfOk};
+ghost use Rattle.std.specs.List.{filter_map};
+ghost use Rattle.scanner_table.specs.Sessions.{session_on};
+ghost use Rattle.station.specs.Sessions.{adapter_session, sessions_of, unregister_text};
 
-use crate::fault::EarlyEnd;
-use crate::serving::Station;
+use adapter_table::Stream;
 use cip_encap::{MessageView, command, write_message};
-use cip_tables::{Device, StreamReport};
+use cip_tables::DeviceTable;
 use cip_types::OutOfMemory;
-use cip_types::limits::MOST_STREAMS;
-use port_groups::GroupPort;
-use station_lines::LineSink;
-use station_record::RecordSink;
+use scanner_table::{Session, Stage, TargetStream};
+use session_streams::session_of;
 use std::alloc::Global;
-use udp_runner::{Clock, Output};
 
-impl<P: GroupPort, C: Clock, D: Device, W: RecordSink + Drop, O: LineSink, E: LineSink> Station<
-    P,
-    C,
-    D,
-    W,
-    O,
-    E,
-> {
-    /// Ends each session of the device: sends UnRegisterSession, and closes the stream.
-    pub fn unregister(&mut self) -> Result<(), EarlyEnd>
-        ensures unstepped { Unstepped self.old self.new }
-        ensures ended { OnOk result (Ended P.is_scripted P.tape P.failed D.table self.old self.new) }
-    {
-        for place in 0..MOST_STREAMS as u32 {
-            let stream = self.device.stream(place);
-            self.end_session_on(stream)?;
-        }
-        Ok(())
+/// The sessions of a device, in the order of its streams. The only fault is a refused allocation.
+pub(crate) fn sessions_of(alloc: Global, table: &DeviceTable) -> Result<Vec<Session>, OutOfMemory>
+    ensures { IfOk result (λ found. found.items ≡ sessions_of table.now) }
+{
+    match table {
+        DeviceTable::Adapter(table) => adapter_sessions(alloc, table.streams.as_slice()),
+        DeviceTable::Scanner(table) => scanner_sessions(alloc, table.streams.as_slice()),
     }
+}
 
-    /// Ends the session on a stream, if there is one.
-    fn end_session_on(&mut self, stream: Option<StreamReport>) -> Result<(), EarlyEnd>
-        ensures unstepped { Unstepped self.old self.new }
-        ensures ended { OnOk result (Ends P.is_scripted P.tape P.failed (λ tape. with_end tape stream)
-            self.old self.new) }
-    {
-        match stream {
-            Some(stream) => self.end_session(stream.number, stream.session),
-            None => Ok(()),
-        }
+/// The sessions on an adapter's streams.
+fn adapter_sessions(alloc: Global, streams: &[Stream]) -> Result<Vec<Session>, OutOfMemory>
+    ensures { IfOk result (λ found. found.items ≡ filter_map adapter_session streams.now) }
+{
+    Ok(streams.iter().filter_map(adapter_session).collect(alloc)?)
+}
+
+/// The sessions on a scanner's streams.
+fn scanner_sessions(alloc: Global, streams: &[TargetStream]) -> Result<Vec<Session>, OutOfMemory>
+    ensures { IfOk result (λ found. found.items ≡ filter_map session_on streams.now) }
+{
+    Ok(streams.iter().filter_map(scanner_session).collect(alloc)?)
+}
+
+/// The session on a stream of an adapter.
+fn adapter_session(stream: &Stream) -> Option<Session>
+    ensures { result ≡ adapter_session stream.now }
+{
+    if !stream.registered {
+        return None;
     }
+    Some(Session {
+        stream: stream.number,
+        handle: session_of(stream),
+    })
+}
 
-    /// Sends UnRegisterSession over a stream that has a session, and closes it.
-    fn end_session(&mut self, stream: u16, session: Option<u32>) -> Result<(), EarlyEnd>
-        ensures unstepped { Unstepped self.old self.new }
-        ensures ended { OnOk result (Ends P.is_scripted P.tape P.failed (λ tape. with_end_on tape stream session)
-            self.old self.new) }
-    {
-        let Some(session) = session else {
-            return Ok(());
-        };
-        if self.port.failures() == u64::MAX {
-            return Err(EarlyEnd::Port);
-        }
-        let message = unregister_message(self.alloc, session)?;
-        let bytes = message.as_slice();
-        // (a stream that has broken takes no message; that is no fault of the station)
-        if self.port.send(&Output::Frame { stream, bytes }).is_err() {
-            return Ok(());
-        }
-        let _ = self.port.send(&Output::Close { stream });
-        Ok(())
+/// The session on a stream of a scanner.
+fn scanner_session(stream: &TargetStream) -> Option<Session>
+    ensures { result ≡ session_on stream.now }
+{
+    match stream.stage {
+        Stage::Up(handle) => Some(Session {
+            stream: stream.number,
+            handle,
+        }),
+        _ => None,
     }
 }
 
 /// The message that ends a session.
 ///
 /// Volume 2, chapter 2, UnRegisterSession.
-fn unregister_message(alloc: Global, session: u32) -> Result<Vec<u8>, OutOfMemory>
+pub(crate) fn unregister_message(alloc: Global, session: u32) -> Result<Vec<u8>, OutOfMemory>
     ensures { IfOk result (λ message. message.items ≡ unregister_text session) }
 {
     let message = MessageView {
