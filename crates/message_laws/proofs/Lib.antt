@@ -1,0 +1,12 @@
+mod Found
+mod Executing
+mod Going
+mod Steps
+mod Requests
+mod Answers
+mod Events
+mod Serving
+mod Runs
+mod Sent
+mod Turns
+mod Samples

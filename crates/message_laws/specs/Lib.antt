@@ -1,0 +1,2 @@
+pub mod Repetitions
+pub mod Executions
