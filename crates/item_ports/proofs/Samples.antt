@@ -11,15 +11,18 @@ use Rattle.cip_fwdopen.specs.Reply as replies
 use Rattle.cip_fwdopen.specs.Request as requests
 use Rattle.cip_netparams.specs.Word as words
 use Rattle.cip_router.specs.Requests.{router_request_reading}
-use Rattle.item_ports.specs.declared.held.ConnectionPort.{ConnectionPort}
-use Rattle.item_ports.specs.declared.ports.ItemUse.TheVariants.{Unused, Named, Honoured}
+use Rattle.cip_encap.specs.declared.packet.SocketAddress.{SocketAddress}
+use Rattle.item_ports.specs.declared.held.NamedRoute.{NamedRoute}
+use Rattle.item_ports.specs.declared.ports.ItemUse.TheVariants.{Unused, Named, Obeyed, Honoured}
 use Rattle.item_ports.specs.declared.reply.ReplyOutcome.TheVariants.{Opened, Closed, Nothing}
 use Rattle.item_ports.specs.Naming.{named_in, named_port}
+use Rattle.item_ports.specs.Closing.{closed_triad}
+use Rattle.item_ports.specs.Destinations.{at_host, destination_in, named_destination}
 use Rattle.item_ports.specs.Editing.{with_item, without_item}
 use Rattle.item_ports.specs.Replies.{reply_outcome}
-use Rattle.item_ports.specs.Held.{after_reply}
-use Rattle.item_ports.specs.Ports.{requested_after, requested_on, port_for, seen_after, sent_after}
-use Rattle.item_ports.proofs.Messages.{asking, closed, closing, item, multicast, o_t_item, opened, other_command, own_item, point_to_point, refused, short_item, t_o_item, with_one, with_two}
+use Rattle.item_ports.specs.Held.{after_answer, after_reply, without_closed}
+use Rattle.item_ports.specs.Ports.{requested_after, requested_on, destination_for, received_after, seen_after, sent_after}
+use Rattle.item_ports.proofs.Messages.{answering, asking, closed, closing, item, multicast, o_t_item, opened, other_command, own_item, point_to_point, refused, short_item, t_o_item, with_one, with_two}
 
 -- ---- the port that a request names
 
@@ -125,11 +128,11 @@ over_another_stream_none_was_requested = refl
 abbrev triad : Triad
 triad = record { serial = 7; vendor = 1; originator = 101 }
 
-pub opened_is_read : reply_outcome (opened 0xD4) ≡ Opened triad 0x20000001
+pub opened_is_read : reply_outcome (opened 0xD4) ≡ Opened triad 0x10000005 0x20000001
 unfolding reply_outcome messages.message_reading packets.packet_reading packets.are_sockets packets.behind_socket replies.open_reply_reading replies.unread_reading
 opened_is_read = refl
 
-pub a_large_one_is_read : reply_outcome (opened 0xDB) ≡ Opened triad 0x20000001
+pub a_large_one_is_read : reply_outcome (opened 0xDB) ≡ Opened triad 0x10000005 0x20000001
 unfolding reply_outcome messages.message_reading packets.packet_reading packets.are_sockets packets.behind_socket replies.open_reply_reading replies.unread_reading
 a_large_one_is_read = refl
 
@@ -156,35 +159,38 @@ stranger = record { 0 = 0x7F000004 }
 abbrev other : Triad
 other = record { serial = 7; vendor = 1; originator = 102 }
 
-abbrev entry : Node → Triad → ℕ → ℕ → ConnectionPort
-entry at of id port = record { peer = at; triad = of; id = id; port = port }
+abbrev address : Node → ℕ → SocketAddress
+address at port = record { port = port; address = at }
+
+abbrev entry : Node → Triad → ℕ → ℕ → NamedRoute
+entry at of id port = record { peer = at; triad = of; id = id; to = address at port }
 
 -- two originators at one address
-abbrev both : List ConnectionPort
+abbrev both : List NamedRoute
 both = entry peer triad 0x20000001 2230 ∷ entry peer other 0x30000001 2231 ∷ []
 
-pub an_opening_is_learned : after_reply peer (Some 2231) (Opened other 0x30000001) (entry peer triad 0x20000001 2230 ∷ []) ≡ both
+pub an_opening_is_learned : after_reply peer (Some 2231) (Opened other 9 0x30000001) (entry peer triad 0x20000001 2230 ∷ []) ≡ both
 an_opening_is_learned = refl
 
 pub a_refused_one_is_not : after_reply peer (Some 2230) Nothing [] ≡ []
 a_refused_one_is_not = refl
 
-pub an_opening_without_a_port_ends_its_entry : after_reply peer None (Opened triad 0x20000001) both ≡ entry peer other 0x30000001 2231 ∷ []
+pub an_opening_without_a_port_ends_its_entry : after_reply peer None (Opened triad 9 0x20000001) both ≡ entry peer other 0x30000001 2231 ∷ []
 an_opening_without_a_port_ends_its_entry = refl
 
-pub an_id_given_again_ends_its_entry : after_reply peer (Some 2240) (Opened triad 0x30000001) both ≡ entry peer triad 0x30000001 2240 ∷ []
+pub an_id_given_again_ends_its_entry : after_reply peer (Some 2240) (Opened triad 9 0x30000001) both ≡ entry peer triad 0x30000001 2240 ∷ []
 an_id_given_again_ends_its_entry = refl
 
-pub the_id_of_another_peer_stays : after_reply stranger None (Opened (record { serial = 8; vendor = 1; originator = 101 }) 0x20000001) both ≡ both
+pub the_id_of_another_peer_stays : after_reply stranger None (Opened (record { serial = 8; vendor = 1; originator = 101 }) 9 0x20000001) both ≡ both
 the_id_of_another_peer_stays = refl
 
 pub a_close_ends_its_entry : after_reply peer None (Closed triad) both ≡ entry peer other 0x30000001 2231 ∷ []
 a_close_ends_its_entry = refl
 
-pub the_oldest_of_64_makes_room : after_reply peer (Some 2231) (Opened other 9) (entry peer triad 1 2229 ∷ replicate 63 (entry peer triad 2 2230)) ≡ replicate 63 (entry peer triad 2 2230) ++ entry peer other 9 2231 ∷ []
+pub the_oldest_of_64_makes_room : after_reply peer (Some 2231) (Opened other 8 9) (entry peer triad 1 2229 ∷ replicate 63 (entry peer triad 2 2230)) ≡ replicate 63 (entry peer triad 2 2230) ++ entry peer other 9 2231 ∷ []
 the_oldest_of_64_makes_room = refl
 
-pub none_of_63_does : after_reply peer (Some 2231) (Opened other 9) (replicate 63 (entry peer triad 2 2230)) ≡ replicate 63 (entry peer triad 2 2230) ++ entry peer other 9 2231 ∷ []
+pub none_of_63_does : after_reply peer (Some 2231) (Opened other 8 9) (replicate 63 (entry peer triad 2 2230)) ≡ replicate 63 (entry peer triad 2 2230) ++ entry peer other 9 2231 ∷ []
 none_of_63_does = refl
 
 -- ---- where a datagram goes
@@ -193,14 +199,88 @@ none_of_63_does = refl
 abbrev datagram : ℕ → List ℕ
 datagram first = 0x02 ∷ 0x00 ∷ 0x02 ∷ 0x80 ∷ 0x08 ∷ 0x00 ∷ first ∷ 0x00 ∷ 0x00 ∷ 0x20 ∷ 0x01 ∷ 0x00 ∷ 0x00 ∷ 0x00 ∷ []
 
-pub to_the_port_that_was_named : port_for both peer (datagram 1) 2222 ≡ 2230
+pub to_the_port_that_was_named : destination_for both peer (datagram 1) 2222 ≡ address peer 2230
 to_the_port_that_was_named = refl
 
-pub another_id_to_the_usual_port : port_for both peer (datagram 2) 2222 ≡ 2222
+pub another_id_to_the_usual_port : destination_for both peer (datagram 2) 2222 ≡ address peer 2222
 another_id_to_the_usual_port = refl
 
-pub another_node_to_the_usual_port : port_for both stranger (datagram 1) 2222 ≡ 2222
+pub another_node_to_the_usual_port : destination_for both stranger (datagram 1) 2222 ≡ address stranger 2222
 another_node_to_the_usual_port = refl
 
-pub without_an_id_to_the_usual_port : port_for both peer (0x02 ∷ 0x00 ∷ 0x02 ∷ 0x80 ∷ 0x08 ∷ 0x00 ∷ 1 ∷ 0x00 ∷ 0x00 ∷ []) 2222 ≡ 2222
+pub without_an_id_to_the_usual_port : destination_for both peer (0x02 ∷ 0x00 ∷ 0x02 ∷ 0x80 ∷ 0x08 ∷ 0x00 ∷ 1 ∷ 0x00 ∷ 0x00 ∷ []) 2222 ≡ address peer 2222
 without_an_id_to_the_usual_port = refl
+
+-- ---- what a reply names, at an originator
+
+-- 10.1.2.3, which the items name
+abbrev named_host : Node
+named_host = record { 0 = 0x0A010203 }
+
+pub a_reply_names_a_destination : named_destination (answering o_t_item) ≡ Some (address named_host 2231)
+unfolding named_destination messages.message_reading packets.packet_reading packets.are_sockets packets.behind_socket
+a_reply_names_a_destination = refl
+
+pub the_other_direction_names_none : named_destination (answering t_o_item) ≡ None
+unfolding named_destination messages.message_reading packets.packet_reading packets.are_sockets packets.behind_socket
+the_other_direction_names_none = refl
+
+pub a_reply_without_an_item_names_none : named_destination (opened 0xD4) ≡ None
+unfolding named_destination messages.message_reading packets.packet_reading packets.are_sockets packets.behind_socket
+a_reply_without_an_item_names_none = refl
+
+pub behind_the_group_of_the_other_direction : destination_in (t_o_item ++ o_t_item) ≡ Some (address named_host 2231)
+behind_the_group_of_the_other_direction = refl
+
+pub port_0_is_no_destination : destination_in (item 0 2 0 0) ≡ None
+port_0_is_no_destination = refl
+
+pub the_address_of_an_item_is_obeyed : at_host peer (address named_host 2231) ≡ address named_host 2231
+the_address_of_an_item_is_obeyed = refl
+
+pub no_address_is_the_peers : at_host peer (address (record { 0 = 0 }) 2231) ≡ address peer 2231
+no_address_is_the_peers = refl
+
+pub the_address_of_a_group_is_the_peers : at_host peer (address (record { 0 = 0xE0000001 }) 2231) ≡ address peer 2231
+the_address_of_a_group_is_the_peers = refl
+
+-- the entry of the O->T id 0x10000005, to 10.1.2.3 at port 2231
+abbrev obeyed : NamedRoute
+obeyed = record { peer = peer; triad = triad; id = 0x10000005; to = address named_host 2231 }
+
+pub an_originator_learns_of_a_reply : after_answer peer (Some (address named_host 2231)) (Opened triad 0x10000005 0x20000001) [] ≡ obeyed ∷ []
+an_originator_learns_of_a_reply = refl
+
+pub a_reply_without_an_address_ends_its_entry : after_answer peer None (Opened triad 0x10000006 0x20000001) (obeyed ∷ []) ≡ []
+a_reply_without_an_address_ends_its_entry = refl
+
+pub a_refusal_ends_no_entry : after_answer peer None Nothing (obeyed ∷ []) ≡ obeyed ∷ []
+a_refusal_ends_no_entry = refl
+
+pub the_datagrams_go_there : destination_for (obeyed ∷ []) peer (0x02 ∷ 0x00 ∷ 0x02 ∷ 0x80 ∷ 0x08 ∷ 0x00 ∷ 0x05 ∷ 0x00 ∷ 0x00 ∷ 0x10 ∷ []) 2222 ≡ address named_host 2231
+the_datagrams_go_there = refl
+
+pub a_request_to_close_names_its_triad : closed_triad closing ≡ Some triad
+unfolding messages.message_reading packets.packet_reading packets.are_sockets packets.behind_socket router_request_reading requests.request_reading paths.target_reading paths.segments_at paths.segment_at paths.logical_at paths.value_at closes.close_reading
+a_request_to_close_names_its_triad = refl
+
+pub a_request_to_open_closes_none : closed_triad (asking point_to_point) ≡ None
+unfolding messages.message_reading packets.packet_reading packets.are_sockets packets.behind_socket router_request_reading requests.request_reading paths.target_reading paths.segments_at paths.segment_at paths.logical_at paths.value_at opens.open_reading words.params16
+a_request_to_open_closes_none = refl
+
+pub a_request_to_close_ends_its_entry : without_closed (Some triad) (obeyed ∷ both) ≡ entry peer other 0x30000001 2231 ∷ []
+a_request_to_close_ends_its_entry = refl
+
+pub a_target_obeys_no_reply : received_after Honoured (Some peer) (answering o_t_item) both ≡ both
+a_target_obeys_no_reply = refl
+
+pub unused_items_are_not_obeyed : received_after Unused (Some peer) (answering o_t_item) [] ≡ []
+unused_items_are_not_obeyed = refl
+
+pub an_originator_without_a_port_of_its_own_obeys : received_after Obeyed (Some peer) (answering o_t_item) [] ≡ obeyed ∷ []
+unfolding named_destination reply_outcome messages.message_reading packets.packet_reading packets.are_sockets packets.behind_socket replies.open_reply_reading replies.unread_reading
+an_originator_without_a_port_of_its_own_obeys = refl
+
+pub an_originator_with_a_port_of_its_own_obeys : received_after (Named 2230) (Some peer) (answering o_t_item) [] ≡ obeyed ∷ []
+unfolding named_destination reply_outcome messages.message_reading packets.packet_reading packets.are_sockets packets.behind_socket replies.open_reply_reading replies.unread_reading
+an_originator_with_a_port_of_its_own_obeys = refl

@@ -12,11 +12,13 @@
 --   40   the request; behind it items of 20 bytes: type and length, then family and port with their most significant
 --        byte first, an address, and 8 zeros
 use Rattle.std.specs.Prelude.{ℕ, ◌==◌, ◌||◌, not, nat_lt, if◌then◌else◌, Bool, true, false, List, length, take, drop, Option, Some, None, Result, Ok, Err}
-use Rattle.std.specs.Int.{w16, from_be_bytes}
+use Rattle.std.specs.Option.{option_map}
+use Rattle.std.specs.Int.{w16, w32, from_be_bytes}
 use Rattle.cip_types.specs.Parts.{number_in}
 use Rattle.cip_netparams.specs.declared.ConnectionType.{ConnectionType}
 use Rattle.cip_netparams.specs.declared.ConnectionType.TheVariants.{PointToPoint}
 use Rattle.cip_encap.specs.declared.packet.ItemFault.{ItemFault}
+use Rattle.cip_encap.specs.declared.packet.SocketAddress.{SocketAddress}
 use Rattle.cip_encap.specs.declared.message.EncapFault.{EncapFault}
 use Rattle.cip_encap.specs.Message.{MessageFields}
 use Rattle.cip_encap.specs.Reading.{message_reading}
@@ -62,13 +64,22 @@ opening_len message = message_opening_len (message_reading message)
 abbrev pub be16_in : List ℕ → ℕ → ℕ
 be16_in bytes at = from_be_bytes w16 (take 2 (drop at bytes))
 
--- the item is none of the T->O direction, of the Internet's family and of a port that is not 0
-abbrev pub names_none : List ℕ → Bool
-names_none item = not (number_in w16 item 0 == 0x8001) || (not (be16_in item 4 == 2) || (be16_in item 6 == 0))
+abbrev pub be32_in : List ℕ → ℕ → ℕ
+be32_in bytes at = from_be_bytes w32 (take 4 (drop at bytes))
+
+-- the item is none of this direction, of the Internet's family and of a port that is not 0
+abbrev pub names_none : ℕ → List ℕ → Bool
+names_none kind item = not (number_in w16 item 0 == kind) || (not (be16_in item 4 == 2) || (be16_in item 6 == 0))
+
+-- the socket address of the item at the front, if it is one of this direction
+abbrev pub socket_in : ℕ → List ℕ → Option SocketAddress
+socket_in kind items =
+    if nat_lt (length items) 20 then None else if names_none kind items then None
+    else Some (record { port = be16_in items 6; address = record { 0 = be32_in items 8 } })
 
 -- the port that the item at the front names
 abbrev pub port_in : List ℕ → Option ℕ
-port_in items = if nat_lt (length items) 20 then None else if names_none items then None else Some (be16_in items 6)
+port_in items = option_map (λ socket. socket.port) (socket_in 0x8001 items)
 
 -- the port of an item, from which on there are so many bytes
 abbrev pub named_at : ℕ → Option ℕ → Option NamedPort

@@ -1,20 +1,23 @@
--- What a port does with socket address items, and to which UDP port a datagram goes. The address of a datagram is always that
--- of its node, which no item changes.
+-- What a port does with socket address items, and where a datagram goes: at a target always to the address of its node, at an
+-- originator to the one that the reply has named.
 use Rattle.std.specs.Prelude.{ℕ, ◌==◌, if◌then◌else◌, List, drop, find, Option, Some, None}
 use Rattle.std.specs.Option.{option_map}
 use Rattle.std.specs.Int.{w32}
 use Rattle.cip_types.specs.Fields.{field_at}
 use Rattle.cip_types.specs.declared.names.Node.{Node}
-use Rattle.item_ports.specs.declared.held.ConnectionPort.{ConnectionPort}
+use Rattle.cip_encap.specs.declared.packet.SocketAddress.{SocketAddress}
+use Rattle.item_ports.specs.declared.held.NamedRoute.{NamedRoute}
 use Rattle.item_ports.specs.declared.named.NamedPort.{NamedPort}
 use Rattle.item_ports.specs.declared.ports.RequestedPort.{RequestedPort}
 use Rattle.item_ports.specs.declared.ports.ItemUse.{ItemUse}
-use Rattle.item_ports.specs.declared.ports.ItemUse.TheVariants.{Named, Honoured}
+use Rattle.item_ports.specs.declared.ports.ItemUse.TheVariants.{Unused, Named, Obeyed, Honoured}
 use Rattle.item_ports.specs.declared.reply.ReplyOutcome.{ReplyOutcome}
 use Rattle.item_ports.specs.Naming.{named_port}
+use Rattle.item_ports.specs.Closing.{closed_triad}
+use Rattle.item_ports.specs.Destinations.{named_destination}
 use Rattle.item_ports.specs.Editing.{with_item, without_item}
 use Rattle.item_ports.specs.Replies.{reply_outcome}
-use Rattle.item_ports.specs.Held.{after_reply, is_for}
+use Rattle.item_ports.specs.Held.{after_answer, after_reply, is_for, without_closed}
 
 -- ---- a message arrives
 
@@ -36,6 +39,16 @@ abbrev pub requested_after : ItemUse → ℕ → List ℕ → Option RequestedPo
 requested_after Honoured stream message requested = requested_of stream (named_port message)
 requested_after other stream message requested = requested
 
+-- the entries of an originator after a reply over the stream of a peer
+abbrev pub received : Option Node → List ℕ → List NamedRoute → List NamedRoute
+received None message held = held
+received (Some peer) message held = after_answer peer (named_destination message) (reply_outcome message) held
+
+abbrev pub received_after : ItemUse → Option Node → List ℕ → List NamedRoute → List NamedRoute
+received_after (Named port) peer message held = received peer message held
+received_after Obeyed peer message held = received peer message held
+received_after other peer message held = held
+
 -- ---- a message leaves
 
 -- the message that is sent, if it is another one
@@ -48,14 +61,16 @@ abbrev pub requested_on : ℕ → Option RequestedPort → Option ℕ
 requested_on stream None = None
 requested_on stream (Some requested) = if requested.stream == stream then Some requested.port else None
 
--- the entries after a reply over the stream of a peer
-abbrev pub learned : Option Node → Option ℕ → ReplyOutcome → List ConnectionPort → List ConnectionPort
+-- the entries of a target after a reply over the stream of a peer
+abbrev pub learned : Option Node → Option ℕ → ReplyOutcome → List NamedRoute → List NamedRoute
 learned None named outcome held = held
 learned (Some peer) named outcome held = after_reply peer named outcome held
 
-abbrev pub held_after : ItemUse → Option Node → Option ℕ → List ℕ → List ConnectionPort → List ConnectionPort
+abbrev pub held_after : ItemUse → Option Node → Option ℕ → List ℕ → List NamedRoute → List NamedRoute
+held_after Unused peer named message held = held
+held_after (Named port) peer named message held = without_closed (closed_triad message) held
+held_after Obeyed peer named message held = without_closed (closed_triad message) held
 held_after Honoured peer named message held = learned peer named (reply_outcome message) held
-held_after other peer named message held = held
 
 -- ---- a datagram leaves
 
@@ -63,14 +78,14 @@ held_after other peer named message held = held
 abbrev pub datagram_id : List ℕ → Option ℕ
 datagram_id datagram = option_map (λ found. found.0) (field_at w32 (drop 6 datagram))
 
-abbrev pub port_or : ℕ → Option ConnectionPort → ℕ
-port_or usual None = usual
-port_or usual (Some entry) = entry.port
+abbrev pub route_or : SocketAddress → Option NamedRoute → SocketAddress
+route_or usual None = usual
+route_or usual (Some entry) = entry.to
 
-abbrev pub port_of_id : List ConnectionPort → Node → ℕ → Option ℕ → ℕ
-port_of_id held node usual None = usual
-port_of_id held node usual (Some id) = port_or usual (find (is_for node id) held)
+abbrev pub route_of_id : List NamedRoute → Node → SocketAddress → Option ℕ → SocketAddress
+route_of_id held node usual None = usual
+route_of_id held node usual (Some id) = route_or usual (find (is_for node id) held)
 
--- the port to which a datagram to this node goes: the one that was named for its id, or else the usual one
-abbrev pub port_for : List ConnectionPort → Node → List ℕ → ℕ → ℕ
-port_for held node datagram usual = port_of_id held node usual (datagram_id datagram)
+-- the destination of a datagram to this node: the one that was named for its id, or else the node's address at the usual port
+abbrev pub destination_for : List NamedRoute → Node → List ℕ → ℕ → SocketAddress
+destination_for held node datagram usual = route_of_id held node (record { port = usual; address = node }) (datagram_id datagram)

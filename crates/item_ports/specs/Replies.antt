@@ -20,7 +20,7 @@ use Rattle.item_ports.specs.declared.reply.ReplyOutcome.{ReplyOutcome}
 use Rattle.item_ports.specs.declared.reply.ReplyOutcome.TheVariants.{Opened, Closed, Nothing}
 
 abbrev pub open_answer_outcome : OpenAnswer → ReplyOutcome
-open_answer_outcome (open_answer.Opened opened) = Opened opened.triad opened.t_o_id.0
+open_answer_outcome (open_answer.Opened opened) = Opened opened.triad opened.o_t_id.0 opened.t_o_id.0
 open_answer_outcome (open_answer.Refused refused) = Nothing
 
 abbrev pub open_reply_outcome : Result OpenReply ReadFault → ReplyOutcome

@@ -1,7 +1,7 @@
 //! Parts of bytes.
 
 ghost use Rattle.std.specs.Prelude.{◌≡◌, ◌+◌, ◌≤◌, drop, length};
-ghost use Rattle.item_ports.specs.Naming.{be16_in};
+ghost use Rattle.item_ports.specs.Naming.{be16_in, be32_in};
 
 /// What is behind so many bytes: nothing, if there are no more.
 pub(crate) fn behind(bytes: &[u8], count: usize) -> &[u8]
@@ -21,4 +21,13 @@ pub(crate) fn be16_in(bytes: &[u8], at: usize) -> u16
 {
     let number = &bytes[at..at + 2];
     u16::from_be_bytes([number[0], number[1]])
+}
+
+/// The number of 32 bits at a position, its most significant byte first.
+pub(crate) fn be32_in(bytes: &[u8], at: usize) -> u32
+    requires { at + 4 ≤ length bytes.now }
+    ensures { result ≡ be32_in bytes.now at }
+{
+    let number = &bytes[at..at + 4];
+    u32::from_be_bytes([number[0], number[1], number[2], number[3]])
 }

@@ -1,12 +1,13 @@
-//! The port that a request to open a connection names.
+//! The port that a request to open a connection names, and the socket address of an item.
 
 ghost use Rattle.std.specs.Prelude.{◌≡◌, ◌≤◌, length, IfSome};
-ghost use Rattle.item_ports.specs.Naming.{named_first, named_in, named_port, port_in};
+ghost use Rattle.item_ports.specs.Naming.{named_first, named_in, named_port, port_in, socket_in};
 
-use crate::bytes::{be16_in, behind};
+use crate::bytes::{be16_in, be32_in, behind};
 use crate::opening::opening_len;
-use cip_encap::HEADER_LEN;
 use cip_encap::item::T_O_SOCKET_ADDRESS;
+use cip_encap::{HEADER_LEN, SocketAddress};
+use cip_types::Node;
 use cip_types::fields::u16_in;
 use cip_types::limits::LONGEST_MESSAGE;
 
@@ -95,12 +96,27 @@ fn named_first(items: &[u8]) -> Option<NamedPort>
 fn port_in(items: &[u8]) -> Option<u16>
     ensures { result ≡ port_in items.now }
 {
+    match socket_in(T_O_SOCKET_ADDRESS, items) {
+        Some(socket) => Some(socket.port),
+        None => None,
+    }
+}
+
+/// The socket address of the item at the front, if that is of this direction, of the Internet's family and of a port that is not 0.
+///
+/// Volume 2, chapter 2, socket address item.
+pub(crate) fn socket_in(kind: u16, items: &[u8]) -> Option<SocketAddress>
+    ensures { result ≡ socket_in kind items.now }
+{
     if items.len() < ITEM_BYTES {
         return None;
     }
     let port = be16_in(items, 6);
-    if u16_in(items, 0) != T_O_SOCKET_ADDRESS || be16_in(items, 4) != INTERNET_FAMILY || port == 0 {
+    if u16_in(items, 0) != kind || be16_in(items, 4) != INTERNET_FAMILY || port == 0 {
         return None;
     }
-    Some(port)
+    Some(SocketAddress {
+        port,
+        address: Node(be32_in(items, 8)),
+    })
 }

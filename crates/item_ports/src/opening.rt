@@ -1,12 +1,14 @@
-//! Requests to open a connection whose T->O datagrams go to its originator alone.
+//! Requests to open a connection whose T->O datagrams go to its originator alone, and requests to close one.
 
 ghost use Rattle.std.specs.Prelude.{◌≡◌};
+ghost use Rattle.item_ports.specs.Closing.{closed_in, closed_triad, packet_closed_triad};
 ghost use Rattle.item_ports.specs.Naming.{is_opening, is_point_to_point, opening_len, packet_opening_len};
 
 use cip_encap::command::SEND_RR_DATA;
 use cip_encap::{read_items, read_message};
 use cip_netparams::ConnectionType;
 use cip_router::{RouterRequest, read_router_request};
+use cip_types::Triad;
 
 /// The bytes of the request that a message brings, if it asks to open a connection whose T->O datagrams go to its originator
 /// alone. (The datagrams of a multicast connection go where the reply says.)
@@ -48,5 +50,37 @@ fn is_point_to_point(kind: ConnectionType) -> bool
     match kind {
         ConnectionType::PointToPoint => true,
         ConnectionType::Null | ConnectionType::Multicast | ConnectionType::Reserved => false,
+    }
+}
+
+/// The triad of the connection that a message asks to close, if it does.
+///
+/// Volume 1, chapter 3, Forward_Close service.
+pub(crate) fn closed_triad(message: &[u8]) -> Option<Triad>
+    ensures { result ≡ closed_triad message.now }
+{
+    match read_message(message) {
+        Ok(message) if message.command == SEND_RR_DATA => packet_closed_triad(message.data),
+        _ => None,
+    }
+}
+
+/// The triad that the request among these items asks to close.
+fn packet_closed_triad(items: &[u8]) -> Option<Triad>
+    ensures { result ≡ packet_closed_triad items.now }
+{
+    match read_items(items) {
+        Ok(packet) => closed_in(packet.data),
+        Err(_) => None,
+    }
+}
+
+/// The triad that a request asks to close.
+fn closed_in(request: &[u8]) -> Option<Triad>
+    ensures { result ≡ closed_in request.now }
+{
+    match read_router_request(request) {
+        RouterRequest::Closing(close) => Some(close.triad),
+        _ => None,
     }
 }

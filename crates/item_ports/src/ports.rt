@@ -1,15 +1,21 @@
-//! What a port does with socket address items, and to which UDP port a datagram goes.
+//! What a port does with socket address items, and where a datagram goes.
 
 ghost use Rattle.std.specs.Prelude.{◌≡◌, [], None, IfOk, OnOk, OnErr};
 ghost use Rattle.std.specs.Option.{option_map};
 ghost use Rattle.item_ports.specs.Replies.{reply_outcome};
-ghost use Rattle.item_ports.specs.Ports.{requested_after, requested_on, datagram_id, held_after, learned, port_for, seen_after, sent_after};
+ghost use Rattle.item_ports.specs.Closing.{closed_triad};
+ghost use Rattle.item_ports.specs.Held.{without_closed};
+ghost use Rattle.item_ports.specs.declared.ports.ItemUse.TheVariants.{Honoured};
+ghost use Rattle.item_ports.specs.Ports.{requested_after, requested_on, datagram_id, destination_for, received, received_after, held_after, learned, seen_after, sent_after};
 
 use crate::bytes::behind;
+use crate::destination::named_destination;
 use crate::edit::{with_item, without_item};
-use crate::held::{ConnectionPort, entry_for, note_reply};
+use crate::held::{NamedRoute, entry_for, note_answer, note_reply, note_request};
 use crate::named::named_port;
+use crate::opening::closed_triad;
 use crate::reply::reply_outcome;
+use cip_encap::SocketAddress;
 use cip_types::fields::u32_at;
 use cip_types::limits::MOST_CONNECTIONS;
 use cip_types::{Node, OutOfMemory};
@@ -25,8 +31,11 @@ const BEFORE_ID: usize = 6;
 pub enum ItemUse {
     /// Nothing: its device reads them and does not use them.
     Unused,
-    /// An originator's: it names this UDP port in each request to open a connection.
+    /// An originator's: it names this UDP port in each request to open a connection, and sends the datagrams of a connection where
+    /// the reply says.
     Named(u16),
+    /// An originator's: it names no port, and sends the datagrams of a connection where the reply says.
+    Obeyed,
     /// A target's: it sends the datagrams of a connection to the port that its originator has named.
     Honoured,
 }
@@ -46,7 +55,7 @@ pub struct ItemPorts {
     usual: u16,
     /// The port that the last message that arrived has named.
     requested: Option<RequestedPort>,
-    held: Vec<ConnectionPort>,
+    held: Vec<NamedRoute>,
 }
 
 impl ItemPorts {
@@ -57,8 +66,8 @@ impl ItemPorts {
         ensures nothing { IfOk result (λ ports. (ports.requested ≡ None) × (ports.held.items ≡ [])) }
     {
         let most = match use_of {
-            ItemUse::Honoured => MOST_CONNECTIONS,
-            ItemUse::Unused | ItemUse::Named(_) => 0,
+            ItemUse::Named(_) | ItemUse::Obeyed | ItemUse::Honoured => MOST_CONNECTIONS,
+            ItemUse::Unused => 0,
         };
         Ok(ItemPorts {
             use_of,
@@ -68,12 +77,14 @@ impl ItemPorts {
         })
     }
 
-    /// A message arrives over a stream. Where its port is honoured, the message is handed to the device without the item that
-    /// names it. None: the message as it is. The fault: an allocation was refused, and nothing has changed.
+    /// A message of this peer arrives over a stream. Where its port is honoured, the message is handed to the device without the item
+    /// that names it. Of a target's reply an originator learns where the datagrams of the connection go. None: the message as it is.
+    /// The fault: an allocation was refused, and nothing has changed at a target.
     pub fn arrive(
         &mut self,
         alloc: Global,
         stream: u16,
+        peer: Option<Node>,
         message: &[u8],
     ) -> Result<Option<Vec<u8>>, OutOfMemory>
         ensures seen { IfOk result
@@ -82,11 +93,49 @@ impl ItemPorts {
             (self.new.requested ≡ requested_after self.old.use_of stream message.now self.old.requested) }
         ensures kept { OnErr result (self.new.requested ≡ self.old.requested) }
         ensures use_kept { (self.new.use_of ≡ self.old.use_of) × (self.new.usual ≡ self.old.usual) }
+        ensures held { OnOk result
+            (self.new.held.items ≡ received_after self.old.use_of peer message.now self.old.held.items) }
+    {
+        match self.use_of {
+            ItemUse::Unused => Ok(None),
+            ItemUse::Named(_) | ItemUse::Obeyed => {
+                self.receive(peer, message)?;
+                Ok(None)
+            }
+            ItemUse::Honoured => self.take_off(alloc, stream, message),
+        }
+    }
+
+    /// Learns of the reply of this peer where the datagrams of its connection go.
+    fn receive(&mut self, peer: Option<Node>, message: &[u8]) -> Result<(), OutOfMemory>
+        ensures held { OnOk result (self.new.held.items ≡ received peer message.now self.old.held.items) }
+        ensures use_kept { (self.new.use_of ≡ self.old.use_of) × (self.new.usual ≡ self.old.usual) }
+        ensures requested_kept { self.new.requested ≡ self.old.requested }
+    {
+        match peer {
+            Some(peer) => {
+                let outcome = reply_outcome(message);
+                note_answer(&mut self.held, peer, named_destination(message), outcome)
+            }
+            None => Ok(()),
+        }
+    }
+
+    /// Takes the item off that names a port, if the message has one, and notes the port.
+    fn take_off(
+        &mut self,
+        alloc: Global,
+        stream: u16,
+        message: &[u8],
+    ) -> Result<Option<Vec<u8>>, OutOfMemory>
+        ensures seen { IfOk result
+            (λ shorter. option_map (λ v. v.items) shorter ≡ seen_after Honoured message.now) }
+        ensures requested { OnOk result
+            (self.new.requested ≡ requested_after Honoured stream message.now self.old.requested) }
+        ensures kept { OnErr result (self.new.requested ≡ self.old.requested) }
+        ensures use_kept { (self.new.use_of ≡ self.old.use_of) × (self.new.usual ≡ self.old.usual) }
         ensures held { self.new.held.items ≡ self.old.held.items }
     {
-        if self.use_of != ItemUse::Honoured {
-            return Ok(None);
-        }
         let Some(named) = named_port(message) else {
             self.requested = None;
             return Ok(None);
@@ -100,8 +149,8 @@ impl ItemPorts {
     }
 
     /// The device sends a message over the stream of this peer. An originator's request to open a connection is sent with an
-    /// item that names its port; of a target's reply it is learned where the datagrams of the connection go. None: the message
-    /// is sent as it is. The fault: an allocation was refused.
+    /// item that names its port, and one to close it ends its entry; of a target's reply it is learned where the datagrams of the
+    /// connection go. None: the message is sent as it is. The fault: an allocation was refused.
     pub fn leave(
         &mut self,
         alloc: Global,
@@ -119,12 +168,28 @@ impl ItemPorts {
     {
         match self.use_of {
             ItemUse::Unused => Ok(None),
-            ItemUse::Named(port) => with_item(alloc, message, port),
+            ItemUse::Named(port) => {
+                self.forget(message);
+                with_item(alloc, message, port)
+            }
+            ItemUse::Obeyed => {
+                self.forget(message);
+                Ok(None)
+            }
             ItemUse::Honoured => {
                 self.learn(stream, peer, message)?;
                 Ok(None)
             }
         }
+    }
+
+    /// Ends the entry of the connection that a request asks to close.
+    fn forget(&mut self, message: &[u8])
+        ensures held { self.new.held.items ≡ without_closed (closed_triad message.now) self.old.held.items }
+        ensures use_kept { (self.new.use_of ≡ self.old.use_of) × (self.new.usual ≡ self.old.usual) }
+        ensures requested_kept { self.new.requested ≡ self.old.requested }
+    {
+        note_request(&mut self.held, closed_triad(message));
     }
 
     /// Learns of a reply over the stream of this peer where the datagrams of its connection go.
@@ -145,17 +210,21 @@ impl ItemPorts {
         }
     }
 
-    /// The UDP port to which a datagram to a node goes: the one that was named for its id, or else the usual one. Takes no
-    /// memory.
-    pub fn port_for(&self, node: Node, datagram: &[u8]) -> u16
-        ensures { result ≡ port_for self.now.held.items node datagram.now self.now.usual }
+    /// The destination of a datagram to a node: the one that was named for its id, or else the node's address at the usual port. Takes
+    /// no memory.
+    pub fn destination_for(&self, node: Node, datagram: &[u8]) -> SocketAddress
+        ensures { result ≡ destination_for self.now.held.items node datagram.now self.now.usual }
     {
+        let usual = SocketAddress {
+            port: self.usual,
+            address: node,
+        };
         let Some(id) = datagram_id(datagram) else {
-            return self.usual;
+            return usual;
         };
         match entry_for(self.held.as_slice(), node, id) {
-            Some(entry) => entry.port,
-            None => self.usual,
+            Some(entry) => entry.to,
+            None => usual,
         }
     }
 }

@@ -12,8 +12,12 @@ use cip_types::Triad;
 /// What a message over a stream does to the connections of its peer.
 #[derive(Clone, Copy, PartialEq, Eq)]
 pub enum ReplyOutcome {
-    /// A connection of this triad is open. Its T->O datagrams have this id.
-    Opened(Triad, u32),
+    /// A connection of this triad is open, whose datagrams have these ids.
+    Opened {
+        triad: Triad,
+        o_t_id: u32,
+        t_o_id: u32,
+    },
     /// The connection of this triad is closed.
     Closed(Triad),
     /// Nothing: another message, or a refusal.
@@ -66,7 +70,11 @@ fn opened_outcome(reply: &[u8]) -> ReplyOutcome
 {
     match read_open_reply(reply) {
         Ok(reply) => match reply.answer {
-            OpenAnswer::Opened(opened) => ReplyOutcome::Opened(opened.triad, opened.t_o_id.0),
+            OpenAnswer::Opened(opened) => ReplyOutcome::Opened {
+                triad: opened.triad,
+                o_t_id: opened.o_t_id.0,
+                t_o_id: opened.t_o_id.0,
+            },
             OpenAnswer::Refused(_) => ReplyOutcome::Nothing,
         },
         Err(_) => ReplyOutcome::Nothing,

@@ -1,13 +1,13 @@
 -- What a station's port does with socket address items, by its place.
-use Rattle.std.specs.Prelude.{◌&&◌, ◌==◌, not, if◌then◌else◌}
+use Rattle.std.specs.Prelude.{◌==◌, not, if◌then◌else◌}
 use Rattle.item_ports.specs.declared.ports.ItemUse.{ItemUse}
-use Rattle.item_ports.specs.declared.ports.ItemUse.TheVariants.{Unused, Named, Honoured}
+use Rattle.item_ports.specs.declared.ports.ItemUse.TheVariants.{Unused, Named, Obeyed, Honoured}
 use Rattle.station_port.specs.declared.place.StationPlace.{StationPlace}
 
 -- an adapter's
 abbrev pub target_use : StationPlace → ItemUse
 target_use place = if place.item_ports then Honoured else Unused
 
--- a scanner's, which names its own port, unless that is the standard's
+-- a scanner's, which names its own port, unless that is the standard's, and sends where replies say
 abbrev pub originator_use : StationPlace → ItemUse
-originator_use place = if place.item_ports && not (place.udp == 2222) then Named place.udp else Unused
+originator_use place = if not place.item_ports then Unused else if place.udp == 2222 then Obeyed else Named place.udp

@@ -34,8 +34,8 @@ pub struct StationPlace {
     pub multicast: bool,
     /// An adapter ends a stream over which no whole message came for so many seconds; 0: none.
     pub inactivity_s: u16,
-    /// Whether a scanner names its UDP port in its requests to open a connection, if it is another one than the standard's, and
-    /// an adapter sends the datagrams of a connection to the port that its originator has named.
+    /// Whether a scanner names its UDP port in its requests to open a connection, if it is another one than the standard's, and sends
+    /// the datagrams of a connection where its target says; and an adapter sends those to the port that its originator has named.
     pub item_ports: bool,
 }
 
@@ -72,10 +72,12 @@ impl StationPlace {
     pub(crate) fn originator_use(&self) -> ItemUse
         ensures { result ≡ originator_use self.now }
     {
-        if self.item_ports && self.udp != UDP_PORT {
-            ItemUse::Named(self.udp)
-        } else {
+        if !self.item_ports {
             ItemUse::Unused
+        } else if self.udp == UDP_PORT {
+            ItemUse::Obeyed
+        } else {
+            ItemUse::Named(self.udp)
         }
     }
 }

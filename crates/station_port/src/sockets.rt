@@ -404,8 +404,8 @@ impl StationSockets {
     }
 
     /// A message on its way to the device. The reply of a target that registers a session, or refuses it, is
-    /// noted. The item of a port that is honoured is taken off, for which there is memory or the
-    /// stream ends.
+    /// noted, and so is the destination that it names for datagrams. The item of a port that is honoured is taken off, for which there
+    /// is memory or the stream ends.
     fn pass_message(
         &mut self,
         stream: u16,
@@ -416,7 +416,11 @@ impl StationSockets {
         if self.targets.is_registering(stream) {
             self.note_session(stream, bytes.as_slice(), now_ms);
         }
-        let bytes = match self.items.arrive(self.alloc, stream, bytes.as_slice()) {
+        let peer = self.streams.peer(stream);
+        let bytes = match self
+            .items
+            .arrive(self.alloc, stream, peer, bytes.as_slice())
+        {
             Ok(Some(shorter)) => Items::from_vec(shorter),
             Ok(None) => bytes,
             Err(OutOfMemory) => {
@@ -483,10 +487,11 @@ impl StationSockets {
         }
     }
 
-    /// Sends a datagram to a node, at the port that an originator has named for it or at the usual one; or to a group, at the port
+    /// Sends a datagram to a node, at the destination that its peer has named for it or at the usual port; or to a group, at the port
     /// that replies name.
     fn send_datagram(&self, node: Node, bytes: &[u8]) {
-        let port = sent_port(node, self.items.port_for(node, bytes));
-        let _ = self.udp.send_to(bytes, address_of(node, port));
+        let to = self.items.destination_for(node, bytes);
+        let port = sent_port(to.address, to.port);
+        let _ = self.udp.send_to(bytes, address_of(to.address, port));
     }
 }
