@@ -176,7 +176,8 @@ impl StationSockets {
         self.ready.streams = true;
     }
 
-    /// Ends the stream to a target with all that waits in it, and opens a new one later.
+    /// A request to a target was not answered in time: ends its stream with all that waits in it, unless a message came over that
+    /// since a request was sent, and opens a new one later.
     pub(crate) fn renew(&mut self, target: Node, now_ms: u64) {
         if let Some(stream) = self.targets.renew(target, now_ms) {
             self.abort(stream, EndCause::Renewed);
@@ -412,6 +413,7 @@ impl StationSockets {
         bytes: Items<u8>,
         now_ms: u64,
     ) -> Result<Arrival, PortFault> {
+        self.targets.receive(stream);
         // (a message is read only where its stream has no session yet, and then the device reads it too)
         if self.targets.is_registering(stream) {
             self.note_session(stream, bytes.as_slice(), now_ms);
@@ -454,6 +456,7 @@ impl StationSockets {
         match output {
             Output::Frame { stream, bytes } => {
                 self.send_message(*stream, bytes);
+                self.targets.request(*stream);
                 self.ready.streams = true;
             }
             Output::Datagram { node, bytes } => self.send_datagram(*node, bytes),

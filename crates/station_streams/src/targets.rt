@@ -2,7 +2,7 @@
 
 ghost use Rattle.std.specs.Prelude.{◌≡◌};
 ghost use Rattle.station_streams.specs.Refusals.{dial_outcome, is_refusal};
-ghost use Rattle.stream_rules.specs.Links.{at_stream, at_target, failed_link, given_up_link, lost_link, refused_link, registered_link, registers_on, wait_of};
+ghost use Rattle.stream_rules.specs.Links.{requested_link, at_stream, at_target, failed_link, given_up_link, received_link, lost_link, refused_link, registered_link, registers_on, wait_of};
 
 use crate::dial::dial;
 use crate::kept_streams::KeptStreams;
@@ -279,10 +279,25 @@ impl Targets {
         self.links.drop_stream(target, now_ms)
     }
 
-    /// The open stream to the target at this address, if there is one: it is opened again later.
+    /// A request was sent over the stream of this number.
+    pub fn request(&mut self, stream: u16)
+        ensures { self.new.links ≡ at_stream self.old.links stream requested_link }
+    {
+        self.links.request_over(stream);
+    }
+
+    /// A message came over the stream of this number.
+    pub fn receive(&mut self, stream: u16)
+        ensures { self.new.links ≡ at_stream self.old.links stream received_link }
+    {
+        self.links.receive_over(stream);
+    }
+
+    /// A request to the target at this address was not answered in time: the open stream to it, if no message came over that since a
+    /// request was sent. It is opened again later.
     pub fn renew(&mut self, node: Node, now_ms: u64) -> Option<u16> {
         let target = self.target_at(node)?;
-        self.links.drop_stream(target, now_ms)
+        self.links.renew_stream(target, now_ms)
     }
 
     /// A connection with the target at this address is established.

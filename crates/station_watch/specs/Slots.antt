@@ -16,11 +16,17 @@ use Rattle.station_watch.specs.declared.slots.SlotWatch.{SlotWatch}
 abbrev pub idle : ℕ
 idle = 0
 
+abbrev pub opening : ℕ
+opening = 2
+
 abbrev pub established : ℕ
 established = 3
 
 abbrev pub timed_out : ℕ
 timed_out = 4
+
+abbrev pub closing : ℕ
+closing = 6
 
 -- WHAT A PORT IS TOLD
 
@@ -29,15 +35,34 @@ abbrev pub is_tick : Event → Bool
 is_tick (event.Tick ms) = true
 is_tick other = false
 
--- a connection is established; or, as time passes, a request was not answered or a connection timed out
-abbrev pub slot_link_report : Bool → ℕ → ℕ → Option LinkReport
-slot_link_report ticks slot state =
-    if state == established then Some (link_report.Succeed slot)
-    else (if ticks && ((state == idle) || (state == timed_out)) then Some (link_report.Renew slot) else None)
+-- a slot that was in this state waited for the answer to a request
+abbrev pub waits : Option ℕ → Bool
+waits None = false
+waits (Some state) = (state == opening) || (state == closing)
 
-abbrev pub link_report_of : Event → Notice → Option LinkReport
-link_report_of given (notice.Slot slot state) = slot_link_report (is_tick given) slot state
-link_report_of given other = None
+-- of a slot that was in the first state and is in the second one: a connection is established; or, as time passes, a request was not
+-- answered. (A connection that timed out says nothing of the stream of its target, nor does a request that was not answered while
+-- another slot of the target is established.)
+abbrev pub slot_link_report : Bool → Option ℕ → ℕ → ℕ → Option LinkReport
+slot_link_report ticks before slot state =
+    if state == established then Some (link_report.Succeed slot)
+    else (if ticks && waits before then Some (link_report.Renew slot) else None)
+
+abbrev pub link_report_of : Event → Option ℕ → Notice → Option LinkReport
+link_report_of given before (notice.Slot slot state) = slot_link_report (is_tick given) before slot state
+link_report_of given before other = None
+
+-- the slot whose connection, or the request for one, ended as time passed
+abbrev pub slot_ended : Bool → ℕ → ℕ → Option ℕ
+slot_ended ticks slot state = if ticks && ((state == idle) || (state == timed_out)) then Some slot else None
+
+abbrev pub ended_slot : Event → Notice → Option ℕ
+ended_slot given (notice.Slot slot state) = slot_ended (is_tick given) slot state
+ended_slot given other = None
+
+-- the slot is established, and is of this target
+abbrev pub serves : Node → SlotWatch → Bool
+serves target watch = (watch.state == established) && (watch.target.0 == target.0)
 
 -- WHAT COMES
 

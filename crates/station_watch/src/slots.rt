@@ -1,7 +1,8 @@
 //! What a station knows of a scanner's slots: what it tells its port of their targets, and whether their data comes.
 
 ghost use Rattle.std.specs.Prelude.{◌≡◌, OnOk};
-ghost use Rattle.station_watch.specs.Slots.{link_report_of, fed, idle_slot, is_id, is_starved, is_tick, opened, with_groups};
+ghost use Rattle.std.specs.List.{list_any};
+ghost use Rattle.station_watch.specs.Slots.{ended_slot, link_report_of, fed, idle_slot, is_id, is_starved, is_tick, opened, serves, waits, with_groups};
 
 use crate::groups::{datagram_id, opened_group};
 use crate::traffic::slot_id;
@@ -14,7 +15,7 @@ use std::alloc::Global;
 /// What a station tells its port of the target of a slot.
 #[derive(Clone, Copy, PartialEq, Eq)]
 pub enum LinkReport {
-    /// Its stream is to be opened anew.
+    /// A request to it was not answered in time, and no slot of it is established: its stream is to be opened anew.
     Renew(u32),
     /// A connection with it is established.
     Succeed(u32),
@@ -26,6 +27,8 @@ pub struct SlotWatch {
     pub target: Node,
     /// Whether the target sends to a group.
     pub multicast: bool,
+    /// The standard's number of its state.
+    pub state: u8,
     /// Whether no datagram of the slot's connection was accepted since it was established.
     pub unfed: bool,
     /// The connection id of its datagrams.
@@ -61,6 +64,7 @@ impl SlotWatches {
                 slots.push(SlotWatch {
                     target: slot.target,
                     multicast: slot.multicast,
+                    state: SlotPhase::Idle.number(),
                     unfed: false,
                     id: None,
                     group: None,
@@ -89,13 +93,39 @@ impl SlotWatches {
             }
         }
         for notice in answer.notices.as_slice() {
-            if let Some(link_report) = link_report_of(event, notice) {
-                self.link_reports.push(link_report)?;
-                self.follow(device, event, link_report)?;
+            if let Some(slot) = ended_slot(event, notice) {
+                self.starve(slot)?;
+            }
+            let before = self.follow(notice);
+            if let Some(link_report) = link_report_of(event, before, notice) {
+                self.report(device, event, link_report)?;
             }
             self.forget(notice);
         }
         Ok(())
+    }
+
+    /// Notes the state of the slot of a notice. Its state before.
+    fn follow(&mut self, notice: &Notice) -> Option<u8> {
+        let Notice::Slot(slot, state) = notice else {
+            return None;
+        };
+        let place = watch_mut(&mut self.slots, *slot)?;
+        let before = place.state;
+        *place = SlotWatch {
+            state: *state,
+            ..*place
+        };
+        Some(before)
+    }
+
+    /// Notes a slot whose connection ended as time passed: it is to be told if its data never came. The fault: an allocation was
+    /// refused.
+    fn starve(&mut self, slot: u32) -> Result<(), OutOfMemory> {
+        match self.starved_at(slot) {
+            Some(starved) => Ok(self.starved.push(starved)?),
+            None => Ok(()),
+        }
     }
 
     /// A datagram of this target and id was accepted.
@@ -108,8 +138,9 @@ impl SlotWatches {
         }
     }
 
-    /// Notes what a report on a link says of its slot.
-    fn follow<D: Device>(
+    /// Notes a report on the link of a slot, and what it says of the slot. That its stream is to be opened anew is told only if no
+    /// slot of its target is established. The fault: an allocation was refused.
+    fn report<D: Device>(
         &mut self,
         device: &D,
         event: &Event,
@@ -117,6 +148,7 @@ impl SlotWatches {
     ) -> Result<(), OutOfMemory> {
         match link_report {
             LinkReport::Succeed(slot) => {
+                self.link_reports.push(link_report)?;
                 let (id, group) = (slot_id(device, slot), reply_group(event));
                 if let Some(place) = watch_mut(&mut self.slots, slot) {
                     *place = opened(*place, id, group);
@@ -124,9 +156,11 @@ impl SlotWatches {
                 }
                 Ok(())
             }
-            LinkReport::Renew(slot) => match self.starved_at(slot) {
-                Some(starved) => Ok(self.starved.push(starved)?),
-                None => Ok(()),
+            LinkReport::Renew(slot) => match self.target(slot) {
+                Some(target) if !serves_any(self.slots.as_slice(), target) => {
+                    Ok(self.link_reports.push(link_report)?)
+                }
+                _ => Ok(()),
             },
         }
     }
@@ -227,10 +261,10 @@ fn reply_group(event: &Event) -> Option<DataGroup> {
     }
 }
 
-/// What a notice in the answer to an event has a station tell its port: a connection is established; or at a tick a request
-/// was not answered in time or a connection timed out, and then the target's stream is to be opened anew.
-fn link_report_of(event: &Event, notice: &Notice) -> Option<LinkReport>
-    ensures { result ≡ link_report_of event.now notice.now }
+/// What a notice in the answer to an event has a station tell its port of the target of a slot that was in this state: a connection is
+/// established; or at a tick a request was not answered in time, and then the target's stream is to be opened anew.
+fn link_report_of(event: &Event, before: Option<u8>, notice: &Notice) -> Option<LinkReport>
+    ensures { result ≡ link_report_of event.now before notice.now }
 {
     let Notice::Slot(slot, state) = notice else {
         return None;
@@ -238,12 +272,51 @@ fn link_report_of(event: &Event, notice: &Notice) -> Option<LinkReport>
     if *state == SlotPhase::Established.number() {
         return Some(LinkReport::Succeed(*slot));
     }
-    if is_tick(event)
-        && (*state == SlotPhase::Idle.number() || *state == SlotPhase::TimedOut.number())
-    {
+    if is_tick(event) && waits(before) {
         return Some(LinkReport::Renew(*slot));
     }
     None
+}
+
+/// Whether a slot in this state waits for the answer to a request.
+fn waits(state: Option<u8>) -> bool
+    ensures { result ≡ waits state }
+{
+    match state {
+        Some(state) => {
+            state == SlotPhase::Opening.number() || state == SlotPhase::Closing.number()
+        }
+        None => false,
+    }
+}
+
+/// The slot of a notice whose connection, or the request for one, ended as time passed.
+fn ended_slot(event: &Event, notice: &Notice) -> Option<u32>
+    ensures { result ≡ ended_slot event.now notice.now }
+{
+    let Notice::Slot(slot, state) = notice else {
+        return None;
+    };
+    if is_tick(event)
+        && (*state == SlotPhase::Idle.number() || *state == SlotPhase::TimedOut.number())
+    {
+        return Some(*slot);
+    }
+    None
+}
+
+/// Whether a slot of this target is established.
+fn serves_any(slots: &[SlotWatch], target: Node) -> bool
+    ensures { result ≡ list_any (serves target) slots.now }
+{
+    slots.iter().any(|watch| serves(watch, target))
+}
+
+/// Whether a slot is established, and is of this target.
+fn serves(watch: &SlotWatch, target: Node) -> bool
+    ensures { result ≡ serves target watch.now }
+{
+    watch.state == SlotPhase::Established.number() && watch.target == target
 }
 
 /// Whether time passed.

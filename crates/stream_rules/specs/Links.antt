@@ -2,11 +2,14 @@
 -- is being registered, then one with a session; from each of these it comes back to none, and is tried again later.
 --
 -- A try whose target answered and failed counts: it refused the stream or the session, it did not register a session in
--- time or ended the stream before, or the stream was renewed since a request was not answered or a slot timed out. The
--- first four of them wait a second, the next ones 2, 4, 8 and 16 seconds, all further ones 30 seconds, so that a target
--- that cannot serve is not asked every second for good. A connection that is established begins the count anew. A try at
--- which nothing answered does not count, and neither does a stream with a session that ended: the next try is after a
--- second, so a target that comes back is found within the 3 seconds of an opening and that second.
+-- time or ended the stream before, or the stream was renewed since a request was not answered. The first four of them wait a
+-- second, the next ones 2, 4, 8 and 16 seconds, all further ones 30 seconds, so that a target that cannot serve is not asked
+-- every second for good. A connection that is established begins the count anew. A try at which nothing answered does not
+-- count, and neither does a stream with a session that ended: the next try is after a second, so a target that comes back is
+-- found within the 3 seconds of an opening and that second.
+--
+-- A request that was not answered in time renews the stream only if no message came over the stream since a request was sent
+-- over it: a target that answers others is there.
 use Rattle.std.specs.Prelude.{ℕ, ◌+◌, ◌-◌, ◌^◌, min, nat_le, nat_eq, if◌then◌else◌, Bool, true, false, List, [], ◌∷◌, slice_index_or, slice_set, position, Option, Some, None}
 use Rattle.stream_rules.specs.declared.links.LinkState.{LinkState}
 use Rattle.stream_rules.specs.declared.links.LinkState.TheVariants.{Down, Opening, Registering, Open}
@@ -41,7 +44,7 @@ next_tries tries = min (tries + 1) 255
 
 -- a link that was not tried yet
 abbrev pub new_link : TargetLink
-new_link = record { state = Down 0; tries = 0 }
+new_link = record { state = Down 0; tries = 0; waits = false }
 
 -- the link to a target, and the links after a change of one: a target that is not there changes none
 abbrev pub link_at : List TargetLink → ℕ → TargetLink
@@ -56,7 +59,7 @@ opening_link now link = record link { state = Opening (later now opening_ms) }
 
 -- a link whose stream of this number opened at this time
 abbrev pub registering_link : ℕ → ℕ → ℕ → TargetLink → TargetLink
-registering_link session stream now link = record link { state = Registering stream (later now session) }
+registering_link session stream now link = record link { state = Registering stream (later now session); waits = false }
 
 -- a link on whose stream a session was registered
 abbrev pub with_session : TargetLink → LinkState → TargetLink
@@ -68,11 +71,11 @@ registered_link link = with_session link link.state
 
 -- a link at which nothing answered
 abbrev pub given_up_link : ℕ → TargetLink → TargetLink
-given_up_link now link = record link { state = Down (later now (wait_after 0)) }
+given_up_link now link = record link { state = Down (later now (wait_after 0)); waits = false }
 
 -- a link whose target answered and failed
 abbrev pub failed_link : ℕ → TargetLink → TargetLink
-failed_link now link = record { state = Down (later now (wait_after (next_tries link.tries))); tries = next_tries link.tries }
+failed_link now link = record { state = Down (later now (wait_after (next_tries link.tries))); tries = next_tries link.tries; waits = false }
 
 -- a link whose stream ended: without a session its target failed
 abbrev pub ended_in : ℕ → TargetLink → LinkState → TargetLink
@@ -111,6 +114,20 @@ stream_in state = None
 
 abbrev pub stream_of : TargetLink → Option ℕ
 stream_of link = stream_in link.state
+
+-- a link over whose stream a request was sent, and one over whose stream a message came since
+abbrev pub requested_link : TargetLink → TargetLink
+requested_link link = record link { waits = true }
+
+abbrev pub received_link : TargetLink → TargetLink
+received_link link = record link { waits = false }
+
+-- a link one of whose requests was not answered in time: its open stream is dropped if no message came since a request was sent
+abbrev pub renewed_link : ℕ → TargetLink → TargetLink
+renewed_link now link = if link.waits then dropped_link now link else link
+
+abbrev pub renewed_stream : TargetLink → Option ℕ
+renewed_stream link = if link.waits then stream_of link else None
 
 -- a session is being registered on the stream of the link
 abbrev pub registers_in : LinkState → Bool

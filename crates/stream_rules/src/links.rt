@@ -2,7 +2,7 @@
 //! tried again.
 
 ghost use Rattle.std.specs.Prelude.{◌≡◌, ◌<◌, replicate, position, slice_set, IfOk};
-ghost use Rattle.stream_rules.specs.Links.{at_stream, at_target, dropped_link, opening_link, failed_link, given_up_link, is_due, is_late, is_of, is_registering, is_unregistered, link_at, lost_link, new_link, refused_link, registering_link, registered_link, registers_on, retry_at, stream_of, succeeded_link, wait_after, wait_of};
+ghost use Rattle.stream_rules.specs.Links.{requested_link, at_stream, at_target, dropped_link, received_link, opening_link, failed_link, given_up_link, is_due, is_late, is_of, is_registering, is_unregistered, link_at, lost_link, new_link, refused_link, registering_link, registered_link, registers_on, renewed_link, renewed_stream, retry_at, stream_of, succeeded_link, wait_after, wait_of};
 
 use cip_types::OutOfMemory;
 use std::alloc::Global;
@@ -31,6 +31,8 @@ pub struct TargetLink {
     pub state: LinkState,
     /// How many tries its target answered and failed since a connection with it was established: at most 255.
     pub tries: u8,
+    /// Whether no message came over its stream since a request was sent over it.
+    pub waits: bool,
 }
 
 /// The links to the targets of a scanner, in order, and the time after which a stream without a session is given up.
@@ -196,6 +198,37 @@ impl TargetLinks {
         }
     }
 
+    /// A request was sent over the stream of this number. Takes no memory.
+    pub fn request_over(&mut self, stream: u16)
+        ensures { self.new ≡ at_stream self.old stream requested_link }
+    {
+        if let Some(target) = self.target_of(stream) {
+            let link = self.link(target).requested();
+            self.put(target, link);
+        }
+    }
+
+    /// A message came over the stream of this number. Takes no memory.
+    pub fn receive_over(&mut self, stream: u16)
+        ensures { self.new ≡ at_stream self.old stream received_link }
+    {
+        if let Some(target) = self.target_of(stream) {
+            let link = self.link(target).received();
+            self.put(target, link);
+        }
+    }
+
+    /// A request to this target was not answered in time. Drops its stream if no message came over that since a request was sent
+    /// over it, and then the target failed: the number of that stream. Takes no memory.
+    pub fn renew_stream(&mut self, target: usize, now_ms: u64) -> Option<u16>
+        ensures stream { result ≡ renewed_stream (link_at self.old.links target) }
+        ensures links { self.new ≡ at_target self.old target (renewed_link now_ms) }
+    {
+        let link = self.link(target);
+        self.put(target, link.renewed(now_ms));
+        link.renewed_stream()
+    }
+
     /// Drops the stream to this target, which failed if it has one: the number of that stream. Takes no memory.
     pub fn drop_stream(&mut self, target: usize, now_ms: u64) -> Option<u16>
         ensures stream { result ≡ stream_of (link_at self.old.links target) }
@@ -230,6 +263,7 @@ fn new_link() -> TargetLink
     TargetLink {
         state: LinkState::Down { retry_ms: 0 },
         tries: 0,
+        waits: false,
     }
 }
 
@@ -317,6 +351,7 @@ impl TargetLink {
                 stream,
                 until_ms: now_ms.saturating_add(session_ms),
             },
+            waits: false,
             ..self
         }
     }
@@ -345,6 +380,7 @@ impl TargetLink {
             state: LinkState::Down {
                 retry_ms: now_ms.saturating_add(wait_after(0)),
             },
+            waits: false,
             ..self
         }
     }
@@ -359,7 +395,46 @@ impl TargetLink {
                 retry_ms: now_ms.saturating_add(wait_after(tries)),
             },
             tries,
+            waits: false,
         }
+    }
+
+    /// The link after a request was sent over its stream.
+    fn requested(self) -> TargetLink
+        ensures { result ≡ requested_link self }
+    {
+        TargetLink {
+            waits: true,
+            ..self
+        }
+    }
+
+    /// The link after a message came over its stream.
+    fn received(self) -> TargetLink
+        ensures { result ≡ received_link self }
+    {
+        TargetLink {
+            waits: false,
+            ..self
+        }
+    }
+
+    /// The link after a request was not answered in time.
+    fn renewed(self, now_ms: u64) -> TargetLink
+        ensures { result ≡ renewed_link now_ms self }
+    {
+        if self.waits {
+            self.dropped(now_ms)
+        } else {
+            self
+        }
+    }
+
+    /// The number of its stream, if that is dropped when a request was not answered in time.
+    fn renewed_stream(self) -> Option<u16>
+        ensures { result ≡ renewed_stream self }
+    {
+        if self.waits { self.stream() } else { None }
     }
 
     /// The link after its session was refused.
