@@ -3,3 +3,4 @@ pub mod StreamArrivals
 pub mod Slots
 pub mod Routing
 pub mod Polling
+pub mod Shortening

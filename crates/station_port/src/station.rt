@@ -56,7 +56,7 @@ impl<R: System + Net + Drop> StationPort<R> {
         let listener = listen(&rt, address_of(place.address, place.tcp))?;
         let udp = datagrams(&rt, address_of(place.address, place.udp))?;
         let finder = Finder::new(alloc, &rt, place)?;
-        let streams = KeptStreams::new(alloc, place.inactivity_s)?;
+        let streams = KeptStreams::adapter(alloc, place.inactivity_s)?;
         let targets = Targets::new(alloc, place.address, &[], 0)?;
         let items = ItemPorts::new(alloc, place.target_use(), place.peer_udp)?;
         let sockets = StationSockets::new(
@@ -84,7 +84,7 @@ impl<R: System + Net + Drop> StationPort<R> {
         ensures { IfOk result (λ port. port.failures ≡ 0) }
     {
         let udp = datagrams(&rt, address_of(place.address, place.udp))?;
-        let streams = KeptStreams::new(alloc, 0)?;
+        let streams = KeptStreams::scanner(alloc)?;
         let targets = Targets::new(alloc, place.address, targets, open_ms)?;
         let items = ItemPorts::new(alloc, place.originator_use(), place.peer_udp)?;
         let groups = GroupSockets::none(alloc, place)?;

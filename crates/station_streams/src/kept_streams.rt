@@ -10,9 +10,10 @@ use crate::sessions::{SessionAnswer, session_answer};
 use crate::stream_options::{abort, watch_peer};
 use crate::targets::Targets;
 use cip_events::Arrival;
+use cip_types::limits::MOST_STREAMS;
 use cip_types::{Node, OutOfMemory};
 use mio::net::TcpStream;
-use port_streams::PortStreams;
+use port_streams::{PortStreams, Shortener};
 use socket_port::{ReadOutcome, read_outcome};
 use std::alloc::Global;
 use std::io::Read;
@@ -25,10 +26,13 @@ const MOST_PEERS: usize = 128;
 /// The streams of a station, why those end that it ends, and what it reports of them.
 #[derive(Drop)]
 pub struct KeptStreams {
+    alloc: Global,
     streams: PortStreams<TcpStream>,
     keeper: StreamKeeper,
     causes: EndCauses,
     reports: Reports,
+    /// The bytes of the streams to targets as the device sees them, by the numbers of the streams; none of an adapter.
+    shorteners: Vec<Shortener>,
     /// The peers that have connections, of whatever class, and those that own outputs.
     connected: Vec<Node>,
     owners: Vec<Node>,
@@ -43,13 +47,30 @@ pub enum Welcome {
 }
 
 impl KeptStreams {
-    /// No streams. A silent one ends after so many seconds; 0: never.
-    pub fn new(alloc: Global, inactivity_s: u16) -> Result<KeptStreams, OutOfMemory> {
+    /// No streams of an adapter. A silent one ends after so many seconds; 0: never. A message that is too long for a device ends its
+    /// stream.
+    pub fn adapter(alloc: Global, inactivity_s: u16) -> Result<KeptStreams, OutOfMemory> {
+        KeptStreams::new(alloc, inactivity_s, 0)
+    }
+
+    /// No streams of a scanner. No silent one ends. Of a message that is too long for a device the device sees the header alone.
+    pub fn scanner(alloc: Global) -> Result<KeptStreams, OutOfMemory> {
+        KeptStreams::new(alloc, 0, MOST_STREAMS)
+    }
+
+    /// No streams. Of those of so many numbers no message is too long.
+    fn new(alloc: Global, inactivity_s: u16, shortened: usize) -> Result<KeptStreams, OutOfMemory> {
+        let mut shorteners = Vec::with_capacity(alloc, shortened)?;
+        for _ in 0..shortened {
+            shorteners.push(Shortener::begin(alloc))?;
+        }
         Ok(KeptStreams {
+            alloc,
             streams: PortStreams::new(alloc)?,
             keeper: StreamKeeper::new(alloc, inactivity_s)?,
             causes: EndCauses::new(alloc)?,
             reports: Reports::new(alloc)?,
+            shorteners,
             connected: Vec::with_capacity(alloc, MOST_PEERS)?,
             owners: Vec::with_capacity(alloc, MOST_PEERS)?,
         })
@@ -62,6 +83,9 @@ impl KeptStreams {
             return None;
         };
         self.keeper.begin(number, peer, now_ms);
+        if let Some(shortener) = self.shorteners.get_mut(usize::from(number)) {
+            *shortener = Shortener::begin(self.alloc);
+        }
         self.reports.push(PortReport::Opened {
             stream: number,
             peer,
@@ -145,9 +169,25 @@ impl KeptStreams {
         }
     }
 
-    /// Receives bytes of a stream. If there is no memory for them, the stream ends.
+    /// Receives bytes of a stream. If there is no memory for them, the stream ends; so does that of an adapter with a message that is
+    /// too long.
     pub fn receive(&mut self, number: u16, piece: &[u8]) -> Result<(), OutOfMemory> {
-        self.streams.receive(number, piece)
+        let received = self.receive_seen(number, piece);
+        if received.is_err() {
+            self.end(number, EndCause::Cut);
+        }
+        received
+    }
+
+    /// Receives the bytes of a stream that the device sees. The fault: an allocation was refused.
+    fn receive_seen(&mut self, number: u16, piece: &[u8]) -> Result<(), OutOfMemory> {
+        match self.shorteners.get_mut(usize::from(number)) {
+            Some(shortener) => {
+                let seen = shortener.shorten(self.alloc, piece)?;
+                self.streams.receive(number, seen.as_slice())
+            }
+            None => self.streams.receive(number, piece),
+        }
     }
 
     /// The next arrival of a stream. A message counts as a sign of life, and after the end the number is free.
