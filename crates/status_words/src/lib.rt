@@ -6,7 +6,7 @@ mod statuses;
 
 use cip_events::{Notice, Outcome, Reason};
 use cip_types::{Fault, OutOfMemory};
-pub use statuses::status_name;
+pub use statuses::{extended_name, status_name};
 use trace_words::push_text;
 
 /// Appends a comment for each slot that an outcome says is not opened: why, in words.
@@ -49,7 +49,7 @@ pub fn push_fault(out: &mut String, fault: Fault) -> Result<(), OutOfMemory> {
     push_general(out, general)?;
     match extended {
         Some(extended) if general == 1 => {
-            let words = extended_words(extended);
+            let words = extended_name(extended);
             Ok(write!(out, ", extended status {extended:#06x} ({words})")?)
         }
         Some(extended) => Ok(write!(out, ", extended status {extended:#06x}")?),
@@ -61,46 +61,6 @@ pub fn push_fault(out: &mut String, fault: Fault) -> Result<(), OutOfMemory> {
 pub fn push_general(out: &mut String, general: u8) -> Result<(), OutOfMemory> {
     let words = status_name(general);
     Ok(write!(out, "general status {general:#04x} ({words})")?)
-}
-
-fn extended_words(extended: u16) -> &'static str {
-    match extended {
-        0x0100 => "connection in use or duplicate Forward_Open",
-        0x0103 => "transport class and trigger combination not supported",
-        0x0106 => "ownership conflict",
-        0x0107 => "target connection not found",
-        0x0108 => "invalid network connection parameter",
-        0x0109 => "invalid connection size",
-        0x0110 => "target for connection not configured",
-        0x0111 => "RPI not supported",
-        0x0113 => "out of connections",
-        0x0114 => "vendor id or product code mismatch",
-        0x0115 => "device type mismatch",
-        0x0116 => "revision mismatch",
-        0x0117 => "invalid produced or consumed application path",
-        0x0118 => "invalid or inconsistent configuration application path",
-        0x0119 => "non-listen only connection not opened",
-        0x011A => "target object out of connections",
-        0x011B => "RPI is smaller than the production inhibit time",
-        0x0203 => "connection timed out",
-        0x0204 => "unconnected request timed out",
-        _ => later_words(extended),
-    }
-}
-
-fn later_words(extended: u16) -> &'static str {
-    match extended {
-        0x0123 => "invalid O->T network connection type",
-        0x0124 => "invalid T->O network connection type",
-        0x0126 => "invalid configuration size",
-        0x0127 => "invalid O->T size",
-        0x0128 => "invalid T->O size",
-        0x0129 => "invalid configuration application path",
-        0x012A => "invalid consuming application path",
-        0x012B => "invalid producing application path",
-        0x0315 => "invalid segment in the connection path",
-        _ => "another status",
-    }
 }
 
 /// The status of an encapsulation message, in words.
