@@ -9,6 +9,7 @@ use cip_fwdopen::{
 };
 use cip_router::read_router_reply;
 use cip_types::OutOfMemory;
+use cip_types::fields::u16_at;
 use status_words::{push_fault, push_general};
 use std::alloc::Global;
 use trace_words::push_text;
@@ -51,7 +52,10 @@ fn push_open_reply(alloc: Global, out: &mut String, bytes: &[u8]) -> Result<(), 
     match read_open_reply(bytes) {
         Ok(reply) => match reply.answer {
             OpenAnswer::Opened(opened) => push_opened(out, opened),
-            OpenAnswer::Refused(refused) => push_refused(out, refused),
+            OpenAnswer::Refused(refused) => {
+                push_refused(out, refused)?;
+                push_further(out, bytes)
+            }
         },
         Err(fault) => {
             write!(out, "it does not read ({fault}), ")?;
@@ -85,6 +89,36 @@ fn push_refused(out: &mut String, refused: Refused) -> Result<(), OutOfMemory> {
     }
 }
 
+/// The additional words of a refusal behind the extended status, as the size or the interval that a target wants.
+///
+/// Volume 1, chapter 3, Connection Manager extended status codes.
+fn push_further(out: &mut String, bytes: &[u8]) -> Result<(), OutOfMemory> {
+    let Some(reply) = read_router_reply(bytes) else {
+        return Ok(());
+    };
+    let Some((_extended, further)) = u16_at(reply.additional) else {
+        return Ok(());
+    };
+    if further.is_empty() {
+        return Ok(());
+    }
+    push_text(out, ", further words")?;
+    push_words(out, further)
+}
+
+/// Each of these words.
+fn push_words(out: &mut String, words: &[u8]) -> Result<(), OutOfMemory> {
+    let mut rest = words;
+    for _ in 0..words.len() {
+        let Some((word, after)) = u16_at(rest) else {
+            return Ok(());
+        };
+        write!(out, " {word:#06x}")?;
+        rest = after;
+    }
+    Ok(())
+}
+
 fn push_close_reply(alloc: Global, out: &mut String, bytes: &[u8]) -> Result<(), OutOfMemory> {
     match read_close_reply(bytes) {
         Ok(reply) => match reply.answer {
@@ -92,7 +126,10 @@ fn push_close_reply(alloc: Global, out: &mut String, bytes: &[u8]) -> Result<(),
                 push_text(out, "closed ")?;
                 push_triad(out, triad)
             }
-            CloseAnswer::Refused(refused) => push_refused(out, refused),
+            CloseAnswer::Refused(refused) => {
+                push_refused(out, refused)?;
+                push_further(out, bytes)
+            }
         },
         Err(fault) => {
             write!(out, "it does not read ({fault}), ")?;
