@@ -1,0 +1,320 @@
+"""Targets of other makes, which tools/peers/target.py plays: they refuse, answer late or otherwise than was asked, forget sessions, name
+another port, send a long reply. A scanner leaves no connection behind at them, and keeps those that are well."""
+
+import random, struct, sys, threading, time
+from rim.host import PRESENT, TOP, Station, holds, need, run, sure, wait
+from rim.peers import Ending
+
+sys.path.insert(0, f"{TOP}/tools/peers")
+import target
+
+OPEN_MS, RETRY_MS = 500, 300
+LEFT_S = 10.0  # after so long a target has no connection that no slot has
+LONG_OBJECT = target.LONG_OBJECT
+
+
+class Running(target.Target):
+    """A target in a thread."""
+
+    def __init__(self, bench, host="peer", **more):
+        with bench.network.inside(host):
+            super().__init__(bench.address[host], **more)
+        self.going, self.fault = True, None
+        self.thread = threading.Thread(target=self.serve, daemon=True)
+        self.thread.start()
+        bench.later(Ending(self.end))
+
+    def serve(self):
+        while self.going:
+            try:
+                self.turn()
+            except (OSError, ValueError, struct.error, IndexError) as fault:
+                self.fault = self.fault or f"{type(fault).__name__}: {fault}"
+
+    def end(self):
+        if self.going:
+            self.going = False
+            self.thread.join()
+            self.stop()
+
+    def points(self):
+        """The consumed points of its connections, in order."""
+        return sorted(it.points[0] for it in list(self.connections))
+
+
+def knows(bench, line):
+    """Whether the program knows this line of a scanner's profile."""
+    return run(bench.program, "explain", bench.write_exactly("line.trace", profile(bench, 1, f"{line}\n"))).returncode == 0
+
+
+def profile(bench, slots, tidy, o_t_us=1_000_000, t_o_us=10_000, multiplier=4, open_ms=OPEN_MS, kind="exclusive"):
+    """A scanner of slots with the points 150 and 100, 151 and 101, ..: its own time-outs are short, and the target's watchdogs long. The
+    heartbeats of slots that own nothing go to 200, 201, .."""
+    head = f"scanner 32 {bench.address['owner']} 1 101 {open_ms} {RETRY_MS}\n{tidy}"
+    first, out = (150, 4) if kind == "exclusive" else (target.FIRST_HEARTBEAT, 0)
+    return head + "".join(f"slot {bench.address['peer']} {kind} - {first + at} {100 + at} {out} 4 {o_t_us} {t_o_us} {multiplier} p2p - -\n"
+                          for at in range(slots))
+
+
+def begin(bench, name, slots=1, tidy="", options=(), **of_profile):
+    """A scanner whose slots are started."""
+    path = bench.write_exactly(f"{name}.profile", profile(bench, slots, tidy, **of_profile))
+    scanner = Station(bench, "owner", "scanner", path, "--incarnation", "32", *options, log=name)
+    scanner.call("mode run", *(f"start {at}" for at in range(slots)))
+    return scanner
+
+
+def are_established(scanner, slots=1):
+    return all(scanner.is_established(at) for at in range(slots))
+
+
+def leaves_none(scanner, made, what, seconds=LEFT_S):
+    """The scanner ends, and the target has no connection then."""
+    need(scanner.end() == 0, f"{what}: the scanner ends with status 0")
+    wait(lambda: not made.connections, lambda: f"{what}: no connection is left, and not {[it.serial() for it in made.connections]}", seconds)
+    need(made.fault is None, f"{what}: {made.fault}")
+
+
+# WHERE DATAGRAMS GO
+
+def run_makes_items(bench):
+    """The datagrams of a connection go to the address and the port that the reply names, each connection to its own."""
+    made = Running(bench)
+    own, other = bench.address["peer"], bench.network.extra[0]
+    with bench.network.inside("peer"):
+        made.listen_at(own, 2300)
+        made.listen_at(other, 2301)
+    for item, at in ((("0.0.0.0", 2300), (own, 2300)), ((other, 2301), (other, 2301)), (None, (own, 2222)), (("239.1.2.3", 2300), (own, 2300))):
+        made.moods.item = item
+        scanner = begin(bench, f"item_{at[1]}_{bool(item)}", o_t_us=10_000)
+        wait(lambda: are_established(scanner), f"a target that names {item}: the scanner is established")
+        wait(lambda: made.connections and made.connections[0].received > 20, f"a target that names {item} gets datagrams")
+        came = dict(made.connections[0].came_to)
+        need(set(came) == {at}, f"a target that names {item} gets its datagrams at {at}, and not {came}")
+        leaves_none(scanner, made, f"a target that names {item}")
+    sure(not made.unknown, "the datagrams of a connection go to the address and the port that the reply names, or to the target's at 2222")
+    run_items_of_two(bench, made, own)
+
+
+def run_items_of_two(bench, made, own):
+    """One of two connections has a port of its own; when it is opened again without, its datagrams go to the usual one."""
+    made.moods.item = ("0.0.0.0", 2300)
+    scanner = begin(bench, "items_of_two", slots=2, o_t_us=10_000)
+    wait(lambda: are_established(scanner, 2), "both slots are established")
+    made.moods.item = None
+    scanner.call("stop 1")
+    wait(lambda: scanner.states(1)[-1] == 0, "slot 1 is closed")
+    scanner.call("start 1")
+    wait(lambda: are_established(scanner, 2), "and is opened again")
+    of = {it.points[0]: it for it in made.connections}
+    wait(lambda: all(it.received > 20 for it in of.values()), "both have datagrams")
+    need(set(of[150].came_to) == {(own, 2300)} and set(of[151].came_to) == {(own, 2222)},
+         f"each where its reply said: {[dict(it.came_to) for it in of.values()]}")
+    leaves_none(scanner, made, "two slots")
+    sure(not made.unknown, "a connection that is opened again without an item has its datagrams sent to the usual port, the other one to its own")
+    bench.clear()
+
+
+# STREAMS
+
+def run_makes_streams(bench):
+    """One slot that times out, or whose requests are not answered, costs no other slot of its target its stream."""
+    made = Running(bench)
+    made.moods.ends_with_stream = True
+    scanner = begin(bench, "one_of_two", slots=2)
+    wait(lambda: are_established(scanner, 2), "two slots of a target that ends class 1 with its stream are established")
+    time.sleep(0.5)  # (so that data came: until the first ones a connection has 10 s)
+    made.moods.mute_points = {101}
+    wait(lambda: scanner.states(1).count(4) >= 1, "the data of one slot stop, and it times out")
+    made.moods.every_open = "deaf"
+    time.sleep(4)
+    need(are_established(scanner), "the other one stays established, while the first one's requests are not answered")
+    made.moods.every_open, made.moods.mute_points = "serve", set()
+    need(scanner.states(0) == [2, PRESENT], f"the healthy slot was never lost: {scanner.states(0)}")
+    sure(made.counts["stream"] == 1, "a slot that times out again and again, and whose requests are not answered, leaves the other one its stream")
+    made.forget_connections()
+    wait(lambda: not scanner.is_established(0), "the target forgets its connections: the slots time out")
+    wait(lambda: are_established(scanner, 2), lambda: f"both are established again: {scanner.states(0)}, {scanner.states(1)}", 20)
+    sure(made.counts["stream"] == 1, "a time-out of all slots of a target that answers leaves it the stream, too")
+    need(scanner.end() == 0, "the scanner ends with status 0")
+    bench.clear()
+
+
+# LONG MESSAGES
+
+def run_makes_long(bench):
+    """A legal reply of more than 2,048 bytes ends no stream of a scanner."""
+    made = Running(bench)
+    scanner = begin(bench, "long")
+    wait(lambda: are_established(scanner), "the scanner is established")
+    for turn in range(3):
+        scanner.call(f"get {bench.address['peer']} {LONG_OBJECT} 1 1")
+        wait(lambda: len([line for line in scanner.lines() if line.endswith(" unanswered unreadable")]) == turn + 1, "a long reply is unreadable")
+        scanner.call(f"get {bench.address['peer']} 769 1 1")
+        wait(lambda: made.counts["service 0x0e"] == turn + 1, "the next request is answered over the same stream")
+    need(are_established(scanner) and scanner.states() == [2, PRESENT], f"the slot stays established: {scanner.states()}")
+    sure(made.counts["stream"] == made.counts["register"] == 1, f"{target.LONG_BYTES} bytes of a reply are skipped: its request is unreadable, and the stream stays")
+    leaves_none(scanner, made, "a long reply")
+    bench.clear()
+
+
+# WHAT A SCANNER LEAVES BEHIND
+
+def needs(line):
+    """A part that needs a line of a scanner's profile."""
+    def needing(part):
+        def run_if_known(bench):
+            if not knows(bench, line):
+                return holds(f"({part.__name__}: not tried: no scanner's profile has the line {line!r})")
+            return part(bench)
+        return run_if_known
+    return needing
+
+
+@needs("tidy")
+def run_makes_mismatch(bench):
+    """A success that does not suit is closed."""
+    for mood in "triad", "id", "api":
+        made = Running(bench)
+        made.moods.every_open = mood
+        scanner = begin(bench, f"mismatch_{mood}", tidy="tidy\n")
+        wait(lambda: made.counts["open"] >= 8, f"a target that answers another {mood}: the slot is tried again")
+        need(len(made.connections) <= 1, f"and leaves none behind: {len(made.connections)}")
+        made.moods.every_open = "serve"
+        wait(lambda: are_established(scanner), f"a target that answered another {mood} is well again")
+        time.sleep(0.5)
+        need(len(made.connections) == 1 and made.counts["refused 0106"] == 0, f"one connection, and no refusal: {dict(made.counts)}")
+        leaves_none(scanner, made, f"another {mood}")
+        made.end()
+        bench.clear()
+    holds("a success with another triad, id or API is closed: the target has one connection then, and at the end none")
+
+
+@needs("tidy")
+def run_makes_late(bench):
+    """A success that comes for an opening that is no longer wanted is closed."""
+    made = Running(bench)
+    made.moods.opens.append(("late", 0.3))
+    scanner = begin(bench, "late", tidy="tidy\n")
+    wait(lambda: made.counts["open"] == 1, "the opening is under way")
+    scanner.call("stop 0")
+    wait(lambda: scanner.states()[-1] == 0, "it is stopped")
+    scanner.call("start 0")
+    wait(lambda: are_established(scanner), "it is started again, and established")
+    need(made.counts["refused 0106"] == 0 and len(made.connections) == 1, f"nothing of it is left: {dict(made.counts)}")
+    made.moods.opens.extend([("late", 1.5), "never"])
+    made.forget_connections()
+    wait(lambda: made.counts["open"] >= 4, "two openings are not answered in time", 30)
+    wait(lambda: are_established(scanner), "the next one is", 30)
+    time.sleep(2)
+    need(len(made.connections) == 1, f"one connection is left: {[it.serial() for it in made.connections]}")
+    scanner.call("stop 0")
+    wait(lambda: scanner.states()[-1] == 0 and not made.connections, "it is closed")
+    made.moods.opens.append(("late", 0.3))
+    opened = made.counts["open"]
+    scanner.call("start 0")
+    wait(lambda: made.counts["open"] == opened + 1, "an opening is under way")
+    leaves_none(scanner, made, "an end while an opening is under way", 2.0)
+    holds("a success that comes late is closed: after a stop, after its time, and at an end in order")
+    bench.clear()
+
+
+@needs("tidy")
+def run_makes_timeout(bench):
+    """After a time-out the connection is closed before the next one is opened."""
+    made = Running(bench)
+    scanner = begin(bench, "timeout", tidy="tidy\n")
+    for mood in "serve", "as_open", "never", "forgotten":
+        wait(lambda: are_established(scanner), f"{mood}: the scanner is established", 20)
+        time.sleep(0.5)
+        if mood == "forgotten":
+            made.forget_connections()
+        else:
+            made.moods.closes.append(mood)
+        made.moods.silent = True
+        wait(lambda: not are_established(scanner), "its data stop, and it times out")
+        made.moods.silent = False
+    seconds = wait(lambda: are_established(scanner), "the scanner is established", 5)
+    need(made.counts["refused 0106"] == 0 and len(made.connections) == 1, f"no refusal by its own connection: {dict(made.counts)}")
+    leaves_none(scanner, made, "time-outs")
+    holds(f"a connection that timed out is closed before the next one, whatever the reply: established {seconds:.1f} s after the last one")
+    bench.clear()
+
+
+@needs("tidy")
+def run_makes_random(bench):
+    """Random stops, starts, cuts, late and wrong replies leave nothing behind."""
+    rand, made, slots = random.Random(74), Running(bench, places=32), 3
+    scanner = begin(bench, "random", slots=slots, tidy="tidy\n")
+    moods = ["serve", "serve", "serve", "triad", "id", "api", ("late", 0.3), ("late", 0.9), "never", "deaf", ("refuse", 0x0110)]
+    count = 200 if bench.args.short else 1000
+    for _ in range(count):
+        act = rand.randrange(10)
+        if act < 4:
+            scanner.call(f"{rand.choice(['stop', 'start'])} {rand.randrange(slots)}")
+        elif act < 7:
+            made.moods.opens.append(rand.choice(moods))
+        elif act == 7:
+            made.moods.closes.append(rand.choice(["serve", ("late", 0.3), "as_open"]))
+        elif rand.random() < 0.3:
+            made.drop_streams()
+        time.sleep(rand.random() * 0.1)
+    made.moods.opens.clear()
+    made.moods.closes.clear()
+    for _ in range(30):
+        for slot in range(slots):
+            scanner.call(f"start {slot}")
+        time.sleep(1)
+        if are_established(scanner, slots):
+            break
+    need(are_established(scanner, slots), f"after {count} acts all slots are established: {[scanner.states(at)[-3:] for at in range(slots)]}")
+    wait(lambda: made.points() == [150 + at for at in range(slots)], lambda: f"and the target has theirs alone: {made.points()}", LEFT_S)
+    leaves_none(scanner, made, f"{count} random acts")
+    holds(f"{count} random stops, starts, cuts, late and wrong replies leave the target the connections of the slots, and none at the end")
+    bench.clear()
+
+
+# WHAT OTHER TARGETS TAKE
+
+@needs("openings 1")
+def run_makes_slow(bench):
+    """A target that takes 700 ms for each open opens eight slots."""
+    made = Running(bench)
+    made.moods.open_s = 0.7
+    scanner = begin(bench, "slow", slots=8, tidy="tidy\nopenings 1\n", open_ms=2000)
+    seconds = wait(lambda: are_established(scanner, 8), lambda: f"all slots are established: {made.points()}", 20)
+    need(made.counts["open"] == len(made.connections) == 8, f"each by its first request: {dict(made.counts)}")
+    leaves_none(scanner, made, "a slow target")
+    holds(f"a target that takes 700 ms for each open opens eight slots within {seconds:.1f} s, each by its first request")
+    bench.clear()
+
+
+@needs("serials 1")
+def run_makes_serials(bench):
+    """The triads of a life that was killed do not come again."""
+    made = Running(bench)
+    for _ in range(4):
+        scanner = begin(bench, "serials", kind="input")
+        wait(lambda: are_established(scanner), "the scanner is established")
+        scanner.kill()
+    serials = [it.serial() for it in made.connections]
+    sure(made.counts["refused 0100"] == 0 and len(set(serials)) == 4, f"four lives that were killed have four serial numbers: {serials}")
+    bench.clear()
+
+
+@needs("tidy")
+def run_makes_words(bench):
+    """The data of a connection whose success has an extended status word are counted."""
+    made = Running(bench)
+    made.moods.every_open, made.moods.more_words = "words", (0x0001,)
+    scanner = begin(bench, "words", tidy="tidy\n")
+    wait(lambda: are_established(scanner), "the scanner is established")
+    time.sleep(0.5)
+    scanner.call("status")
+    counted = lambda: [line.split() for line in scanner.lines() if " slot 0 " in line and " received " in line]
+    wait(counted, "its status is printed")
+    words = counted()[-1]
+    need(int(words[words.index("received") + 1]) > 10, f"its datagrams are counted: {' '.join(words)}")
+    leaves_none(scanner, made, "a success with a word")
+    holds("the data of a connection whose success has an extended status word are counted")
+    bench.clear()
