@@ -1,8 +1,19 @@
 -- What is answered by the parts of a table is what the table answers.
-use Rattle.std.proofs.Common.{◌≡◌, ℕ, ◌==◌, ◌&&◌, Bool, true, false, cond, List, Option, Some, None, is_some, length, refl, ap, ◌∙◌}
+use Rattle.std.proofs.Common.{◌≡◌, ℕ, ◌≤◌, ◌==◌, ◌&&◌, Bool, true, false, cond, nat_lt, List, drop, Option, Some, None, Ok, Err, is_some, length, refl, ap, ◌∙◌, arith, inl, inr, length-drop}
+use Rattle.std.proofs.lemmas.Bool.{cases_lt}
+use Rattle.std.proofs.lemmas.Bool.Decides.{nat_tests}
+use Rattle.std.specs.Int.{w16, w32, w64}
 use Rattle.std.specs.List.{list_any}
+use Rattle.std.specs.Option.{option_map}
+use Rattle.cip_types.specs.Parts.{number_in}
+use Rattle.cip_types.specs.PartLaws.{fields_stand, fields_few}
+use Rattle.cip_types.specs.Texts.{Tailed}
+use Rattle.cip_encap.specs.declared.message.EncapFault.TheVariants as fault
+use Rattle.cip_encap.specs.Message.{MessageFields, header_widths}
+use Rattle.cip_encap.specs.Reading.{message_reading, found_reading, sized_reading}
 use Rattle.cip_router.specs.declared.refusal.Status.TheVariants as status
-use Rattle.list_identity.specs.Inquiries.{inquiry_answer}
+use Rattle.list_identity.specs.declared.inquiry.Inquiry.{Inquiry}
+use Rattle.list_identity.specs.Inquiries.{inquiry_answer, inquiry_in, inquiry_of, InquiryMessage, inquiry_message, inquiry_read}
 use Rattle.adapter_table.specs.declared.profile.Description.{Description}
 use Rattle.adapter_table.specs.declared.table.PointValue.{PointValue}
 use Rattle.adapter_table.specs.declared.table.AdapterTable.{AdapterTable}
@@ -76,3 +87,34 @@ inquired_is t d bytes is = ap (inquiry_reply_of t bytes) is
 pub uninquired_is : (t : AdapterTable) (bytes : List ℕ) → t.profile.description ≡ None → inquiry_reply t bytes ≡ None
 unfolding inquiry_reply
 uninquired_is t bytes is = ap (inquiry_reply_of t bytes) is
+
+-- ---- an inquiry is a header alone
+
+unbare : (m : MessageFields) (status options : Bool) (x : Option Inquiry) → option_map {U = InquiryMessage} (λ inquiry. (inquiry, m)) (cond (status && (options && false)) x None) ≡ None
+unbare m true true x = refl
+unbare m true false x = refl
+unbare m false options x = refl
+
+filled : (m : MessageFields) → (length m.payload == 0) ≡ false → inquiry_message m ≡ None
+filled m more = rw more (unbare m (m.status == 0) (m.options == 0) (inquiry_of m.command))
+
+sized : (len : ℕ) (m : MessageFields) → (length m.payload == 0) ≡ false → inquiry_read (sized_reading len m) ≡ None
+sized len m more = split (nat_lt (length m.payload) len) (nat_lt len (length m.payload))
+  where
+    split : (short long : Bool) → inquiry_read (cond short (Err fault.Truncated) (cond long (Err fault.Trailing) (Ok m))) ≡ None
+    split true long = refl
+    split false true = refl
+    split false false = filled m more
+
+left_over : (bytes : List ℕ) → 24 ≤ length bytes → (length bytes == 24) ≡ false → (length (drop 24 bytes) == 0) ≡ false
+left_over bytes many other = rw (length-drop 24 bytes) (grind (arith, nat_tests))
+
+-- bytes of another length than a header's are no inquiry
+pub no_inquiry : (bytes : List ℕ) → (length bytes == 24) ≡ false → inquiry_in bytes ≡ None
+unfolding message_reading
+no_inquiry bytes other =
+    elim (cases_lt (length bytes) 24) [
+      | inl few ↦ ap (λ (read : Option Tailed). inquiry_read (found_reading read)) (fields_few header_widths bytes few)
+      | inr many ↦ ap (λ (read : Option Tailed). inquiry_read (found_reading read)) (fields_stand header_widths bytes many)
+          ∙ sized (number_in w16 bytes 2) (record { command = number_in w16 bytes 0; session = number_in w32 bytes 4; status = number_in w32 bytes 8; context = number_in w64 bytes 12; options = number_in w32 bytes 20; payload = drop 24 bytes }) (left_over bytes many other)
+    ]

@@ -10,21 +10,19 @@ use crate::described::IN_OPERATION;
 use crate::status::status_word;
 use adapter_table::{Description, IoState};
 use assembly_set::AssemblySet;
-use cip_encap::{SocketAddress, read_message};
+use cip_encap::{HEADER_LEN, SocketAddress};
 use cip_types::OutOfMemory;
 use list_identity::{ProductName, StationIdentity, inquiry_reply as reply_to_inquiry};
 use std::alloc::Global;
 
-/// Whether some bytes are a message without status, options and data. Other bytes are no inquiry. Takes no memory.
+/// Whether bytes are as many as those of an inquiry, which is a header alone. Others are no inquiry. Takes no memory.
 ///
 /// Volume 2, chapter 2, encapsulation messages.
-pub fn is_bare_message(bytes: &[u8]) -> bool
+#[tactic(auto, using(crate::specs::SaidLaws::no_inquiry))]
+pub fn has_inquiry_length(bytes: &[u8]) -> bool
     ensures { result ≡ false → inquiry_in bytes.now ≡ None }
 {
-    match read_message(bytes) {
-        Ok(message) => message.status == 0 && message.options == 0 && message.data.is_empty(),
-        Err(_) => false,
-    }
+    bytes.len() == HEADER_LEN
 }
 
 /// What a device says of itself.

@@ -17,7 +17,7 @@ mod value;
 pub use answer::{Bytes, ObjectAnswer, ObjectRequest};
 pub use assembly::assembly_answer;
 pub use described::described_answer;
-pub use identity::{inquiry_reply, is_bare_message};
+pub use identity::{has_inquiry_length, inquiry_reply};
 pub use instance::Instance;
 pub use own::{OwnRequest, own_request};
 pub use value::{Attribute, Value};

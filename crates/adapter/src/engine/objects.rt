@@ -14,7 +14,7 @@ ghost use Rattle.adapter_objects.specs.Views.{view_answer};
 
 use super::Adapter;
 use adapter_objects::{
-    ObjectAnswer, ObjectRequest, assembly_answer, described_answer, is_bare_message,
+    ObjectAnswer, ObjectRequest, assembly_answer, described_answer, has_inquiry_length,
 };
 use adapter_replies::{Route, inquiry_answer, object_notices, object_reply, reply_and_text};
 use cip_epath::class::ASSEMBLY;
@@ -132,7 +132,7 @@ impl<T: ConnectionTable> Adapter<T> {
         let Some(description) = &self.state.profile().description else {
             return Ok(None);
         };
-        if !is_bare_message(bytes) {
+        if !has_inquiry_length(bytes) {
             return Ok(None);
         }
         let io = self.state.connections().io_state();
