@@ -20,20 +20,20 @@ pub struct AnsweredDevice {
 
 impl AnsweredDevice {
     /// Performs an event, keeps its answer and writes it.
-    pub fn answered(&mut self, event: &Event, out: &mut [u8], size: &mut usize) -> u32
+    pub fn perform(&mut self, event: &Event, out: &mut [u8], size: &mut usize) -> u32
         ensures { Answers event.now self.old result self.new (out.old, size.old) (out.new, size.new) }
     {
-        match self.perform(event) {
+        match self.step(event) {
             Ok(()) => report(&self.answer, out, size),
             Err(fault) => fault_number(fault),
         }
     }
 
     /// Writes a point, keeps the answer and writes it.
-    pub fn written(&mut self, point: u32, bytes: &[u8], out: &mut [u8], size: &mut usize) -> u32
+    pub fn write(&mut self, point: u32, bytes: &[u8], out: &mut [u8], size: &mut usize) -> u32
         ensures { Answers (Write point bytes.now) self.old result self.new (out.old, size.old) (out.new, size.new) }
     {
-        match self.write(point, bytes) {
+        match self.write_point(point, bytes) {
             Ok(()) => report(&self.answer, out, size),
             Err(fault) => fault_number(fault),
         }
@@ -50,14 +50,14 @@ impl AnsweredDevice {
         }
     }
 
-    fn perform(&mut self, event: &Event) -> Result<(), StepFault>
+    fn step(&mut self, event: &Event) -> Result<(), StepFault>
         ensures { Keeps (step (table_of self.old.device) event.now) (state self.old) result (state self.new) }
     {
         let outcome = self.device.step(event);
         keep(&mut self.answer, outcome)
     }
 
-    fn write(&mut self, point: u32, bytes: &[u8]) -> Result<(), StepFault>
+    fn write_point(&mut self, point: u32, bytes: &[u8]) -> Result<(), StepFault>
         ensures { Keeps (step (table_of self.old.device) (Write point bytes.now)) (state self.old) result
             (state self.new) }
     {

@@ -93,12 +93,12 @@ impl Handle {
         cell.take()
     }
 
-    /// Performs an event at the device, as `AnsweredDevice::answered` does.
-    pub fn answered(&mut self, event: &Event, out: &mut [u8], size: &mut usize) -> u32
+    /// Performs an event at the device, as `AnsweredDevice::perform` does.
+    pub fn perform(&mut self, event: &Event, out: &mut [u8], size: &mut usize) -> u32
         ensures { Answers event.now self.old.value result self.new.value (out.old, size.old) (out.new, size.new) }
     {
         let mut taken = self.cell.take();
-        let status = taken.answered(event, out, size);
+        let status = taken.perform(event, out, size);
         self.cell.put(taken);
         status
     }

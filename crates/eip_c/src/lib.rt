@@ -118,7 +118,7 @@ pub extern "C" fn eip_c_request(
         peer: Node(peer),
         bytes,
     };
-    device.answered(&event, out, size)
+    device.perform(&event, out, size)
 }
 
 /// A peer opens a stream, which gets this number.
@@ -137,7 +137,7 @@ pub extern "C" fn eip_c_stream(
         stream,
         peer: Node(peer),
     };
-    device.answered(&event, out, size)
+    device.perform(&event, out, size)
 }
 
 /// A stream brings the bytes of one encapsulation message.
@@ -157,7 +157,7 @@ pub extern "C" fn eip_c_frame(
         return OUT_OF_MEMORY;
     };
     let event = Event::Frame { stream, bytes };
-    device.answered(&event, out, size)
+    device.perform(&event, out, size)
 }
 
 /// A stream breaks, or its peer closes it.
@@ -172,7 +172,7 @@ pub extern "C" fn eip_c_cut(
         device.old.value result device.new.value (out.old, size.old) (out.new, size.new) }
 {
     let event = Event::StreamCut { stream };
-    device.answered(&event, out, size)
+    device.perform(&event, out, size)
 }
 
 /// A peer sends a class 1 datagram. Answers the number of its delivery. Takes no memory, and never fails.
@@ -211,7 +211,7 @@ pub extern "C" fn eip_c_inquire(
         peer: Node(peer),
         bytes,
     };
-    device.answered(&event, out, size)
+    device.perform(&event, out, size)
 }
 
 /// Writes the reply to an inquiry by which tools find devices: ListServices, ListIdentity or ListInterfaces. It needs no
@@ -257,7 +257,7 @@ pub extern "C" fn eip_c_explicit(
         number,
         bytes,
     };
-    device.answered(&event, out, size)
+    device.perform(&event, out, size)
 }
 
 // OBJECTS OF THE MAKER'S OWN
@@ -284,7 +284,7 @@ pub extern "C" fn eip_c_respond(
         status,
         bytes,
     };
-    device.answered(&event, out, size)
+    device.perform(&event, out, size)
 }
 
 // POINTS AND TIME
@@ -302,7 +302,7 @@ pub extern "C" fn eip_c_write(
         device.old.value result device.new.value (out.old, size.old) (out.new, size.new) }
 {
     let mut taken = device.cell.take();
-    let status = taken.written(point, bytes, out, size);
+    let status = taken.write(point, bytes, out, size);
     device.cell.put(taken);
     status
 }
@@ -332,7 +332,7 @@ pub extern "C" fn eip_c_tick(device: &mut Handle, ms: u32, out: &mut [u8], size:
         device.old.value result device.new.value (out.old, size.old) (out.new, size.new) }
 {
     let event = Event::Tick { ms };
-    device.answered(&event, out, size)
+    device.perform(&event, out, size)
 }
 
 /// Answers in how many milliseconds something is due at the device: each tick of fewer answers nothing, and moves the clock
@@ -418,7 +418,7 @@ pub extern "C" fn eip_c_mode(
         device.old.value result device.new.value (out.old, size.old) (out.new, size.new) }
 {
     let event = Event::Mode { run };
-    device.answered(&event, out, size)
+    device.perform(&event, out, size)
 }
 
 /// The connection of a slot is opened, and kept open.
@@ -433,7 +433,7 @@ pub extern "C" fn eip_c_start(
         device.old.value result device.new.value (out.old, size.old) (out.new, size.new) }
 {
     let event = Event::Start { slot };
-    device.answered(&event, out, size)
+    device.perform(&event, out, size)
 }
 
 /// The connection of a slot is closed.
@@ -448,5 +448,5 @@ pub extern "C" fn eip_c_stop(
         device.old.value result device.new.value (out.old, size.old) (out.new, size.new) }
 {
     let event = Event::Stop { slot };
-    device.answered(&event, out, size)
+    device.perform(&event, out, size)
 }
