@@ -4,7 +4,7 @@ use Rattle.std.specs.List.{list_any}
 use Rattle.std.proofs.lemmas.Bool.Decides.{Decides-eqb}
 use Rattle.cip_types.specs.declared.names.Triad.{Triad}
 use Rattle.adapter_table.specs.Connections.{Row}
-use Rattle.adapter_table.specs.Rows.{Each, same_triad, has_triad}
+use Rattle.adapter_table.specs.Rows.{same_triad, has_triad}
 use Rattle.adapter_table.specs.Sound.{TriadsDiffer}
 
 pub some_is : {X : Type 0} {a b : X} → Some a ≡ Some b → a ≡ b
@@ -33,13 +33,6 @@ triad_only a b is =
     let originator : a.originator ≡ b.originator = (Decides-eqb a.originator b.originator).0 t.1 in
     λ i. record { serial = serial i; vendor = vendor i; originator = originator i }
 
--- it does not hold of those whose triad is another's
-pub none_like : (triad : Triad) (P : Row → Type 0) (rows : List Row) → list_any (has_triad triad) rows ≡ false → Each (λ x. has_triad triad x ≡ true → P x) rows
-none_like triad P [] none = tt
-none_like triad P (row ∷ rows) none =
-    let parts = neither (has_triad triad row) (list_any (has_triad triad) rows) none in
-    (λ is. absurd (true≢false (sym is ∙ parts.0)), none_like triad P rows parts.1)
-
 -- one that is found among others of another triad has another triad
 pub found_other : (triad : Triad) (test : Row → Bool) (rows : List Row) (row : Row) → list_any (has_triad triad) rows ≡ false → find test rows ≡ Some row → has_triad triad row ≡ false
 found_other triad test [] row none is = absurd cc
@@ -58,20 +51,6 @@ other_way a b is = split (same_triad b a) refl
     split : (c : Bool) → same_triad b a ≡ c → same_triad b a ≡ false
     split true same = absurd (true≢false (sym (ap (λ t. same_triad a t) (triad_only b a same) ∙ triad_itself a) ∙ is))
     split false differs = differs
-
--- what passes the test is all that has the triad of the first that passes
-pub lone : (test : Row → Bool) (rows : List Row) (row : Row) → TriadsDiffer rows → find test rows ≡ Some row → Each (λ x. has_triad row.triad x ≡ true → test x ≡ true) rows
-lone test [] row differ is = tt
-lone test (x ∷ rows) row differ is = split (test x) refl (lone test rows row differ.1)
-  where
-    split : (b : Bool) → test x ≡ b → (find test rows ≡ Some row → Each (λ y. has_triad row.triad y ≡ true → test y ≡ true) rows) → Each (λ y. has_triad row.triad y ≡ true → test y ≡ true) (x ∷ rows)
-    split true passes rest =
-        let same : x ≡ row = some_is (sym (ap (λ b. cond b (Some x) (find test rows)) passes) ∙ is) in
-        (λ has. passes, none_like row.triad (λ y. test y ≡ true) rows (subst (λ (r : Row). list_any (has_triad r.triad) rows ≡ false) same differ.0))
-    split false fails rest =
-        let found = sym (ap (λ b. cond b (Some x) (find test rows)) fails) ∙ is in
-        let other : has_triad row.triad x ≡ false = other_way row.triad x.triad (found_other x.triad test rows row differ.0 found) in
-        (λ has. absurd (true≢false (sym has ∙ other)), rest found)
 
 -- ---- triads still differ
 

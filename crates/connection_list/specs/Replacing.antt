@@ -116,9 +116,6 @@ goes_by_triad triad rows rise differ =
 
 -- ---- how it is found
 
-abbrev Leaves : List Row → Triad → Option Row → Type 0
-Leaves rows triad result = result ≡ find (is_replaced rows triad) rows
-
 leaves_by : (known full : Bool) (first : Option Row) (rows : List Row) (triad : Triad) → list_any (has_triad triad) rows ≡ known → nat_le most_rows (length rows) ≡ full → find is_timed_out rows ≡ first → find (is_replaced rows triad) rows ≡ find (is_replaced_by known full first triad) rows
 leaves_by known full first rows triad is long found =
     ap (λ (k : Bool). find (is_replaced_by k (nat_le most_rows (length rows)) (find is_timed_out rows) triad) rows) is

@@ -1,6 +1,5 @@
 -- How the parts of a run make the whole.
 use Rattle.std.proofs.Common.{◌≡◌, ℕ, ◌+◌, Bool, List, [], ◌∷◌, ◌++◌, length, Option, Some, None, Result, Ok, Err, refl, sym, ap, subst, ◌∙◌, inl, inr, append_assoc, arith}
-use Rattle.std.specs.Prelude.{IfSome, ◌<◌}
 use Rattle.std.specs.Io.KnownBytes.{Appends, Keeps}
 use Rattle.std.proofs.lemmas.List.{append-nil}
 use Rattle.cip_events.specs.Outcomes.{Outcome}
@@ -11,10 +10,8 @@ use Rattle.trace_stepper.specs.declared.stepper.StepperFault.TheVariants as step
 use Rattle.trace_stepper.specs.Playing.{IsPlayed, WritesFirst}
 use Rattle.trace_stepper.specs.Stepping.{outcomes_of_trace}
 use Rattle.trace_stepper.specs.Written.{BeginsToWrite, IsTaken}
-use Rattle.eip_line.specs.declared.faults.ProgramFault.{ProgramFault}
-use Rattle.eip_line.specs.declared.faults.ProgramFault.TheVariants as program
 use Rattle.eip_line.specs.Faults.{program_fault_of_step}
-use Rattle.eip_line.specs.Printed.{longest_trace, differs_line, Reads, PrintsRun, PrintsDifference, BeginsToPrint, IsStepped, IsTraceRead, IsTextFault}
+use Rattle.eip_line.specs.Printed.{differs_line, Reads, PrintsRun, PrintsDifference, BeginsToPrint, IsStepped}
 
 chained : (old mid new : Option (List ℕ)) (a b : List ℕ) → Appends old mid a → Appends mid new b → Appends old new (a ++ b)
 chained None mid new a b one two = tt
@@ -61,17 +58,6 @@ pub begun_within : (old mid new : Option (List ℕ)) (a b c : List ℕ) → Appe
 begun_within old mid new a b c one two = begun_behind old mid new a (b ++ c) one (begun mid new b c two)
 
 -- THE RUN
-
-pub text_refused : (input : Option (List ℕ)) (fault : ProgramFault) → IsTextFault fault → (fault ≡ program.TooLong → IfSome input (λ text. longest_trace < length text)) → IsTraceRead input (Err fault)
-text_refused input program.TooLong one long = long refl
-text_refused input program.Read one long = tt
-text_refused input program.OutOfMemory one long = tt
-text_refused input (program.BadLine number) one long = absurd one
-text_refused input (program.BadProfile number) one long = absurd one
-text_refused input program.Write one long = absurd one
-text_refused input (program.Loop fault) one long = absurd one
-text_refused input (program.Line fault) one long = absurd one
-text_refused input (program.Unsettled fault) one long = absurd one
 
 text_apart : (number : ℕ) (front rest : List Outcome) → outcomes_text number (front ++ rest) ≡ outcomes_text number front ++ outcomes_text (number + length front) rest
 text_apart number [] rest = let here : number ≡ number + 0 = omega arith in ap (λ n. outcomes_text n rest) here

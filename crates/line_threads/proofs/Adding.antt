@@ -21,9 +21,6 @@ own_none r is = rw is refl
 own_append : (xs ys : List Receipt) → own_events (xs ++ ys) ≡ own_events xs ++ own_events ys
 own_append xs ys = ap (filter is_local) (map-append event_of xs ys) ∙ filter-append is_local (map event_of xs) (map event_of ys)
 
-pub adds_none : (k : ℕ) (rs : List Receipt) → AddsArrivals k rs rs
-adds_none k rs = record { own = refl; of = λ h. h }
-
 -- what arrives is no call of the application, and no time
 arrivals_are_not_own : (arrival : Arrival) → is_local (arrival_event arrival) ≡ false
 arrivals_are_not_own (arrival.Opened stream peer) = refl

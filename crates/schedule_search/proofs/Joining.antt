@@ -1,5 +1,5 @@
 -- The streams, and then the events.
-use Rattle.std.proofs.Common.{◌≡◌, ◌<◌, ◌≤◌, nat_lt, ℕ, Bool, true, false, cond, List, [], ◌∷◌, ◌++◌, length, slice_get, Result, Ok, refl, sym, ◌∙◌, ap, subst, arith}
+use Rattle.std.proofs.Common.{◌≡◌, ◌<◌, nat_lt, ℕ, Bool, true, cond, List, [], ◌∷◌, ◌++◌, length, slice_get, Result, Ok, refl, sym, ◌∙◌, ap, subst, arith}
 use Rattle.std.proofs.lemmas.Bool.Decides.{nat_tests}
 use Rattle.cip_events.specs.declared.event.Event.{Event}
 use Rattle.cip_tables.specs.declared.table.DeviceTable.{DeviceTable}
@@ -10,9 +10,8 @@ use Rattle.segment_world.specs.World.{World}
 use Rattle.schedule_search.specs.declared.place.Unplaced.{Unplaced}
 use Rattle.schedule_search.specs.declared.place.Unplaced.TheVariants.{Uncaused, OutOfMemory}
 use Rattle.schedule_search.specs.Schedules.{Settles, IsStuck, Orderly}
-use Rattle.schedule_search.specs.Placements.{Ready}
-use Rattle.schedule_search.specs.Openings.{opens_below, named_by, Opening, Opened, FirstOpen}
-use Rattle.schedule_search.specs.Searches.{AllAnswered, Explains, LeftOver, WhyUnplaced}
+use Rattle.schedule_search.specs.Openings.{opens_below, named_by, FirstOpen}
+use Rattle.schedule_search.specs.Searches.{Explains, LeftOver, WhyUnplaced}
 use Rattle.schedule_search.proofs.Opening.{runs_none}
 
 runs_append : (r : Result Story ActFault) (xs ys : List Act) → runs r (xs ++ ys) ≡ runs (runs r xs) ys
@@ -28,24 +27,6 @@ few start hs acts none lt =
       runs_so = ap (runs (begins start)) none ∙ runs_none (begins start);
       tables = refl;
     }
-
-pub many : (start : World) (hs : List (List Event)) (acts : List Act) (w : World) (n : ℕ) → 2 ≤ length hs → n ≡ named_by hs → Opened start hs n acts w → FirstOpen start hs acts w
-many start hs acts w n le named opened =
-    let is : nat_lt (length hs) 2 ≡ false = grind (arith, nat_tests) in
-    record {
-      acts_are =
-          opened.acts_are
-          ∙ ap (opens_below start.nodes hs) named
-          ∙ sym (ap (λ (b : Bool). cond b [] (opens_below start.nodes hs (named_by hs))) is);
-      runs_so = opened.runs_so;
-      tables = opened.tables;
-    }
-
-pub ready : (start : World) (hs : List (List Event)) (acts : List Act) (w : World) → Opening start hs → AllAnswered start hs → FirstOpen start hs acts w → Ready w hs
-ready start hs acts w opening answered first = record {
-  tables = ap (λ (ts : List DeviceTable). length ts) first.tables ∙ opening.tables;
-  steps = λ i t at. answered i t (sym (ap (λ (ts : List DeviceTable). slice_get ts i) first.tables) ∙ at);
-}
 
 joined : (start : World) (hs : List (List Event)) (acts later : List Act) (w : World) (story : Story) → FirstOpen start hs acts w → runs (begins w) later ≡ Ok story → runs (begins start) (acts ++ later) ≡ Ok story
 joined start hs acts later w story first so =

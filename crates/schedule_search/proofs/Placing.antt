@@ -308,6 +308,3 @@ cut_causes w n i back marks reported v is =
     let cuts = mark_cuts w n i back marks in
     let same : cuts.after ≡ v = ap (λ (p : Option ReportedEvent × World). p.1) (ok_is _ _ (sym cuts.is ∙ is)) in
     subst (λ (x : World). Causes x i (StreamCut n) (NextFrame n back)) same cuts.causes
-
-pub place_within : (hs : List (List Event)) (b : Placement) (i : ℕ) (a : Act) → CausesNext hs b i a → slice_index b.placed i < length (history hs i)
-place_within hs b i a next = cons_lt (history hs i) (slice_index b.placed i) next.0 next.1 next.2

@@ -1,5 +1,5 @@
 -- A device that can't go on.
-use Rattle.std.proofs.Common.{◌≡◌, ℕ, List, [], ◌∷◌, sym, ◌∙◌, subst}
+use Rattle.std.proofs.Common.{◌≡◌, ℕ, List, ◌∷◌, sym, ◌∙◌, subst}
 use Rattle.cip_events.specs.declared.event.Event.{Event}
 use Rattle.segment_traffic.specs.declared.direction.Direction.{Direction}
 use Rattle.segment_world.specs.declared.act.Act.{Act}
@@ -15,9 +15,6 @@ head_is x y xs ys h = cc
 
 cut_same : (m n : ℕ) → StreamCut m ≡ StreamCut n → m ≡ n
 cut_same m n h = cc
-
-pub stuck_none : (hs : List (List Event)) (b : Placement) (i : ℕ) → rest hs b.placed i ≡ [] → StuckHere hs b i
-stuck_none hs b i none e es is = absurd (let h = sym none ∙ is in cc)
 
 pub stuck_at : (hs : List (List Event)) (b : Placement) (i : ℕ) (e : Event) (es : List Event) → rest hs b.placed i ≡ e ∷ es → (CanCome b.world i e → ⊥) → NoCutReaches (rest hs b.placed) b.world i e → StuckHere hs b i
 stuck_at hs b i e es is cannot unmarked f fs is_f =

@@ -1,8 +1,8 @@
 -- The stories of a plant: what each move keeps.
-use Rattle.std.proofs.Common.{◌≡◌, ◌<◌, ◌≤◌, ℕ, zero, suc, ◌+◌, ◌==◌, Bool, true, false, cond, List, [], ◌∷◌, ◌++◌, map, filter, drop, length, slice_get, Option, Some, None, Result, Ok, Err, IfOk, refl, sym, ◌∙◌, ap, subst, arith}
+use Rattle.std.proofs.Common.{◌≡◌, ◌<◌, ◌≤◌, ℕ, zero, suc, ◌+◌, ◌==◌, Bool, true, false, cond, List, [], ◌∷◌, ◌++◌, map, filter, length, slice_get, Option, Some, None, Result, Ok, Err, IfOk, refl, sym, ◌∙◌, ap, subst, arith}
 use Rattle.std.specs.List.{AllByRecursion}
 use Rattle.std.specs.Option.{IfSome}
-use Rattle.std.proofs.lemmas.List.{append_assoc, append-nil, at_drop_all, at_drop_more, length-map, map-append}
+use Rattle.std.proofs.lemmas.List.{append_assoc, append-nil, length-map, map-append}
 use Rattle.std.proofs.lemmas.Option.{same_Some}
 use Rattle.base_lemmas.specs.Numbers.{less_other}
 use Rattle.cip_types.specs.declared.names.Node.{Node}
@@ -61,24 +61,6 @@ no_act story = refl
 lives_begin : (n : ℕ) (configs : List Config) (count : ℕ) → n + length configs ≤ count → AllByRecursion (λ life. life < count) (first_lives n configs)
 lives_begin n [] count le = tt
 lives_begin n (config ∷ configs) count le = (omega arith, lives_begin (suc n) configs count (omega arith))
-
-first_step : (configs : List Config) (i : ℕ) → i < length configs → first_lives i (drop i configs) ≡ i ∷ first_lives (i + 1) (drop (i + 1) configs)
-first_step configs i lt =
-    let there = config_at configs i lt in
-    let one_more : suc i ≡ i + 1 = omega arith in
-    at_drop_more (first_lives i) configs i there.0 lt ∙ ap (λ (n : ℕ). i ∷ first_lives n (drop (i + 1) configs)) one_more
-
--- the first life of one device more
-pub lives_more : (lives new : List ℕ) (configs : List Config) (i : ℕ) → i < length configs → lives ++ first_lives i (drop i configs) ≡ first_lives 0 configs → new ≡ lives ++ i ∷ [] → new ++ first_lives (i + 1) (drop (i + 1) configs) ≡ first_lives 0 configs
-lives_more lives new configs i lt so_far pushed =
-    ap (λ (l : List ℕ). l ++ first_lives (i + 1) (drop (i + 1) configs)) pushed
-    ∙ append_assoc lives (i ∷ []) (first_lives (i + 1) (drop (i + 1) configs))
-    ∙ ap (λ (l : List ℕ). lives ++ l) (sym (first_step configs i lt))
-    ∙ so_far
-
-pub lives_all : (lives : List ℕ) (configs : List Config) (i : ℕ) → length configs ≤ i → lives ++ first_lives i (drop i configs) ≡ first_lives 0 configs → lives ≡ first_lives 0 configs
-lives_all lives configs i le so_far =
-    sym (append-nil lives) ∙ ap (λ (l : List ℕ). lives ++ l) (sym (at_drop_all (first_lives i) configs i le)) ∙ so_far
 
 opening_extends : (configs later : List Config) → begins (opening_world (configs ++ later)) ≡ Ok (record { world = with_later later (opening_world configs); reported = [] })
 opening_extends configs later =

@@ -1,7 +1,7 @@
 -- Acts: the code's steps lead to the outcome that the definition gives.
-use Rattle.std.proofs.Common.{◌≡◌, ◌<◌, ◌≤◌, not, Bool, true, false, ℕ, zero, suc, List, [], ◌∷◌, ◌++◌, map, set, length, slice_get, Option, Some, None, Result, Ok, Err, IsOk, subst, refl, sym, ap, ◌∙◌, arith}
+use Rattle.std.proofs.Common.{◌≡◌, ◌<◌, not, Bool, true, false, ℕ, zero, suc, List, [], ◌∷◌, ◌++◌, map, set, length, slice_get, Option, Some, None, Result, Ok, Err, IsOk, subst, refl, sym, ap, ◌∙◌, arith}
 use Rattle.std.proofs.lemmas.List.{append-nil}
-use Rattle.std.proofs.lemmas.Option.{get_or_from_slice_get, slice_get_past, slice_get_within}
+use Rattle.std.proofs.lemmas.Option.{get_or_from_slice_get, slice_get_within}
 use Rattle.std.specs.Option.{option_map}
 use Rattle.base_lemmas.specs.Lists.{set_same}
 use Rattle.cip_types.specs.declared.names.Node.{Node}
@@ -22,7 +22,7 @@ use Rattle.segment_traffic.specs.declared.direction.Direction.TheVariants.{Forth
 use Rattle.segment_traffic.specs.declared.links.Endpoints.{Endpoints}
 use Rattle.segment_traffic.specs.Fronts.{endpoints_of, is_open, front_of}
 use Rattle.segment_traffic.specs.Streams.{QueueItem, Stream, side_of, receiver, sender, with_stream, frames_sent, notices_applied, answered, cut_stream}
-use Rattle.segment_world.specs.declared.act.ActFault.TheVariants.{NoSuchDevice, NeverSent, NoSuchStream, Step}
+use Rattle.segment_world.specs.declared.act.ActFault.TheVariants.{NoSuchStream, Step}
 use Rattle.segment_world.specs.World.{World, Happened, node_at, sent_by, fan_out, event_at_device, event_at_table, after_device_step, delivered, event_of_item, without_front, taken, taken_at, cut_if, cut_at}
 use Rattle.segment_world.specs.Receptions.{receiver_in, sender_in}
 use Rattle.segment_world.specs.Follows.{IsPossible, ActFollows}
@@ -35,11 +35,6 @@ get_there [] i lt = absurd (omega arith)
 get_there (x ∷ xs) zero lt = (x, refl)
 get_there (x ∷ xs) (suc i) lt = get_there xs i (omega arith)
 
-none_past : {X : Type 0} (xs : List X) (i : ℕ) → slice_get xs i ≡ None → length xs ≤ i
-none_past [] i is = omega arith
-none_past (y ∷ xs) zero is = absurd (let e = is in cc)
-none_past (y ∷ xs) (suc i) is = let le = none_past xs i is in omega arith
-
 -- AN EVENT AT A DEVICE
 
 -- the world has the device: the act is possible
@@ -51,9 +46,6 @@ pub comes_possibly : (device : ℕ) (event : Event) (w : World) → device < len
 comes_possibly device event w lt =
     let there = get_there w.tables device lt in
     subst (λ (o : Option DeviceTable). IsPossible (event_at_table device event w o)) (sym there.1) (possible_so device event w (step there.0 event))
-
-pub comes_nowhere : (device : ℕ) (event : Event) (w : World) → length w.tables ≤ device → event_at_device device event w ≡ Err NoSuchDevice
-comes_nowhere device event w le = ap (event_at_table device event w) (slice_get_past w.tables device le)
 
 came_is : (device : ℕ) (event : Event) (w : World) (t : DeviceTable) (said : Result DeviceNext StepFault) → slice_get w.tables device ≡ Some t → step t event ≡ said → event_at_device device event w ≡ after_device_step device event w said
 came_is device event w t said at is = ap (event_at_table device event w) at ∙ ap (after_device_step device event w) is
@@ -127,14 +119,6 @@ delivered_so old w device index sent delivery answer tables seen found was plain
     ∙ ap (λ (ts : List DeviceTable). Ok (Some (record { device = device; event = event; answer = said }), fan_out device said (record w { tables = ts }))) (sym was.leaves)
     ∙ ap (λ (v : World). Ok (Some (record { device = device; event = event; answer = said }), v)) (plain_fan_out device (record w { tables = tables }) delivery) in
     (Some (record { device = device; event = event; answer = said }), sym (ap (λ (v : World). delivered device v (slice_get v.tables device) (slice_get v.sent index)) seen) ∙ happened, ap Some plain)
-
-pub delivered_nowhere : (w : World) (device : ℕ) (found : Option Sent) → length w.tables ≤ device → delivered device w (slice_get w.tables device) found ≡ Err NoSuchDevice
-delivered_nowhere w device found le = ap (λ (t : Option DeviceTable). delivered device w t found) (slice_get_past w.tables device le)
-
-pub delivered_nothing : (w : World) (device : ℕ) (found : Option Sent) → device < length w.tables → found ≡ None → delivered device w (slice_get w.tables device) found ≡ Err NeverSent
-delivered_nothing w device found lt none =
-    let there = get_there w.tables device lt in
-    ap (λ (t : Option DeviceTable). delivered device w t found) there.1 ∙ ap (delivered device w (Some there.0)) none
 
 -- EVENTS OVER A STREAM
 

@@ -12,10 +12,9 @@ use Rattle.trace_text.specs.declared.trace.Trace.{Trace}
 use Rattle.trace_text.specs.Reading.{Entry}
 use Rattle.trace_outcomes.specs.WrittenOutcomes.{outcome_text, outcomes_text}
 use Rattle.trace_stepper.specs.Compared.{AgreesWith, AgreeAt, AgreeBefore, recorded_at, IsJudged, JudgesOn}
-use Rattle.trace_stepper.specs.Playing.{WritesFirst}
 use Rattle.trace_stepper.specs.Stepping.{events_of, outcomes_of_trace, MovesOn}
 use Rattle.trace_stepper.specs.Written.{BeginsToWrite}
-use Rattle.trace_stepper.proofs.Steps.{begun, continued, completed}
+use Rattle.trace_stepper.proofs.Steps.{begun, continued}
 use Rattle.trace_stepper.proofs.Writes.{chained, nothing}
 
 text_pushed : (number : ℕ) (outcomes : List Outcome) (last : Outcome) → outcomes_text number (outcomes ++ last ∷ []) ≡ outcomes_text number outcomes ++ outcome_text (number + length outcomes) last
@@ -88,16 +87,6 @@ play_more trace old now next table table' left rest place differs differs' outco
       judged = judged_more trace.events (outcomes_of_trace trace) place outcome differs differs' given playing.judged judges;
       all = omega (arith, playing.all, fewer);
     }
-
-pub play_stopped : (trace : Trace) (old now : Option (List ℕ)) (table : DeviceTable) (left : List Entry) (place : ℕ) (differs : Option ℕ) → IsPlaying trace old now table left place differs → WritesFirst trace old now
-play_stopped trace old now table left place differs playing = (playing.front, (outcomes_of table (events_of left), (playing.reported, playing.written)))
-
-pub play_ended : (trace : Trace) (old now : Option (List ℕ)) (table table' : DeviceTable) (left rest : List Entry) (place : ℕ) (differs : Option ℕ) → IsPlaying trace old now table left place differs → MovesOn table left (Ok None) table' rest → Appends old now (outcomes_text 1 (outcomes_of_trace trace)) × IsJudged trace.events (outcomes_of_trace trace) (length trace.events) differs
-play_ended trace old now table table' left rest place differs playing moves =
-    let whole : outcomes_of_trace trace ≡ playing.front = completed (outcomes_of_trace trace) playing.front table table' left rest playing.reported moves in
-    let none : length left ≡ 0 = ap length moves.0 in
-    let last : place ≡ length trace.events = omega (arith, playing.all, none) in
-    (subst (λ os. Appends old now (outcomes_text 1 os)) (sym whole) playing.written, subst (λ n. IsJudged trace.events (outcomes_of_trace trace) n differs) last playing.judged)
 
 -- a place is left where an entry is
 pub place_left : (trace : Trace) (old now : Option (List ℕ)) (table table' : DeviceTable) (left rest : List Entry) (place : ℕ) (differs : Option ℕ) (outcome : Outcome) → IsPlaying trace old now table left place differs → MovesOn table left (Ok (Some outcome)) table' rest → place < length trace.events

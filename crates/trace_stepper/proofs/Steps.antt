@@ -1,6 +1,5 @@
 -- Steps of a stepper.
 use Rattle.std.proofs.Common.{suc, ◌≡◌, ◌≢◌, ℕ, ◌+◌, ◌<◌, List, [], ◌∷◌, ◌++◌, drop, length, get_or, drop-cons, subst, Some, None, Result, Ok, Err, refl, sym, ap, ◌∙◌, arith, append_assoc, Option, Bool, true}
-use Rattle.std.proofs.lemmas.List.{append-nil}
 use Rattle.cip_events.specs.declared.event.Answer.{Answer}
 use Rattle.cip_events.specs.declared.event.StepFault.{StepFault}
 use Rattle.cip_events.specs.declared.event.StepFault.TheVariants as step_fault
@@ -35,9 +34,6 @@ continued all front front' old new left rest outcome so_far (entry, taken, is, t
     ∙ ap (λ t. front ++ (outcome ∷ outcomes_of t (events_of rest))) (sym table)
     ∙ sym (append_assoc front (outcome ∷ []) (outcomes_of new (events_of rest)))
     ∙ ap (λ f. f ++ outcomes_of new (events_of rest)) (sym pushed)
-
-pub completed : (all front : List Outcome) (old new : DeviceTable) (left rest : List Entry) → all ≡ front ++ outcomes_of old (events_of left) → MovesOn old left (Ok None) new rest → all ≡ front
-completed all front old new left rest so_far (none, no_rest, same) = so_far ∙ ap (λ entries. front ++ outcomes_of old (events_of entries)) none ∙ append-nil front
 
 dropped : (entries : List Entry) (place : ℕ) (entry : Entry) → place < length entries → entry ≡ get_or entries place entry → drop place entries ≡ entry ∷ drop (place + 1) entries
 dropped entries place entry below is =

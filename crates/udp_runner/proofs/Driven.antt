@@ -18,9 +18,6 @@ use Rattle.udp_runner.specs.Turns.{Blames, Drives, Stops, arrivals_of, events_of
 use Rattle.udp_runner.proofs.Handed.{hands_both, hands_none, hands_one, hands_weaker, some_after, some_none, some_one}
 use Rattle.udp_runner.proofs.Joining.{drives_more, drives_one, stops_after, stops_before, stops_output, stops_receiving, stops_stepping}
 
-Notes : Type 0 → Type 1
-Notes O = O → Event → Outcome → O → Type 0
-
 -- the result of what follows so many events
 abbrev pub plus : ℕ → Result ℕ RunFault → Result ℕ RunFault
 plus n (Ok m) = Ok (n + m)

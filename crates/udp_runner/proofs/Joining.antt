@@ -24,9 +24,6 @@ all_sent-append t (x ∷ xs) ys =
     ap (λ os. step_sent (step t x) ++ os) (all_sent-append (table_of t (step t x)) xs ys)
     ∙ sym (append_assoc (step_sent (step t x)) (all_sent (table_of t (step t x)) xs) (all_sent (table_after t (x ∷ xs)) ys))
 
-pub drives_none : (tape : Tape) (t : DeviceTable) → Drives [] 0 tape tape t t
-drives_none tape t = record { sends = sym (append-nil tape.sent); table = refl; counts = refl }
-
 -- one event whose answer was sent
 pub drives_one : (e : Event) (a : Answer) (old new : Tape) (t t' : DeviceTable) → step t e ≡ Ok (a, t') → new ≡ with_sent old (answer_sent a) → Drives (e ∷ []) 1 old new t t'
 drives_one e a old new t t' is sent = record {

@@ -1,7 +1,7 @@
 -- What is sent of a list, one element after another.
 use Rattle.std.proofs.Common.{◌≡◌, ◌<◌, ℕ, ◌+◌, List, [], ◌∷◌, ◌++◌, length, take, drop, get_or, Result, Ok, Err, OnOk, OnErr, refl, ap, ◌∙◌, sym, append_assoc, append-nil}
 use Rattle.std.specs.List.{flat_map}
-use Rattle.std.proofs.lemmas.List.{take_more, take-append-drop, drop_more}
+use Rattle.std.proofs.lemmas.List.{take-append-drop, drop_more}
 use Rattle.udp_runner.specs.declared.output.SentOutput.{SentOutput}
 use Rattle.udp_runner.specs.Outputs.{SendsSome}
 use Rattle.udp_runner.specs.Tape.{Tape, with_sent}
@@ -9,14 +9,6 @@ use Rattle.udp_runner.specs.Tape.{Tape, with_sent}
 pub flat_map-append : {X : Type 0} (f : X → List SentOutput) (xs ys : List X) → flat_map f (xs ++ ys) ≡ flat_map f xs ++ flat_map f ys
 flat_map-append f [] ys = refl
 flat_map-append f (x ∷ xs) ys = ap (λ os. f x ++ os) (flat_map-append f xs ys) ∙ sym (append_assoc (f x) (flat_map f xs) (flat_map f ys))
-
--- one more element is sent
-pub flat_map_take_more : {X : Type 0} (f : X → List SentOutput) (xs : List X) (i : ℕ) (x : X) → i < length xs → x ≡ get_or xs i x → flat_map f (take (i + 1) xs) ≡ flat_map f (take i xs) ++ f x
-flat_map_take_more f xs i x h is =
-    ap (flat_map f) (take_more xs i x h)
-    ∙ flat_map-append f (take i xs) (get_or xs i x ∷ [])
-    ∙ ap (λ os. flat_map f (take i xs) ++ os) (append-nil (f (get_or xs i x)))
-    ∙ ap (λ y. flat_map f (take i xs) ++ f y) (sym is)
 
 -- what is sent of all is what is sent of the first ones, of the next one, and of the others
 pub flat_map_parts : {X : Type 0} (f : X → List SentOutput) (xs : List X) (i : ℕ) (x : X) → i < length xs → x ≡ get_or xs i x → flat_map f xs ≡ flat_map f (take i xs) ++ (f x ++ flat_map f (drop (i + 1) xs))

@@ -39,11 +39,6 @@ length_set [] i x = refl
 length_set (y ∷ ys) zero x = refl
 length_set (y ∷ ys) (suc i) x = ap suc (length_set ys i x)
 
-pub get_all : {X Y : Type 0} (f : X → Y) (xs : List X) (i : ℕ) (x : X) → slice_get xs i ≡ Some x → slice_get (map f xs) i ≡ Some (f x)
-get_all f [] i x is = none_some x is
-get_all f (y ∷ xs) zero x is = ap (λ z. Some (f z)) (some_is y x is)
-get_all f (y ∷ xs) (suc i) x is = get_all f xs i x is
-
 pub listed : (hs : List HistoryValue) (i : ℕ) → i < length hs → i < length (events_of_all hs)
 listed hs i lt = omega (arith, length_all events_in hs, lt)
 
