@@ -1,6 +1,7 @@
 -- A producer of a pool passes a test where the producer of a connection does: it is due, or produces at a change of state.
 use Rattle.std.proofs.Common.{◌≡◌, ℕ, Bool, true, false, cond, ◌||◌, ◌&&◌, ◌==◌, List, [], ◌∷◌, map, find, Option, Some, None, refl, sym, ap, subst, ◌∙◌, true≢false, arith}
 use Rattle.std.specs.List.{list_any, AllByRecursion}
+use Rattle.std.proofs.lemmas.Bool.{or_left, or_right}
 use Rattle.cip_types.specs.declared.names.Ms.{Ms}
 use Rattle.adapter_table.specs.Connections.{Row}
 use Rattle.adapter_table.specs.Connections.{with_state}
@@ -21,13 +22,6 @@ use Rattle.conn_slab.proofs.Balance.{witness}
 
 -- ---- a connection's is one of the pool
 
-one_passes : (b c : Bool) → c ≡ true → (b || c) ≡ true
-one_passes true c is = refl
-one_passes false c is = is
-
-first_passes : (b c : Bool) → b ≡ true → (b || c) ≡ true
-first_passes b c is = rw is refl
-
 any_of : (p test : Group → Bool) (pool : List Group) (g : Group) → find p pool ≡ Some g → test g ≡ true → list_any test pool ≡ true
 any_of p test [] g is passes = absurd cc
 any_of p test (x ∷ pool) g is passes = split (p x) refl (any_of p test pool g)
@@ -36,8 +30,8 @@ any_of p test (x ∷ pool) g is passes = split (p x) refl (any_of p test pool g)
     split true here rest =
         let found : Some x ≡ Some g = sym (ap (λ b. cond b (Some x) (find p pool)) here) ∙ is in
         let same : x ≡ g = cc in
-        first_passes (test x) (list_any test pool) (ap test same ∙ passes)
-    split false fails rest = one_passes (test x) (list_any test pool) (rest (sym (ap (λ b. cond b (Some x) (find p pool)) fails) ∙ is) passes)
+        or_left (test x) (list_any test pool) (ap test same ∙ passes)
+    split false fails rest = or_right (test x) (list_any test pool) (rest (sym (ap (λ b. cond b (Some x) (find p pool)) fails) ∙ is) passes)
 
 -- a test of groups says of each what a test of connections says of those that share its producer
 pub record Alike (test : Group → Bool) (row_test : Row → Bool) : Type 0 where

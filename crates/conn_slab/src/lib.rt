@@ -16,5 +16,6 @@ mod rows;
 
 pub use connections::Connections;
 pub use peers::{Peer, Peers};
+pub use producers::is_on_change;
 pub use reception::Received;
 pub use rows::Rows;

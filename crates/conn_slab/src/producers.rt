@@ -86,7 +86,10 @@ pub(crate) fn has_at_once(groups: &[Group], clock: Ms, point: u32) -> bool
     })
 }
 
-fn is_on_change(trigger: Trigger) -> bool
+/// Whether the producer of a trigger produces at changes of state.
+///
+/// Volume 1, chapter 3, production triggers.
+pub fn is_on_change(trigger: Trigger) -> bool
     ensures { result ≡ is_on_change trigger }
 {
     match trigger {

@@ -6,16 +6,14 @@ ghost use Rattle.adapter_table.specs.Rows.{is_established, is_timed_out, drives,
 ghost use Rattle.adapter_table.specs.States.{count_consuming};
 ghost use Rattle.adapter_table.specs.Objects.{is_owning, is_running};
 ghost use Rattle.cip_tables.specs.Wakes.{connections_due};
-ghost use Rattle.cip_productions.specs.Productions.{is_on_change};
 ghost use Rattle.conn_slab.specs.Connections.{is_listening, is_changing};
 
 use adapter_table::{
     Row, State, consumes, drives, is_established, is_member, is_of_kind, is_of_node, is_timed_out,
 };
-use cip_netparams::Trigger;
 use cip_productions::Kind;
 use cip_types::Node;
-use conn_slab::Rows;
+use conn_slab::{Rows, is_on_change};
 use connection_list::{connection_due, is_owning, is_running};
 
 /// Whether some connection is established.
@@ -176,16 +174,6 @@ pub fn is_listening(row: &Row) -> bool
     ensures { result ≡ is_listening row.now }
 {
     is_established(row) && row.kind == Kind::ListenOnly
-}
-
-/// Whether the producer of a trigger produces at changes of state.
-fn is_on_change(trigger: Trigger) -> bool
-    ensures { result ≡ is_on_change trigger }
-{
-    match trigger {
-        Trigger::Cyclic => false,
-        Trigger::ChangeOfState => true,
-    }
 }
 
 /// Whether a connection is established, and its producer produces at changes of state.

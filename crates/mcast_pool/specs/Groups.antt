@@ -81,10 +81,6 @@ written_and_changed clock point group =
 abbrev pub is_at_once : Ms → ℕ → Group → Bool
 is_at_once clock point group = group.producer.point == point && is_produced_on_change clock group.producer.production
 
--- and it has not produced its new data yet
-abbrev pub is_new_at_once : Ms → ℕ → Group → Bool
-is_new_at_once clock point group = group.producer.production.written && is_at_once clock point group
-
 -- GROUPS IN THE ORDER IN WHICH THEY BEGAN
 
 -- the group of a producer's number
@@ -139,16 +135,6 @@ left number (group ∷ groups) = if has_number number group then rest_of group g
 
 abbrev pub is_last : Group → Bool
 is_last group = group.subscribers == 1
-
--- the lower of two numbers, if there are two
-abbrev pub lower : ℕ → Option ℕ → ℕ
-lower number None = number
-lower number (Some other) = min number other
-
--- the lowest number of those that pass a test
-abbrev pub lowest : (Group → Bool) → List Group → Option ℕ
-lowest test [] = None
-lowest test (group ∷ groups) = if test group then Some (lower (number_of group) (lowest test groups)) else lowest test groups
 
 -- when the first of them is due; the end of time if there is none
 abbrev pub first_due : List Group → ℕ

@@ -2,12 +2,11 @@
 
 ghost use Rattle.std.specs.Prelude.{◌≡◌, ◌≤◌, ◌+◌, ◌^◌, true};
 ghost use Rattle.cip_productions.specs.Productions.{is_production_due};
-ghost use Rattle.mcast_pool.specs.Groups.{has_number, serves, begun, touched_production, touched, produced_group, produced_if_due, written_and_changed, is_at_once, is_new_at_once, FitsGroup};
+ghost use Rattle.mcast_pool.specs.Groups.{has_number, serves, begun, touched_production, touched, produced_group, produced_if_due, written_and_changed, FitsGroup};
 
 use cip_netparams::Trigger;
 use cip_productions::{
-    Producer, Production, changed, deferred, is_free, is_produced_on_change, is_production_due,
-    produced,
+    Producer, Production, changed, deferred, is_free, is_production_due, produced,
 };
 use cip_types::Ms;
 
@@ -122,18 +121,4 @@ pub(crate) fn write_group(group: &mut Group, clock: Ms, point: u32)
             group.producer.production = changed(group.producer.production, clock, group.api);
         }
     }
-}
-
-pub(crate) fn is_at_once(group: &Group, clock: Ms, point: u32) -> bool
-    requires { clock.0 ≤ 2 ^ 48 }
-    ensures { result ≡ is_at_once clock point group.now }
-{
-    group.producer.point == point && is_produced_on_change(&group.producer.production, clock)
-}
-
-pub(crate) fn is_new_at_once(group: &Group, clock: Ms, point: u32) -> bool
-    requires { clock.0 ≤ 2 ^ 48 }
-    ensures { result ≡ is_new_at_once clock point group.now }
-{
-    group.producer.production.written && is_at_once(group, clock, point)
 }

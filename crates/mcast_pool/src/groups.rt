@@ -3,7 +3,7 @@
 ghost use Rattle.std.specs.Prelude.{◌≡◌, ◌+◌, ◌<◌, Some, find, vec_capacity};
 ghost use Rattle.std.specs.List.{position};
 ghost use Rattle.std.specs.Option.{option_map};
-ghost use Rattle.mcast_pool.specs.Groups.{has_number, serves, producer_of, one_more, change_first, left, is_last, lower, numbered, index_for, subscribers, AreGroups};
+ghost use Rattle.mcast_pool.specs.Groups.{has_number, serves, producer_of, one_more, change_first, left, is_last, numbered, index_for, subscribers, AreGroups};
 
 use crate::group::{Group, has_number, serves};
 use cip_productions::Producer;
@@ -92,15 +92,5 @@ pub(crate) fn unsubscribe(groups: &mut Vec<Group>, number: u32, at: usize) -> bo
         let group = &mut groups[at];
         group.subscribers -= 1;
         false
-    }
-}
-
-/// The lower of two numbers, if there are two.
-pub(crate) fn lower(number: u32, other: Option<u32>) -> u32
-    ensures { result ≡ lower number other }
-{
-    match other {
-        Some(other) => number.min(other),
-        None => number,
     }
 }

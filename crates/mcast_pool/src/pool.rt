@@ -1,18 +1,15 @@
 //! The producers of a device's connections.
 
-ghost use Rattle.std.specs.Prelude.{◌≡◌, ◌≤◌, ◌<◌, ◌+◌, ◌^◌, ◌++◌, [], Some, None, filter, length, map, true, IfOk, vec_len, vec_capacity};
+ghost use Rattle.std.specs.Prelude.{◌≡◌, ◌≤◌, ◌<◌, ◌+◌, ◌^◌, ◌++◌, [], Some, None, length, map, true, IfOk, vec_len, vec_capacity};
 ghost use Rattle.std.specs.Option.{option_map};
 ghost use Rattle.cip_datagram.specs.Datagram.{datagram_text};
 ghost use Rattle.cip_productions.specs.Productions.{production_datagram};
-ghost use Rattle.mcast_pool.specs.Groups.{has_number, begun, production_of, producer_of, touched, produced_group, produced_if_due, written_and_changed, is_at_once, is_new_at_once, numbered, IsInUse, subscribers, joined_group, change_first, joined_by, joined, left, is_last, lowest, first_due, FitsGroup, MayProduce, AreGroups};
+ghost use Rattle.mcast_pool.specs.Groups.{has_number, begun, production_of, producer_of, touched, produced_group, produced_if_due, written_and_changed, numbered, IsInUse, subscribers, joined_group, change_first, joined_by, joined, left, is_last, first_due, FitsGroup, MayProduce, AreGroups};
 
 use crate::group::{
-    Group, begun, has_number, is_at_once, is_new_at_once, produce_if_due, produced_group, touched,
-    write_group,
+    Group, begun, has_number, produce_if_due, produced_group, touched, write_group,
 };
-use crate::groups::{
-    find_with_hint, index_for, index_of, index_with_hint, lower, subscribe, unsubscribe,
-};
+use crate::groups::{find_with_hint, index_for, index_of, index_with_hint, subscribe, unsubscribe};
 use cip_datagram::{Datagram, write_datagram};
 use cip_productions::{Producer, Production, next_count};
 use cip_types::{ConnId, Ms, OutOfMemory};
@@ -179,34 +176,6 @@ impl Pool {
         for group in self.groups.iter_mut() {
             *group = touched(*group, clock, point);
         }
-    }
-
-    /// How many producers of a point a change of state makes produce at once. Takes no memory.
-    ///
-    /// Volume 1, chapter 3, production triggers and production inhibit time.
-    pub fn at_once(&self, point: u32, clock: Ms) -> usize
-        requires { clock.0 ≤ 2 ^ 48 }
-        ensures { result ≡ length (filter (is_at_once clock point) self.now) }
-    {
-        self.groups
-            .iter()
-            .filter(|group| is_at_once(group, clock, point))
-            .count()
-    }
-
-    /// The lowest number of those that have not produced their new data yet. Takes no memory.
-    pub fn next_at_once(&self, point: u32, clock: Ms) -> Option<u32>
-        requires { clock.0 ≤ 2 ^ 48 }
-        ensures { result ≡ lowest (is_new_at_once clock point) self.now }
-    {
-        let mut lowest = None;
-        for at in (0..self.groups.len()).rev() {
-            let group = &self.groups[at];
-            if is_new_at_once(group, clock, point) {
-                lowest = Some(lower(group.producer.production.producer, lowest));
-            }
-        }
-        lowest
     }
 
     /// A producer produces: it appends its next datagram with these data (a run/idle header among them, if it has
