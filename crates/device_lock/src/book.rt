@@ -37,7 +37,8 @@ impl<D: Device + Drop> Model for Book<D> {
 
     ghost view = { λ b. record { opening = b.opening; events = b.events.items; segment = b.segment } };
 
-    ghost invariant = { λ b. (D.table b.device ≡ table_after b.opening b.events.items) × (length b.events.items ≤ most_events) };
+    ghost invariant = { λ b. (D.table b.device ≡ table_after b.opening b.events.items)
+        × (length b.events.items ≤ most_events) };
 }
 
 impl<D: Device + Drop> Book<D> {
@@ -91,7 +92,7 @@ impl<D: Device + Drop> Book<D> {
         }
         let stored = event.copy(self.alloc)?;
         self.events.reserve(1)?;
-        let answer = answered(self.alloc, &mut self.device, &event)?;
+        let answer = answer(self.alloc, &mut self.device, &event)?;
         let index = self.events.len() as u32;
         self.events.push_reserved(stored);
         Ok(Receipt {
@@ -122,8 +123,8 @@ impl<D: Device + Drop> Book<D> {
     }
 }
 
-// Steps a device at an event. A datagram goes straight to `deliver`, so that its answer takes no memory.
-fn answered<D: Device>(alloc: Global, device: &mut D, event: &Event) -> Outcome
+/// Steps a device at an event. A datagram goes straight to `deliver`, so that its answer takes no memory.
+fn answer<D: Device>(alloc: Global, device: &mut D, event: &Event) -> Outcome
     ensures { Follows (step (D.table device.old) event.now) (D.table device.old) result (D.table device.new) }
 {
     match event {
@@ -135,7 +136,7 @@ fn answered<D: Device>(alloc: Global, device: &mut D, event: &Event) -> Outcome
     }
 }
 
-// The incarnation byte in a device's table.
+/// The incarnation byte in a device's table.
 fn incarnation_in(table: &DeviceTable) -> u8
     ensures { result ≡ incarnation_of table.now }
 {

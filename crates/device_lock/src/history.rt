@@ -123,7 +123,7 @@ impl History {
     }
 }
 
-// A fresh device.
+/// A fresh device.
 fn fresh<D: Device + Drop>(alloc: Global, config: &Config) -> Result<D, OutOfMemory>
     requires valid { config_fault config.now ≡ None }
     requires accepts { D.accepts config.now ≡ true }
@@ -137,7 +137,7 @@ fn fresh<D: Device + Drop>(alloc: Global, config: &Config) -> Result<D, OutOfMem
     }
 }
 
-// Runs a device over stored events.
+/// Runs a device over stored events.
 fn replay<D: Device>(device: &mut D, events: &[Event]) -> Result<(), OutOfMemory>
     ensures { IfOk result (λ _. D.table device.new ≡ table_after (D.table device.old) events.now) }
 {
@@ -147,7 +147,7 @@ fn replay<D: Device>(device: &mut D, events: &[Event]) -> Result<(), OutOfMemory
     Ok(())
 }
 
-// Steps a device at one stored event. A device that refuses the event stays as it was.
+/// Steps a device at one stored event. A device that refuses the event stays as it was.
 fn repeat<D: Device>(device: &mut D, event: &Event) -> Result<(), OutOfMemory>
     ensures { IfOk result (λ _. D.table device.new ≡ table_after (D.table device.old) (event.now ∷ [])) }
 {
@@ -158,7 +158,7 @@ fn repeat<D: Device>(device: &mut D, event: &Event) -> Result<(), OutOfMemory>
     }
 }
 
-// What a device answers to events, one after another.
+/// What a device answers to events, one after another.
 fn outcomes_at<D: Device + Drop>(
     alloc: Global,
     device: D,
@@ -175,7 +175,7 @@ fn outcomes_at<D: Device + Drop>(
     Ok(outcomes)
 }
 
-// What a device answers to an event. Want of memory is a fault of the call, and no outcome.
+/// What a device answers to an event. Want of memory is a fault of the call, and no outcome.
 fn outcome_at<D: Device>(device: &mut D, event: &Event) -> Result<Outcome, OutOfMemory>
     ensures outcome { IfOk result (λ outcome. outcome ≡ outcome_of (step (D.table device.old) event.now)) }
     ensures table { IfOk result
@@ -188,7 +188,7 @@ fn outcome_at<D: Device>(device: &mut D, event: &Event) -> Result<Outcome, OutOf
     }
 }
 
-// How many events some segments have.
+/// How many events some segments have.
 fn total(counts: &[usize]) -> usize
     requires { sum counts.now < 2 ^ 64 }
     ensures { result ≡ sum counts.now }
@@ -196,14 +196,14 @@ fn total(counts: &[usize]) -> usize
     counts.iter().sum()
 }
 
-// The events of a segment. What else it holds is dropped here, apart from the loop that takes them.
+/// The events of a segment. What else it holds is dropped here, apart from the loop that takes them.
 fn into_events(segment: Segment) -> Vec<Event>
     ensures { result.items ≡ segment.events }
 {
     segment.events.into_vec()
 }
 
-// The history of segments, whose events it takes out of them.
+/// The history of segments, whose events it takes out of them.
 fn joined(alloc: Global, config: Config, segments: Vec<Segment>) -> Result<History, OutOfMemory>
     ensures { IfOk result (λ history. history ≡ history_of config segments.items) }
 {

@@ -49,7 +49,7 @@ impl<D: Device + Drop> LockedDevice<D> {
     pub fn step<R: Wait>(&self, rt: &R, event: Event) -> Result<Receipt, BookFault>
         ensures { IfOk result (IsReceiptOf self.now event) }
     {
-        signed(&mut self.book.lock(rt), self.device, event)
+        sign(&mut self.book.lock(rt), self.device, event)
     }
 
     /// Waits for the lock, and asks `inside` under it. Where it answers true, steps the book, with the book's faults;
@@ -69,7 +69,7 @@ impl<D: Device + Drop> LockedDevice<D> {
         if !inside() {
             return Ok(None);
         }
-        let receipt = signed(&mut book, self.device, event)?;
+        let receipt = sign(&mut book, self.device, event)?;
         Ok(Some(receipt))
     }
 
@@ -80,8 +80,8 @@ impl<D: Device + Drop> LockedDevice<D> {
     }
 }
 
-// Steps a book under a lock. The receipt is in the name of `device`; all else of it is the book's.
-fn signed<D: Device + Drop>(
+/// Steps a book under a lock. The receipt is in the name of `device`; all else of it is the book's.
+fn sign<D: Device + Drop>(
     book: &mut Book<D>,
     device: u8,
     event: Event,
