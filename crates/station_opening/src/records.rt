@@ -3,7 +3,7 @@
 use cip_tables::Config;
 use cip_types::OutOfMemory;
 use command_lines::VERSION;
-use station_files::{place_of_record, push_moment};
+use station_files::{place_of_record, push_timestamp};
 use station_record::{RecordFault, Recorder};
 use station_rim::{Entries, SharedRecord};
 use std::fs::File;
@@ -44,7 +44,7 @@ pub fn head_of<R: AllocGlobal + Clock>(rt: &R) -> Result<String, OutOfMemory> {
         Err(_) => 0,
     };
     let mut head = format!(in rt.alloc(); "# recorded from ")?;
-    push_moment(&mut head, ms)?;
+    push_timestamp(&mut head, ms)?;
     write!(head, " by eip_station {VERSION}\n")?;
     Ok(head)
 }

@@ -1,4 +1,4 @@
-//! The moment at which a record begins, as a text.
+//! The time at which a record begins, as a text.
 
 use cip_types::OutOfMemory;
 
@@ -13,8 +13,8 @@ pub struct Day {
     pub day: u64,
 }
 
-/// Appends a moment as RFC 3339 has it, in UTC, by the milliseconds since 1970 began.
-pub fn push_moment(out: &mut String, ms: u64) -> Result<(), OutOfMemory> {
+/// Appends a time as RFC 3339 has it, in UTC, by the milliseconds since 1970 began.
+pub fn push_timestamp(out: &mut String, ms: u64) -> Result<(), OutOfMemory> {
     let Day { year, month, day } = day_of(ms / 86_400_000);
     let hour = ms / 3_600_000 % 24;
     let minute = ms / 60_000 % 60;
