@@ -9,23 +9,23 @@ use Rattle.trace_text.specs.Reading.{Entry}
 use Rattle.cip_tables.specs.declared.table.Config.{Config}
 use Rattle.trace_pcap.specs.declared.capture.Capture.{Capture}
 use Rattle.trace_pcap.specs.declared.ends.Side.{Side}
-use Rattle.trace_pcap.specs.declared.traffic.Moment.{Moment}
+use Rattle.trace_pcap.specs.declared.traffic.EventContext.{EventContext}
 use Rattle.trace_pcap.specs.Ends.{side_of}
 use Rattle.trace_pcap.specs.Packets.{file_header}
 use Rattle.trace_pcap.specs.Traffic.{Streams, event_records, event_streams, replies_records, answer_records, answer_streams}
 
 -- what arrives, and what is answered if that is recorded; nothing if the device refused the event
-abbrev pub entry_records : Moment → Event → Option Outcome → Streams → List ℕ
-entry_records moment event None streams = event_records moment event streams
-entry_records moment event (Some (Ok answer)) streams =
-    event_records moment event streams
-    ++ (replies_records moment event answer.frames ++ answer_records moment answer (event_streams moment event streams))
-entry_records moment event (Some (Err fault)) streams = []
+abbrev pub entry_records : EventContext → Event → Option Outcome → Streams → List ℕ
+entry_records context event None streams = event_records context event streams
+entry_records context event (Some (Ok answer)) streams =
+    event_records context event streams
+    ++ (replies_records context event answer.frames ++ answer_records context answer (event_streams context event streams))
+entry_records context event (Some (Err fault)) streams = []
 
-abbrev pub entry_streams : Moment → Event → Option Outcome → Streams → Streams
-entry_streams moment event None streams = event_streams moment event streams
-entry_streams moment event (Some (Ok answer)) streams = answer_streams answer (event_streams moment event streams)
-entry_streams moment event (Some (Err fault)) streams = streams
+abbrev pub entry_streams : EventContext → Event → Option Outcome → Streams → Streams
+entry_streams context event None streams = event_streams context event streams
+entry_streams context event (Some (Ok answer)) streams = answer_streams answer (event_streams context event streams)
+entry_streams context event (Some (Err fault)) streams = streams
 
 -- PIECES
 
@@ -48,12 +48,12 @@ abbrev pub number_after : ℕ → ℕ
 number_after number = (number + 1) % 2 ^ 64
 
 -- where and when the next event happens
-abbrev pub moment_of : Captured → Entry → Moment
-moment_of captured entry = record { side = captured.side; time = time_after captured.time entry.0 entry.1; number = captured.number }
+abbrev pub context_of : Captured → Entry → EventContext
+context_of captured entry = record { side = captured.side; time = time_after captured.time entry.0 entry.1; number = captured.number }
 
 -- the packets of the next event
 abbrev pub piece_of : Captured → Entry → List ℕ
-piece_of captured entry = entry_records (moment_of captured entry) entry.0 entry.1 captured.streams
+piece_of captured entry = entry_records (context_of captured entry) entry.0 entry.1 captured.streams
 
 -- what is known behind it
 abbrev pub captured_with : Captured → Entry → Captured
@@ -61,7 +61,7 @@ captured_with captured entry = record {
   side = captured.side;
   time = time_after captured.time entry.0 entry.1;
   number = number_after captured.number;
-  streams = entry_streams (moment_of captured entry) entry.0 entry.1 captured.streams;
+  streams = entry_streams (context_of captured entry) entry.0 entry.1 captured.streams;
 }
 
 -- the packets of events, a piece for each

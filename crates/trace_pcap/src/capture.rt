@@ -7,7 +7,7 @@ ghost use Rattle.trace_pcap.specs.Written.{begun, captured_with, entry_records, 
 
 use crate::ends::{CapturedStream, Side, side_of};
 use crate::packets::push_file_header;
-use crate::traffic::{Moment, push_answer, push_event, push_replies};
+use crate::traffic::{EventContext, push_answer, push_event, push_replies};
 use cip_events::{Answer, Event};
 use cip_tables::Config;
 use cip_types::OutOfMemory;
@@ -66,8 +66,8 @@ impl Capture {
     {
         let (side, number) = (self.side, self.number);
         let time = time_after(self.time, event, recorded);
-        let moment = Moment { side, time, number };
-        push_entry(out, &mut self.streams, moment, event, recorded)?;
+        let context = EventContext { side, time, number };
+        push_entry(out, &mut self.streams, context, event, recorded)?;
         self.time = time;
         self.number = number_after(number);
         Ok(())
@@ -85,17 +85,17 @@ fn number_after(number: u64) -> u64
 fn push_entry(
     out: &mut Vec<u8>,
     streams: &mut Vec<CapturedStream>,
-    moment: Moment,
+    context: EventContext,
     event: &Event,
     recorded: &Recorded,
 ) -> Result<(), OutOfMemory>
     ensures records { OnOk result
-        (out.new.items ≡ out.old.items ++ entry_records moment event.now recorded.now streams.old.items) }
-    ensures streams { OnOk result (streams.new.items ≡ entry_streams moment event.now recorded.now streams.old.items) }
+        (out.new.items ≡ out.old.items ++ entry_records context event.now recorded.now streams.old.items) }
+    ensures streams { OnOk result (streams.new.items ≡ entry_streams context event.now recorded.now streams.old.items) }
 {
     match recorded.get() {
-        None => push_event(out, streams, moment, event),
-        Some(Ok(answer)) => push_answered(out, streams, moment, event, answer),
+        None => push_event(out, streams, context, event),
+        Some(Ok(answer)) => push_answered(out, streams, context, event, answer),
         Some(Err(_)) => Ok(()),
     }
 }
@@ -104,19 +104,19 @@ fn push_entry(
 fn push_answered(
     out: &mut Vec<u8>,
     streams: &mut Vec<CapturedStream>,
-    moment: Moment,
+    context: EventContext,
     event: &Event,
     answer: &Answer,
 ) -> Result<(), OutOfMemory>
     ensures records { OnOk result
         (out.new.items ≡ out.old.items
-        ++ (event_records moment event.now streams.old.items
-        ++ (replies_records moment event.now answer.now.frames
-        ++ answer_records moment answer.now (event_streams moment event.now streams.old.items)))) }
+        ++ (event_records context event.now streams.old.items
+        ++ (replies_records context event.now answer.now.frames
+        ++ answer_records context answer.now (event_streams context event.now streams.old.items)))) }
     ensures streams { OnOk result
-        (streams.new.items ≡ answer_streams answer.now (event_streams moment event.now streams.old.items)) }
+        (streams.new.items ≡ answer_streams answer.now (event_streams context event.now streams.old.items)) }
 {
-    push_event(out, streams, moment, event)?;
-    push_replies(out, moment, event, answer.frames.as_slice())?;
-    push_answer(out, streams, moment, answer)
+    push_event(out, streams, context, event)?;
+    push_replies(out, context, event, answer.frames.as_slice())?;
+    push_answer(out, streams, context, answer)
 }

@@ -33,7 +33,7 @@ const CLOSES: u8 = 17;
 
 /// Where and when an event happens: the traced device, the time in milliseconds, and the number of the event.
 #[derive(Clone, Copy)]
-pub struct Moment {
+pub struct EventContext {
     pub side: Side,
     pub time: u64,
     pub number: u64,
@@ -69,17 +69,17 @@ fn control_of(sender: Sender, stream: &CapturedStream, bits: u8) -> Control
 #[tactic(auto, unfolding(crate::specs::Traffic::segment_record))]
 fn push_segment(
     out: &mut Vec<u8>,
-    moment: Moment,
+    context: EventContext,
     sender: Sender,
     stream: &CapturedStream,
     bits: u8,
     bytes: &[u8],
 ) -> Result<(), OutOfMemory>
-    ensures { OnOk result (out.new.items ≡ out.old.items ++ segment_record moment sender stream.now bits bytes.now) }
+    ensures { OnOk result (out.new.items ≡ out.old.items ++ segment_record context sender stream.now bits bytes.now) }
 {
-    let ends = ends_of(sender, moment.side, stream);
+    let ends = ends_of(sender, context.side, stream);
     let control = control_of(sender, stream, bits);
-    push_tcp(out, moment.time, &ends, control, bytes)
+    push_tcp(out, context.time, &ends, control, bytes)
 }
 
 /// The stream after its sender took this many more numbers.
@@ -119,13 +119,13 @@ fn other_end(sender: Sender) -> Sender
 }
 
 /// A stream of which nothing was sent.
-fn start_of(moment: Moment, number: u16, peer: Node) -> CapturedStream
-    ensures { result ≡ start_of moment number peer }
+fn start_of(context: EventContext, number: u16, peer: Node) -> CapturedStream
+    ensures { result ≡ start_of context number peer }
 {
     CapturedStream {
         number,
         peer,
-        port: stream_port(moment.number),
+        port: stream_port(context.number),
         received: 0,
         sent: 0,
     }
@@ -142,17 +142,17 @@ fn opened_by(first: Sender, start: CapturedStream) -> CapturedStream
 #[tactic(auto, unfolding(crate::specs::Traffic::opening_records))]
 fn push_opening(
     out: &mut Vec<u8>,
-    moment: Moment,
+    context: EventContext,
     first: Sender,
     start: CapturedStream,
 ) -> Result<(), OutOfMemory>
-    ensures { OnOk result (out.new.items ≡ out.old.items ++ opening_records moment first start) }
+    ensures { OnOk result (out.new.items ≡ out.old.items ++ opening_records context first start) }
 {
     let half = sent_more(first, 1, start);
     let open = opened_by(first, start);
-    push_segment(out, moment, first, &start, OPENS, &[])?;
-    push_segment(out, moment, other_end(first), &half, ACCEPTS, &[])?;
-    push_segment(out, moment, first, &open, CONFIRMS, &[])?;
+    push_segment(out, context, first, &start, OPENS, &[])?;
+    push_segment(out, context, other_end(first), &half, ACCEPTS, &[])?;
+    push_segment(out, context, first, &open, CONFIRMS, &[])?;
     Ok(())
 }
 
@@ -160,14 +160,14 @@ fn push_opening(
 fn push_opened(
     out: &mut Vec<u8>,
     streams: &mut Vec<CapturedStream>,
-    moment: Moment,
+    context: EventContext,
     first: Sender,
     start: CapturedStream,
 ) -> Result<(), OutOfMemory>
-    ensures records { OnOk result (out.new.items ≡ out.old.items ++ opening_records moment first start) }
+    ensures records { OnOk result (out.new.items ≡ out.old.items ++ opening_records context first start) }
     ensures streams { OnOk result (streams.new.items ≡ replaced_stream (opened_by first start) streams.old.items) }
 {
-    push_opening(out, moment, first, start)?;
+    push_opening(out, context, first, start)?;
     replace_stream(streams, opened_by(first, start))
 }
 
@@ -175,20 +175,20 @@ fn push_opened(
 fn push_data(
     out: &mut Vec<u8>,
     streams: &mut Vec<CapturedStream>,
-    moment: Moment,
+    context: EventContext,
     sender: Sender,
     number: u16,
     bytes: &[u8],
 ) -> Result<(), OutOfMemory>
     ensures records { OnOk result
-        (out.new.items ≡ out.old.items ++ data_records moment sender bytes.now (stream_of number streams.old.items)) }
+        (out.new.items ≡ out.old.items ++ data_records context sender bytes.now (stream_of number streams.old.items)) }
     ensures streams { OnOk result
         (streams.new.items ≡ data_streams sender bytes.now (stream_of number streams.old.items) streams.old.items) }
 {
     let Some(stream) = find_stream(streams.as_slice(), number) else {
         return Ok(());
     };
-    push_segment(out, moment, sender, &stream, DATA, bytes)?;
+    push_segment(out, context, sender, &stream, DATA, bytes)?;
     let count = shown(MOST_TCP, bytes).len() as u32;
     replace_stream(streams, sent_more(sender, count, stream))
 }
@@ -207,16 +207,16 @@ fn last_bits(sender: Sender) -> u8
 fn push_end(
     out: &mut Vec<u8>,
     streams: &mut Vec<CapturedStream>,
-    moment: Moment,
+    context: EventContext,
     sender: Sender,
     number: u16,
 ) -> Result<(), OutOfMemory>
     ensures records { OnOk result
-        (out.new.items ≡ out.old.items ++ end_records moment sender (stream_of number streams.old.items)) }
+        (out.new.items ≡ out.old.items ++ end_records context sender (stream_of number streams.old.items)) }
     ensures streams { OnOk result (streams.new.items ≡ without number streams.old.items) }
 {
     if let Some(stream) = find_stream(streams.as_slice(), number) {
-        push_segment(out, moment, sender, &stream, last_bits(sender), &[])?;
+        push_segment(out, context, sender, &stream, last_bits(sender), &[])?;
     }
     drop_stream(streams, number);
     Ok(())
@@ -226,35 +226,35 @@ fn push_end(
 pub fn push_event(
     out: &mut Vec<u8>,
     streams: &mut Vec<CapturedStream>,
-    moment: Moment,
+    context: EventContext,
     event: &Event,
 ) -> Result<(), OutOfMemory>
-    ensures records { OnOk result (out.new.items ≡ out.old.items ++ event_records moment event.now streams.old.items) }
-    ensures streams { OnOk result (streams.new.items ≡ event_streams moment event.now streams.old.items) }
+    ensures records { OnOk result (out.new.items ≡ out.old.items ++ event_records context event.now streams.old.items) }
+    ensures streams { OnOk result (streams.new.items ≡ event_streams context event.now streams.old.items) }
 {
     match event {
         Event::StreamOpened { stream, peer } => {
-            let start = start_of(moment, *stream, *peer);
-            push_opened(out, streams, moment, opener(moment.side), start)
+            let start = start_of(context, *stream, *peer);
+            push_opened(out, streams, context, opener(context.side), start)
         }
         Event::Frame { stream, bytes } => {
             push_data(
                 out,
                 streams,
-                moment,
+                context,
                 Sender::Peer,
                 *stream,
                 bytes.as_slice(),
             )
         }
-        Event::StreamCut { stream } => push_end(out, streams, moment, Sender::Peer, *stream),
+        Event::StreamCut { stream } => push_end(out, streams, context, Sender::Peer, *stream),
         Event::Datagram { peer, bytes } => {
-            let ends = datagram_ends(*peer, moment.side.node);
-            push_udp(out, moment.time, &ends, bytes.as_slice())
+            let ends = datagram_ends(*peer, context.side.node);
+            push_udp(out, context.time, &ends, bytes.as_slice())
         }
         Event::Inquiry { peer, bytes } => {
-            let ends = inquiry_ends(moment.number, *peer, moment.side.node);
-            push_udp(out, moment.time, &ends, bytes.as_slice())
+            let ends = inquiry_ends(context.number, *peer, context.side.node);
+            push_udp(out, context.time, &ends, bytes.as_slice())
         }
         _ => Ok(()),
     }
@@ -263,34 +263,42 @@ pub fn push_event(
 /// The replies to an event that is an inquiry: each goes to the port that the inquiry came from.
 pub fn push_replies(
     out: &mut Vec<u8>,
-    moment: Moment,
+    context: EventContext,
     event: &Event,
     frames: &[Frame],
 ) -> Result<(), OutOfMemory>
-    ensures { OnOk result (out.new.items ≡ out.old.items ++ replies_records moment event.now frames.now) }
+    ensures { OnOk result (out.new.items ≡ out.old.items ++ replies_records context event.now frames.now) }
 {
     match event {
-        Event::Inquiry { .. } => push_inquired(out, moment, frames),
+        Event::Inquiry { .. } => push_inquired(out, context, frames),
         _ => Ok(()),
     }
 }
 
-fn push_inquired(out: &mut Vec<u8>, moment: Moment, frames: &[Frame]) -> Result<(), OutOfMemory>
-    ensures { OnOk result (out.new.items ≡ out.old.items ++ flat_map (inquired_records moment) frames.now) }
+fn push_inquired(
+    out: &mut Vec<u8>,
+    context: EventContext,
+    frames: &[Frame],
+) -> Result<(), OutOfMemory>
+    ensures { OnOk result (out.new.items ≡ out.old.items ++ flat_map (inquired_records context) frames.now) }
 {
     for frame in frames {
-        push_to_inquirer(out, moment, frame)?;
+        push_to_inquirer(out, context, frame)?;
     }
     Ok(())
 }
 
-fn push_to_inquirer(out: &mut Vec<u8>, moment: Moment, frame: &Frame) -> Result<(), OutOfMemory>
-    ensures { OnOk result (out.new.items ≡ out.old.items ++ inquired_records moment frame.now) }
+fn push_to_inquirer(
+    out: &mut Vec<u8>,
+    context: EventContext,
+    frame: &Frame,
+) -> Result<(), OutOfMemory>
+    ensures { OnOk result (out.new.items ≡ out.old.items ++ inquired_records context frame.now) }
 {
     match frame.to {
         Recipient::Peer(node) => {
-            let ends = reversed(inquiry_ends(moment.number, node, moment.side.node));
-            push_udp(out, moment.time, &ends, frame.bytes.as_slice())
+            let ends = reversed(inquiry_ends(context.number, node, context.side.node));
+            push_udp(out, context.time, &ends, frame.bytes.as_slice())
         }
         Recipient::Stream(_) => Ok(()),
     }
@@ -299,16 +307,16 @@ fn push_to_inquirer(out: &mut Vec<u8>, moment: Moment, frame: &Frame) -> Result<
 fn push_frame(
     out: &mut Vec<u8>,
     streams: &mut Vec<CapturedStream>,
-    moment: Moment,
+    context: EventContext,
     frame: &Frame,
 ) -> Result<(), OutOfMemory>
-    ensures records { OnOk result (out.new.items ≡ out.old.items ++ frame_records moment frame.now streams.old.items) }
+    ensures records { OnOk result (out.new.items ≡ out.old.items ++ frame_records context frame.now streams.old.items) }
     ensures streams { OnOk result (streams.new.items ≡ frame_streams frame.now streams.old.items) }
 {
     match frame.to {
         Recipient::Stream(number) => {
             let bytes = frame.bytes.as_slice();
-            push_data(out, streams, moment, Sender::Device, number, bytes)
+            push_data(out, streams, context, Sender::Device, number, bytes)
         }
         Recipient::Peer(_) => Ok(()),
     }
@@ -317,15 +325,15 @@ fn push_frame(
 fn push_frames(
     out: &mut Vec<u8>,
     streams: &mut Vec<CapturedStream>,
-    moment: Moment,
+    context: EventContext,
     frames: &[Frame],
 ) -> Result<(), OutOfMemory>
     ensures records { OnOk result
-        (out.new.items ≡ out.old.items ++ frames_records moment frames.now streams.old.items) }
+        (out.new.items ≡ out.old.items ++ frames_records context frames.now streams.old.items) }
     ensures streams { OnOk result (streams.new.items ≡ frames_streams frames.now streams.old.items) }
 {
     for frame in frames {
-        push_frame(out, streams, moment, frame)?;
+        push_frame(out, streams, context, frame)?;
     }
     Ok(())
 }
@@ -333,43 +341,43 @@ fn push_frames(
 /// The datagrams of a production: one to a group of hosts, or one to each node.
 fn push_outgoing(
     out: &mut Vec<u8>,
-    moment: Moment,
+    context: EventContext,
     outgoing: &OutgoingDatagram,
 ) -> Result<(), OutOfMemory>
-    ensures { OnOk result (out.new.items ≡ out.old.items ++ outgoing_records moment outgoing.now) }
+    ensures { OnOk result (out.new.items ≡ out.old.items ++ outgoing_records context outgoing.now) }
 {
     let bytes = outgoing.bytes.as_slice();
     if is_multicast(outgoing.address) {
-        let ends = datagram_ends(moment.side.node, outgoing.address);
-        return push_udp(out, moment.time, &ends, bytes);
+        let ends = datagram_ends(context.side.node, outgoing.address);
+        return push_udp(out, context.time, &ends, bytes);
     }
-    push_copies(out, moment, outgoing.nodes.as_slice(), bytes)
+    push_copies(out, context, outgoing.nodes.as_slice(), bytes)
 }
 
 fn push_copies(
     out: &mut Vec<u8>,
-    moment: Moment,
+    context: EventContext,
     nodes: &[Node],
     bytes: &[u8],
 ) -> Result<(), OutOfMemory>
-    ensures { OnOk result (out.new.items ≡ out.old.items ++ copies_records moment bytes.now nodes.now) }
+    ensures { OnOk result (out.new.items ≡ out.old.items ++ copies_records context bytes.now nodes.now) }
 {
     for node in nodes {
-        let ends = datagram_ends(moment.side.node, *node);
-        push_udp(out, moment.time, &ends, bytes)?;
+        let ends = datagram_ends(context.side.node, *node);
+        push_udp(out, context.time, &ends, bytes)?;
     }
     Ok(())
 }
 
 fn push_datagrams(
     out: &mut Vec<u8>,
-    moment: Moment,
+    context: EventContext,
     datagrams: &[OutgoingDatagram],
 ) -> Result<(), OutOfMemory>
-    ensures { OnOk result (out.new.items ≡ out.old.items ++ datagrams_records moment datagrams.now) }
+    ensures { OnOk result (out.new.items ≡ out.old.items ++ datagrams_records context datagrams.now) }
 {
     for outgoing in datagrams {
-        push_outgoing(out, moment, outgoing)?;
+        push_outgoing(out, context, outgoing)?;
     }
     Ok(())
 }
@@ -377,15 +385,15 @@ fn push_datagrams(
 fn push_notice(
     out: &mut Vec<u8>,
     streams: &mut Vec<CapturedStream>,
-    moment: Moment,
+    context: EventContext,
     notice: &Notice,
 ) -> Result<(), OutOfMemory>
     ensures records { OnOk result
-        (out.new.items ≡ out.old.items ++ notice_records moment notice.now streams.old.items) }
+        (out.new.items ≡ out.old.items ++ notice_records context notice.now streams.old.items) }
     ensures streams { OnOk result (streams.new.items ≡ notice_streams notice.now streams.old.items) }
 {
     match notice {
-        Notice::StreamClosed(number) => { push_end(out, streams, moment, Sender::Device, *number) }
+        Notice::StreamClosed(number) => { push_end(out, streams, context, Sender::Device, *number) }
         _ => Ok(()),
     }
 }
@@ -393,15 +401,15 @@ fn push_notice(
 fn push_notices(
     out: &mut Vec<u8>,
     streams: &mut Vec<CapturedStream>,
-    moment: Moment,
+    context: EventContext,
     notices: &[Notice],
 ) -> Result<(), OutOfMemory>
     ensures records { OnOk result
-        (out.new.items ≡ out.old.items ++ notices_records moment notices.now streams.old.items) }
+        (out.new.items ≡ out.old.items ++ notices_records context notices.now streams.old.items) }
     ensures streams { OnOk result (streams.new.items ≡ notices_streams notices.now streams.old.items) }
 {
     for notice in notices {
-        push_notice(out, streams, moment, notice)?;
+        push_notice(out, streams, context, notice)?;
     }
     Ok(())
 }
@@ -410,14 +418,14 @@ fn push_notices(
 pub fn push_answer(
     out: &mut Vec<u8>,
     streams: &mut Vec<CapturedStream>,
-    moment: Moment,
+    context: EventContext,
     answer: &Answer,
 ) -> Result<(), OutOfMemory>
     ensures records { OnOk result
-        (out.new.items ≡ out.old.items ++ answer_records moment answer.now streams.old.items) }
+        (out.new.items ≡ out.old.items ++ answer_records context answer.now streams.old.items) }
     ensures streams { OnOk result (streams.new.items ≡ answer_streams answer.now streams.old.items) }
 {
-    push_frames(out, streams, moment, answer.frames.as_slice())?;
-    push_datagrams(out, moment, answer.datagrams.as_slice())?;
-    push_notices(out, streams, moment, answer.notices.as_slice())
+    push_frames(out, streams, context, answer.frames.as_slice())?;
+    push_datagrams(out, context, answer.datagrams.as_slice())?;
+    push_notices(out, streams, context, answer.notices.as_slice())
 }

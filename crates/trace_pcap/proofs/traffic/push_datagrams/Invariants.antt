@@ -3,4 +3,4 @@ use Rattle.trace_pcap.specs.Traffic.{datagrams_records}
 use Rattle.trace_pcap.proofs.traffic.push_datagrams.Given as goal
 
 abbrev pub invariant-loop-outgoing : goal.invariant-loop-outgoing
-invariant-loop-outgoing l = l.out.items ≡ l.fn.out.items ++ datagrams_records l.moment (take l.outgoing-index l.datagrams)
+invariant-loop-outgoing l = l.out.items ≡ l.fn.out.items ++ datagrams_records l.context (take l.outgoing-index l.datagrams)

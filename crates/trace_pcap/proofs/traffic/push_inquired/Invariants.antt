@@ -3,4 +3,4 @@ use Rattle.trace_pcap.specs.Traffic.{inquired_records}
 use Rattle.trace_pcap.proofs.traffic.push_inquired.Given as goal
 
 abbrev pub invariant-loop-frame : goal.invariant-loop-frame
-invariant-loop-frame l = l.out.items ≡ l.fn.out.items ++ flat_map (inquired_records l.moment) (take l.frame-index l.frames)
+invariant-loop-frame l = l.out.items ≡ l.fn.out.items ++ flat_map (inquired_records l.context) (take l.frame-index l.frames)
