@@ -1,6 +1,7 @@
 -- Connections of different triads: what holds of the first that passes a test holds of all of its triad.
-use Rattle.std.proofs.Common.{◌≡◌, ℕ, Bool, true, false, cond, ◌==◌, ◌&&◌, ◌||◌, List, [], ◌∷◌, map, filter, find, Some, refl, sym, ap, subst, ◌∙◌, true≢false, arith}
+use Rattle.std.proofs.Common.{◌≡◌, ℕ, Bool, true, false, cond, ◌==◌, List, [], ◌∷◌, map, find, Some, refl, sym, ap, subst, ◌∙◌, true≢false, arith}
 use Rattle.std.specs.List.{list_any}
+pub use Rattle.std.proofs.lemmas.Bool.{and_parts as both_hold, or_parts as neither}
 use Rattle.std.proofs.lemmas.Bool.Decides.{Decides-eqb}
 use Rattle.cip_types.specs.declared.names.Triad.{Triad}
 use Rattle.adapter_table.specs.Connections.{Row}
@@ -9,14 +10,6 @@ use Rattle.adapter_table.specs.Sound.{TriadsDiffer}
 
 pub some_is : {X : Type 0} {a b : X} → Some a ≡ Some b → a ≡ b
 some_is e = cc
-
-pub both_hold : (a b : Bool) → a && b ≡ true → (a ≡ true) × (b ≡ true)
-both_hold true b is = (refl, is)
-both_hold false b is = absurd (true≢false (sym is))
-
-pub neither : (a b : Bool) → a || b ≡ false → (a ≡ false) × (b ≡ false)
-neither true b is = absurd (true≢false is)
-neither false b is = (refl, is)
 
 itself : (a : ℕ) → a == a ≡ true
 itself a = grind arith
@@ -61,21 +54,3 @@ any_mapped f keeps triad (row ∷ rows) = rw (keeps row, any_mapped f keeps tria
 pub differ_mapped : (f : Row → Row) → ((row : Row) → (f row).triad ≡ row.triad) → (rows : List Row) → TriadsDiffer rows → TriadsDiffer (map f rows)
 differ_mapped f keeps [] differ = tt
 differ_mapped f keeps (row ∷ rows) differ = (rw (keeps row, any_mapped f keeps row.triad rows) differ.0, differ_mapped f keeps rows differ.1)
-
-any_filtered : (test p : Row → Bool) (rows : List Row) → list_any test rows ≡ false → list_any test (filter p rows) ≡ false
-any_filtered test p [] none = refl
-any_filtered test p (row ∷ rows) none =
-    let parts = neither (test row) (list_any test rows) none in
-    split (p row) parts.0 (any_filtered test p rows parts.1)
-  where
-    split : (b : Bool) → test row ≡ false → list_any test (filter p rows) ≡ false → list_any test (cond b (row ∷ filter p rows) (filter p rows)) ≡ false
-    split true fails rest = rw (fails, rest) refl
-    split false fails rest = rest
-
-pub differ_filtered : (p : Row → Bool) (rows : List Row) → TriadsDiffer rows → TriadsDiffer (filter p rows)
-differ_filtered p [] differ = tt
-differ_filtered p (row ∷ rows) differ = split (p row) (any_filtered (has_triad row.triad) p rows differ.0) (differ_filtered p rows differ.1)
-  where
-    split : (b : Bool) → list_any (has_triad row.triad) (filter p rows) ≡ false → TriadsDiffer (filter p rows) → TriadsDiffer (cond b (row ∷ filter p rows) (filter p rows))
-    split true none rest = (none, rest)
-    split false none rest = rest

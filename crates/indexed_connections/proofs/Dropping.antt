@@ -1,10 +1,11 @@
 -- Where no connection listens, none is dropped.
-use Rattle.std.proofs.Common.{◌≡◌, Bool, true, false, cond, not, ◌&&◌, ◌||◌, List, [], ◌∷◌, ◌++◌, filter, Option, Some, None, refl, sym, ◌∙◌, true≢false}
+use Rattle.std.proofs.Common.{◌≡◌, Bool, true, false, not, ◌&&◌, ◌||◌, List, [], ◌∷◌, ◌++◌, filter, Option, Some, None, refl, sym, ◌∙◌, true≢false}
 use Rattle.std.specs.List.{list_any}
 use Rattle.cip_types.specs.declared.names.Triad.{Triad}
 use Rattle.cip_productions.specs.Kinds.{is_listener}
 use Rattle.adapter_table.specs.Connections.{Row}
 use Rattle.adapter_table.specs.Rows.{has_triad, is_established, is_unsupported}
+use Rattle.adapter_table.specs.Lemmas.SoundLemmas.{any_filter}
 use Rattle.adapter_table.specs.Closing.{without_triad, unsupported, stays, staying}
 use Rattle.conn_slab.specs.Connections.{is_listening, without}
 use Rattle.connection_list.specs.Lone.{neither}
@@ -23,22 +24,12 @@ none_dropped all (row ∷ rows) none =
     let stays_here : is_unsupported all row ≡ false = no_listener (is_established row) (is_listener row.kind) _ parts.0 in
     rw stays_here (none_dropped all rows parts.1)
 
-pub any_left : (test p : Row → Bool) (rows : List Row) → list_any test rows ≡ false → list_any test (filter p rows) ≡ false
-any_left test p [] none = refl
-any_left test p (row ∷ rows) none =
-    let parts = neither (test row) (list_any test rows) none in
-    split (p row) parts.0 (any_left test p rows parts.1)
-  where
-    split : (b : Bool) → test row ≡ false → list_any test (filter p rows) ≡ false → list_any test (cond b (row ∷ filter p rows) (filter p rows)) ≡ false
-    split true fails rest = rw (fails, rest) refl
-    split false fails rest = rest
-
 pub none_lost : (triad : Triad) (rows : List Row) → list_any is_listening rows ≡ false → unsupported (without_triad triad rows) ≡ []
-none_lost triad rows none = none_dropped (without_triad triad rows) (without_triad triad rows) (any_left is_listening (λ row. not (has_triad triad row)) rows none)
+none_lost triad rows none = none_dropped (without_triad triad rows) (without_triad triad rows) (any_filter (λ row. not (has_triad triad row)) is_listening rows none)
 
 any_without : (test : Row → Bool) (removed : Option Triad) (rows : List Row) → list_any test rows ≡ false → list_any test (without removed rows) ≡ false
 any_without test None rows none = none
-any_without test (Some triad) rows none = any_left test (λ row. not (has_triad triad row)) rows none
+any_without test (Some triad) rows none = any_filter (λ row. not (has_triad triad row)) test rows none
 
 any_last : (test : Row → Bool) (rows : List Row) (row : Row) → list_any test rows ≡ false → test row ≡ false → list_any test (rows ++ row ∷ []) ≡ false
 any_last test [] row none fails = rw fails refl
@@ -54,4 +45,4 @@ none_opened test may more removed rows row is none off =
 
 pub none_staying : (test : Row → Bool) (triad : Triad) (rows : List Row) → list_any test rows ≡ false → list_any test (staying (without_triad triad rows)) ≡ false
 none_staying test triad rows none =
-    any_left test (stays (without_triad triad rows)) (without_triad triad rows) (any_left test (λ row. not (has_triad triad row)) rows none)
+    any_filter (stays (without_triad triad rows)) test (without_triad triad rows) (any_filter (λ row. not (has_triad triad row)) test rows none)

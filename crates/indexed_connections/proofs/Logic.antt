@@ -1,19 +1,11 @@
 -- Truth values, numbers, and elements of lists.
-use Rattle.std.proofs.Common.{◌≡◌, ◌≤◌, ◌<◌, ℕ, zero, suc, ◌+◌, Bool, true, false, ◌||◌, ◌==◌, List, [], ◌∷◌, ◌++◌, length, map, take, drop, get_or, refl, ap, arith}
+use Rattle.std.proofs.Common.{◌≡◌, ◌≤◌, ◌<◌, ℕ, zero, suc, ◌+◌, ◌==◌, List, [], ◌∷◌, ◌++◌, length, map, take, drop, get_or, refl, ap, arith}
+pub use Rattle.std.proofs.lemmas.Bool.{or_parts as or_false}
 use Rattle.std.proofs.lemmas.Bool.Decides.{nat_tests}
-
-pub numbered : (a : ℕ) → (a == a) ≡ true
-numbered a = grind (arith, nat_tests)
+pub use Rattle.base_lemmas.specs.Numbers.{number_same as numbered, same_by}
 
 pub swapped : (a b : ℕ) → (a == b) ≡ (b == a)
 swapped a b = grind (arith, nat_tests)
-
-pub same_by : (a b c : ℕ) → (a == b) ≡ true → (b == c) ≡ true → (a == c) ≡ true
-same_by a b c ab bc = grind (arith, nat_tests)
-
-pub or_false : (a b : Bool) → (a || b) ≡ false → (a ≡ false) × (b ≡ false)
-or_false true b h = absurd cc
-or_false false b h = (refl, h)
 
 pub got_first : {X : Type 0} (front rest : List X) (x d : X) → get_or (front ++ x ∷ rest) (length front) d ≡ x
 got_first [] rest x d = refl

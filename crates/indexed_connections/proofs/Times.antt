@@ -3,6 +3,7 @@ use Rattle.std.proofs.Common.{◌≡◌, ◌≤◌, ◌<◌, ℕ, ◌==◌, ◌&
 use Rattle.std.specs.Prelude.{nat_le}
 use Rattle.std.specs.List.{list_any}
 use Rattle.std.proofs.lemmas.Bool.Decides.{nat_tests}
+use Rattle.base_lemmas.specs.Numbers.{not_yet}
 use Rattle.cip_types.specs.declared.names.Ms.{Ms}
 use Rattle.cip_types.specs.declared.names.Node.{Node}
 use Rattle.cip_datagram.specs.Datagram.{DatagramFields}
@@ -25,9 +26,6 @@ use Rattle.conn_slab.specs.Reception.{IsReceived, reception}
 use Rattle.connection_list.specs.Lone.{some_is, neither}
 
 -- ---- before a bound nothing happens
-
-not_yet : (early late : ℕ) → early < late → nat_le late early ≡ false
-not_yet early late lt = grind (arith, nat_tests)
 
 early_end : (bound : ℕ) (clock : Ms) (deadline : ℕ) (state : State) → clock.0 < bound → bound ≤ end_of deadline state → (lives state && nat_le deadline clock.0) ≡ false
 early_end bound clock deadline (Established production) early lasts = not_yet clock.0 deadline (omega arith)

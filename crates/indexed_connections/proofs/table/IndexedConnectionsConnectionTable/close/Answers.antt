@@ -8,7 +8,7 @@ use Rattle.conn_slab.specs.Connections.{is_listening, is_changing}
 use Rattle.indexed_connections.proofs.Dropping.{none_staying}
 use Rattle.conn_slab.specs.Bounds.{next_watchdog, AllNotDueBefore}
 use Rattle.cip_types.specs.declared.names.Triad.{Triad}
-use Rattle.connection_list.specs.Lone.{differ_filtered}
+use Rattle.adapter_table.specs.Lemmas.SoundLemmas.{triads_filter}
 use Rattle.connection_list.specs.Removals.{without_each, without_unsupported}
 use Rattle.connection_list.specs.Tables.{AreWhole}
 use Rattle.indexed_connections.proofs.Times.{ends_left, rests_left}
@@ -22,7 +22,7 @@ close-requires c = record {
 }
 
 left : (rows : List Row) (triad : Triad) → AreWhole rows → TriadsDiffer (without_triad triad rows)
-left rows triad whole = differ_filtered (λ row. not (has_triad triad row)) rows (whole_triads rows whole)
+left rows triad whole = triads_filter (λ row. not (has_triad triad row)) rows (whole_triads rows whole)
 
 pub close_each-requires : goal.close_each-requires
 close_each-requires c = record {
