@@ -83,7 +83,8 @@ def run_states(bench):
     asked(station, rf"{named} open run age \d+ received \d+ applied [1-9].* lost 0", "datagrams of its connection are counted")
     feeder.stop()
     asked(station, rf"{named} timed-out run age \d+ .*", "its connection timed out")
-    sure(station.lines()[-1].endswith("owner 150 none"), "an owner that timed out is none")
+    owners = [line for line in station.lines() if " owner 150 " in line]
+    sure(owners[-1].endswith("owner 150 none"), "an owner that timed out is none")
     need(station.end() == 0, "it ends with status 0")
     bench.clear()
 
