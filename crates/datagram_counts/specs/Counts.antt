@@ -11,7 +11,7 @@ abbrev pub with_more : ℕ → ℕ → ℕ
 with_more count more = min (count + more) (2 ^ 64 - 1)
 
 abbrev pub no_counts : DatagramCounts
-no_counts = record { received = 0; applied = 0; duplicate = 0; old = 0; lost = 0; newest = None }
+no_counts = record { received = 0; applied = 0; duplicate = 0; old = 0; wrong_size = 0; lost = 0; sent = 0; newest = None }
 
 -- SEQUENCE NUMBERS
 
@@ -50,6 +50,13 @@ duplicate_counts counts = record counts { duplicate = with_more counts.duplicate
 abbrev pub old_counts : DatagramCounts → DatagramCounts
 old_counts counts = record counts { old = with_more counts.old 1 }
 
+abbrev pub misfit_counts : DatagramCounts → DatagramCounts
+misfit_counts counts = record counts { wrong_size = with_more counts.wrong_size 1 }
+
+-- the device produced a datagram for the connection
+abbrev pub sent_counts : DatagramCounts → DatagramCounts
+sent_counts counts = record counts { sent = with_more counts.sent 1 }
+
 -- the counts after a datagram with this result and sequence number
 abbrev pub counted : DatagramCounts → Delivery → ℕ → DatagramCounts
 counted counts delivery.Applied number = applied_counts (accepted_counts counts number)
@@ -57,6 +64,6 @@ counted counts delivery.Idle number = accepted_counts counts number
 counted counts delivery.Heartbeat number = accepted_counts counts number
 counted counts delivery.Duplicate number = duplicate_counts (accepted_counts counts number)
 counted counts delivery.Old number = old_counts (received_counts counts)
-counted counts delivery.WrongSize number = received_counts counts
+counted counts delivery.WrongSize number = misfit_counts (received_counts counts)
 counted counts delivery.UnknownId number = counts
 counted counts delivery.Malformed number = counts

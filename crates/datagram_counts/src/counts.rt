@@ -2,7 +2,7 @@
 
 ghost use Rattle.std.specs.Prelude.{◌≡◌};
 ghost use Rattle.cip_types.specs.Circle.{distance};
-ghost use Rattle.datagram_counts.specs.Counts.{accepted_counts, applied_counts, counted, duplicate_counts, is_accepted, missed, no_counts, old_counts, received_counts};
+ghost use Rattle.datagram_counts.specs.Counts.{accepted_counts, applied_counts, counted, duplicate_counts, is_accepted, misfit_counts, missed, no_counts, old_counts, received_counts, sent_counts};
 
 use cip_events::Delivery;
 
@@ -17,8 +17,12 @@ pub struct DatagramCounts {
     pub duplicate: u64,
     /// Those whose sequence number is not newer than that of the one accepted last.
     pub old: u64,
+    /// Those whose size is not the connection's.
+    pub wrong_size: u64,
     /// The sequence numbers between accepted datagrams that were skipped.
     pub lost: u64,
+    /// Those that the device produced for it.
+    pub sent: u64,
     /// The sequence number of the datagram that was accepted last.
     pub newest: Option<u32>,
 }
@@ -33,7 +37,9 @@ impl DatagramCounts {
             applied: 0,
             duplicate: 0,
             old: 0,
+            wrong_size: 0,
             lost: 0,
+            sent: 0,
             newest: None,
         }
     }
@@ -51,7 +57,7 @@ pub fn counted(counts: DatagramCounts, delivery: Delivery, number: u32) -> Datag
         Delivery::Heartbeat => accepted_counts(counts, number),
         Delivery::Duplicate => duplicate_counts(accepted_counts(counts, number)),
         Delivery::Old => old_counts(received_counts(counts)),
-        Delivery::WrongSize => received_counts(counts),
+        Delivery::WrongSize => misfit_counts(received_counts(counts)),
         Delivery::UnknownId => counts,
         Delivery::Malformed => counts,
     }
@@ -132,6 +138,25 @@ fn old_counts(counts: DatagramCounts) -> DatagramCounts
 {
     DatagramCounts {
         old: counts.old.saturating_add(1),
+        ..counts
+    }
+}
+
+fn misfit_counts(counts: DatagramCounts) -> DatagramCounts
+    ensures { result ≡ misfit_counts counts }
+{
+    DatagramCounts {
+        wrong_size: counts.wrong_size.saturating_add(1),
+        ..counts
+    }
+}
+
+/// The counts after the device produced a datagram for the connection.
+pub fn sent_counts(counts: DatagramCounts) -> DatagramCounts
+    ensures { result ≡ sent_counts counts }
+{
+    DatagramCounts {
+        sent: counts.sent.saturating_add(1),
         ..counts
     }
 }

@@ -9,14 +9,15 @@ use command_lines::{Options, StationTask};
 use fast_device::FastDevice;
 use option_words::{file_of, word_from_end};
 use page_feed::PageFeed;
+use point_names::{Names, ReadNames};
 use port_faults::FaultyPort;
 use socket_port::SystemClock;
 use station::{Reporting, Station, StationObserver};
 use station_files::{Start, StateFault, name_of, stem_of};
 use station_lines::NoLines;
 use station_opening::{
-    OpenedPort, incarnation_of, is_scanner, open_port, recorder_in, socket_place, start_in,
-    with_incarnation,
+    OpenedPort, incarnation_of, is_scanner, names_in, open_port, recorder_in, socket_place,
+    start_in, with_incarnation,
 };
 use station_port::{StationPlace, StationPort};
 use station_record::Recorder;
@@ -253,8 +254,7 @@ fn serve<R>(
 where
     R: AllocGlobal + Files<File = File> + Clock + HostNet + RandomSource + Wait + Copy + Drop,
 {
-    let rt = setting.rt;
-    let alloc = rt.alloc();
+    let (rt, alloc) = (setting.rt, setting.rt.alloc());
     let OpenedPort {
         mut port,
         place,
@@ -263,14 +263,15 @@ where
     port.set_alarm(setting.shared.alarm.share()?)?;
     seed_delays(&rt, &mut port);
     let waker = port.waker()?;
-    let recorder = recorder_of(setting, config)?;
+    let names = names_of(setting)?;
+    let recorder = recorder_of(setting, config, &names)?;
     if !setting.options.quiet {
         report_line(rt, setting.rim, line.as_bytes());
     }
     let (out, err) = (setting.rim.out.sink(rt)?, setting.rim.err.sink(rt)?);
     let mut observer = StationObserver::new(alloc, config, recorder, out, err)?;
     if let Some(port) = setting.options.page {
-        observer.feed(page_of(setting, config, port)?);
+        observer.feed(page_of(setting, config, names, port)?);
     }
     let device = FastDevice::new(alloc, config.copy(alloc)?)?;
     let clock = SystemClock::new(rt);
@@ -294,8 +295,28 @@ where
     }
 }
 
+/// The names that the profile says. Reports each bad name line.
+fn names_of<R>(setting: &Stationed<'_, R>) -> Result<Names, Failure>
+where
+    R: AllocGlobal + Files<File = File> + Wait + Copy + Drop,
+{
+    let path = file_of(setting.words);
+    let ReadNames { names, bad } = names_in(&setting.rt, path)?;
+    for it in bad.iter() {
+        let (line, words) = (it.line, it.fault.words());
+        let text = format!(in setting.rt.alloc(); "eip_station: {path}: line {line}: {words}\n")?;
+        report_line(setting.rt, setting.rim, text.as_bytes());
+    }
+    Ok(names)
+}
+
 /// Begins the page of a station, and answers what tells it of the device.
-fn page_of<R>(setting: &Stationed<'_, R>, config: &Config, port: u16) -> Result<PageFeed, Failure>
+fn page_of<R>(
+    setting: &Stationed<'_, R>,
+    config: &Config,
+    names: Names,
+    port: u16,
+) -> Result<PageFeed, Failure>
 where
     R: AllocGlobal + Files<File = File> + Clock + HostNet + RandomSource + Wait + Copy + Drop,
 {
@@ -312,7 +333,7 @@ where
     };
     begin_page(setting.rt, setting.shared, setting.options, port, subject)?;
     let end = setting.shared.page.feed_end(0)?;
-    Ok(PageFeed::new(alloc, config.copy(alloc)?, end))
+    Ok(PageFeed::new(alloc, config.copy(alloc)?, names, end)?)
 }
 
 /// Has the system draw the seed of a port's delays. Where it draws none, the port's address is the seed.
@@ -330,6 +351,7 @@ where
 fn recorder_of<R>(
     setting: &Stationed<'_, R>,
     config: &Config,
+    names: &Names,
 ) -> Result<Recorder<Entries<R>>, Failure>
 where
     R: AllocGlobal + Files<File = File> + Clock + Wait + Copy + Drop,
@@ -341,5 +363,6 @@ where
     };
     let path = format!(in alloc; "{}", word_from_end(setting.words, left))?;
     let most = setting.options.record_bytes;
-    Ok(recorder_in(rt, &setting.rim.record, config, path, most)?)
+    let record = &setting.rim.record;
+    Ok(recorder_in(rt, record, config, names, path, most)?)
 }

@@ -9,8 +9,8 @@ use Rattle.scanner_table.specs.declared.report.SlotReport.{SlotReport}
 use Rattle.scanner_table.specs.declared.report.SlotReport.TheVariants as slot
 use Rattle.scanner_table.specs.declared.report.TargetReport.{TargetReport}
 use Rattle.trace_words.specs.Words.{node_word}
-use Rattle.page_feed.specs.declared.rows.RowFacts.{RowFacts}
 use Rattle.page_feed.specs.Rows.{row_text}
+use Rattle.station_watch.specs.declared.traffic.CountedConnection.{CountedConnection}
 use Rattle.trace_lines.specs.Kinds.{kind_word}
 
 -- the mode of the newest data
@@ -67,8 +67,8 @@ abbrev pub connection_text : ConnectionReport → List ℕ
 connection_text report = begun_connection report ++ codes "}"
 
 -- a connection in the list of all, with what was counted of it
-abbrev pub listed_text : Option RowFacts → ConnectionReport → List ℕ
-listed_text row report = begun_connection report ++ (row_text row ++ codes "}")
+abbrev pub listed_text : ℕ → Option CountedConnection → ConnectionReport → List ℕ
+listed_text now row report = begun_connection report ++ (row_text now row ++ codes "}")
 
 -- the owner of an output, if it has one
 abbrev pub owner_text : Option ConnectionReport → List ℕ

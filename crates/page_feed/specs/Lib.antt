@@ -1,6 +1,5 @@
 pub mod Connections
 pub mod Facts
-pub mod Gaps
 pub mod Pauses
 pub mod Points
 pub mod Rows

@@ -14,10 +14,9 @@ use Rattle.scanner_table.specs.declared.report.SlotReport.TheVariants.{Idle}
 use Rattle.scanner_table.specs.declared.slot.Slot.{Slot}
 use Rattle.trace_words.specs.Words.{bytes_word, node_word}
 use Rattle.trace_lines.specs.Kinds.{kind_word}
-use Rattle.page_feed.specs.declared.rows.RowFacts.{RowFacts}
-use Rattle.page_feed.specs.declared.waits.SlotWait.{SlotWait}
+use Rattle.page_feed.specs.declared.waits.SlotFacts.{SlotFacts}
 use Rattle.page_feed.specs.Connections.{owner_text, state_text}
-use Rattle.page_feed.specs.Rows.{slot_row_text}
+use Rattle.page_feed.specs.Rows.{row_text}
 use Rattle.page_feed.specs.Waits.{wait_text}
 
 -- the bytes of a point; a dash where there is none
@@ -94,12 +93,12 @@ slot_image table number = codes ",\"bytes\":\"" ++ bytes_text table number
 abbrev pub slot_output : List ℕ → List ℕ
 slot_output output = codes "\",\"output\":\"" ++ (bytes_word output ++ codes "\",\"state\":")
 
-abbrev pub slot_end : SlotReport → SlotWait → Option RowFacts → List ℕ
-slot_end report wait row = state_text report ++ (wait_text wait ++ (slot_row_text row ++ codes "}"))
+abbrev pub slot_end : SlotReport → SlotFacts → List ℕ
+slot_end report facts = state_text report ++ (wait_text facts ++ (row_text facts.now_ms facts.row ++ codes "}"))
 
 abbrev pub slot_front : ℕ → SlotConfig → List ℕ
 slot_front number config = slot_head number config.target ++ slot_terms config
 
-abbrev pub slot_text : DeviceTable → ℕ → SlotConfig → List ℕ → SlotWait → Option RowFacts → List ℕ
-slot_text table number config output wait row =
-    slot_front number config ++ (slot_image table number ++ (slot_output output ++ slot_end (slot_state (slot_in table number)) wait row))
+abbrev pub slot_text : DeviceTable → ℕ → SlotConfig → List ℕ → SlotFacts → List ℕ
+slot_text table number config output facts =
+    slot_front number config ++ (slot_image table number ++ (slot_output output ++ slot_end (slot_state (slot_in table number)) facts))

@@ -14,11 +14,11 @@ use Rattle.scanner_table.specs.declared.profile.SlotConfig.{SlotConfig}
 use Rattle.trace_words.specs.Words.{node_word}
 use Rattle.page_feed.specs.Connections.{listed_text}
 use Rattle.page_feed.specs.declared.facts.StationFacts.{StationFacts}
-use Rattle.page_feed.specs.declared.rows.RowFacts.{RowFacts}
-use Rattle.page_feed.specs.declared.waits.SlotWait.{SlotWait}
+use Rattle.page_feed.specs.declared.waits.SlotFacts.{SlotFacts}
 use Rattle.page_feed.specs.Facts.{counts_text, moment_text}
 use Rattle.page_feed.specs.Points.{inputs_text, output_at, outputs_text, slot_text, slots_in}
-use Rattle.page_feed.specs.Waits.{wait_at}
+use Rattle.station_watch.specs.Waits.{wait_at}
+use Rattle.station_watch.specs.declared.traffic.CountedConnection.{CountedConnection}
 
 -- what stands before the one at a place
 abbrev pub separator : ℕ → List ℕ
@@ -27,21 +27,21 @@ separator place = if place == 0 then codes "" else codes ","
 -- THE CONNECTIONS OF AN ADAPTER
 
 -- a connection behind those before
-abbrev pub placed_text : ℕ → Option RowFacts → Option ConnectionReport → List ℕ
-placed_text place row (Some report) = separator place ++ listed_text row report
-placed_text place row None = []
+abbrev pub placed_text : (now place : ℕ) → Option CountedConnection → Option ConnectionReport → List ℕ
+placed_text now place row (Some report) = separator place ++ listed_text now row report
+placed_text now place row None = []
 
-abbrev pub connection_at_text : List RowFacts → DeviceTable → ℕ → List ℕ
-connection_at_text rows table place = placed_text place (slice_get rows place) (connection_in table place)
+abbrev pub connection_at_text : ℕ → List CountedConnection → DeviceTable → ℕ → List ℕ
+connection_at_text now rows table place = placed_text now place (slice_get rows place) (connection_in table place)
 
 -- the connections at the places below this one
-abbrev pub connections_below : List RowFacts → DeviceTable → ℕ → List ℕ
-connections_below rows table zero = []
-connections_below rows table (suc place) = connections_below rows table place ++ connection_at_text rows table place
+abbrev pub connections_below : ℕ → List CountedConnection → DeviceTable → ℕ → List ℕ
+connections_below now rows table zero = []
+connections_below now rows table (suc place) = connections_below now rows table place ++ connection_at_text now rows table place
 
 -- those at so many places, and the end of their array
-abbrev pub connections_text : List RowFacts → DeviceTable → ℕ → List ℕ
-connections_text rows table most = connections_below rows table most ++ codes "]"
+abbrev pub connections_text : ℕ → List CountedConnection → DeviceTable → ℕ → List ℕ
+connections_text now rows table most = connections_below now rows table most ++ codes "]"
 
 abbrev pub all_outputs : List OutputPoint → DeviceTable → List ℕ
 all_outputs outputs table = codes ",\"outputs\":[" ++ (outputs_text table outputs ++ codes "],\"inputs\":[")
@@ -50,34 +50,40 @@ abbrev pub all_inputs : List InputPoint → DeviceTable → List ℕ
 all_inputs inputs table = inputs_text table inputs ++ codes "],\"connections\":["
 
 -- its points and connections, which are at most 64
-abbrev pub adapter_text : List OutputPoint → List InputPoint → List RowFacts → DeviceTable → List ℕ
-adapter_text outputs inputs rows table = all_outputs outputs table ++ (all_inputs inputs table ++ connections_text rows table 64)
+abbrev pub adapter_text : List OutputPoint → List InputPoint → ℕ → List CountedConnection → DeviceTable → List ℕ
+adapter_text outputs inputs now rows table = all_outputs outputs table ++ (all_inputs inputs table ++ connections_text now rows table 64)
 
 -- THE SLOTS OF A SCANNER
 
 -- a slot behind those before
-abbrev pub placed_slot : List RowFacts → DeviceTable → ℕ → SlotConfig → List ℕ → SlotWait → List ℕ
-placed_slot rows table number config output wait = separator number ++ slot_text table number config output wait (slice_get rows number)
+abbrev pub placed_slot : DeviceTable → ℕ → SlotConfig → List ℕ → SlotFacts → List ℕ
+placed_slot table number config output facts = separator number ++ slot_text table number config output facts
+
+-- what is known of a slot beside its device, by a copy of its table
+abbrev pub facts_at : ℕ → List CountedConnection → DeviceTable → ℕ → Node → SlotFacts
+facts_at now rows copy number target =
+    record { target = target; wait = wait_at copy number target; row = slice_get rows number; now_ms = now }
 
 -- a slot of a profile, with what a copy of the table says of its output and its wait
-abbrev pub slot_with : List RowFacts → DeviceTable → DeviceTable → ℕ → Option SlotConfig → List ℕ
-slot_with rows copy table number (Some config) =
-    placed_slot rows table number config (output_at (slots_in copy) number) (wait_at copy number config.target)
-slot_with rows copy table number None = []
+abbrev pub slot_with : ℕ → List CountedConnection → DeviceTable → DeviceTable → ℕ → Option SlotConfig → List ℕ
+slot_with now rows copy table number (Some config) =
+    placed_slot table number config (output_at (slots_in copy) number) (facts_at now rows copy number config.target)
+slot_with now rows copy table number None = []
 
-abbrev pub slot_at_text : List SlotConfig → List RowFacts → DeviceTable → DeviceTable → ℕ → List ℕ
-slot_at_text configs rows copy table number = slot_with rows copy table number (slice_get configs number)
+abbrev pub slot_at_text : List SlotConfig → ℕ → List CountedConnection → DeviceTable → DeviceTable → ℕ → List ℕ
+slot_at_text configs now rows copy table number = slot_with now rows copy table number (slice_get configs number)
 
 -- the slots of numbers below this one
-abbrev pub slots_below : List SlotConfig → List RowFacts → DeviceTable → DeviceTable → ℕ → List ℕ
-slots_below configs rows copy table zero = []
-slots_below configs rows copy table (suc number) = slots_below configs rows copy table number ++ slot_at_text configs rows copy table number
+abbrev pub slots_below : List SlotConfig → ℕ → List CountedConnection → DeviceTable → DeviceTable → ℕ → List ℕ
+slots_below configs now rows copy table zero = []
+slots_below configs now rows copy table (suc number) =
+    slots_below configs now rows copy table number ++ slot_at_text configs now rows copy table number
 
-abbrev pub slots_text : List SlotConfig → List RowFacts → DeviceTable → DeviceTable → List ℕ
-slots_text configs rows copy table = slots_below configs rows copy table (min (length configs) (2 ^ 32 - 1))
+abbrev pub slots_text : List SlotConfig → ℕ → List CountedConnection → DeviceTable → DeviceTable → List ℕ
+slots_text configs now rows copy table = slots_below configs now rows copy table (min (length configs) (2 ^ 32 - 1))
 
-abbrev pub array_text : List SlotConfig → List RowFacts → DeviceTable → DeviceTable → List ℕ
-array_text configs rows copy table = codes ",\"slots\":[" ++ (slots_text configs rows copy table ++ codes "]")
+abbrev pub array_text : List SlotConfig → ℕ → List CountedConnection → DeviceTable → DeviceTable → List ℕ
+array_text configs now rows copy table = codes ",\"slots\":[" ++ (slots_text configs now rows copy table ++ codes "]")
 
 -- whether the application of a scanner runs
 abbrev pub run_text : Bool → List ℕ
@@ -89,14 +95,14 @@ own_mode_text (Adapter t) = []
 own_mode_text (Scanner t) = run_text t.run
 
 -- its mode, and its slots with the outputs and waits of the table
-abbrev pub scanner_text : List SlotConfig → List RowFacts → DeviceTable → List ℕ
-scanner_text configs rows table = own_mode_text table ++ array_text configs rows table table
+abbrev pub scanner_text : List SlotConfig → ℕ → List CountedConnection → DeviceTable → List ℕ
+scanner_text configs now rows table = own_mode_text table ++ array_text configs now rows table table
 
 -- THE WHOLE
 
-abbrev pub parts_text : Config → List RowFacts → DeviceTable → List ℕ
-parts_text (config.Adapter profile) rows table = adapter_text profile.outputs profile.inputs rows table
-parts_text (config.Scanner profile) rows table = scanner_text profile.slots rows table
+abbrev pub parts_text : Config → ℕ → List CountedConnection → DeviceTable → List ℕ
+parts_text (config.Adapter profile) now rows table = adapter_text profile.outputs profile.inputs now rows table
+parts_text (config.Scanner profile) now rows table = scanner_text profile.slots now rows table
 
 -- its address
 abbrev pub address_of : Config → Node
@@ -123,5 +129,5 @@ abbrev pub front_text : Config → StationFacts → List ℕ
 front_text given facts = moment_text facts ++ address_text (address_of given)
 
 -- what a device of a configuration is at a moment, without the events, the beginning and the end of the object
-abbrev pub device_text : Config → DeviceTable → StationFacts → List RowFacts → List ℕ
-device_text given table facts rows = front_text given facts ++ (parts_text given rows table ++ (totals_text (totals_of table) ++ counts_text facts))
+abbrev pub device_text : Config → DeviceTable → StationFacts → List CountedConnection → List ℕ
+device_text given table facts rows = front_text given facts ++ (parts_text given facts.ms rows table ++ (totals_text (totals_of table) ++ counts_text facts))

@@ -1,10 +1,7 @@
--- Which events of a device are troubles: what went wrong at one of its connections, slots or requests, or is to be known at once.
-use Rattle.std.specs.Prelude.{◌==◌, Bool, true, false, Result, Ok, Err}
-use Rattle.std.specs.List.{list_any}
-use Rattle.cip_events.specs.declared.event.Answer.{Answer}
+-- Which notices of a device are troubles: what went wrong at one of its connections, slots or requests, or is to be known at once.
+use Rattle.std.specs.Prelude.{◌==◌, Bool, true, false}
 use Rattle.cip_events.specs.declared.event.Notice.{Notice}
 use Rattle.cip_events.specs.declared.event.Notice.TheVariants as notice
-use Rattle.cip_events.specs.declared.event.StepFault.{StepFault}
 use Rattle.cip_events.specs.declared.slot_phase.SlotPhase.TheVariants as phase
 use Rattle.cip_events.specs.Phases.{phase_number}
 
@@ -18,7 +15,3 @@ is_trouble_notice (notice.NoIds slot) = true
 is_trouble_notice (notice.Reset kind) = true
 is_trouble_notice (notice.Unanswered number why) = true
 is_trouble_notice other = false
-
-abbrev pub is_trouble : Result Answer StepFault → Bool
-is_trouble (Ok answer) = list_any is_trouble_notice answer.notices
-is_trouble (Err fault) = false

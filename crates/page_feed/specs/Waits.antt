@@ -1,48 +1,38 @@
--- Why a slot of a scanner is not open: what it waits for (Volume 1, chapter 3, Forward_Open service; Volume 2, chapter 2,
--- encapsulation sessions).
-use Rattle.std.specs.Prelude.{ℕ, ◌-◌, if◌then◌else◌, List, [], ◌++◌, codes, decimal, find, slice_get, Option, Some, None}
-use Rattle.cip_tables.specs.declared.table.DeviceTable.{DeviceTable}
-use Rattle.cip_tables.specs.declared.table.DeviceTable.TheVariants.{Adapter, Scanner}
-use Rattle.cip_types.specs.declared.names.Node.{Node}
-use Rattle.page_feed.specs.declared.waits.SlotWait.{SlotWait}
-use Rattle.page_feed.specs.declared.waits.SlotWait.TheVariants as wait
-use Rattle.scanner_table.specs.declared.slot.Slot.{Slot}
-use Rattle.scanner_table.specs.declared.table.ScannerTable.{ScannerTable}
-use Rattle.scanner_table.specs.declared.table.Stage.{Stage}
-use Rattle.scanner_table.specs.declared.table.Stage.TheVariants.{Waiting, Up, Unused}
-use Rattle.scanner_table.specs.declared.table.TargetStream.{TargetStream}
-use Rattle.scanner_table.specs.Sessions.{is_to}
-use Rattle.scanner_table.specs.Slots.{is_closed}
+-- Why a slot of a scanner is not open, as JSON (RFC 8259).
+use Rattle.std.specs.Prelude.{ℕ, List, [], ◌++◌, codes, Option, Some, None}
+use Rattle.page_feed.specs.declared.waits.SlotFacts.{SlotFacts}
+use Rattle.station_lines.specs.Reasons.{why_text}
+use Rattle.station_watch.specs.Notes.{note_since}
+use Rattle.station_watch.specs.declared.notes.StateNote.{StateNote}
+use Rattle.station_watch.specs.declared.traffic.CountedConnection.{CountedConnection}
+use Rattle.station_watch.specs.declared.waits.SlotWait.{SlotWait}
+use Rattle.station_watch.specs.declared.waits.SlotWait.TheVariants as wait
 
--- over a session, a slot opens at its next try
-abbrev pub stage_wait : (retry clock : ℕ) → Stage → SlotWait
-stage_wait retry clock Waiting = wait.NoSession
-stage_wait retry clock Unused = wait.NoSession
-stage_wait retry clock (Up handle) = wait.Later (retry - clock)
+abbrev pub wait_word : SlotWait → List ℕ
+wait_word wait.Nothing = codes ""
+wait_word wait.Stopped = codes "stopped"
+wait_word wait.NoStream = codes "no stream"
+wait_word wait.NoSession = codes "no session"
+wait_word (wait.Later ms) = codes "next try"
 
-abbrev pub stream_wait : (retry clock : ℕ) → Option TargetStream → SlotWait
-stream_wait retry clock None = wait.NoStream
-stream_wait retry clock (Some stream) = stage_wait retry clock stream.stage
+-- nothing was noted of an unknown slot
+abbrev pub note_of : Option CountedConnection → StateNote
+note_of (Some row) = row.note
+note_of None = note_since 0
 
--- a slot that a call has stopped, or none has started, waits for a call; another one that has no connection for a stream to its
--- target, then for a session on it, then for its next try
-abbrev pub wait_of : ScannerTable → Node → Slot → SlotWait
-wait_of t target slot =
-    if is_closed slot.state then (if slot.desired_up then stream_wait slot.retry_at.0 t.clock.0 (find (is_to target) t.streams) else wait.Stopped)
-    else wait.Nothing
+abbrev pub wait_front : SlotWait → List ℕ
+wait_front awaited = codes ",\"wait\":\"" ++ (wait_word awaited ++ codes "\",\"why\":\"")
 
-abbrev pub wait_with : ScannerTable → Node → Option Slot → SlotWait
-wait_with t target None = wait.Nothing
-wait_with t target (Some slot) = wait_of t target slot
+abbrev pub facts_why : SlotFacts → List ℕ
+facts_why facts = why_text facts.now_ms facts.target (note_of facts.row) facts.wait
 
--- what the slot of a number waits for, of this target; an adapter has none
-abbrev pub wait_at : DeviceTable → ℕ → Node → SlotWait
-wait_at (Adapter t) number target = wait.Nothing
-wait_at (Scanner t) number target = wait_with t target (slice_get t.slots number)
+abbrev pub said_wait : SlotFacts → List ℕ
+said_wait facts = wait_front facts.wait ++ (facts_why facts ++ codes "\"")
 
-abbrev pub wait_text : SlotWait → List ℕ
-wait_text wait.Nothing = []
-wait_text wait.Stopped = codes ",\"wait\":\"stopped\""
-wait_text wait.NoStream = codes ",\"wait\":\"no stream\""
-wait_text wait.NoSession = codes ",\"wait\":\"no session\""
-wait_text (wait.Later ms) = codes ",\"wait\":\"next try\",\"wait_ms\":" ++ decimal ms
+abbrev pub wait_with : SlotFacts → SlotWait → List ℕ
+wait_with facts wait.Nothing = []
+wait_with facts other = said_wait facts
+
+-- what a slot waits for, if it does, and why in words
+abbrev pub wait_text : SlotFacts → List ℕ
+wait_text facts = wait_with facts facts.wait

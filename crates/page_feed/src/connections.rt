@@ -3,11 +3,12 @@
 ghost use Rattle.std.specs.Prelude.{◌≡◌, ◌++◌, OnOk, string_bytes};
 ghost use Rattle.page_feed.specs.Connections.{age_ms, begun_connection, bool_word, connection_head, connection_rest, connection_text, established_text, has_data, kind_text, listed_text, mode_text, mode_word, owner_text, state_text, target_text};
 
-use crate::rows::{RowFacts, push_row};
+use crate::rows::push_row;
 use adapter_table::{ConnectionReport, Mode};
 use cip_productions::Age;
 use cip_types::OutOfMemory;
 use scanner_table::{SlotReport, TargetReport};
+use station_watch::CountedConnection;
 use trace_lines::kind_name;
 use trace_words::{push_node, push_text};
 
@@ -33,12 +34,13 @@ pub fn push_connection(out: &mut String, report: ConnectionReport) -> Result<(),
 pub fn push_listed(
     out: &mut String,
     report: ConnectionReport,
-    row: Option<RowFacts>,
+    now_ms: u64,
+    row: Option<CountedConnection>,
 ) -> Result<(), OutOfMemory>
-    ensures { OnOk result (string_bytes out.new ≡ string_bytes out.old ++ listed_text row report) }
+    ensures { OnOk result (string_bytes out.new ≡ string_bytes out.old ++ listed_text now_ms row report) }
 {
     push_begun(out, report)?;
-    push_row(out, row)?;
+    push_row(out, now_ms, row)?;
     push_text(out, "}")?;
     Ok(())
 }

@@ -1,16 +1,16 @@
 //! What a station tells its page.
 
 use crate::facts::StationFacts;
-use crate::gaps::{ArrivalTime, GapMeters};
 use crate::last_events::{LastEvents, changes_state};
+use crate::names::names_text;
 use crate::pauses::{owner_code, pause_between, rest_until};
 use crate::place::FeedEnd;
-use crate::rows::{RowFacts, SlotNote, row_of};
 use crate::snapshots::push_device;
-use cip_events::{Event, Notice, Outcome, Verdict};
+use cip_events::{Event, Outcome};
 use cip_tables::{Config, Device};
 use cip_types::OutOfMemory;
-use cip_types::limits::{MOST_POINTS, MOST_SLOTS};
+use cip_types::limits::MOST_POINTS;
+use point_names::Names;
 use station_watch::CountedConnection;
 use std::alloc::Global;
 use trace_words::push_text;
@@ -19,6 +19,9 @@ use trace_words::push_text;
 #[derive(Drop)]
 pub struct PageFeed {
     config: Config,
+    names: Names,
+    /// The names as the page gets them, until it has them.
+    unoffered: Option<String>,
     end: FeedEnd,
     events: LastEvents,
     text: String,
@@ -29,18 +32,21 @@ pub struct PageFeed {
     has_changed: bool,
     /// Who owns each output (`owner_code`).
     owners: [u8; MOST_POINTS],
-    /// What was noted of each slot.
-    slots: [SlotNote; MOST_SLOTS],
-    meters: GapMeters,
-    /// What is known of each connection or slot, for the snapshot that is written.
-    rows: Vec<RowFacts>,
 }
 
 impl PageFeed {
-    /// Has events nothing of a device of this configuration. Takes no memory.
-    pub fn new(alloc: Global, config: Config, end: FeedEnd) -> PageFeed {
-        PageFeed {
+    /// Has noted nothing of a device of this configuration, whose points have these names. OutOfMemory is the only fault.
+    pub fn new(
+        alloc: Global,
+        config: Config,
+        names: Names,
+        end: FeedEnd,
+    ) -> Result<PageFeed, OutOfMemory> {
+        let unoffered = Some(names_text(alloc, &names)?);
+        Ok(PageFeed {
             config,
+            names,
+            unoffered,
             end,
             events: LastEvents::none(alloc),
             text: String::new(alloc),
@@ -48,56 +54,22 @@ impl PageFeed {
             shown_ms: 0,
             has_changed: true,
             owners: [0; MOST_POINTS],
-            slots: [SlotNote::none(); MOST_SLOTS],
-            meters: GapMeters::none(alloc),
-            rows: Vec::new(alloc),
-        }
+        })
     }
 
     /// Notes an event that a device has taken.
     pub fn note(&mut self, facts: StationFacts, event: &Event, outcome: &Outcome) {
         self.has_changed |= changes_state(event, outcome);
-        if let Ok(answer) = outcome {
-            self.note_slots(facts.ms, answer.notices.as_slice());
-            self.note_arrival(facts.ms, event, &answer.verdict);
-        }
         // (an event for which there is no memory is left out)
-        let _ = self.events.note(&self.config, facts, event, outcome);
+        let _ = self
+            .events
+            .note(&self.config, &self.names, facts, event, outcome);
     }
 
     /// Notes what the station reports of its streams and of itself.
     pub fn note_report(&mut self, facts: StationFacts, text: &[u8]) {
         // (a report for which there is no memory is left out)
         let _ = self.events.note_report(facts, text);
-    }
-
-    /// Notes which slots have changed their states.
-    fn note_slots(&mut self, ms: u64, notices: &[Notice]) {
-        for notice in notices {
-            if let Notice::Slot(slot, state) = notice {
-                if let Some(note) = self.slots.get_mut(*slot as usize) {
-                    *note = note.changed(ms, *state);
-                }
-            }
-        }
-    }
-
-    /// Notes when a datagram came.
-    fn note_arrival(&mut self, ms: u64, event: &Event, verdict: &Verdict) {
-        let (Event::Datagram { peer, bytes }, Verdict::Delivered(delivery)) = (event, verdict)
-        else {
-            return;
-        };
-        let [_, _, _, _, _, _, a, b, c, d, ..] = bytes.as_slice() else {
-            return;
-        };
-        // (a connection for which there is no memory has no meter)
-        let _ = self.meters.note(ArrivalTime {
-            peer: *peer,
-            id: u32::from_le_bytes([*a, *b, *c, *d]),
-            ms,
-            delivery: *delivery,
-        });
     }
 
     /// Hands a snapshot of the device to the page, if a browser looks and one is due. The connections or slots are those of the
@@ -115,12 +87,27 @@ impl PageFeed {
         if self.passed_ms(facts) < self.pause_ms(facts) {
             return;
         }
+        if !self.offer_names() {
+            return;
+        }
         // (a snapshot for which there is no memory is left out)
         if self.write(device, facts, connections).is_ok() && self.end.offer(&mut self.text) {
             self.shown_number = facts.number;
             self.shown_ms = facts.ms;
             self.has_changed = false;
         }
+    }
+
+    /// Hands the names to the page, once. Whether it has them.
+    fn offer_names(&mut self) -> bool {
+        let Some(text) = &mut self.unoffered else {
+            return true;
+        };
+        if !self.end.offer_names(text) {
+            return false;
+        }
+        self.unoffered = None;
+        true
     }
 
     /// The milliseconds from the last snapshot to the next.
@@ -157,25 +144,10 @@ impl PageFeed {
         facts: StationFacts,
         connections: &[CountedConnection],
     ) -> Result<(), OutOfMemory> {
-        self.fill_rows(connections)?;
         self.text.clear();
-        let rows = self.rows.as_slice();
-        push_device(&mut self.text, &self.config, device, facts, rows)?;
+        push_device(&mut self.text, &self.config, device, facts, connections)?;
         self.events.push(&mut self.text)?;
         push_text(&mut self.text, "}")
-    }
-
-    /// Puts together what is known of each connection or slot.
-    fn fill_rows(&mut self, connections: &[CountedConnection]) -> Result<(), OutOfMemory> {
-        self.rows.clear();
-        for (place, counted) in connections.iter().enumerate() {
-            let note = match self.slots.get(place) {
-                Some(note) => *note,
-                None => SlotNote::none(),
-            };
-            self.rows.push(row_of(counted, self.meters.meters(), note))?;
-        }
-        Ok(())
     }
 }
 

@@ -1,15 +1,16 @@
 //! The last events of a device in words, and apart from them the last troubles.
 
 use crate::facts::StationFacts;
-use crate::troubles::is_trouble;
-use cip_events::{Event, Outcome};
+use crate::troubles::{is_opening, is_trouble_notice};
+use cip_events::{Answer, Event, Outcome};
 use cip_tables::Config;
 use cip_types::OutOfMemory;
+use point_names::Names;
 use serde_json::Value;
 use std::alloc::Global;
 use std::collections::VecDeque;
 use std::str;
-use trace_explain::explain_event;
+use trace_explain::{explain_event, push_notice};
 use trace_words::push_text;
 
 /// So many events are shown at most.
@@ -21,12 +22,23 @@ struct EventText {
     text: String,
 }
 
-/// The last events in words, and the last troubles, which no other event pushes out. The oldest are first.
+/// A trouble in words, as JSON: when it came last and first, and how often.
+#[derive(Drop)]
+struct Trouble {
+    words: String,
+    number: u64,
+    ms: u64,
+    first_ms: u64,
+    count: u64,
+}
+
+/// The last events in words, and the last troubles, which no other event pushes out. The oldest are first. A trouble that comes again
+/// is one with a count.
 #[derive(Drop)]
 pub struct LastEvents {
     alloc: Global,
     events: VecDeque<EventText>,
-    troubles: VecDeque<EventText>,
+    troubles: Vec<Trouble>,
 }
 
 impl LastEvents {
@@ -35,14 +47,15 @@ impl LastEvents {
         LastEvents {
             alloc,
             events: VecDeque::new(alloc),
-            troubles: VecDeque::new(alloc),
+            troubles: Vec::new(alloc),
         }
     }
 
-    /// Notes an event, if it is shown. The fault: an allocation was refused, and it is left out.
+    /// Notes an event, if it is shown, and each trouble of it. The fault: an allocation was refused, and not all is noted.
     pub fn note(
         &mut self,
         config: &Config,
+        names: &Names,
         facts: StationFacts,
         event: &Event,
         outcome: &Outcome,
@@ -50,22 +63,71 @@ impl LastEvents {
         if !is_shown(event, outcome) {
             return Ok(());
         }
-        let text = event_text(self.alloc, config, facts, event, outcome)?;
-        if is_trouble(outcome) {
-            let same = format!(in self.alloc; "{}", text.text.as_str())?;
-            keep(&mut self.troubles, EventText { text: same })?;
+        if let Ok(answer) = outcome {
+            self.note_troubles(names, facts, event, answer)?;
         }
+        let text = event_text(self.alloc, config, names, facts, event, outcome)?;
         keep(&mut self.events, text)
     }
 
-    /// Notes what a station reports of its streams and of itself: it is among the troubles.
+    /// Notes each trouble of an answer.
+    fn note_troubles(
+        &mut self,
+        names: &Names,
+        facts: StationFacts,
+        event: &Event,
+        answer: &Answer,
+    ) -> Result<(), OutOfMemory> {
+        for notice in answer.notices.as_slice() {
+            if is_trouble_notice(notice) {
+                let mut words = String::new(self.alloc);
+                push_notice(&mut words, names, event, answer, *notice)?;
+                self.keep_trouble(facts, words)?;
+            }
+        }
+        Ok(())
+    }
+
+    /// Notes what a station reports of its streams and of itself: it is among the troubles, but for a stream that opens.
     pub fn note_report(&mut self, facts: StationFacts, text: &[u8]) -> Result<(), OutOfMemory> {
         let Ok(text) = str::from_utf8(text) else {
             return Ok(());
         };
+        if is_opening(text) {
+            return Ok(());
+        }
         let words = format!(in self.alloc; "{text}")?;
-        let text = worded(self.alloc, facts, words)?;
-        keep(&mut self.troubles, text)
+        self.keep_trouble(facts, words)
+    }
+
+    /// Keeps a trouble behind the others. One of the same words, which came before, or else the oldest one of too many gives way.
+    fn keep_trouble(&mut self, facts: StationFacts, words: String) -> Result<(), OutOfMemory> {
+        let words = Value::String(words).to_string(self.alloc)?;
+        self.troubles.reserve(1)?;
+        let (count, first_ms) = self.take_earlier(words.as_str(), facts.ms);
+        if self.troubles.len() >= MOST_EVENTS {
+            let _ = self.troubles.remove(0);
+        }
+        self.troubles.push(Trouble {
+            words,
+            number: facts.number,
+            ms: facts.ms,
+            first_ms,
+            count: count.saturating_add(1),
+        })?;
+        Ok(())
+    }
+
+    /// Takes out the trouble of these words, if there is one: how often it came, and when first.
+    fn take_earlier(&mut self, words: &str, now_ms: u64) -> (u64, u64) {
+        let same = |trouble: &Trouble| trouble.words.as_str() == words;
+        match self.troubles.iter().position(same) {
+            Some(place) => {
+                let earlier = self.troubles.remove(place);
+                (earlier.count, earlier.first_ms)
+            }
+            None => (0, now_ms),
+        }
     }
 
     /// Appends the events, and the troubles.
@@ -73,7 +135,7 @@ impl LastEvents {
         push_text(out, ",\"events\":[")?;
         push_all(out, &self.events)?;
         push_text(out, "],\"troubles\":[")?;
-        push_all(out, &self.troubles)?;
+        push_troubles(out, self.troubles.as_slice())?;
         push_text(out, "]")
     }
 }
@@ -94,6 +156,22 @@ fn push_all(out: &mut String, events: &VecDeque<EventText>) -> Result<(), OutOfM
             push_text(out, ",")?;
         }
         push_text(out, event.text.as_str())?;
+    }
+    Ok(())
+}
+
+/// Appends troubles.
+fn push_troubles(out: &mut String, troubles: &[Trouble]) -> Result<(), OutOfMemory> {
+    for (place, trouble) in troubles.iter().enumerate() {
+        if place > 0 {
+            push_text(out, ",")?;
+        }
+        let (number, ms) = (trouble.number, trouble.ms);
+        let (first, count, words) = (trouble.first_ms, trouble.count, trouble.words.as_str());
+        write!(
+            out,
+            "{{\"number\":{number},\"ms\":{ms},\"first_ms\":{first},\"count\":{count},\"words\":{words}}}"
+        )?;
     }
     Ok(())
 }
@@ -129,16 +207,14 @@ fn has_notice(outcome: &Outcome) -> bool {
 fn event_text(
     alloc: Global,
     config: &Config,
+    names: &Names,
     facts: StationFacts,
     event: &Event,
     outcome: &Outcome,
 ) -> Result<EventText, OutOfMemory> {
-    worded(alloc, facts, explain_event(alloc, config, event, outcome)?)
-}
-
-/// An event of these words.
-fn worded(alloc: Global, facts: StationFacts, words: String) -> Result<EventText, OutOfMemory> {
-    let words = Value::String(words).to_string(alloc)?;
+    let words = Value::String(explain_event(alloc, config, names, event, outcome)?).to_string(
+        alloc,
+    )?;
     let (number, ms) = (facts.number, facts.ms);
     let words = words.as_str();
     let text = format!(in alloc; "{{\"number\":{number},\"ms\":{ms},\"words\":{words}}}")?;

@@ -5,8 +5,8 @@
 mod connections;
 mod facts;
 mod feed;
-mod gaps;
 mod last_events;
+mod names;
 mod pauses;
 mod place;
 mod points;

@@ -22,6 +22,8 @@ struct Newest {
 #[derive(Drop)]
 struct FeedPlace {
     newest: Mutex<Newest>,
+    /// The names of each device's points, slots and bits, as JSON; nothing of one that has told none.
+    names: Mutex<Vec<String>>,
     more: Condvar,
     watchers: AtomicU64,
 }
@@ -43,14 +45,17 @@ pub struct PageEnd {
 /// A place with no text of so many devices. The fault: an allocation was refused.
 pub fn page_place(alloc: Global, devices: usize) -> Result<PageEnd, OutOfMemory> {
     let mut texts = Vec::new(alloc);
+    let mut names = Vec::new(alloc);
     for _ in 0..devices {
         texts.push(String::new(alloc))?;
+        names.push(String::new(alloc))?;
     }
     let place = FeedPlace {
         newest: Mutex::new(Newest {
             texts,
             numbers: vec![in alloc; 0; devices]?,
         }),
+        names: Mutex::new(names),
         more: Condvar::new(),
         watchers: AtomicU64::new(0),
     };
@@ -75,6 +80,17 @@ impl FeedEnd {
     /// Whether a browser looks at the page.
     pub fn is_watched(&self) -> bool {
         self.place.watchers.load(Ordering::SeqCst) > 0
+    }
+
+    /// Puts the names of the device in, unless the page has its hands in them. Answers whether they are in.
+    pub fn offer_names(&self, text: &mut String) -> bool {
+        let Some(mut names) = self.place.names.try_lock() else {
+            return false;
+        };
+        if let Some(own) = names.get_mut(self.device) {
+            mem::swap(own, text);
+        }
+        true
     }
 
     /// Puts a text in, in the place of the one before, unless the page has its hands in the place. Answers whether it is in.
@@ -183,6 +199,21 @@ impl PageEnd {
                 changed_from(newest.numbers.as_slice(), seen, 0).is_none()
             });
         changed_from(newest.numbers.as_slice(), seen, from)
+    }
+
+    /// Appends the names of a device, and answers whether it has any. OutOfMemory is the only fault.
+    pub fn push_names<R: Wait>(
+        &self,
+        rt: &R,
+        device: usize,
+        out: &mut Vec<u8>,
+    ) -> Result<bool, OutOfMemory> {
+        let names = self.place.names.lock(rt);
+        let Some(text) = names.get(device) else {
+            return Ok(false);
+        };
+        out.extend_from_slice(text.as_bytes())?;
+        Ok(!text.is_empty())
     }
 
     /// Appends the newest text of a device, and answers its number. OutOfMemory is the only fault.

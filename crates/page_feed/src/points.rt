@@ -5,8 +5,8 @@ ghost use Rattle.cip_tables.specs.States.{slot_in};
 ghost use Rattle.page_feed.specs.Points.{bytes_text, consumers_text, input_text, inputs_text, output_at, output_text, outputs_text, slot_end, slot_front, slot_head, slot_image, slot_output, slot_state, slot_terms, slot_text, slots_in};
 
 use crate::connections::{push_owner, push_state};
-use crate::rows::{RowFacts, push_slot_row};
-use crate::waits::{SlotWait, push_wait};
+use crate::rows::push_row;
+use crate::waits::{SlotFacts, push_wait};
 use adapter_table::{ConsumerCounts, InputPoint, OutputPoint};
 use cip_tables::{Device, DeviceTable};
 use cip_types::{Node, OutOfMemory};
@@ -160,16 +160,15 @@ pub fn push_slot<D: Device>(
     number: u32,
     config: &SlotConfig,
     output: &[u8],
-    wait: SlotWait,
-    row: Option<RowFacts>,
+    facts: SlotFacts,
 ) -> Result<(), OutOfMemory>
     ensures { OnOk result (string_bytes out.new ≡ string_bytes out.old
-        ++ slot_text (D.table device.now) number config.now output.now wait row) }
+        ++ slot_text (D.table device.now) number config.now output.now facts) }
 {
     push_slot_front(out, number, config)?;
     push_slot_image(out, device, number)?;
     push_slot_output(out, output)?;
-    push_slot_end(out, device, number, wait, row)?;
+    push_slot_end(out, device, number, facts)?;
     Ok(())
 }
 
@@ -226,13 +225,12 @@ fn push_slot_end<D: Device>(
     out: &mut String,
     device: &D,
     number: u32,
-    wait: SlotWait,
-    row: Option<RowFacts>,
+    facts: SlotFacts,
 ) -> Result<(), OutOfMemory>
     ensures { OnOk result (string_bytes out.new ≡ string_bytes out.old
-        ++ slot_end (slot_state (slot_in (D.table device.now) number)) wait row) }
+        ++ slot_end (slot_state (slot_in (D.table device.now) number)) facts) }
 {
-    push_ended_state(out, slot_state(device.slot(number)), wait, row)
+    push_ended_state(out, slot_state(device.slot(number)), facts)
 }
 
 /// A slot that is not there is idle.
@@ -249,14 +247,13 @@ fn slot_state(report: Option<SlotReport>) -> SlotReport
 fn push_ended_state(
     out: &mut String,
     report: SlotReport,
-    wait: SlotWait,
-    row: Option<RowFacts>,
+    facts: SlotFacts,
 ) -> Result<(), OutOfMemory>
-    ensures { OnOk result (string_bytes out.new ≡ string_bytes out.old ++ slot_end report wait row) }
+    ensures { OnOk result (string_bytes out.new ≡ string_bytes out.old ++ slot_end report facts) }
 {
     push_state(out, report)?;
-    push_wait(out, wait)?;
-    push_slot_row(out, row)?;
+    push_wait(out, facts)?;
+    push_row(out, facts.now_ms, facts.row)?;
     push_text(out, "}")?;
     Ok(())
 }

@@ -7,12 +7,13 @@ ghost use Rattle.page_feed.specs.Snapshots.{adapter_text, address_of, address_te
 use crate::connections::push_listed;
 use crate::facts::{StationFacts, push_counts, push_moment};
 use crate::points::{output_at, push_inputs, push_outputs, push_slot, slots_in};
-use crate::rows::{RowFacts, row_at};
-use crate::waits::{SlotWait, wait_at};
+use crate::rows::row_at;
+use crate::waits::SlotFacts;
 use adapter_table::{InputPoint, OutputPoint};
 use cip_tables::{Config, Device, DeviceTable, DeviceTotals};
 use cip_types::{Node, OutOfMemory};
 use scanner_table::SlotConfig;
+use station_watch::{CountedConnection, wait_at};
 use trace_words::{push_node, push_text};
 
 /// An adapter has at most so many connections.
@@ -25,13 +26,13 @@ pub fn push_device<D: Device>(
     config: &Config,
     device: &D,
     facts: StationFacts,
-    rows: &[RowFacts],
+    rows: &[CountedConnection],
 ) -> Result<(), OutOfMemory>
     ensures { OnOk result (string_bytes out.new ≡ string_bytes out.old
         ++ device_text config.now (D.table device.now) facts rows.now) }
 {
     push_front(out, config, facts)?;
-    push_parts(out, config, device, rows)?;
+    push_parts(out, config, device, facts.ms, rows)?;
     push_totals(out, device)?;
     push_counts(out, facts)?;
     Ok(())
@@ -69,10 +70,11 @@ fn push_parts<D: Device>(
     out: &mut String,
     config: &Config,
     device: &D,
-    rows: &[RowFacts],
+    now_ms: u64,
+    rows: &[CountedConnection],
 ) -> Result<(), OutOfMemory>
     ensures { OnOk result (string_bytes out.new ≡ string_bytes out.old
-        ++ parts_text config.now rows.now (D.table device.now)) }
+        ++ parts_text config.now now_ms rows.now (D.table device.now)) }
 {
     match config {
         Config::Adapter(profile) => push_adapter(
@@ -80,9 +82,12 @@ fn push_parts<D: Device>(
             profile.outputs.as_slice(),
             profile.inputs.as_slice(),
             device,
+            now_ms,
             rows,
         ),
-        Config::Scanner(profile) => push_scanner(out, profile.slots.as_slice(), device, rows),
+        Config::Scanner(profile) => {
+            push_scanner(out, profile.slots.as_slice(), device, now_ms, rows)
+        }
     }
 }
 
@@ -92,14 +97,15 @@ fn push_adapter<D: Device>(
     outputs: &[OutputPoint],
     inputs: &[InputPoint],
     device: &D,
-    rows: &[RowFacts],
+    now_ms: u64,
+    rows: &[CountedConnection],
 ) -> Result<(), OutOfMemory>
     ensures { OnOk result (string_bytes out.new ≡ string_bytes out.old
-        ++ adapter_text outputs.now inputs.now rows.now (D.table device.now)) }
+        ++ adapter_text outputs.now inputs.now now_ms rows.now (D.table device.now)) }
 {
     push_all_outputs(out, outputs, device)?;
     push_all_inputs(out, inputs, device)?;
-    push_connections(out, device, rows, MOST_PLACES)?;
+    push_connections(out, device, now_ms, rows, MOST_PLACES)?;
     Ok(())
 }
 
@@ -135,13 +141,14 @@ fn push_all_inputs<D: Device>(
 fn push_connections<D: Device>(
     out: &mut String,
     device: &D,
-    rows: &[RowFacts],
+    now_ms: u64,
+    rows: &[CountedConnection],
     most: u32,
 ) -> Result<(), OutOfMemory>
     ensures { OnOk result (string_bytes out.new ≡ string_bytes out.old
-        ++ connections_text rows.now (D.table device.now) most) }
+        ++ connections_text now_ms rows.now (D.table device.now) most) }
 {
-    push_places(out, device, rows, most)?;
+    push_places(out, device, now_ms, rows, most)?;
     push_text(out, "]")?;
     Ok(())
 }
@@ -150,14 +157,15 @@ fn push_connections<D: Device>(
 fn push_places<D: Device>(
     out: &mut String,
     device: &D,
-    rows: &[RowFacts],
+    now_ms: u64,
+    rows: &[CountedConnection],
     most: u32,
 ) -> Result<(), OutOfMemory>
     ensures { OnOk result (string_bytes out.new ≡ string_bytes out.old
-        ++ connections_below rows.now (D.table device.now) most) }
+        ++ connections_below now_ms rows.now (D.table device.now) most) }
 {
     for place in 0..most {
-        push_connection_at(out, device, rows, place)?;
+        push_connection_at(out, device, now_ms, rows, place)?;
     }
     Ok(())
 }
@@ -166,17 +174,18 @@ fn push_places<D: Device>(
 fn push_connection_at<D: Device>(
     out: &mut String,
     device: &D,
-    rows: &[RowFacts],
+    now_ms: u64,
+    rows: &[CountedConnection],
     place: u32,
 ) -> Result<(), OutOfMemory>
     ensures { OnOk result (string_bytes out.new ≡ string_bytes out.old
-        ++ connection_at_text rows.now (D.table device.now) place) }
+        ++ connection_at_text now_ms rows.now (D.table device.now) place) }
 {
     let Some(report) = device.connection(place) else {
         return Ok(());
     };
     push_text(out, separator(place))?;
-    push_listed(out, report, row_at(rows, place))
+    push_listed(out, report, now_ms, row_at(rows, place))
 }
 
 /// What stands before the one at a place.
@@ -192,14 +201,15 @@ fn push_scanner<D: Device>(
     out: &mut String,
     configs: &[SlotConfig],
     device: &D,
-    rows: &[RowFacts],
+    now_ms: u64,
+    rows: &[CountedConnection],
 ) -> Result<(), OutOfMemory>
     ensures { OnOk result (string_bytes out.new ≡ string_bytes out.old
-        ++ scanner_text configs.now rows.now (D.table device.now)) }
+        ++ scanner_text configs.now now_ms rows.now (D.table device.now)) }
 {
     let copy = device.copy()?;
     push_own_mode(out, copy.table())?;
-    push_array(out, configs, copy.table(), device, rows)
+    push_array(out, configs, copy.table(), device, now_ms, rows)
 }
 
 /// Appends the mode of a scanner.
@@ -229,13 +239,14 @@ fn push_array<D: Device>(
     configs: &[SlotConfig],
     copy: &DeviceTable,
     device: &D,
-    rows: &[RowFacts],
+    now_ms: u64,
+    rows: &[CountedConnection],
 ) -> Result<(), OutOfMemory>
     ensures { OnOk result (string_bytes out.new ≡ string_bytes out.old
-        ++ array_text configs.now rows.now copy.now (D.table device.now)) }
+        ++ array_text configs.now now_ms rows.now copy.now (D.table device.now)) }
 {
     push_text(out, ",\"slots\":[")?;
-    push_slots(out, configs, copy, device, rows)?;
+    push_slots(out, configs, copy, device, now_ms, rows)?;
     push_text(out, "]")
 }
 
@@ -245,14 +256,15 @@ fn push_slots<D: Device>(
     configs: &[SlotConfig],
     copy: &DeviceTable,
     device: &D,
-    rows: &[RowFacts],
+    now_ms: u64,
+    rows: &[CountedConnection],
 ) -> Result<(), OutOfMemory>
     ensures { OnOk result (string_bytes out.new ≡ string_bytes out.old
-        ++ slots_text configs.now rows.now copy.now (D.table device.now)) }
+        ++ slots_text configs.now now_ms rows.now copy.now (D.table device.now)) }
 {
     let count = u32::try_from(configs.len()).unwrap_or(u32::MAX);
     for number in 0..count {
-        push_slot_at(out, configs, copy, device, rows, number)?;
+        push_slot_at(out, configs, copy, device, now_ms, rows, number)?;
     }
     Ok(())
 }
@@ -263,36 +275,40 @@ fn push_slot_at<D: Device>(
     configs: &[SlotConfig],
     copy: &DeviceTable,
     device: &D,
-    rows: &[RowFacts],
+    now_ms: u64,
+    rows: &[CountedConnection],
     number: u32,
 ) -> Result<(), OutOfMemory>
     ensures { OnOk result (string_bytes out.new ≡ string_bytes out.old
-        ++ slot_at_text configs.now rows.now copy.now (D.table device.now) number) }
+        ++ slot_at_text configs.now now_ms rows.now copy.now (D.table device.now) number) }
 {
     let Some(slot) = configs.get(number as usize) else {
         return Ok(());
     };
     let output = output_at(slots_in(copy), number);
-    let wait = wait_at(copy, number, slot.target);
-    push_placed_slot(out, device, rows, number, slot, output, wait)
+    let facts = SlotFacts {
+        target: slot.target,
+        wait: wait_at(copy, number, slot.target),
+        row: row_at(rows, number),
+        now_ms,
+    };
+    push_placed_slot(out, device, number, slot, output, facts)
 }
 
 /// Appends a slot behind those before.
 fn push_placed_slot<D: Device>(
     out: &mut String,
     device: &D,
-    rows: &[RowFacts],
     number: u32,
     config: &SlotConfig,
     output: &[u8],
-    wait: SlotWait,
+    facts: SlotFacts,
 ) -> Result<(), OutOfMemory>
     ensures { OnOk result (string_bytes out.new ≡ string_bytes out.old
-        ++ placed_slot rows.now (D.table device.now) number config.now output.now wait) }
+        ++ placed_slot (D.table device.now) number config.now output.now facts) }
 {
     push_text(out, separator(number))?;
-    let row = row_at(rows, number);
-    push_slot(out, device, number, config, output, wait, row)
+    push_slot(out, device, number, config, output, facts)
 }
 
 /// Appends how much of a device is in use.

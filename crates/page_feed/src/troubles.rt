@@ -1,29 +1,13 @@
-//! Which events of a device are troubles.
+//! What of a device's events and a station's reports are troubles.
 
 ghost use Rattle.std.specs.Prelude.{◌≡◌};
-ghost use Rattle.std.specs.List.{list_any};
-ghost use Rattle.page_feed.specs.Troubles.{is_trouble, is_trouble_notice};
+ghost use Rattle.page_feed.specs.Troubles.{is_trouble_notice};
 
-use cip_events::{Notice, Outcome, SlotPhase};
+use cip_events::{Notice, SlotPhase};
 
-/// Whether something went wrong at an event: a connection timed out or was dropped, a slot timed out or is not opened, a request
-/// stays without a reply, or a peer requests a reset.
-pub(crate) fn is_trouble(outcome: &Outcome) -> bool
-    ensures { result ≡ is_trouble outcome.now }
-{
-    match outcome {
-        Ok(answer) => has_trouble(answer.notices.as_slice()),
-        Err(_) => false,
-    }
-}
-
-fn has_trouble(notices: &[Notice]) -> bool
-    ensures { result ≡ list_any is_trouble_notice notices.now }
-{
-    notices.iter().any(|notice| is_trouble_notice(notice))
-}
-
-fn is_trouble_notice(notice: &Notice) -> bool
+/// Whether a notice says that something went wrong: a connection timed out or was dropped, a slot timed out or is not opened, a
+/// request stays without a reply, or a peer requests a reset.
+pub(crate) fn is_trouble_notice(notice: &Notice) -> bool
     ensures { result ≡ is_trouble_notice notice.now }
 {
     match notice {
@@ -36,4 +20,9 @@ fn is_trouble_notice(notice: &Notice) -> bool
         Notice::Unanswered(_, _) => true,
         _ => false,
     }
+}
+
+/// Whether a station reports that a stream is open, which is no trouble.
+pub(crate) fn is_opening(report: &str) -> bool {
+    report.ends_with(" is open\n")
 }

@@ -1,123 +1,78 @@
-//! Why a slot of a scanner is not open: what it waits for.
+//! Why a slot of a scanner is not open, and what is known of it beside its device.
 
-ghost use Rattle.std.specs.Prelude.{◌≡◌, ◌++◌, OnOk, find, slice_get, string_bytes};
-ghost use Rattle.page_feed.specs.Waits.{stage_wait, stream_wait, wait_at, wait_of, wait_text, wait_with};
-ghost use Rattle.scanner_table.specs.Sessions.{is_to};
-ghost use Rattle.scanner_table.specs.Slots.{is_closed};
+ghost use Rattle.std.specs.Prelude.{◌≡◌, ◌++◌, OnOk, string_bytes};
+ghost use Rattle.page_feed.specs.Waits.{facts_why, note_of, said_wait, wait_front, wait_text, wait_word};
 
-use cip_tables::DeviceTable;
-use cip_types::{Ms, Node, OutOfMemory};
-use scanner_table::{ScannerTable, Slot, SlotState, Stage, TargetStream};
+use cip_types::{Node, OutOfMemory};
+use station_lines::push_why;
+use station_watch::{CountedConnection, SlotWait, StateNote};
 use trace_words::push_text;
 
-/// What a slot waits for that has no connection.
-#[derive(Clone, Copy, PartialEq, Eq)]
-pub enum SlotWait {
-    /// It has a connection, or a request is on its way.
-    Nothing,
-    /// A call: one has stopped it, or none has started it.
-    Stopped,
-    /// A stream to its target.
-    NoStream,
-    /// A session on that stream.
-    NoSession,
-    /// Its next try, in so many milliseconds.
-    Later(u64),
+/// What is known of a slot beside its device, at a time in milliseconds.
+#[derive(Clone, Copy)]
+pub struct SlotFacts {
+    pub target: Node,
+    pub wait: SlotWait,
+    pub row: Option<CountedConnection>,
+    pub now_ms: u64,
 }
 
-/// What the slot of a number waits for, of this target. An adapter has none.
-pub fn wait_at(table: &DeviceTable, number: u32, target: Node) -> SlotWait
-    ensures { result ≡ wait_at table.now number target }
+/// Appends what a slot waits for, if it does, and why in words.
+pub fn push_wait(out: &mut String, facts: SlotFacts) -> Result<(), OutOfMemory>
+    ensures { OnOk result (string_bytes out.new ≡ string_bytes out.old ++ wait_text facts) }
 {
-    match table {
-        DeviceTable::Scanner(table) => wait_with(table, number, target),
-        DeviceTable::Adapter(_) => SlotWait::Nothing,
+    match facts.wait {
+        SlotWait::Nothing => Ok(()),
+        _ => push_said_wait(out, facts),
     }
 }
 
-/// What the slot of a number waits for.
-fn wait_with(table: &ScannerTable, number: u32, target: Node) -> SlotWait
-    ensures { result ≡ wait_with table.now target (slice_get table.now.slots number) }
+/// Appends what a slot waits for.
+fn push_said_wait(out: &mut String, facts: SlotFacts) -> Result<(), OutOfMemory>
+    ensures { OnOk result (string_bytes out.new ≡ string_bytes out.old ++ said_wait facts) }
 {
-    match table.slots.as_slice().get(number as usize) {
-        Some(slot) => wait_of(table, slot, target),
-        None => SlotWait::Nothing,
-    }
+    push_wait_front(out, facts.wait)?;
+    push_facts_why(out, facts)?;
+    push_text(out, "\"")?;
+    Ok(())
 }
 
-/// What a slot waits for.
-fn wait_of(table: &ScannerTable, slot: &Slot, target: Node) -> SlotWait
-    ensures { result ≡ wait_of table.now target slot.now }
+/// Appends the word of what a slot waits for, and what is before its reason.
+fn push_wait_front(out: &mut String, wait: SlotWait) -> Result<(), OutOfMemory>
+    ensures { OnOk result (string_bytes out.new ≡ string_bytes out.old ++ wait_front wait) }
 {
-    if !is_closed(slot.state) {
-        return SlotWait::Nothing;
-    }
-    if !slot.desired_up {
-        return SlotWait::Stopped;
-    }
-    let stream = stream_to(table.streams.as_slice(), target);
-    stream_wait(stream, slot.retry_at, table.clock)
+    let word = wait_word(wait);
+    write!(out, ",\"wait\":\"{word}\",\"why\":\"")?;
+    Ok(())
 }
 
-/// Whether a slot has no connection, and waits for no reply.
-fn is_closed(state: SlotState) -> bool
-    ensures { result ≡ is_closed state }
+/// Appends why a slot is not open, in words.
+fn push_facts_why(out: &mut String, facts: SlotFacts) -> Result<(), OutOfMemory>
+    ensures { OnOk result (string_bytes out.new ≡ string_bytes out.old ++ facts_why facts) }
 {
-    match state {
-        SlotState::Idle => true,
-        SlotState::Opening(_) => false,
-        SlotState::Established(_) => false,
-        SlotState::TimedOut(_) => true,
-        SlotState::Closing(_) => false,
-    }
+    let note = note_of(facts.row);
+    push_why(out, facts.now_ms, facts.target, note, facts.wait)
 }
 
-/// The stream to a target.
-fn stream_to(streams: &[TargetStream], target: Node) -> Option<TargetStream>
-    ensures { result ≡ find (is_to target) streams.now }
-{
-    streams.iter().copied().find(|stream| is_to(stream, target))
-}
-
-/// Whether a stream is to a target.
-fn is_to(stream: &TargetStream, target: Node) -> bool
-    ensures { result ≡ is_to target stream.now }
-{
-    stream.peer == target
-}
-
-/// What a slot waits for whose connection is desired.
-fn stream_wait(stream: Option<TargetStream>, retry: Ms, clock: Ms) -> SlotWait
-    ensures { result ≡ stream_wait retry.0 clock.0 stream }
-{
-    match stream {
-        Some(stream) => stage_wait(stream.stage, retry, clock),
-        None => SlotWait::NoStream,
-    }
-}
-
-fn stage_wait(stage: Stage, retry: Ms, clock: Ms) -> SlotWait
-    ensures { result ≡ stage_wait retry.0 clock.0 stage }
-{
-    match stage {
-        Stage::Up(_) => SlotWait::Later(retry.0.saturating_sub(clock.0)),
-        Stage::Waiting => SlotWait::NoSession,
-        Stage::Unused => SlotWait::NoSession,
-    }
-}
-
-/// Appends what a slot waits for, if it does.
-pub fn push_wait(out: &mut String, wait: SlotWait) -> Result<(), OutOfMemory>
-    ensures { OnOk result (string_bytes out.new ≡ string_bytes out.old ++ wait_text wait) }
+/// The word of what a slot waits for.
+fn wait_word(wait: SlotWait) -> &'static str
+    ensures { result.now ≡ wait_word wait }
 {
     match wait {
-        SlotWait::Nothing => Ok(()),
-        SlotWait::Stopped => push_text(out, ",\"wait\":\"stopped\""),
-        SlotWait::NoStream => push_text(out, ",\"wait\":\"no stream\""),
-        SlotWait::NoSession => push_text(out, ",\"wait\":\"no session\""),
-        SlotWait::Later(ms) => {
-            write!(out, ",\"wait\":\"next try\",\"wait_ms\":{ms}")?;
-            Ok(())
-        }
+        SlotWait::Nothing => "",
+        SlotWait::Stopped => "stopped",
+        SlotWait::NoStream => "no stream",
+        SlotWait::NoSession => "no session",
+        SlotWait::Later(_) => "next try",
+    }
+}
+
+/// What was noted of a slot: nothing of an unknown one.
+fn note_of(row: Option<CountedConnection>) -> StateNote
+    ensures { result ≡ note_of row }
+{
+    match row {
+        Some(row) => row.note,
+        None => StateNote::since(0),
     }
 }

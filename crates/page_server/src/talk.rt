@@ -211,6 +211,7 @@ fn send_events<R: Wait + Clock>(
     send_part(stream, context.greeting.as_bytes())?;
     send_part(stream, b"\n\n")?;
     let mut seen = context.texts.numbers(rt)?;
+    let mut named = vec![in context.alloc; false; seen.len()]?;
     // (a station that waits for its peers makes a turn, and with it a snapshot)
     context.input.wake(rt);
     let mut text = Vec::new(context.alloc);
@@ -220,6 +221,7 @@ fn send_events<R: Wait + Clock>(
         match context.texts.wait_for(rt, seen.as_slice(), from, BEAT_MS) {
             None => text.extend_from_slice(b":\n\n")?,
             Some(device) => {
+                push_names_once(rt, context, device, &mut named, &mut text)?;
                 let number = push_event(rt, context, device, &mut text)?;
                 note_seen(&mut seen, device, number);
                 from = device.saturating_add(1);
@@ -227,6 +229,39 @@ fn send_events<R: Wait + Clock>(
         }
         send_part(stream, text.as_slice())?;
         thread::sleep(rt, Duration::from_millis(PAUSE_MS));
+    }
+    Ok(())
+}
+
+/// Writes the names of a device's points as an event of their own, before its first snapshot of a stream.
+fn push_names_once<R: Wait>(
+    rt: &R,
+    context: &PageContext,
+    device: usize,
+    named: &mut Vec<bool>,
+    text: &mut Vec<u8>,
+) -> Result<(), Unheard> {
+    match named.get_mut(device) {
+        Some(own) if !*own => *own = true,
+        _ => return Ok(()),
+    }
+    let start = text.len();
+    text.extend_from_slice(b"event: names\n")?;
+    push_id(context, device, text)?;
+    text.extend_from_slice(b"data: ")?;
+    if context.texts.push_names(rt, device, text)? {
+        text.extend_from_slice(b"\n\n")?;
+    } else {
+        text.truncate(start);
+    }
+    Ok(())
+}
+
+/// Writes the id of an event of a plant's page: the number of its device.
+fn push_id(context: &PageContext, device: usize, text: &mut Vec<u8>) -> Result<(), Unheard> {
+    if context.is_plant {
+        let id = format!(in context.alloc; "id: {device}\n")?;
+        text.extend_from_slice(id.as_bytes())?;
     }
     Ok(())
 }
@@ -239,10 +274,7 @@ fn push_event<R: Wait + Clock>(
     device: usize,
     text: &mut Vec<u8>,
 ) -> Result<u64, Unheard> {
-    if context.is_plant {
-        let id = format!(in context.alloc; "id: {device}\n")?;
-        text.extend_from_slice(id.as_bytes())?;
-    }
+    push_id(context, device, text)?;
     text.extend_from_slice(b"data: {")?;
     if let Some(ms) = wall_ms(rt) {
         let wall = format!(in context.alloc; "\"wall_ms\":{ms},")?;

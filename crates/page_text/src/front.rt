@@ -50,7 +50,9 @@ code, .bytes { font: 12.5px/1.5 ui-monospace, monospace; }
 .tools { margin-left: 10px; font-weight: 400; }
 .tools .fold { padding: 1px 8px; margin: 0; }
 #troubles { max-height: 124px; }
-.bits { display: inline-block; max-width: 36ch; color: var(--dim); font-size: 11.5px; }
+.bits { display: inline-block; width: max-content; max-width: 36ch; color: var(--dim); font-size: 11.5px; }
+.names { display: flex; flex-wrap: wrap; gap: 2px; max-width: 40ch; }
+.names .badge { white-space: normal; overflow-wrap: anywhere; }
 .badge { display: inline-block; padding: 0 8px; margin-right: 2px; border-radius: 9px; color: #fff; background: var(--none); font-size: 12px;
   white-space: nowrap; }
 .good { background: var(--good); } .warn { background: var(--warn); } .bad { background: var(--bad); } .wait { background: var(--blue); }
@@ -116,12 +118,12 @@ form button { background: var(--blue); color: #fff; border: 0; cursor: pointer; 
 'use strict';
 // WHAT THE PAGE RECKONS OF SNAPSHOTS: no element is touched here
 const KEPT_MS = 180000, STALE_MS = 1500, SILENT_MS = 5000, RATE_MS = 190, TICK_MS = 250, LINE_BYTES = 16;
-const MINUTE_MS = 60000, WINDOW_MS = 10000, KEPT_TROUBLES = 200, KEPT_EVENTS = 400, LF = String.fromCharCode(10);
+const WINDOW_MS = 10000, KEPT_TROUBLES = 200, KEPT_EVENTS = 400, LF = String.fromCharCode(10);
 
 function freshView() {
   return { samples: [], last: null, known: new Map(), heard: 0, late: 0, quickest: [], isCut: false, isUnfolded: false, lives: 0,
     silence: 0,
-    newest: undefined, newestTrouble: undefined, lastTrouble: null, seen: new Set(), troubles: new Map(), losses: new Map(), refusals: new Map(), streams: new Map(), since: new Map(), meters: new Map() };
+    newest: undefined, newestTrouble: undefined, lastTrouble: null, seen: new Set(), troubles: new Map(), losses: new Map(), since: new Map(), names: {} };
 }
 
 // TIME OF DAY
@@ -136,6 +138,29 @@ function clockOf(ms) {
 function wallOf(snapshot, ms) { return (snapshot.wall_ms ?? Date.now()) - (snapshot.ms - ms); }
 
 function spanOf(ms) { return ms < 10000 ? `${Math.round(ms)} ms` : `${Math.round(ms / 1000)} s`; }
+
+// NAMES OF POINTS, SLOTS AND BITS
+
+// a point's number, or a slot's, and its name behind it
+function pointName(view, point) {
+  const name = view?.names[point];
+  return name === undefined ? String(point) : `${point} (${name})`;
+}
+
+function slotName(view, slot) {
+  const name = view.names[`slot ${slot}`];
+  return name === undefined ? String(slot) : `${slot} (${name})`;
+}
+
+// the named bits of a point with their values, of the byte of the lowest number on
+function namedBits(view, point, bytes) {
+  const found = [];
+  for (const [key, name] of Object.entries(view.names)) {
+    const [own, byte, bit] = key.split('.').map(Number), value = parseInt(bytes.slice(2 * byte, 2 * byte + 2), 16);
+    if (bit !== undefined && own === point && !Number.isNaN(value)) found.push({ place: 8 * byte + bit, name, isSet: Boolean(value >> bit & 1) });
+  }
+  return found.sort((a, b) => a.place - b.place);
+}
 
 // CONNECTIONS OF THE PRESENT
 
@@ -165,14 +190,15 @@ function keyed(connections) {
 }
 
 // each slot, or each connection of the present, with its key and the words for it
-function rowsOf(snapshot) {
-  if (snapshot.slots) return snapshot.slots.map((it) => [`slot ${it.slot}`, it, `slot ${it.slot}`]);
-  return keyed(sorted(snapshot.connections).present).map(([key, it]) => [key, it, `${it.peer}, points ${it.consumed} and ${it.produced}`]);
+function rowsOf(view, snapshot) {
+  if (snapshot.slots) return snapshot.slots.map((it) => [`slot ${it.slot}`, it, `slot ${slotName(view, it.slot)}`]);
+  return keyed(sorted(snapshot.connections).present)
+    .map(([key, it]) => [key, it, `${it.peer}, points ${pointName(view, it.consumed)} and ${pointName(view, it.produced)}`]);
 }
 
 // the rows whose datagrams are counted; without counts of their own all together
-function countedRows(snapshot) {
-  const rows = rowsOf(snapshot);
+function countedRows(view, snapshot) {
+  const rows = rowsOf(view, snapshot);
   return rows.every(([, it]) => it.lost === undefined) ? [['all', snapshot.counts, 'its connections']] : rows;
 }
 
@@ -196,58 +222,41 @@ function slotState(it) {
 
 const BAD = /timed out|dropped, a|not opened|none is left|ended with its stream|is not answered|requests a reset/;
 
-// of an event the lines that say what went wrong; a report of the station without its name in front
-function badWords(words) {
-  const lines = words.split(LF).map((it) => it.trim()).filter((it) => it), bad = lines.slice(1).filter((it) => BAD.test(it));
-  return (bad.length ? bad : lines).join('; ').replace(/^eip_station: /, '');
-}
-
-// Adds a trouble, unless that of the key was seen. One that comes again, as a refusal each second, is one line: how often, and when last.
+// Adds what the page itself saw, unless that of the key was seen. What comes again is one line: how often, and when last.
 // What stands at a place of its own has its newest words alone. The newest one is the last.
 function addTrouble(view, key, wall, words, place) {
-  if (view.seen.has(key)) return false;
+  if (view.seen.has(key)) return;
   view.seen.add(key);
   if (view.seen.size > 2 * KEPT_TROUBLES) view.seen.delete(view.seen.values().next().value);
   const at = place ?? words, own = view.troubles.get(at) ?? { first: wall, count: 0 };
+  putTrouble(view, at, Object.assign(own, { wall, words, count: place ? 1 : own.count + 1 }));
+}
+
+function putTrouble(view, at, own) {
   view.troubles.delete(at);
-  view.lastTrouble = Object.assign(own, { wall, words, count: place ? 1 : own.count + 1 });
   view.troubles.set(at, own);
+  view.lastTrouble = own;
   if (view.troubles.size > KEPT_TROUBLES) view.troubles.delete(view.troubles.keys().next().value);
-  return true;
 }
 
 function troubleWords(it) { return it.count > 1 ? `${it.words} (${it.count} times since ${clockOf(it.first)})` : it.words; }
 
-// A trouble says why a slot is not open, or why there is no stream to a target.
-function noteReason(view, ms, wall, words) {
-  for (const part of words.split('; slot').map((it, at) => at ? `slot${it}` : it)) {
-    const refusal = /^slot ([0-9]+) is not opened: (.*)$/.exec(part);
-    if (refusal) view.refusals.set(Number(refusal[1]), { ms, wall, words: refusal[2] });
-  }
-  const stream = /^([0-9.]+) (refuses a stream|does not answer); the next try is in ([0-9]+) s$/.exec(words);
-  if (stream) view.streams.set(stream[1], { ms, words: stream[2], retry_ms: 1000 * Number(stream[3]) });
+// A trouble of the station, which counts how often it came. Each life of a device counts anew. The time of day is that of when the
+// page saw it first, so a clock that jumps moves none.
+function keepTrouble(view, snapshot, it) {
+  const words = it.words.trim().replace(/^eip_station: /, ''), { number, ms } = it;
+  const own = view.troubles.get(words) ?? { first: wallOf(snapshot, it.first_ms), count: 0, earlier: 0, life: view.lives };
+  if (own.life === view.lives && own.number === number && own.ms === ms) return;
+  if (own.life !== view.lives) Object.assign(own, { earlier: own.count, life: view.lives });
+  putTrouble(view, words, Object.assign(own, { number, ms, wall: wallOf(snapshot, ms), words, count: own.earlier + it.count }));
 }
 
-// the troubles of a snapshot, if one of them is new
-function newTroubles(view, snapshot) {
-  const said = snapshot.troubles ?? snapshot.events, last = said[said.length - 1], newest = last && `${last.number} ${last.ms} ${last.words}`;
-  if (newest === view.newestTrouble) return [];
-  view.newestTrouble = newest;
-  return snapshot.troubles ?? said.filter((event) => BAD.test(event.words));
-}
-
-// The troubles of a snapshot, and what is seen from the one before to it: numbers that were lost. The time of day of each is that of when
-// the page saw it first, so a clock that jumps moves none.
+// The troubles of a snapshot, and what is seen from the one before to it: numbers that were lost.
 function keepTroubles(view, snapshot, before) {
-  const troubles = newTroubles(view, snapshot);
-  for (const it of troubles) {
-    if (it.words.trimEnd().endsWith(' is open')) continue;
-    const words = badWords(it.words), wall = wallOf(snapshot, it.ms);
-    if (addTrouble(view, `${view.lives} ${it.number} ${it.ms} ${it.words}`, wall, words)) noteReason(view, it.ms, wall, words);
-  }
+  for (const it of snapshot.troubles) keepTrouble(view, snapshot, it);
   if (!before) return;
-  const known = new Map(countedRows(before).map(([key, it]) => [key, it]));
-  for (const [key, it, name] of countedRows(snapshot)) {
+  const known = new Map(countedRows(view, before).map(([key, it]) => [key, it]));
+  for (const [key, it, name] of countedRows(view, snapshot)) {
     const old = known.get(key), more = old && it.received >= old.received ? it.lost - old.lost : 0;
     if (!(more > 0)) continue;
     const place = `${view.lives} lost ${key} ${Math.floor(snapshot.ms / WINDOW_MS)}`, count = (view.losses.get(place) ?? 0) + more;
@@ -266,85 +275,33 @@ function noteReturn(view, snapshot, isAnew) {
   if (view.late < STALE_MS) view.silence = 0;
 }
 
-// Why a slot is not open: what it waits for, and the last refusal of its state.
-function reasonOf(view, it, snapshot, more) {
-  const now = snapshot.ms + more, refusal = view.refusals.get(it.slot), stream = view.streams.get(it.target);
-  const why = refusal && it.since_ms !== undefined && refusal.ms + 2000 >= it.since_ms ? refusal.words : '';
-  if (it.state === 'established') return '';
-  if (it.wait === 'stopped') return 'stopped by a call, or never started';
-  if (it.wait === 'no stream' && stream) return `no stream: ${it.target} ${stream.words}; the next try is in ${spanLeft(stream.ms + stream.retry_ms - now)}`;
-  if (it.wait === 'no stream') return 'no stream to its target';
-  if (it.wait === 'no session') return 'no session with its target';
-  const next = it.wait === 'next try' ? `the next try is in ${spanLeft(it.wait_ms - more)}` : '';
-  return [next, why].filter((part) => part).join('; ');
-}
+// TIME-OUTS
 
-function spanLeft(ms) { return `${Math.max(0, ms / 1000).toFixed(1)} s`; }
-
-// SINCE WHEN
-
-// Notes since when each row is what it is, as far as the page saw it. A station says it of its slots.
-function noteSince(view, snapshot, before) {
+// Notes how often each row was seen to time out, and when last.
+function noteTimeOuts(view, snapshot, before) {
   const held = new Map();
-  for (const [key, it] of rowsOf(snapshot)) {
-    const state = it.state ?? String(it.established), own = view.since.get(key);
-    const is = own && own.state === state && before ? own : { state, wall: wallOf(snapshot, snapshot.ms), isSeen: Boolean(before), timeOuts: own?.timeOuts ?? 0 };
-    if (own && is !== own && before && state === 'false') Object.assign(is, { timeOuts: own.timeOuts + 1, last: is.wall });
-    held.set(key, is);
+  for (const [key, it] of rowsOf(view, snapshot)) {
+    const own = view.since.get(key) ?? { timeOuts: 0 }, isLost = before && own.isUp && it.established === false;
+    held.set(key, { ...own, isUp: it.established, ...(isLost ? { timeOuts: own.timeOuts + 1, last: wallOf(snapshot, it.last_time_out_ms ?? snapshot.ms) } : {}) });
   }
   view.since = held;
 }
 
-function sinceOf(view, key, it, snapshot) {
-  if (it.since_ms !== undefined) return clockOf(wallOf(snapshot, it.since_ms));
-  if (it.established && !it.has_data) return clockOf(wallOf(snapshot, snapshot.ms - it.age_ms));
-  const own = view.since.get(key);
-  return own ? `${own.isSeen ? '' : 'before '}${clockOf(own.wall)}` : '';
-}
+function sinceOf(it, snapshot) { return it.since_ms === undefined ? '' : clockOf(wallOf(snapshot, it.since_ms)); }
 
 // GAPS
 
-// Notes the sums of a row once a second, the longest gap of each ten seconds, and the longest silence that was seen.
-function noteGaps(view, snapshot) {
-  const held = new Map();
-  for (const [key, it] of rowsOf(snapshot)) {
-    const old = view.meters.get(key), isSame = old && (it.gaps?.count ?? 0) >= (old.gaps?.count ?? 0) && snapshot.ms >= old.ms;
-    const own = isSame ? old : { sums: [], windows: new Map(), silent: new Map(), longest: 0 };
-    const isUp = it.established ?? it.state === 'established', window = Math.floor(snapshot.ms / WINDOW_MS);
-    Object.assign(own, { ms: snapshot.ms, gaps: it.gaps });
-    if (isUp && it.age_ms !== undefined) {
-      own.silent.set(window, Math.max(own.silent.get(window) ?? 0, it.age_ms));
-      own.longest = Math.max(own.longest, it.age_ms);
-    }
-    if (it.gaps) {
-      own.windows.set(it.gaps.window, it.gaps.recent_ms);
-      own.windows.set(it.gaps.window - 1, it.gaps.before_ms);
-      if (!own.sums.length || snapshot.ms - own.sums[own.sums.length - 1].ms >= 1000) own.sums.push({ ms: snapshot.ms, ...it.gaps });
-      while (own.sums.length > 1 && own.sums[1].ms <= snapshot.ms - MINUTE_MS) own.sums.shift();
-    }
-    for (const part of [own.windows, own.silent]) {
-      for (const number of part.keys()) if (number < window - MINUTE_MS / WINDOW_MS) part.delete(number);
-    }
-    held.set(key, own);
-  }
-  view.meters = held;
+// mean, longest and jitter of gaps in milliseconds; the silence of the present may be the longest one
+function gapWords(sums, silence) {
+  const tenth = (ms) => String(Math.round(10 * ms) / 10), longest = Math.max(sums.greatest_ms, silence);
+  if (!sums.count) return longest ? `longest silence ${longest}` : '';
+  return `mean ${tenth(sums.sum_ms / sums.count)}, longest ${longest}, jitter ${tenth(sums.moved_ms / sums.count)}`;
 }
 
-// mean, longest and jitter of gaps in milliseconds, of a difference of sums
-function gapWords(count, sum, moved, longest) {
-  const tenth = (ms) => String(Math.round(10 * ms) / 10);
-  return count > 0 ? `mean ${tenth(sum / count)}, longest ${longest}, jitter ${tenth(moved / Math.max(1, count))}` : longest ? `longest silence ${longest}` : '';
-}
-
-// the gaps of the last minute, and those since the connection opened; without a meter of the station the longest silence that the page saw
-function gapsOf(view, key, it) {
-  const own = view.meters.get(key);
-  if (!own) return ['', ''];
-  const most = (part) => Math.max(0, ...part.values());
-  if (!it.gaps) return [gapWords(0, 0, 0, most(own.silent)), gapWords(0, 0, 0, own.longest)];
-  const { count, sum_ms, moved_ms, greatest_ms } = it.gaps, first = own.sums[0];
-  const minute = [count - first.count, sum_ms - first.sum_ms, moved_ms - first.moved_ms];
-  return [gapWords(...minute, Math.max(most(own.windows), most(own.silent))), gapWords(count, sum_ms, moved_ms, Math.max(greatest_ms, own.longest))];
+// the gaps of the last minute, and those since the connection opened
+function gapsOf(it) {
+  const silence = it.established ?? it.state === 'established' ? it.age_ms : 0;
+  return it.gaps ? [gapWords(it.gaps.minute, silence), gapWords(it.gaps, silence)] : ['', ''];
 }
 
 // EVENTS, CHOSEN

@@ -166,10 +166,17 @@ function linesOf(count) {
   return made;
 }
 
-function bitsOf(bytes) {
+// the bits of the first bytes, and each bit that has a name
+const bitsOf = (bytes, named) => (cell) => {
   const bits = bytes.slice(0, 16).map((byte) => byte.toString(2).padStart(8, '0')).join(' ');
-  return coded(bytes.length > 16 ? `${bits} ..` : bits, 'bits');
-}
+  const place = cell.firstChild ?? cell.appendChild(element('span'));
+  if (!place.firstChild) place.append(element('code'), element('span'));
+  dress(place.firstChild, bytes.length > 16 ? `${bits} ..` : bits, 'bits');
+  place.lastChild.className = 'names';
+  keep(place.lastChild, named.map((it) => String(it.place)), () => element('span'), (badge, at) => {
+    dress(badge, `${named[at].name} ${named[at].isSet ? 1 : 0}`, named[at].isSet ? 'badge good' : 'badge');
+  });
+};
 
 function numbersOf(bytes) {
   const view = new DataView(new Uint8Array(bytes).buffer), words = [];
@@ -204,10 +211,16 @@ function ownerOf(output, snapshot, more) {
   return lost ? said([['lost', 'bad']], named(lost.peer)) : said([['no owner', '']]);
 }
 
-function pointRow(kind, point, bytes, says, name = point) {
+function pointRow(kind, point, shownAs, bytes, says, named = [], name = point) {
   const values = bytesOf(bytes.slice(0, 34));  // (of a long point the first ones are shown as bits and numbers)
-  return { key: `${kind} ${point}`, cells: [kind, point, hexOf(bytes, name), bitsOf(values), numbersOf(values), says] };
+  return { key: `${kind} ${point}`, cells: [kind, shownAs, hexOf(bytes, name), bitsOf(values, named), numbersOf(values), says] };
 }
+
+// what is known of the device of a plant at an address
+function viewAt(address) { return atNode.has(address) ? viewOf(atNode.get(address)) : undefined; }
+
+// the bits of a slot are those of the point of its target, if that is a device of the plant
+function bitsOfTarget(it, point, bytes) { return viewAt(it.target) ? namedBits(viewAt(it.target), point, bytes) : []; }
 
 // the name of what a slot sends, beside that of its image
 function outputOf(it) { return `output ${it.slot}`; }
@@ -218,13 +231,15 @@ function consumersOf(input) {
 
 const POINT_HEADS = ['', 'point', 'bytes', 'bits', 'numbers of 16 bits', 'owner, consumers, target'];
 
-function renderPoints(snapshot, more) {
-  const rows = [];
-  for (const it of snapshot.outputs ?? []) rows.push(pointRow('output', it.point, it.bytes, ownerOf(it, snapshot, more)));
-  for (const it of snapshot.inputs ?? []) rows.push(pointRow('input', it.point, it.bytes, consumersOf(it)));
+function renderPoints(view, snapshot, more) {
+  const rows = [], own = (kind, it, says) => rows.push(pointRow(kind, it.point, pointName(view, it.point), it.bytes, says, namedBits(view, it.point, it.bytes)));
+  for (const it of snapshot.outputs ?? []) own('output', it, ownerOf(it, snapshot, more));
+  for (const it of snapshot.inputs ?? []) own('input', it, consumersOf(it));
   for (const it of snapshot.slots ?? []) {
-    rows.push(pointRow('image', it.slot, it.bytes, said([], `from ${named(it.target)}`)));
-    if (it.output !== '-') rows.push(pointRow('output', it.slot, it.output, said([], `to ${named(it.target)}`), outputOf(it)));
+    const name = slotName(view, it.slot);
+    rows.push(pointRow('image', it.slot, name, it.bytes, said([], `from ${named(it.target)}`), bitsOfTarget(it, it.produced, it.bytes)));
+    if (it.output === '-') continue;
+    rows.push(pointRow('output', it.slot, name, it.output, said([], `to ${named(it.target)}`), bitsOfTarget(it, it.consumed, it.output), outputOf(it)));
   }
   fillTable(byId('points'), POINT_HEADS, rows);
 }
@@ -233,14 +248,14 @@ const SLOT_HEADS = ['slot', 'target', 'kind', 'consumes', 'produces', 'state', '
 const CONNECTION_HEADS = ['peer', 'kind', 'consumes', 'produces', 'state', 'since', 'intervals', 'age of its data'];
 
 function slotRow(view, it, snapshot, more) {
-  const isUp = it.state === 'established', key = `slot ${it.slot}`;
-  return { key, cells: [it.slot, named(it.target), it.kind ?? '', it.consumed ?? '', it.produced ?? '',
-    said([slotState(it)], withNames(reasonOf(view, it, snapshot, more))), sinceOf(view, key, it, snapshot),
+  const isUp = it.state === 'established', key = `slot ${it.slot}`, target = viewAt(it.target);
+  return { key, cells: [slotName(view, it.slot), named(it.target), it.kind, pointName(target, it.consumed), pointName(target, it.produced),
+    said([slotState(it)], withNames(it.why ?? '')), sinceOf(it, snapshot),
     isUp ? `${it.o_t_ms} ms out, ${it.t_o_ms} ms in` : '', isUp ? dataAge(it, more) : ''] };
 }
 
-function connectionRow([key, it], badge, kind, more, since = '') {
-  return { key, kind, cells: [named(it.peer), it.kind, it.consumed, it.produced, said([badge]), since, `${it.o_t_ms} ms in, ${it.t_o_ms} ms out`,
+function connectionRow(view, [key, it], badge, kind, more, since = '') {
+  return { key, kind, cells: [named(it.peer), it.kind, pointName(view, it.consumed), pointName(view, it.produced), said([badge]), since, `${it.o_t_ms} ms in, ${it.t_o_ms} ms out`,
     dataAge(it, more)] };
 }
 
@@ -254,14 +269,14 @@ function renderConnections(view, snapshot, more) {
   if (snapshot.slots) {
     fillTable(place, SLOT_HEADS, snapshot.slots.map((it) => slotRow(view, it, snapshot, more)));
   } else {
-    fillTable(place, CONNECTION_HEADS, keyed(present).map((it) => connectionRow(it, modeOf(it[1]), '', more, sinceOf(view, it[0], it[1], snapshot))));
+    fillTable(place, CONNECTION_HEADS, keyed(present).map((it) => connectionRow(view, it, modeOf(it[1]), '', more, sinceOf(it[1], snapshot))));
   }
   const fold = byId('fold'), isOpen = view.isUnfolded && earlier.length > 0;
   put(fold, `${earlier.length} earlier`);
   fold.hidden = !earlier.length;
   fold.setAttribute('aria-expanded', String(isOpen));
   byId('earlier').hidden = !isOpen;
-  if (isOpen) fillTable(byId('earlier'), CONNECTION_HEADS, keyed(earlier).map((it) => connectionRow(it, ['timed out', ''], 'past', more)));
+  if (isOpen) fillTable(byId('earlier'), CONNECTION_HEADS, keyed(earlier).map((it) => connectionRow(view, it, ['timed out', ''], 'past', more)));
 }
 
 byId('fold').onclick = () => {
@@ -269,21 +284,22 @@ byId('fold').onclick = () => {
   renderShown();
 };
 
-const GAP_HEADS = ['', 'received', 'lost', 'repeated', 'old', 'wrong size', 'gaps of the last minute, ms', 'gaps since it opened, ms', 'time-outs, the last'];
+const GAP_HEADS = ['', 'received', 'sent', 'lost', 'repeated', 'old', 'wrong size', 'gaps of the last minute, ms', 'gaps since it opened, ms', 'time-outs, the last'];
 
 // how often a row timed out, and when last
 function timeOutsOf(view, key, it, snapshot) {
-  if (it.time_outs !== undefined) {
+  if (snapshot.slots) {
     return it.time_outs ? `${it.time_outs}, ${clockOf(wallOf(snapshot, it.last_time_out_ms))}` : '0';
   }
-  const own = view.since.get(key), held = (snapshot.connections ?? []).filter((other) => !other.established && pairOf(other) === pairOf(it)).length;
-  const count = Math.max(own?.timeOuts ?? 0, held);
-  return own?.last ? `${count}, ${clockOf(own.last)}` : String(count);
+  const own = view.since.get(key), held = snapshot.connections.filter((other) => !other.established && pairOf(other) === pairOf(it));
+  const count = Math.max(own?.timeOuts ?? 0, held.length), newest = Math.max(-1, ...held.map((other) => other.last_time_out_ms ?? -1));
+  const last = newest < 0 ? own?.last : wallOf(snapshot, newest);
+  return last ? `${count}, ${clockOf(last)}` : String(count);
 }
 
 function renderGaps(view, snapshot) {
-  const rows = rowsOf(snapshot).map(([key, it, name]) => {
-    const [minute, since] = gapsOf(view, key, it), numbers = [it.received, it.lost, it.duplicate, it.old, it.wrong_size];
+  const rows = rowsOf(view, snapshot).map(([key, it, name]) => {
+    const [minute, since] = gapsOf(it), numbers = [it.received, it.sent, it.lost, it.duplicate, it.old, it.wrong_size];
     return { key, cells: [withNames(name), ...numbers.map((number) => number ?? ''), minute, since, timeOutsOf(view, key, it, snapshot)] };
   });
   fillTable(byId('gaps'), GAP_HEADS, rows);
@@ -518,12 +534,14 @@ function stroke(pen, samples, across, high, colour) {
 
 // CALLS
 
-function fillChoices(snapshot) {
+function fillChoices(view, snapshot) {
   const senders = (snapshot.slots ?? []).filter((it) => it.output !== '-');
   const points = snapshot.slots ? senders.map((it) => it.slot) : snapshot.inputs.map((it) => it.point);
+  const shownAs = (id, value) => snapshot.slots || id === 'slot' ? slotName(view, value) : pointName(view, value);
   for (const [id, values] of [['write-point', points], ['slot', (snapshot.slots ?? []).map((it) => it.slot)]]) {
-    if ([...byId(id).options].map((it) => it.value).join() === values.join()) continue;
-    byId(id).replaceChildren(...values.map((value) => element('option', value)));
+    const options = values.map((value) => new Option(shownAs(id, value), value));
+    if ([...byId(id).options].map((it) => it.text).join() === options.map((it) => it.text).join()) continue;
+    byId(id).replaceChildren(...options);
   }
   for (const form of document.forms) {
     form.hidden = !snapshot.slots && form.dataset.call !== 'write';
@@ -559,13 +577,13 @@ function renderShown() {
   if (!last) return clearParts();
   const more = ageOf(view), wall = last.wall_ms === undefined ? '' : `${clockOf(last.wall_ms)}, `;
   put(byId('clock'), `${wall}event ${last.number}, ${(last.ms / 1000).toFixed(1)} s`);
-  renderPoints(last, more);
+  renderPoints(view, last, more);
   renderTroubles(view);
   renderConnections(view, last, more);
   renderGaps(view, last);
   renderTotals(last);
   renderEvents(view);
-  fillChoices(last);
+  fillChoices(view, last);
   drawChart(view, more);
 }
 
@@ -625,7 +643,7 @@ function takeSnapshot(device, snapshot) {
   const view = viewOf(device), { last } = view;
   const before = last && !view.isCut && last.number <= snapshot.number && last.ms <= snapshot.ms ? last : null;
   view.silence = Math.max(view.silence, last && isStale(view) ? ageOf(view) : 0);
-  if (!before) Object.assign(view, { samples: [], known: new Map(), quickest: [], isCut: false, newest: undefined, newestTrouble: undefined, lives: view.lives + 1, refusals: new Map(), streams: new Map() });
+  if (!before) Object.assign(view, { samples: [], known: new Map(), quickest: [], isCut: false, newest: undefined, newestTrouble: undefined, lives: view.lives + 1 });
   if (!before && device === shown) frozen = null;
   view.late = latenessOf(view, snapshot, before);
   Object.assign(view, { last: snapshot, heard: performance.now(), receivedWall: Date.now() });
@@ -633,8 +651,7 @@ function takeSnapshot(device, snapshot) {
   keepEvents(view, snapshot);
   keepTroubles(view, snapshot, before);
   noteReturn(view, snapshot, last && !before);
-  noteSince(view, snapshot, before);
-  noteGaps(view, snapshot);
+  noteTimeOuts(view, snapshot, before);
   takeSample(view, snapshot);
   renderSoon(device);
 }
@@ -656,6 +673,7 @@ function listen() {
   reported = performance.now();
   source = new EventSource(`/events?${current}`);
   source.addEventListener('station', (event) => takeStation(event.data));
+  source.addEventListener('names', (event) => { viewOf(Number(event.lastEventId)).names = JSON.parse(event.data); });
   source.onerror = listenAgain;
   source.onmessage = (event) => {
     reported = performance.now();
@@ -676,7 +694,7 @@ async function findWord() {
   if (!found) throw new Error('no page');
   if (found[1] === current) return;
   current = found[1];
-  for (const view of views.values()) view.isCut = true;
+  for (const view of views.values()) Object.assign(view, { isCut: true, names: {} });
 }
 
 // Without snapshots the page grows old by itself.

@@ -8,7 +8,7 @@ use cip_tables::{Config, Device};
 use cip_types::{Node, OutOfMemory};
 use command_lines::Options;
 use fast_device::FastDevice;
-use page_feed::PageFeed;
+use page_feed::{FeedEnd, PageFeed};
 use plant_rim::{
     DeviceFailure, DeviceLines, DeviceSetup, LifeEnd, NameForm, NamedLines, PlantJob, SharedPlant,
     incarnation_behind,
@@ -257,7 +257,7 @@ impl Life<'_> {
         let path = record_path(alloc, folder.as_str(), name, self.number)?;
         self.plant.write(&rt, record.share()?)?;
         let most = self.setup.options.record_bytes;
-        Ok(recorder_in(rt, record, self.config, path, most)?)
+        Ok(recorder_in(rt, record, self.config, &self.setup.names, path, most)?)
     }
 
     /// What a device of the life says on an output.
@@ -299,6 +299,12 @@ impl Life<'_> {
         Ok(())
     }
 
+    /// What tells the page of the plant of this life.
+    fn page_feed(&self, alloc: Global, page: &FeedEnd) -> Result<PageFeed, OutOfMemory> {
+        let names = self.setup.names.copy(alloc)?;
+        PageFeed::new(alloc, self.config.copy(alloc)?, names, page.share()?)
+    }
+
     /// Lives to the end. A device that loses its power closes nothing.
     fn live_recorded<R>(
         &self,
@@ -320,7 +326,7 @@ impl Life<'_> {
         let err = self.named(rt, NameForm::Report, self.plant.err.sink(rt)?)?;
         let mut observer = StationObserver::new(alloc, self.config, recorder, out, err)?;
         if let Some(page) = &self.setup.page {
-            observer.feed(PageFeed::new(alloc, self.config.copy(alloc)?, page.share()?));
+            observer.feed(self.page_feed(alloc, page)?);
         }
         let device = FastDevice::new(alloc, self.config.copy(alloc)?)?;
         let reports = Reporting {

@@ -13,7 +13,8 @@ use page_feed::FeedEnd;
 use plant_file::{FaultOptions, PlantDevice, PlantFile};
 use plant_rim::DeviceSetup;
 use plant_script::{IncarnationSpan, MOST_SPANS};
-use station_opening::{UnusableProfile, is_scanner, profile_in};
+use point_names::{Names, ReadNames};
+use station_opening::{UnusableProfile, is_scanner, names_in, profile_in};
 use station_rim::{Rim, SharedInput, report_line};
 use std::rt::Files;
 use std::sync::Wait;
@@ -129,6 +130,7 @@ where
     let name = device.name.as_str();
     let path = path_beside(alloc, setting.file, device.profile.as_str())?;
     let config = config_in(rt, rim, path.as_str(), device.address)?;
+    let names = named_in(rt, rim, path.as_str())?;
     let scanner = is_scanner(&config);
     let address = device.address.unwrap_or(node_of(&config));
     let input = SharedInput::new(alloc)?;
@@ -146,6 +148,7 @@ where
     let setup = DeviceSetup {
         name: format!(in alloc; "{name}")?,
         config: with_node(config, address),
+        names,
         options,
         script: device.script,
         span: span_at(rank.place, rank.devices),
@@ -225,6 +228,20 @@ where
     };
     report_line(rt, rim, line.as_bytes());
     Err(PlantFailure::Bad)
+}
+
+/// The names that the profile of a file says. Reports each bad name line.
+fn named_in<R>(rt: R, rim: &Rim, path: &str) -> Result<Names, PlantFailure>
+where
+    R: Files + AllocGlobal + Wait + Copy + Drop,
+{
+    let ReadNames { names, bad } = names_in(&rt, path)?;
+    for it in bad.iter() {
+        let (line, words) = (it.line, it.fault.words());
+        let text = format!(in rt.alloc(); "eip_station: {path}: line {line}: {words}\n")?;
+        report_line(rt, rim, text.as_bytes());
+    }
+    Ok(names)
 }
 
 /// Reports a device whose address an earlier one has, with the line and the word that say it. Ok if none has.

@@ -7,6 +7,7 @@ use cip_types::{Items, OutOfMemory};
 use command_lines::Options;
 use page_feed::FeedEnd;
 use plant_script::{IncarnationSpan, ScriptLine};
+use point_names::Names;
 use station_rim::{SharedInput, SharedLines, SharedRecord};
 use std::alloc::Global;
 use std::sync::{Arc, Condvar, Mutex, Wait};
@@ -16,6 +17,8 @@ use std::sync::{Arc, Condvar, Mutex, Wait};
 pub struct DeviceSetup {
     pub name: String,
     pub config: Config,
+    /// The names of its points.
+    pub names: Names,
     pub options: Options,
     pub script: Items<ScriptLine>,
     pub span: IncarnationSpan,

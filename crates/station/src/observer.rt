@@ -20,7 +20,7 @@ use station_watch::{
 use status_words::push_refusals;
 use std::alloc::Global;
 use trace_text::push_outcome;
-use udp_runner::Observer;
+use udp_runner::{Observer, PortReport};
 
 /// Records the steps of a device, says outcomes on `out` and faults on `err`, and notes what a port is to be told.
 #[derive(Drop)]
@@ -195,6 +195,13 @@ impl<W: RecordSink + Drop, O: LineSink, E: LineSink> StationObserver<W, O, E> {
         &self.traffic
     }
 
+    /// Notes what the port reports of a stream.
+    pub fn note_report(&mut self, report: &PortReport)
+        ensures kept { self.new.recorder ≡ self.old.recorder }
+    {
+        self.traffic.note_report(self.now_ms, report);
+    }
+
     /// The number of the next explicit request.
     pub fn next_explicit(&self) -> u32
         ensures { result ≡ next_number self.now.requested.last }
@@ -309,7 +316,7 @@ impl<W: RecordSink + Drop, O: LineSink, E: LineSink> StationObserver<W, O, E> {
         self.closing.note(notices);
         self.reconnected |= changes_connections(notices);
         self.slots.note(device, event, answer)?;
-        self.traffic.note(device, event, answer)?;
+        self.traffic.note(self.now_ms, device, event, answer)?;
         self.requested.note(event)
     }
 

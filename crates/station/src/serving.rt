@@ -250,6 +250,7 @@ impl<P: GroupPort, C: Clock, D: Device, W: RecordSink + Drop, O: LineSink, E: Li
             let Some(report) = self.port.next_report() else {
                 return Ok(());
             };
+            self.observer.note_report(&report);
             if !self.reporting.quiet {
                 self.text.clear();
                 push_report(&mut self.text, &report, self.reporting.silent_s)?;

@@ -1,5 +1,5 @@
 -- What a station says of the streams of its port and of its slots.
-use Rattle.std.specs.Prelude.{ℕ, ◌/◌, List, ◌++◌, codes, decimal, Option, Some, None}
+use Rattle.std.specs.Prelude.{ℕ, ◌/◌, Bool, true, false, List, ◌++◌, codes, decimal, Option, Some, None}
 use Rattle.cip_types.specs.declared.names.Node.{Node}
 use Rattle.udp_runner.specs.declared.report.EndCause.{EndCause}
 use Rattle.udp_runner.specs.declared.report.EndCause.TheVariants as ended
@@ -9,6 +9,7 @@ use Rattle.udp_runner.specs.declared.report.PortReport.{PortReport}
 use Rattle.udp_runner.specs.declared.report.PortReport.TheVariants as report
 use Rattle.trace_words.specs.Words.{node_word}
 use Rattle.port_groups.specs.declared.group.DataGroup.{DataGroup}
+use Rattle.station_lines.specs.Reasons.{stream_words}
 use Rattle.station_watch.specs.declared.slots.Starved.{Starved}
 
 -- STREAMS
@@ -34,11 +35,15 @@ retry_text ms = codes "; the next try is in " ++ (decimal (ms / 1000) ++ codes "
 abbrev pub full_text : Node → List ℕ
 full_text peer = codes "eip_station: a connection of " ++ (node_word peer ++ codes " is refused: 16 streams are open\n")
 
+-- a target refuses a stream, or does not answer
+abbrev pub not_opened_text : Node → Bool → ℕ → List ℕ
+not_opened_text peer refused ms = codes "eip_station: " ++ (node_word peer ++ (stream_words refused ++ retry_text ms))
+
 -- why a stream did not open
 abbrev pub refusal_text : Node → RefusalCause → List ℕ
 refusal_text peer refusal.Full = full_text peer
-refusal_text peer (refusal.Refused ms) = codes "eip_station: " ++ (node_word peer ++ (codes " refuses a stream" ++ retry_text ms))
-refusal_text peer (refusal.Unanswered ms) = codes "eip_station: " ++ (node_word peer ++ (codes " does not answer" ++ retry_text ms))
+refusal_text peer (refusal.Refused ms) = not_opened_text peer true ms
+refusal_text peer (refusal.Unanswered ms) = not_opened_text peer false ms
 
 -- a stream is open
 abbrev pub opened_text : ℕ → Node → List ℕ

@@ -18,7 +18,7 @@ use Rattle.station_lines.specs.declared.points.PointKind.{PointKind}
 use Rattle.station_lines.specs.declared.points.PointKind.TheVariants.{Output, Image}
 use Rattle.station_lines.specs.declared.points.SlotTerms.{SlotTerms}
 use Rattle.station_lines.specs.declared.points.WatchedPoint.{WatchedPoint}
-use Rattle.station_watch.specs.Traffic.{TrafficSeen, counted_of}
+use Rattle.station_watch.specs.Traffic.{counted_of}
 use Rattle.datagram_counts.specs.declared.counts.DatagramCounts.{DatagramCounts}
 use Rattle.station_watch.specs.declared.traffic.CountedConnection.{CountedConnection}
 use Rattle.station_watch.specs.declared.traffic.TrafficTotals.{TrafficTotals}
@@ -108,7 +108,7 @@ connection_line at counted report =
 -- the line of what was counted of a connection, and of what the device says of it
 abbrev pub connection_at : EventMoment → List CountedConnection → Option ConnectionReport → List ℕ
 connection_at at connections None = []
-connection_at at connections (Some report) = connection_line at (counted_of connections report) report
+connection_at at connections (Some report) = connection_line at (counted_of at.ms connections report) report
 
 -- the lines of the connections at the first places
 abbrev pub lines_to : EventMoment → DeviceTable → List CountedConnection → ℕ → List ℕ
@@ -183,6 +183,3 @@ points_status at table connections (watched ∷ others) =
 abbrev pub status_lines : EventMoment → DeviceTable → TrafficTotals → List CountedConnection → List WatchedPoint → List ℕ
 status_lines at table totals connections points =
     totals_line at (totals_of table) totals ++ (connection_lines at table connections ++ points_status at table connections points)
-
-abbrev pub status_text : EventMoment → DeviceTable → TrafficSeen → List WatchedPoint → List ℕ
-status_text at table traffic points = status_lines at table traffic.totals traffic.connections points

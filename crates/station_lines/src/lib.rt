@@ -3,8 +3,10 @@
 #![tactic(auto)]
 
 mod calls;
+mod details;
 mod lines;
 mod points;
+mod reasons;
 mod reports;
 mod sink;
 mod status;
@@ -12,6 +14,7 @@ mod status;
 pub use calls::{InputLine, has_news, is_call, read_call, read_line};
 pub use lines::{CallBuffer, CallLines, InputRead, NextLine, NoLines, input_read};
 pub use points::{EventMoment, Points};
+pub use reasons::push_why;
 pub use reports::{push_report, push_starved, push_unbound};
 pub use sink::LineSink;
 pub use status::push_own;

@@ -1,8 +1,9 @@
 //! What a station says of the streams of its port and of its slots.
 
 ghost use Rattle.std.specs.Prelude.{◌≡◌, ◌++◌, OnOk, string_bytes};
-ghost use Rattle.station_lines.specs.Reports.{ended_text, ending_text, full_text, opened_text, refusal_text, remedy_text, report_text, retry_text, starved_text, stream_text, unbound_port_text, unbound_text};
+ghost use Rattle.station_lines.specs.Reports.{ended_text, ending_text, full_text, not_opened_text, opened_text, refusal_text, remedy_text, report_text, retry_text, starved_text, stream_text, unbound_port_text, unbound_text};
 
+use crate::reasons::push_stream_words;
 use cip_types::{Node, OutOfMemory};
 use port_groups::DataGroup;
 use station_watch::Starved;
@@ -85,19 +86,25 @@ fn push_refusal(out: &mut String, peer: Node, cause: RefusalCause) -> Result<(),
 {
     match cause {
         RefusalCause::Full => push_full(out, peer),
-        RefusalCause::Refused { retry_ms } => {
-            push_text(out, "eip_station: ")?;
-            push_node(out, peer)?;
-            push_text(out, " refuses a stream")?;
-            push_retry(out, retry_ms)
-        }
-        RefusalCause::Unanswered { retry_ms } => {
-            push_text(out, "eip_station: ")?;
-            push_node(out, peer)?;
-            push_text(out, " does not answer")?;
-            push_retry(out, retry_ms)
-        }
+        RefusalCause::Refused { retry_ms } => push_not_opened(out, peer, true, retry_ms),
+        RefusalCause::Unanswered { retry_ms } => push_not_opened(out, peer, false, retry_ms),
     }
+}
+
+/// Appends that a target refuses a stream, or does not answer.
+fn push_not_opened(
+    out: &mut String,
+    peer: Node,
+    refused: bool,
+    retry_ms: u64,
+) -> Result<(), OutOfMemory>
+    ensures { OnOk result (string_bytes out.new ≡ string_bytes out.old ++ not_opened_text peer refused retry_ms) }
+{
+    push_text(out, "eip_station: ")?;
+    push_node(out, peer)?;
+    push_stream_words(out, refused)?;
+    push_retry(out, retry_ms)?;
+    Ok(())
 }
 
 /// Appends that a connection found no place.

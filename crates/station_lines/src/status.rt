@@ -2,9 +2,11 @@
 
 ghost use Rattle.std.specs.Prelude.{◌≡◌, ◌++◌, OnOk, slice_get, string_bytes};
 ghost use Rattle.cip_tables.specs.States.{connection_in, totals_of};
+ghost use Rattle.station_lines.specs.Details.{status_text};
 ghost use Rattle.station_lines.specs.OwnRequests.{own_request_line, said_line};
-ghost use Rattle.station_lines.specs.Status.{age_text, apis_text, config_text, connection_at, connection_head, connection_line, connection_lines, counts_text, id_text, mode_word, moment_text, owner_line, owner_text, point_head, point_status, points_status, purpose_text, slot_kind_text, slot_line, slot_of, slot_state, state_word, status_lines, status_text, target_text, terms_text, totals_line};
+ghost use Rattle.station_lines.specs.Status.{age_text, apis_text, config_text, connection_at, connection_head, connection_line, connection_lines, counts_text, id_text, mode_word, moment_text, owner_line, owner_text, point_head, point_status, points_status, purpose_text, slot_kind_text, slot_line, slot_of, slot_state, state_word, status_lines, target_text, terms_text, totals_line};
 
+use crate::details::push_details;
 use crate::points::{EventMoment, PointKind, SlotTerms, WatchedPoint};
 use cip_events::Verdict;
 use cip_tables::{Age, ConnectionReport, Device, DeviceTotals, Mode, SlotReport, TargetReport};
@@ -17,7 +19,8 @@ use trace_outcomes::push_verdict;
 use trace_words::{push_digits, push_node, push_text};
 
 /// Appends the lines of a device's state: one of its totals, then one for each connection of an adapter in the order of the
-/// openings, then one for each of these points: the owner of an output, the connection and the state of a slot.
+/// openings, then one for each of these points: the owner of an output, the connection and the state of a slot; behind these the
+/// details.
 pub(crate) fn push_status<D: Device>(
     out: &mut String,
     device: &D,
@@ -29,7 +32,8 @@ pub(crate) fn push_status<D: Device>(
         ++ status_text at (D.table device.now) traffic.now points.now) }
 {
     let (totals, connections) = (traffic.totals(), traffic.connections());
-    push_lines(out, device, totals, connections, points, at)
+    push_lines(out, device, totals, connections, points, at)?;
+    push_details(out, device, connections, points, at)
 }
 
 /// Appends the lines of the totals, of connections and of points.
@@ -64,7 +68,7 @@ fn push_totals<D: Device>(
 }
 
 /// Appends the number of the last event and the time.
-fn push_moment(out: &mut String, at: EventMoment) -> Result<(), OutOfMemory>
+pub(crate) fn push_moment(out: &mut String, at: EventMoment) -> Result<(), OutOfMemory>
     ensures { OnOk result (string_bytes out.new ≡ string_bytes out.old ++ moment_text at) }
 {
     let (number, ms) = (at.number, at.ms);
@@ -161,7 +165,7 @@ fn push_connection_of(
     ensures { OnOk result (string_bytes out.new ≡ string_bytes out.old ++ connection_at at connections.now report) }
 {
     match report {
-        Some(report) => push_connection(out, counted_of(connections, &report), report, at),
+        Some(report) => push_connection(out, counted_of(at.ms, connections, &report), report, at),
         None => Ok(()),
     }
 }
@@ -199,7 +203,7 @@ fn push_connection_head(
 }
 
 /// Appends a connection id.
-fn push_id(out: &mut String, id: Option<u32>) -> Result<(), OutOfMemory>
+pub(crate) fn push_id(out: &mut String, id: Option<u32>) -> Result<(), OutOfMemory>
     ensures { OnOk result (string_bytes out.new ≡ string_bytes out.old ++ id_text id) }
 {
     match id {
@@ -312,7 +316,7 @@ fn push_owner(
 }
 
 /// Appends the beginning of a point's line: its word, and its number.
-fn push_point_head(
+pub(crate) fn push_point_head(
     out: &mut String,
     word: &str,
     point: u32,

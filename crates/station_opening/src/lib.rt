@@ -12,6 +12,6 @@ mod unserved;
 pub use devices::{incarnation_of, is_scanner, with_incarnation};
 pub use places::{SocketPlace, socket_place};
 pub use ports::{OpenedPort, open_port};
-pub use profiles::{UnusableProfile, profile_in, unread_profile};
+pub use profiles::{UnusableProfile, names_in, profile_in, unread_profile};
 pub use records::{head_of, recorder_in};
 pub use starts::start_in;

@@ -7,6 +7,7 @@ use crate::unserved::sentence_of;
 use cip_tables::Config;
 use cip_types::limits::LONGEST_TRACE;
 use cip_types::{Node, OutOfMemory};
+use point_names::{Names, ReadNames, read_names};
 use regular_files::{FileFault, read_regular};
 use station_faults::station_defect;
 use std::rt::Files;
@@ -64,6 +65,19 @@ pub fn profile_in<R: Files + AllocGlobal>(
             let sentence = sentence_of(alloc, text.as_slice(), &config, defect)?;
             Err(UnusableProfile::Unserved(sentence))
         }
+    }
+}
+
+/// The names that the comment lines of a profile's file say, and its bad name lines. None of a file that cannot be read.
+pub fn names_in<R: Files + AllocGlobal>(rt: &R, path: &str) -> Result<ReadNames, OutOfMemory> {
+    let alloc = rt.alloc();
+    match read_regular(rt, path, LONGEST_TRACE as u64) {
+        Ok(text) => read_names(alloc, text.as_slice()),
+        Err(FileFault::OutOfMemory) => Err(OutOfMemory),
+        Err(_) => Ok(ReadNames {
+            names: Names::none(alloc),
+            bad: Vec::new(alloc),
+        }),
     }
 }
 

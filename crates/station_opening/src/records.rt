@@ -3,6 +3,7 @@
 use cip_tables::Config;
 use cip_types::OutOfMemory;
 use command_lines::VERSION;
+use point_names::Names;
 use station_files::{place_of_record, push_timestamp};
 use station_record::{RecordFault, Recorder};
 use station_rim::{Entries, SharedRecord};
@@ -10,14 +11,15 @@ use std::fs::File;
 use std::rt::{Clock, Files};
 use std::sync::Wait;
 
-/// The recorder of a device of this configuration, whose entries go to a new file of this name. The record has at most so many
-/// bytes.
+/// The recorder of a device of this configuration, whose points have these names. Its entries go to a new file of this name. The
+/// record has at most so many bytes.
 ///
 /// The faults: `Refused` if the file cannot be begun, `Full` if its first lines have more bytes, and `OutOfMemory`.
 pub fn recorder_in<R>(
     rt: R,
     record: &SharedRecord,
     config: &Config,
+    names: &Names,
     path: String,
     most: u64,
 ) -> Result<Recorder<Entries<R>>, RecordFault>
@@ -31,10 +33,17 @@ where
     let Ok(entries) = record.entries(rt, place) else {
         return Err(RecordFault::OutOfMemory);
     };
-    match head_of(&rt) {
+    match named_head(&rt, names) {
         Ok(head) => Recorder::begin(alloc, config, head.as_str(), most, entries),
         Err(OutOfMemory) => Err(RecordFault::OutOfMemory),
     }
+}
+
+/// The comment lines of a record: the first one, and those of the names.
+fn named_head<R: AllocGlobal + Clock>(rt: &R, names: &Names) -> Result<String, OutOfMemory> {
+    let mut head = head_of(rt)?;
+    names.push_lines(&mut head)?;
+    Ok(head)
 }
 
 /// The first line of a record: when it begins, and which program writes it.

@@ -1,5 +1,7 @@
 pub mod Closing
 pub mod Groups
+pub mod Notes
 pub mod Peers
 pub mod Slots
 pub mod Traffic
+pub mod Waits

@@ -106,7 +106,7 @@ fn owner_of(report: Option<ConnectionReport>) -> Option<Node>
 }
 
 /// Whether this is the node.
-fn is_node(other: &Node, node: Node) -> bool
+pub(crate) fn is_node(other: &Node, node: Node) -> bool
     ensures { result ≡ is_node node other.now }
 {
     other.0 == node.0

@@ -1,8 +1,10 @@
 //! The trace of files in words.
 
 use crate::fault::{TracesFault, unread};
+use cip_types::OutOfMemory;
 use cip_types::limits::LONGEST_TRACE;
 use fast_device::FastDevice;
+use point_names::{Names, ReadNames, read_names};
 use regular_files::read_regular;
 use std::alloc::Global;
 use std::fs::File;
@@ -24,7 +26,10 @@ where
     let alloc = rt.alloc();
     let text = text_of(rt, files)?;
     match trace_in(alloc, text.as_slice()) {
-        Ok(whole) => explain_whole(alloc, &whole, out),
+        Ok(whole) => {
+            let names = names_in(alloc, text.as_slice())?;
+            explain_whole(alloc, &whole, &names, out)
+        }
         Err(TraceFault::OutOfMemory) => Err(TracesFault::OutOfMemory),
         Err(fault) => {
             let words = explain_fault(alloc, text.as_slice(), fault)?;
@@ -34,14 +39,21 @@ where
     }
 }
 
+/// The names that the comment lines of a text say. Its bad name lines are dropped here, apart from the trace.
+fn names_in(alloc: Global, text: &[u8]) -> Result<Names, OutOfMemory> {
+    let ReadNames { names, .. } = read_names(alloc, text)?;
+    Ok(names)
+}
+
 /// Prints a trace in words, or the number of the first event that has another sum.
 fn explain_whole<O: Write + Drop>(
     alloc: Global,
     whole: &WholeTrace,
+    names: &Names,
     out: O,
 ) -> Result<(), TracesFault> {
     let Some(number) = whole.differs else {
-        return print(out, explain_trace(alloc, &whole.trace)?.as_bytes());
+        return print(out, explain_trace(alloc, &whole.trace, names)?.as_bytes());
     };
     let line = format!(in alloc; "differs {number}\n")?;
     print(out, line.as_bytes())?;

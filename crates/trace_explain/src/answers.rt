@@ -1,7 +1,7 @@
 //! Recorded outcomes in words, a line for each part.
 
 use crate::datagrams::push_datagram;
-use crate::events::is_target;
+use crate::events::{is_target, push_name};
 use crate::frames::push_message;
 use cip_events::{
     Answer, Delivery, Event, Frame, Notice, Outcome, OutgoingDatagram, Recipient, SlotPhase,
@@ -9,8 +9,9 @@ use cip_events::{
 };
 use cip_tables::Config;
 use cip_types::{Fault, Node, OutOfMemory};
+use point_names::{Named, Names};
 use router_words::{push_data, push_id, push_object, push_reply, push_triad};
-use status_words::{push_encap, push_fault, push_general, push_unopened};
+use status_words::{push_encap, push_fault, push_general, push_reason};
 use std::alloc::Global;
 use trace_words::{push_bytes, push_node, push_nodes, push_text};
 
@@ -22,11 +23,12 @@ pub fn push_outcome(
     alloc: Global,
     out: &mut String,
     config: &Config,
+    names: &Names,
     event: &Event,
     outcome: &Outcome,
 ) -> Result<(), OutOfMemory> {
     match outcome {
-        Ok(answer) => push_answer(alloc, out, config, event, answer),
+        Ok(answer) => push_answer(alloc, out, config, names, event, answer),
         Err(StepFault::WrongLength) => {
             push_text(out, INDENT)?;
             push_text(out, "refused: a wrong number of bytes")
@@ -42,6 +44,7 @@ fn push_answer(
     alloc: Global,
     out: &mut String,
     config: &Config,
+    names: &Names,
     event: &Event,
     answer: &Answer,
 ) -> Result<(), OutOfMemory> {
@@ -57,7 +60,7 @@ fn push_answer(
     }
     for notice in answer.notices.as_slice() {
         push_text(out, INDENT)?;
-        push_notice(out, event, answer, *notice)?;
+        push_notice(out, names, event, answer, *notice)?;
     }
     Ok(())
 }
@@ -230,8 +233,10 @@ fn push_outgoing(
     push_datagram(alloc, out, outgoing.bytes.as_slice(), !is_target(config))
 }
 
-fn push_notice(
+/// A change of a connection, a stream, a slot or an explicit request, which an event's answer says.
+pub fn push_notice(
     out: &mut String,
+    names: &Names,
     event: &Event,
     answer: &Answer,
     notice: Notice,
@@ -268,7 +273,7 @@ fn push_notice(
             write!(out, "explicit request {number} is not answered: ")?;
             push_unanswered(out, why)
         }
-        _ => push_slot_notice(out, notice),
+        _ => push_slot_notice(out, names, notice),
     }
 }
 
@@ -301,19 +306,33 @@ fn reset_words(kind: u8) -> &'static str {
     }
 }
 
-fn push_slot_notice(out: &mut String, notice: Notice) -> Result<(), OutOfMemory> {
+fn push_slot_notice(out: &mut String, names: &Names, notice: Notice) -> Result<(), OutOfMemory> {
     match notice {
         Notice::Slot(slot, state) => {
             let words = state_words(state);
-            Ok(write!(out, "slot {slot} is {words} (state {state})")?)
+            push_slot(out, names, slot)?;
+            Ok(write!(out, " is {words} (state {state})")?)
         }
-        Notice::NoIds(slot) => Ok(write!(
-            out,
-            "slot {slot} needs a connection id or a request number, and none is left"
-        )?),
-        Notice::Refused(slot, reason) => push_unopened(out, slot, reason),
+        Notice::NoIds(slot) => {
+            push_slot(out, names, slot)?;
+            push_text(
+                out,
+                " needs a connection id or a request number, and none is left",
+            )
+        }
+        Notice::Refused(slot, reason) => {
+            push_slot(out, names, slot)?;
+            push_text(out, " is not opened: ")?;
+            push_reason(out, reason)
+        }
         _ => Ok(()),
     }
+}
+
+/// A slot by its number, and its name behind that.
+fn push_slot(out: &mut String, names: &Names, slot: u32) -> Result<(), OutOfMemory> {
+    write!(out, "slot {slot}")?;
+    push_name(out, names, Named::Slot(slot))
 }
 
 /// The state of a slot's connection, by the standard's number.

@@ -5,6 +5,7 @@ use crate::frames::push_message;
 use cip_events::Event;
 use cip_tables::Config;
 use cip_types::{Node, OutOfMemory};
+use point_names::{Named, Names};
 use router_words::{push_data, push_request};
 use status_words::push_general;
 use std::alloc::Global;
@@ -23,6 +24,7 @@ pub fn push_event(
     alloc: Global,
     out: &mut String,
     config: &Config,
+    names: &Names,
     event: &Event,
 ) -> Result<(), OutOfMemory> {
     match event {
@@ -62,7 +64,7 @@ pub fn push_event(
             push_text(out, ": ")?;
             push_request(alloc, out, config, bytes.as_slice())
         }
-        _ => push_call(alloc, out, event),
+        _ => push_call(alloc, out, config, names, event),
     }
 }
 
@@ -78,10 +80,18 @@ fn push_stream(
 }
 
 /// A call of the application, or time that passes.
-fn push_call(alloc: Global, out: &mut String, event: &Event) -> Result<(), OutOfMemory> {
+fn push_call(
+    alloc: Global,
+    out: &mut String,
+    config: &Config,
+    names: &Names,
+    event: &Event,
+) -> Result<(), OutOfMemory> {
     match event {
         Event::Write { point, bytes } => {
-            write!(out, "the application writes point {point}, ")?;
+            write!(out, "the application writes point {point}")?;
+            push_name(out, names, point_of(config, *point))?;
+            push_text(out, ", ")?;
             push_data(alloc, out, bytes.as_slice())
         }
         Event::Respond {
@@ -94,12 +104,38 @@ fn push_call(alloc: Global, out: &mut String, event: &Event) -> Result<(), OutOf
             push_text(out, ", ")?;
             push_data(alloc, out, bytes.as_slice())
         }
-        Event::Read { point } => Ok(write!(out, "the application reads point {point}")?),
+        Event::Read { point } => {
+            write!(out, "the application reads point {point}")?;
+            push_name(out, names, point_of(config, *point))
+        }
         Event::Tick { ms } => Ok(write!(out, "{ms} ms pass")?),
         Event::Mode { run: true } => push_text(out, "the application runs"),
         Event::Mode { run: false } => push_text(out, "the application is idle"),
-        Event::Start { slot } => Ok(write!(out, "the application starts slot {slot}")?),
-        Event::Stop { slot } => Ok(write!(out, "the application stops slot {slot}")?),
+        Event::Start { slot } => {
+            write!(out, "the application starts slot {slot}")?;
+            push_name(out, names, Named::Slot(*slot))
+        }
+        Event::Stop { slot } => {
+            write!(out, "the application stops slot {slot}")?;
+            push_name(out, names, Named::Slot(*slot))
+        }
         _ => Ok(()),
+    }
+}
+
+/// What a call's number of a point is: a point of an adapter, a slot of a scanner.
+fn point_of(config: &Config, point: u32) -> Named {
+    if is_target(config) {
+        Named::Point(point)
+    } else {
+        Named::Slot(point)
+    }
+}
+
+/// The name of a point or a slot behind its number, if it has one.
+pub fn push_name(out: &mut String, names: &Names, named: Named) -> Result<(), OutOfMemory> {
+    match names.of(named) {
+        Some(name) => Ok(write!(out, " ({name})")?),
+        None => Ok(()),
     }
 }

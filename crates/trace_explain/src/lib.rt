@@ -8,4 +8,5 @@ mod frames;
 mod identities;
 mod lines;
 
+pub use answers::push_notice;
 pub use lines::{EventLine, event_lines, explain_event, explain_trace};

@@ -160,7 +160,7 @@ def run_row(connection, owner, events, row):
     long = gaps["greatest_ms"]
     need(950 <= long < 5000 and long <= gaps["sum_ms"] < long + 200 and long - 200 < gaps["moved_ms"] <= gaps["sum_ms"] + 200,
          f"the gap is about as long as the pause: {gaps}")
-    need(gaps["recent_ms"] == long and gaps["window"] in (later["ms"] // 10000, later["ms"] // 10000 - 1), f"it is the longest of its ten seconds: {gaps}")
+    need(gaps["minute"] == {name: gaps[name] for name in gaps["minute"]}, f"all are of the last minute: {gaps}")
     connection.sequence = 8
     connection.produce(owner.udp, bytes(5))
     wrong = events.next(lambda it: it["connections"][0]["wrong_size"] == 1)

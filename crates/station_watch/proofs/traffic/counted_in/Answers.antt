@@ -6,4 +6,4 @@ pub returns : goal.returns
 unfolding counted_in
 returns g c =
     let all : c.loop-place.place ≡ 64 = omega arith in
-    c.loop-place.invariant ∙ ap (λ n. counted_below (g.D.Device.table c.args.device.now) c.args.connections.now n) all
+    c.loop-place.invariant ∙ ap (λ n. counted_below c.args.ms (g.D.Device.table c.args.device.now) c.args.connections.now n) all

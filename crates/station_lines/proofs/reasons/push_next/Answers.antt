@@ -1,0 +1,7 @@
+use Rattle.std.specs.Prelude.{◌/◌, codes}
+use Rattle.station_lines.specs.Reasons.{tenths_text}
+use Rattle.attribute_lines.specs.Lemmas.Appended.{three}
+use Rattle.station_lines.proofs.reasons.push_next.Goals as goal
+
+pub returns : goal.returns
+returns c = three _ _ _ _ (codes "the next try is in ") (tenths_text (c.args.ms / 100)) (codes " s") c.in_ok-push_text.ensures c.in_ok-push_tenths.ensures c.in_ok-push_text-2.ensures
