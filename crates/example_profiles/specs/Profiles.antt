@@ -56,5 +56,6 @@ scanner_profile incarnation node target = record {
   open_timeout = 2000;
   retry = 3000;
   newer = None;
+  tidy = false;
   slots = slot_config target ∷ [];
 }

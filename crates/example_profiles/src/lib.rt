@@ -132,6 +132,7 @@ pub fn scanner(
         open_timeout: 2_000,
         retry: 3_000,
         newer: None,
+        tidy: false,
         slots: Items::one(alloc, slot(alloc, target))?,
     })
 }

@@ -20,7 +20,7 @@ use Rattle.scanner_table.specs.declared.explicit.PendingExplicit.{PendingExplici
 use Rattle.scanner_table.specs.declared.table.Session.{Session}
 use Rattle.scanner_table.specs.Explicit.{awaits, connects_to, explicit_request, explicit_sent, explicit_sized, explicit_within, has_explicit_length, is_barred}
 use Rattle.scanner_table.specs.declared.table.TargetStream.{TargetStream}
-use Rattle.scanner_table.specs.Closing.{stopped, stopped_at, slot_resigned, closed_within}
+use Rattle.scanner_table.specs.Closing.{requested_link, stopped, stopped_at, slot_resigned, closed_within, dropped}
 use Rattle.scanner_table.specs.Encapsulation.{stream_cut, stream_lost, cut_of, frame, frame_of, frame_answer, message_answer}
 use Rattle.scanner_table.specs.Effects.{Next, Effect, done}
 use Rattle.scanner_table.specs.Points.{start, start_at, start_state, stop, stop_of, write, write_at, write_length, output_written}
@@ -100,10 +100,10 @@ idle_refused false t effect last why new adds same = fault_refused t why NotAllo
 
 state_refused : (t : ScannerTable) (indexed : IndexedSlot) (state : SlotState) (last : Progress) (why : StepFault) (new : ScannerTable) → Adds (stopped t indexed state) (begun t) (Err why) last → new ≡ t → Follows (stop_of (stopped t indexed state)) t (Err why) new
 state_refused t indexed Idle last why new adds same = idle_refused indexed.slot.desired_up t (slot_resigned t indexed) last why new adds same
-state_refused t indexed (Opening o) last why new adds same = effect_refused t (slot_resigned t indexed) last why new adds same
-state_refused t indexed (Established c) last why new adds same = effect_refused t (closed_within t indexed c (session_with t indexed.config.target)) last why new adds same
-state_refused t indexed (TimedOut link) last why new adds same = effect_refused t (slot_resigned t indexed) last why new adds same
-state_refused t indexed (Closing c) last why new adds same = fault_refused t why NotAllowedNow new adds (refl, same)
+state_refused t indexed (Opening o) last why new adds same = effect_refused t (dropped t indexed (requested_link o.requested)) last why new adds same
+state_refused t indexed (Established c) last why new adds same = effect_refused t (closed_within t indexed c.link (session_with t indexed.config.target)) last why new adds same
+state_refused t indexed (TimedOut link) last why new adds same = effect_refused t (dropped t indexed link) last why new adds same
+state_refused t indexed (Closing c) last why new adds same = idle_refused indexed.slot.desired_up t (slot_resigned t indexed) last why new adds same
 
 found_refused : (t : ScannerTable) (found : Option IndexedSlot) (last : Progress) (why : StepFault) (new : ScannerTable) → Adds (stopped_at t found) (begun t) (Err why) last → new ≡ t → Follows (stop_of (stopped_at t found)) t (Err why) new
 found_refused t None last why new adds same = fault_refused t why NoSuchSlot new adds (refl, same)

@@ -7,6 +7,7 @@ ghost use Rattle.scanner_table.specs.Slots.{indexed_from, indexed_slots};
 ghost use Rattle.scanner_slots.specs.Views.{view_slot, table_of};
 ghost use Rattle.scanner_slots.specs.Bounding.{IsHinted, all_bounds};
 
+use crate::states::is_wanted;
 use crate::{ScannerState, SlotView, session_with};
 use cip_types::{Ms, Node};
 use scanner_table::{ScannerProfile, Slot, SlotConfig, SlotState, TargetStream};
@@ -18,11 +19,11 @@ pub(crate) fn has_session(streams: &[TargetStream], target: Node) -> bool
     session_with(streams, target).is_some()
 }
 
-/// When a slot without a connection opens; `u64::MAX` if its connection is not desired or its target has no session.
+/// When a slot opens, or closes a connection that timed out; `u64::MAX` if it does not, or its target has no session.
 fn retry_due(streams: &[TargetStream], indexed: SlotView<'_>) -> u64
     ensures { result ≡ retry_due streams.now (view_slot indexed.entry) }
 {
-    if indexed.slot.desired_up && has_session(streams, indexed.config.target) {
+    if is_wanted(indexed.slot) && has_session(streams, indexed.config.target) {
         return indexed.slot.retry_at.0;
     }
     u64::MAX

@@ -1,7 +1,7 @@
 //! How far the connection of a slot is.
 
 ghost use Rattle.std.specs.Prelude.{◌≡◌};
-ghost use Rattle.scanner_table.specs.Slots.{number_of, is_closed, is_ready};
+ghost use Rattle.scanner_table.specs.Slots.{number_of, is_closed, is_timed_out, is_wanted, is_ready};
 ghost use Rattle.scanner_table.specs.Ticks.{state_has_expired, state_is_overdue};
 ghost use Rattle.scanner_table.specs.Productions.{state_is_due};
 ghost use Rattle.scanner_table.specs.Replies.{state_consumes};
@@ -35,11 +35,30 @@ fn is_closed(state: &SlotState) -> bool
     }
 }
 
-/// Whether a slot is to be open, is not, and may try now.
+fn is_timed_out(state: &SlotState) -> bool
+    ensures { result ≡ is_timed_out state.now }
+{
+    match state {
+        SlotState::TimedOut(_) => true,
+        SlotState::Idle
+        | SlotState::Opening(_)
+        | SlotState::Established(_)
+        | SlotState::Closing(_) => false,
+    }
+}
+
+/// Whether the connection of a slot is desired, or has timed out and is not closed yet.
+pub(crate) fn is_wanted(slot: &Slot) -> bool
+    ensures { result ≡ is_wanted slot.now }
+{
+    slot.desired_up || is_timed_out(&slot.state)
+}
+
+/// Whether the connection of a slot is wanted, is not open, and may be tried now.
 pub fn is_ready(slot: &Slot, clock: Ms) -> bool
     ensures { result ≡ is_ready clock slot.now }
 {
-    slot.desired_up && is_closed(&slot.state) && slot.retry_at.0 <= clock.0
+    is_wanted(slot) && is_closed(&slot.state) && slot.retry_at.0 <= clock.0
 }
 
 /// Whether a slot's connection is established, and its deadline has come.

@@ -5,13 +5,12 @@ use Rattle.scanner_table.specs.Lemmas.Slotwise.{id_later}
 use Rattle.scanner_table.specs.declared.profile.SlotConfig.{SlotConfig}
 use Rattle.scanner_table.specs.declared.profile.ScannerProfile.{ScannerProfile}
 use Rattle.scanner_table.specs.declared.slot.Slot.{Slot}
-use Rattle.scanner_table.specs.declared.slot.SlotState.TheVariants.{Established, TimedOut}
+use Rattle.scanner_table.specs.declared.slot.SlotState.TheVariants.{Established}
 use Rattle.scanner_table.specs.declared.table.ScannerTable.{ScannerTable}
 use Rattle.scanner_table.specs.Slots.{indexed_from, indexed_slots, with_slot}
 use Rattle.scanner_table.specs.Effects.{counted}
-use Rattle.scanner_table.specs.Opening.{drawn, opening_slot}
-use Rattle.scanner_table.specs.Replies.{new_connection, established_slot, failed_slot}
-use Rattle.scanner_table.specs.Closing.{closing_slot}
+use Rattle.scanner_table.specs.Opening.{drawn, opening_slot, closing_slot}
+use Rattle.scanner_table.specs.Replies.{new_connection, established_slot}
 use Rattle.scanner_table.specs.Datagrams.{accepted_connection}
 use Rattle.scanner_table.specs.Points.{output_slot, moded_slot, moded_table}
 use Rattle.scanner_table.specs.Productions.{produced_slot, produced_table}
@@ -59,8 +58,8 @@ counts_always = record {
       after = counts_after;
       opening = λ t indexed stands closed_before. drawn_counts t indexed.config indexed.number (opening_slot t indexed);
       idling = λ t indexed slot stands idle. set_counts t indexed.number slot;
-      timing_out = λ t indexed c stands is. set_counts t indexed.number (failed_slot t (TimedOut c.link) indexed.slot);
-      closing = λ t indexed c stands is. counted_counts t indexed.number (closing_slot t c indexed.slot);
+      timing_out = λ t indexed link slot stands is becomes. set_counts t indexed.number slot;
+      closing = λ t indexed link desired_up stands is. counted_counts t indexed.number (closing_slot t link desired_up indexed.slot);
     };
     streams = λ t streams. record { profile = refl; slots = λ full. refl; ids = omega arith; requests = omega arith };
     clocked = λ t ms. record { profile = refl; slots = λ full. refl; ids = omega arith; requests = omega arith };

@@ -118,7 +118,8 @@ profile_decides a b =
     (Decides-and _ _ (Decides-eqb a.open_timeout b.open_timeout)
     (Decides-and _ _ (Decides-eqb a.retry b.retry)
     (Decides-and _ _ (numbers_decide a.newer b.newer)
-    (pointwise_decides config_decides a.slots b.slots))))))))
+    (Decides-and _ _ (booleans_Decides a.tidy b.tidy)
+    (pointwise_decides config_decides a.slots b.slots)))))))))
 
 -- ---- slots
 

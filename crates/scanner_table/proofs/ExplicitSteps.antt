@@ -16,6 +16,9 @@ use Rattle.cip_encap.specs.Reading.{message_reading}
 use Rattle.cip_events.specs.declared.event.Event.{Event}
 use Rattle.cip_events.specs.declared.event.Event.TheVariants.{StreamOpened, Frame, StreamCut, Tick, Start, Stop, Explicit}
 use Rattle.cip_events.specs.declared.event.Reason.{Reason}
+use Rattle.cip_events.specs.declared.event.Reason.TheVariants as reason
+use Rattle.cip_types.specs.declared.names.Triad.{Triad}
+use Rattle.conn_state.specs.declared.names.Link.{Link}
 use Rattle.cip_events.specs.declared.event.StepFault.{StepFault}
 use Rattle.cip_events.specs.declared.event.StepFault.TheVariants as fault
 use Rattle.cip_events.specs.declared.event.Unanswered.{Unanswered}
@@ -27,6 +30,7 @@ use Rattle.cip_router.specs.RouterReplies.{RouterReplyFields}
 use Rattle.conn_state.specs.Answers.{answer_tests}
 use Rattle.scanner_table.specs.declared.explicit.PendingExplicit.{PendingExplicit}
 use Rattle.scanner_table.specs.declared.profile.ScannerProfile.{ScannerProfile}
+use Rattle.scanner_table.specs.declared.profile.SlotConfig.{SlotConfig}
 use Rattle.scanner_table.specs.declared.slot.PendingOpen as opening
 use Rattle.scanner_table.specs.declared.slot.SlotState.{SlotState}
 use Rattle.scanner_table.specs.declared.slot.SlotState.TheVariants.{Idle, Opening, Established, TimedOut, Closing}
@@ -35,13 +39,13 @@ use Rattle.scanner_table.specs.declared.table.Session.{Session}
 use Rattle.scanner_table.specs.declared.table.Stage.{Stage}
 use Rattle.scanner_table.specs.declared.table.Stage.TheVariants.{Waiting, Up, Unused}
 use Rattle.scanner_table.specs.declared.table.TargetStream.{TargetStream}
-use Rattle.scanner_table.specs.Slots.{IndexedSlot, indexed_slots}
+use Rattle.scanner_table.specs.Slots.{IndexedSlot, indexed_slots, with_slot}
 use Rattle.scanner_table.specs.Sessions.{is_stream, is_other_stream, is_to, is_taken, with_stream, without_stream, with_stage, session_at, session_on, session_with}
 use Rattle.scanner_table.specs.Requests.{is_large}
-use Rattle.scanner_table.specs.Effects.{Next, done}
-use Rattle.scanner_table.specs.Opening.{has_request, target_opened}
-use Rattle.scanner_table.specs.Replies.{open_answer, is_id_free, judged_success, answered}
-use Rattle.scanner_table.specs.Closing.{target_lost}
+use Rattle.scanner_table.specs.Effects.{Next, nothing, done}
+use Rattle.scanner_table.specs.Opening.{has_request, can_open, exhausted, open_requested, opened_within, close_requested, cleared_within, opened_from, opened, target_opened}
+use Rattle.scanner_table.specs.Replies.{open_answer, is_id_free, refused, disowned, disowned_within, rejected, judged_success, answered}
+use Rattle.scanner_table.specs.Closing.{idle_slot, closed, target_lost}
 use Rattle.scanner_table.specs.Explicit.{has_number, is_request, is_over, awaits, others, with_explicit, connects_to, has_explicit_length, service_of, is_for_slots, is_barred, pending_explicit, explicit_sent, explicit_within, explicit_request, explicit_reply, explicit_answered, is_late, explicit_timed_out, explicit_lost}
 use Rattle.scanner_table.specs.Encapsulation.{registering_on, ignored, stream_opened, cut_of, stream_cut, is_registered, session_begun, session_failed, registered, is_awaiting, replied, replied_to, reported, message_answer, frame_answer, frame_of, frame}
 use Rattle.scanner_table.specs.Productions.{produced_table}
@@ -83,8 +87,8 @@ slots_keep = record {
   after = keeps_after;
   opening = λ t indexed stands closed_before. record { profile = refl; clock = refl; explicit = refl; requests = omega arith; streams = λ n here. here };
   idling = λ t indexed slot stands idle. record { profile = refl; clock = refl; explicit = refl; requests = omega arith; streams = λ n here. here };
-  timing_out = λ t indexed c stands is. record { profile = refl; clock = refl; explicit = refl; requests = omega arith; streams = λ n here. here };
-  closing = λ t indexed c stands is. record { profile = refl; clock = refl; explicit = refl; requests = omega arith; streams = λ n here. here };
+  timing_out = λ t indexed link slot stands is becomes. record { profile = refl; clock = refl; explicit = refl; requests = omega arith; streams = λ n here. here };
+  closing = λ t indexed link desired_up stands is. record { profile = refl; clock = refl; explicit = refl; requests = omega arith; streams = λ n here. here };
 }
 
 -- ---- each pending request
@@ -335,8 +339,62 @@ registered_keeps true t stream handle =
     keeps_after t now (target_opened stream.peer now).table (staged_keeps t stream.number (Up handle)) (target_leads Keeps slots_keep stream.peer now)
 registered_keeps false t stream handle = staged_keeps t stream.number Unused
 
+-- what closes or opens a slot keeps them
+disown_keeps : (b : Bool) (t : ScannerTable) (config : SlotConfig) (triad : Triad) (session : Session) → Keeps t (cond b (disowned t config triad session) (nothing t)).table
+disown_keeps true t config triad session = record { profile = refl; clock = refl; explicit = refl; requests = omega arith; streams = λ n here. here }
+disown_keeps false t config triad session = keeps_same t
+
+disowned_keeps : (t : ScannerTable) (config : SlotConfig) (triad : Triad) (session : Option Session) → Keeps t (disowned_within t config triad session).table
+disowned_keeps t config triad None = keeps_same t
+disowned_keeps t config triad (Some session) = disown_keeps (has_request t) t config triad session
+
+reject_keeps : (b : Bool) (t : ScannerTable) (config : SlotConfig) (triad : Triad) → Keeps t (cond b (disowned_within t config triad (session_with t config.target)) (nothing t)).table
+reject_keeps true t config triad = disowned_keeps t config triad (session_with t config.target)
+reject_keeps false t config triad = keeps_same t
+
+open_keeps : (b : Bool) (t : ScannerTable) (indexed : IndexedSlot) (session : Session) → Keeps t (cond b (open_requested t indexed session) (exhausted t indexed)).table
+open_keeps true t indexed session = record { profile = refl; clock = refl; explicit = refl; requests = omega arith; streams = λ n here. here }
+open_keeps false t indexed session = record { profile = refl; clock = refl; explicit = refl; requests = omega arith; streams = λ n here. here }
+
+within_keeps : (t : ScannerTable) (indexed : IndexedSlot) (session : Option Session) → Keeps t (opened_within t indexed session).table
+within_keeps t indexed None = keeps_same t
+within_keeps t indexed (Some session) = open_keeps (can_open t indexed.config) t indexed session
+
+close_keeps : (b : Bool) (t : ScannerTable) (indexed : IndexedSlot) (link : Link) (session : Session) → Keeps t (cond b (close_requested t indexed link indexed.slot.desired_up session) (exhausted t indexed)).table
+close_keeps true t indexed link session = record { profile = refl; clock = refl; explicit = refl; requests = omega arith; streams = λ n here. here }
+close_keeps false t indexed link session = record { profile = refl; clock = refl; explicit = refl; requests = omega arith; streams = λ n here. here }
+
+cleared_keeps : (t : ScannerTable) (indexed : IndexedSlot) (link : Link) (session : Option Session) → Keeps t (cleared_within t indexed link session).table
+cleared_keeps t indexed link None = keeps_same t
+cleared_keeps t indexed link (Some session) = close_keeps (has_request t) t indexed link session
+
+tidy_keeps : (b : Bool) (t : ScannerTable) (indexed : IndexedSlot) (link : Link) (session : Option Session) → Keeps t (cond b (cleared_within t indexed link session) (opened_within t indexed session)).table
+tidy_keeps true t indexed link session = cleared_keeps t indexed link session
+tidy_keeps false t indexed link session = within_keeps t indexed session
+
+from_keeps : (t : ScannerTable) (indexed : IndexedSlot) (session : Option Session) (state : SlotState) → Keeps t (opened_from t indexed session state).table
+from_keeps t indexed session (TimedOut link) = tidy_keeps t.profile.tidy t indexed link session
+from_keeps t indexed session other = within_keeps t indexed session
+
+opened_keeps : (t : ScannerTable) (indexed : IndexedSlot) → Keeps t (opened t indexed).table
+unfolding opened
+opened_keeps t indexed = from_keeps t indexed (session_with t indexed.config.target) indexed.slot.state
+
+reopen_keeps : (b : Bool) (t : ScannerTable) (indexed : IndexedSlot) → Keeps t (cond b (opened t indexed) (nothing t)).table
+reopen_keeps true t indexed = opened_keeps t indexed
+reopen_keeps false t indexed = keeps_same t
+
+closed_keeps : (t : ScannerTable) (indexed : IndexedSlot) → Keeps t (closed t indexed).table
+closed_keeps t indexed =
+    let u = with_slot t indexed.number (idle_slot indexed.slot) in
+    keeps_after t u (closed t indexed).table record { profile = refl; clock = refl; explicit = refl; requests = omega arith; streams = λ n here. here }
+    (reopen_keeps indexed.slot.desired_up u (record indexed { slot = idle_slot indexed.slot }))
+
 success_keeps : (t : ScannerTable) (indexed : IndexedSlot) (o : opening.PendingOpen) (success : made.Opened) (why : Option Mismatch) → Keeps t (judged_success t indexed o success why).table
-success_keeps t indexed o success (Some why) = record { profile = refl; clock = refl; explicit = refl; requests = omega arith; streams = λ n here. here }
+success_keeps t indexed o success (Some why) =
+    let u = (refused t indexed (reason.Mismatch why)).table in
+    keeps_after t u (rejected indexed.config o.requested.triad u).table record { profile = refl; clock = refl; explicit = refl; requests = omega arith; streams = λ n here. here }
+    (reject_keeps u.profile.tidy u indexed.config o.requested.triad)
 success_keeps t indexed o success None = record { profile = refl; clock = refl; explicit = refl; requests = omega arith; streams = λ n here. here }
 
 answered_keeps : (t : ScannerTable) (indexed : IndexedSlot) (o : opening.PendingOpen) (said : Result OpenAnswer Reason) → Keeps t (answered t indexed o said).table
@@ -350,7 +408,7 @@ replied_keeps t indexed m Idle = keeps_same t
 replied_keeps t indexed m (Opening o) = answered_keeps t indexed o (open_answer (is_large indexed.config) m)
 replied_keeps t indexed m (Established c) = keeps_same t
 replied_keeps t indexed m (TimedOut link) = keeps_same t
-replied_keeps t indexed m (Closing c) = record { profile = refl; clock = refl; explicit = refl; requests = omega arith; streams = λ n here. here }
+replied_keeps t indexed m (Closing c) = closed_keeps t indexed
 
 replied_to_keeps : (t : ScannerTable) (m : MessageFields) (found : Option IndexedSlot) → Keeps t (replied_to t m found).1
 replied_to_keeps t m None = keeps_same t

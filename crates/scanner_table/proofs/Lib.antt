@@ -4,6 +4,7 @@ mod RequestLemmas
 mod SmallScanner
 mod OpeningSamples
 mod ReplySamples
+mod TidySamples
 mod DataSamples
 mod CheckSamples
 mod ExplicitSamples

@@ -19,9 +19,10 @@ use Rattle.scanner_table.specs.declared.table.ScannerTable.{ScannerTable}
 use Rattle.scanner_table.specs.Slots.{IndexedSlot, with_slot}
 use Rattle.cip_types.specs.Ids.{connection_id}
 use Rattle.scanner_table.specs.Effects.{counted}
-use Rattle.scanner_table.specs.Opening.{drawn, opening_slot}
-use Rattle.scanner_table.specs.Replies.{new_connection, established_slot, failed_slot}
-use Rattle.scanner_table.specs.Closing.{closing_slot}
+use Rattle.scanner_table.specs.Requests.{id_or_zero}
+use Rattle.scanner_table.specs.Opening.{drawn, opening_slot, closing_slot}
+use Rattle.scanner_table.specs.Replies.{new_connection, established_slot}
+use Rattle.scanner_table.specs.Closing.{requested_link}
 use Rattle.scanner_table.specs.Datagrams.{accepted_connection}
 use Rattle.scanner_table.specs.Points.{output_slot, moded_slot, moded_table}
 use Rattle.scanner_table.specs.Productions.{written_state, state_is_due, produced_state, produced_slot, produced_table}
@@ -30,7 +31,7 @@ use Rattle.scanner_table.specs.Step.{scanner_table}
 use Rattle.scanner_table.specs.Runs.{StepsKeep, IsLaw}
 use Rattle.scanner_table.specs.Drawn.{IsDrawn, WantsDrawn, LinkIsDrawn, StateIsDrawn, NumbersAreDrawn, drawn_id, IdsAreOwn, NumbersAreOwn}
 use Rattle.scanner_table.specs.Lemmas.SlotLookups.{get_same, get_other, Stands, indexed_at, slot_is, slot_stands}
-use Rattle.scanner_table.specs.Lemmas.Moves.{Kept, KeptAlways}
+use Rattle.scanner_table.specs.Lemmas.Moves.{link_in, Kept, KeptAlways}
 use Rattle.scanner_table.specs.Lemmas.Events.{steps_lead, law_of}
 use Rattle.scanner_table.specs.Lemmas.Slotwise.{Later, set_later, counted_later, Relation, StaysSo, SlotwiseAlways, Goes, stays_goes, set_goes, moded_goes, produced_goes, goes_always, Property, Stays, was_of, of_each_slot}
 use Rattle.scanner_table.specs.Lemmas.FreshSlots.{fresh_rests}
@@ -108,6 +109,23 @@ moded_drawn false t multicast slot drawn = drawn
 idle_drawn : (t : ScannerTable) (multicast : Bool) (state : SlotState) → state ≡ Idle → StateIsDrawn t.profile t.next_id t.next_request multicast state
 idle_drawn t multicast state is = rw is tt
 
+-- a wanted id was allocated
+wanted_drawn : (profile : ScannerProfile) (next : ℕ) (id : Option ConnId) → WantsDrawn profile 0 next false id → IsDrawn profile 0 next (id_or_zero id)
+wanted_drawn profile next None wants = absurd wants
+wanted_drawn profile next (Some id) wants = wants
+
+-- so was the id of the connection that the slot has, or asked for
+link_drawn : (t : ScannerTable) (multicast : Bool) (state : SlotState) (link : Link) → link_in state ≡ Some link → StateIsDrawn t.profile t.next_id t.next_request multicast state → LinkIsDrawn t.profile t.next_id multicast link
+link_drawn t true state link is drawn = tt
+link_drawn t false Idle link is drawn = absurd cc
+link_drawn t false (Opening o) link is drawn = subst (LinkIsDrawn t.profile t.next_id false) (same_Some (requested_link o.requested) link is) (wanted_drawn t.profile t.next_id o.requested.t_o_id drawn.1)
+link_drawn t false (Established c) link is drawn = subst (LinkIsDrawn t.profile t.next_id false) (same_Some c.link link is) drawn.1
+link_drawn t false (TimedOut other) link is drawn = subst (LinkIsDrawn t.profile t.next_id false) (same_Some other link is) drawn
+link_drawn t false (Closing c) link is drawn = absurd cc
+
+timed_out_drawn : (t : ScannerTable) (multicast : Bool) (state : SlotState) (link : Link) → state ≡ TimedOut link → LinkIsDrawn t.profile t.next_id multicast link → StateIsDrawn t.profile t.next_id t.next_request multicast state
+timed_out_drawn t multicast state link is drawn = rw is drawn
+
 drawn_always : SlotwiseAlways (Stays Drawn)
 drawn_always = record {
   widely = record {
@@ -115,8 +133,8 @@ drawn_always = record {
     after = λ t u v number config a b c first next before behind drawn. behind (before drawn);
     opening = λ t indexed closed_before drawn. (omega arith, wants_next t.profile t.next_id indexed.config.multicast);
     idling = λ t indexed slot idle drawn. idle_drawn t indexed.config.multicast slot.state idle.state;
-    timing_out = λ t indexed c is drawn. (state_is t indexed.config.multicast indexed.slot.state (Established c) is drawn).1;
-    closing = λ t indexed c is drawn. (omega arith, (state_is t indexed.config.multicast indexed.slot.state (Established c) is drawn).1);
+    timing_out = λ t indexed link slot is becomes drawn. timed_out_drawn t indexed.config.multicast slot.state link becomes.state (link_drawn t indexed.config.multicast indexed.slot.state link is drawn);
+    closing = λ t indexed link desired_up is drawn. (omega arith, link_drawn t indexed.config.multicast indexed.slot.state link is drawn);
     producing = table_drawn;
     moding = λ t run indexed drawn. moded_drawn (is_owner indexed.config.kind) t indexed.config.multicast indexed.slot drawn;
   };
@@ -241,6 +259,20 @@ no_id false (Established c) id idle is = absurd cc
 no_id false (TimedOut link) id idle is = absurd cc
 no_id false (Closing c) id idle is = absurd cc
 
+-- a wanted id is that of the opening
+wanted_id : (profile : ScannerProfile) (next : ℕ) (wanted : Option ConnId) (id : ConnId) → WantsDrawn profile 0 next false wanted → Some (id_or_zero wanted) ≡ Some id → wanted ≡ Some id
+wanted_id profile next None id wants is = absurd wants
+wanted_id profile next (Some other) id wants is = is
+
+-- the id of the connection that the slot has, or asked for, is the slot's
+link_id : (t : ScannerTable) (multicast : Bool) (state : SlotState) (link : Link) (id : ConnId) → link_in state ≡ Some link → StateIsDrawn t.profile t.next_id t.next_request multicast state → cond multicast None (Some link.t_o_id) ≡ Some id → cond multicast None (drawn_id state) ≡ Some id
+link_id t true state link id is drawn same = absurd cc
+link_id t false Idle link id is drawn same = absurd cc
+link_id t false (Opening o) link id is drawn same = wanted_id t.profile t.next_id o.requested.t_o_id id drawn.1 (ap (λ (l : Link). Some l.t_o_id) (same_Some (requested_link o.requested) link is) ∙ same)
+link_id t false (Established c) link id is drawn same = ap (λ (l : Link). Some l.t_o_id) (same_Some c.link link is) ∙ same
+link_id t false (TimedOut other) link id is drawn same = ap (λ (l : Link). Some l.t_o_id) (same_Some other link is) ∙ same
+link_id t false (Closing c) link id is drawn same = absurd cc
+
 -- the state before had this id
 same_state_id : (config : SlotConfig) (state other next : SlotState) (id : ConnId) → state ≡ other → drawn_id other ≡ drawn_id next → slot_id config next ≡ Some id → slot_id config state ≡ Some id
 same_state_id config state other next id same ids is = ap (λ (x : Option ConnId). cond config.multicast None x) (ap drawn_id same ∙ ids) ∙ is
@@ -282,12 +314,12 @@ owns_kept = record {
   after = owns_after;
   opening = λ t indexed stands closed_before. record { goes = drawn_goes.widely.slots.opening t indexed stands closed_before; own = opening_owns t indexed stands };
   idling = λ t indexed slot stands idle. set_owns t t indexed slot (drawn_goes.widely.slots.idling t indexed slot stands idle) (set_later t indexed.number slot) refl stands (λ drawn id is. absurd (no_id indexed.config.multicast slot.state id idle.state is));
-  timing_out = λ t indexed c stands is.
-      let slot = failed_slot t (TimedOut c.link) indexed.slot in
-      set_owns t t indexed slot (drawn_goes.widely.slots.timing_out t indexed c stands is) (set_later t indexed.number slot) refl stands (λ drawn id. same_state_id indexed.config indexed.slot.state (Established c) slot.state id is refl);
-  closing = λ t indexed c stands is.
-      let slot = closing_slot t c indexed.slot in
-      set_owns t (counted t) indexed slot (drawn_goes.widely.slots.closing t indexed c stands is) (counted_later t indexed.number slot) refl stands (λ drawn id. same_state_id indexed.config indexed.slot.state (Established c) slot.state id is refl);
+  timing_out = λ t indexed link slot stands is becomes.
+      set_owns t t indexed slot (drawn_goes.widely.slots.timing_out t indexed link slot stands is becomes) (set_later t indexed.number slot) refl stands
+      (λ drawn id same. link_id t indexed.config.multicast indexed.slot.state link id is drawn (same_state_id indexed.config (TimedOut link) slot.state slot.state id (sym becomes.state) refl same));
+  closing = λ t indexed link desired_up stands is.
+      let slot = closing_slot t link desired_up indexed.slot in
+      set_owns t (counted t) indexed slot (drawn_goes.widely.slots.closing t indexed link desired_up stands is) (counted_later t indexed.number slot) refl stands (λ drawn id same. link_id t indexed.config.multicast indexed.slot.state link id is drawn same);
 }
 
 produced_owns : (t : ScannerTable) → Owns t (produced_table t)

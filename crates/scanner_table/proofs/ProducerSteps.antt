@@ -3,6 +3,7 @@ use Rattle.std.proofs.Common.{◌≡◌, ◌≤◌, ℕ, ◌+◌, Bool, true, fa
 use Rattle.cip_types.specs.declared.names.Ms.{Ms}
 use Rattle.cip_types.specs.declared.names.Node.{Node}
 use Rattle.cip_productions.specs.Kinds.{is_owner}
+use Rattle.conn_state.specs.declared.names.Link.{Link}
 use Rattle.scanner_table.specs.declared.profile.ScannerProfile.{ScannerProfile}
 use Rattle.scanner_table.specs.declared.profile.SlotConfig.{SlotConfig}
 use Rattle.scanner_table.specs.declared.slot.Slot.{Slot}
@@ -51,6 +52,9 @@ moded_produces false number target slot produces = produces
 idle_produces : (number : ℕ) (target : Node) (state : SlotState) → state ≡ Idle → StateProducesAs number target state
 idle_produces number target state is = rw is tt
 
+timed_out_produces : (number : ℕ) (target : Node) (link : Link) (state : SlotState) → state ≡ TimedOut link → StateProducesAs number target state
+timed_out_produces number target link state is = rw is tt
+
 produces_always : SlotwiseAlways (Stays Produces)
 produces_always = record {
   widely = record {
@@ -58,8 +62,8 @@ produces_always = record {
     after = λ t u v number config a b c first next before behind produces. behind (before produces);
     opening = λ t indexed closed_before produces. tt;
     idling = λ t indexed slot idle produces. idle_produces indexed.number indexed.config.target slot.state idle.state;
-    timing_out = λ t indexed c is produces. tt;
-    closing = λ t indexed c is produces. tt;
+    timing_out = λ t indexed link slot is becomes produces. timed_out_produces indexed.number indexed.config.target link slot.state becomes.state;
+    closing = λ t indexed link desired_up is produces. tt;
     producing = λ t number config slot produces. due_produces (state_is_due t.clock slot.state) t.clock number config.target slot produces;
     moding = λ t run indexed produces. moded_produces (is_owner indexed.config.kind) indexed.number indexed.config.target indexed.slot produces;
   };
@@ -115,6 +119,9 @@ moded_waits false n slot waits = waits
 idle_waits : (n : ℕ) (state : SlotState) → state ≡ Idle → StateWaitsTo n state
 idle_waits n state is = rw is tt
 
+timed_out_waits : (n : ℕ) (link : Link) (state : SlotState) → state ≡ TimedOut link → StateWaitsTo n state
+timed_out_waits n link state is = rw is tt
+
 table_waits : (t : ScannerTable) (number : ℕ) (config : SlotConfig) (slot : Slot) → Waits t number config slot → Waits (produced_table t) number config (produced_slot t.clock slot)
 unfolding produced_table
 table_waits t number config slot waits = due_waits (state_is_due t.clock slot.state) (t.clock.0 + t.profile.open_timeout) t.clock slot waits
@@ -126,8 +133,8 @@ waits_always = record {
     after = λ t u v number config a b c first next before behind waits. behind (before waits);
     opening = λ t indexed closed_before waits. omega arith;
     idling = λ t indexed slot idle waits. idle_waits (t.clock.0 + t.profile.open_timeout) slot.state idle.state;
-    timing_out = λ t indexed c is waits. tt;
-    closing = λ t indexed c is waits. omega arith;
+    timing_out = λ t indexed link slot is becomes waits. timed_out_waits (t.clock.0 + t.profile.open_timeout) link slot.state becomes.state;
+    closing = λ t indexed link desired_up is waits. omega arith;
     producing = table_waits;
     moding = λ t run indexed waits. moded_waits (is_owner indexed.config.kind) (t.clock.0 + t.profile.open_timeout) indexed.slot waits;
   };

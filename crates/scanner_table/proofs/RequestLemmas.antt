@@ -84,7 +84,7 @@ state_unnumbered next clock desired_up Idle fits = refl
 state_unnumbered next clock desired_up (Opening o) fits = less_other o.request next fits.1
 state_unnumbered next clock desired_up (Established c) fits = refl
 state_unnumbered next clock desired_up (TimedOut link) fits = refl
-state_unnumbered next clock desired_up (Closing c) fits = less_other c.request next fits.1
+state_unnumbered next clock desired_up (Closing c) fits = less_other c.request next fits
 
 -- it shares the request with none that does not wait for it, and none of these with it
 new_shares : (next : ℕ) (new other : SlotState) → WaitsFor next new → waits_for next other ≡ false → states_share new other ≡ false

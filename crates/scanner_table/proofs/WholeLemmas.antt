@@ -1,12 +1,13 @@
 -- A whole table stays whole when one slot changes, when numbers are used up, and when streams open and close.
 use Rattle.std.proofs.Common.{◌≡◌, ◌≤◌, ℕ, zero, suc, ◌+◌, Bool, true, false, cond, ◌||◌, List, [], ◌∷◌, ◌++◌, length, map, filter, find, slice_get, slice_set, Option, Some, refl, sym, ◌∙◌, ap, subst, arith, length-append}
-use Rattle.std.specs.List.{list_any}
+use Rattle.std.specs.List.{list_any, AllByRecursion}
 use Rattle.std.proofs.lemmas.Bool.{or_parts}
 use Rattle.std.proofs.lemmas.Grind.{common_steps}
 use Rattle.std.proofs.lemmas.List.Folds.{list_any-append}
 use Rattle.std.proofs.lemmas.Option.{same_Some}
 use Rattle.base_lemmas.specs.Numbers.{other_number}
 use Rattle.scanner_table.specs.declared.profile.SlotConfig.{SlotConfig}
+use Rattle.scanner_table.specs.declared.profile.ScannerProfile.{ScannerProfile}
 use Rattle.scanner_table.specs.declared.slot.Slot.{Slot}
 use Rattle.scanner_table.specs.declared.slot.SlotState.{SlotState}
 use Rattle.scanner_table.specs.declared.slot.SlotState.TheVariants.{Idle, Opening, Established, TimedOut, Closing}
@@ -16,7 +17,7 @@ use Rattle.scanner_table.specs.declared.table.TargetStream.{TargetStream}
 use Rattle.scanner_table.specs.Slots.{IndexedSlot, indexed_from, indexed_slots, with_slot}
 use Rattle.scanner_table.specs.Sessions.{is_stream, is_to, staged_stream}
 use Rattle.scanner_table.specs.Effects.{Effect, on_each, nothing}
-use Rattle.scanner_table.specs.WellFormed.{FitsState, FitsSlot, SlotsFit, IdsDiffer, RequestsDiffer, StreamsDiffer, IsWellFormed}
+use Rattle.scanner_table.specs.WellFormed.{FitsState, FitsSlot, SlotsFit, IsDesired, IdsDiffer, RequestsDiffer, StreamsDiffer, IsWellFormed}
 
 -- ---- later tables
 
@@ -26,7 +27,7 @@ state_later r s k l desired_up (Opening o) up on fits = (fits.0, omega (arith, f
 state_later r s k l desired_up (Established c) up on fits =
     (fits.0, record { opening = omega (arith, fits.1.opening); o_t_api_ms = fits.1.o_t_api_ms; t_o_api_ms = fits.1.t_o_api_ms; due = omega (arith, fits.1.due) })
 state_later r s k l desired_up (TimedOut link) up on fits = fits
-state_later r s k l desired_up (Closing c) up on fits = (fits.0, omega (arith, fits.1))
+state_later r s k l desired_up (Closing c) up on fits = omega (arith, fits)
 
 pub slot_later : (r s k l : ℕ) (config : SlotConfig) (slot : Slot) → r ≤ s → k ≤ l → FitsSlot r k config slot → FitsSlot s l config slot
 slot_later r s k l config slot up on fits = record { output = fits.output; image = fits.image; state = state_later r s k l slot.desired_up slot.state up on fits.state; watchdog = fits.watchdog }
@@ -55,11 +56,13 @@ later_later t u v first next = record { profile = next.profile ∙ first.profile
 pub record IsAt (t : ScannerTable) (indexed : IndexedSlot) : Type 0 where
   pub config : slice_get t.profile.slots indexed.number ≡ Some indexed.config
   pub fits : FitsSlot t.next_request t.clock.0 indexed.config indexed.slot
+  pub desires : t.profile.tidy ≡ false → IsDesired indexed.slot
 
 pub is_at_later : (t u : ScannerTable) (indexed : IndexedSlot) → Later t u → IsAt t indexed → IsAt u indexed
 is_at_later t u indexed later at = record {
   config = rw later.profile at.config;
   fits = rw later.clock (slot_later t.next_request u.next_request t.clock.0 t.clock.0 indexed.config indexed.slot later.requests (omega arith) at.fits);
+  desires = λ untidy. at.desires (ap (λ (p : ScannerProfile). p.tidy) (sym later.profile) ∙ untidy);
 }
 
 -- it holds of each indexed slot
@@ -95,17 +98,19 @@ tail_stands all number config configs stands = λ k other is.
     let same : number + suc k ≡ suc number + k = omega arith in
     subst (λ (n : ℕ). slice_get all n ≡ Some other) same (stands (suc k) other is)
 
-slots_at : (t : ScannerTable) (number : ℕ) (configs : List SlotConfig) (slots : List Slot) → StandsIn t.profile.slots number configs → SlotsFit t.next_request t.clock.0 configs slots → Each (IsAt t) (indexed_from number configs slots)
-slots_at t number [] slots stands fit = tt
-slots_at t number (config ∷ configs) [] stands fit = tt
-slots_at t number (config ∷ configs) (slot ∷ slots) stands fit =
-    (record { config = head_stands t.profile.slots number config configs stands; fits = fit.0 }, slots_at t (suc number) configs slots (tail_stands t.profile.slots number config configs stands) fit.1)
+slots_at : (t : ScannerTable) (number : ℕ) (configs : List SlotConfig) (slots : List Slot) → StandsIn t.profile.slots number configs → SlotsFit t.next_request t.clock.0 configs slots → (t.profile.tidy ≡ false → AllByRecursion IsDesired slots) → Each (IsAt t) (indexed_from number configs slots)
+slots_at t number [] slots stands fit desires = tt
+slots_at t number (config ∷ configs) [] stands fit desires = tt
+slots_at t number (config ∷ configs) (slot ∷ slots) stands fit desires = (
+  record { config = head_stands t.profile.slots number config configs stands; fits = fit.0; desires = λ untidy. (desires untidy).0 },
+  slots_at t (suc number) configs slots (tail_stands t.profile.slots number config configs stands) fit.1 (λ untidy. (desires untidy).1),
+)
 
 all_stand : (configs : List SlotConfig) → StandsIn configs 0 configs
 all_stand configs = λ k config is. let same : k ≡ 0 + k = omega arith in subst (λ (n : ℕ). slice_get configs n ≡ Some config) same is
 
 pub each_at : (t : ScannerTable) → IsWellFormed t → Each (IsAt t) (indexed_slots t)
-each_at t whole = slots_at t 0 t.profile.slots t.slots (all_stand t.profile.slots) whole.slots
+each_at t whole = slots_at t 0 t.profile.slots t.slots (all_stand t.profile.slots) whole.slots whole.desires
 
 -- the indexed slot is one of the table's now
 abbrev pub IsNow : ScannerTable → IndexedSlot → Type 0
@@ -143,13 +148,23 @@ set_fits r c k (config ∷ configs) [] slot fit new = absurd fit
 set_fits r c zero (config ∷ configs) (first ∷ slots) slot fit new = (new config refl, fit.1)
 set_fits r c (suc k) (config ∷ configs) (first ∷ slots) slot fit new = (fit.0, set_fits r c k configs slots slot fit.1 new)
 
-pub whole_with : (t : ScannerTable) (indexed : IndexedSlot) (slot : Slot) → IsWellFormed t → slice_get t.profile.slots indexed.number ≡ Some indexed.config → FitsSlot t.next_request t.clock.0 indexed.config slot → IdsDiffer (indexed_from 0 t.profile.slots (slice_set t.slots indexed.number slot)) → RequestsDiffer (slice_set t.slots indexed.number slot) → IsWellFormed (with_slot t indexed.number slot)
-whole_with t indexed slot whole at fits differ apart = record {
+set_desired : (k : ℕ) (slots : List Slot) (slot : Slot) → AllByRecursion IsDesired slots → IsDesired slot → AllByRecursion IsDesired (slice_set slots k slot)
+set_desired k [] slot all new = tt
+set_desired zero (first ∷ slots) slot all new = (new, all.1)
+set_desired (suc k) (first ∷ slots) slot all new = (all.0, set_desired k slots slot all.1 new)
+
+-- without `tidy` the slot is as desired
+abbrev pub DesiredIn : ScannerTable → Slot → Type 0
+DesiredIn t slot = t.profile.tidy ≡ false → IsDesired slot
+
+pub whole_with : (t : ScannerTable) (indexed : IndexedSlot) (slot : Slot) → IsWellFormed t → slice_get t.profile.slots indexed.number ≡ Some indexed.config → FitsSlot t.next_request t.clock.0 indexed.config slot → DesiredIn t slot → IdsDiffer (indexed_from 0 t.profile.slots (slice_set t.slots indexed.number slot)) → RequestsDiffer (slice_set t.slots indexed.number slot) → IsWellFormed (with_slot t indexed.number slot)
+whole_with t indexed slot whole at fits desires differ apart = record {
   ids_differ = differ;
   requests_differ = apart;
   faultless = whole.faultless;
   slots = set_fits t.next_request t.clock.0 indexed.number t.profile.slots t.slots slot whole.slots
       (λ config is. subst (λ (c : SlotConfig). FitsSlot t.next_request t.clock.0 c slot) (same_Some indexed.config config (sym at ∙ is)) fits);
+  desires = λ untidy. set_desired indexed.number t.slots slot (whole.desires untidy) (desires untidy);
   clock = whole.clock;
   ids = whole.ids;
   serial_begins = whole.serial_begins;

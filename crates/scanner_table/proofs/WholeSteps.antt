@@ -1,5 +1,5 @@
 -- Each effect of an event keeps a scanner's table whole, and so does each step.
-use Rattle.std.proofs.Common.{◌∙◌, ◌&&◌, replicate, sym, ◌≡◌, ◌≤◌, ◌<◌, ℕ, ◌+◌, ◌^◌, Bool, true, false, not, cond, ◌||◌, ◌==◌, nat_le, List, [], ◌∷◌, length, filter, find, slice_get, slice_set, Option, Some, None, Result, Ok, Err, IfOk, IsTrue, refl, subst, arith, eqb-true}
+use Rattle.std.proofs.Common.{◌∙◌, ◌&&◌, replicate, sym, ◌≡◌, ◌≤◌, ◌<◌, ℕ, ◌+◌, ◌^◌, Bool, true, false, not, cond, ◌||◌, ◌==◌, nat_le, List, [], ◌∷◌, length, filter, find, slice_get, slice_set, Option, Some, None, Result, Ok, Err, IfOk, IsTrue, refl, ap, subst, arith, eqb-true}
 use Rattle.std.specs.List.{list_any}
 use Rattle.std.proofs.lemmas.Bool.{and_parts, or_parts, not-true}
 use Rattle.std.proofs.lemmas.Bool.Decides.{nat_tests}
@@ -27,6 +27,8 @@ use Rattle.cip_fwdopen.specs.declared.reply.Opened as made
 use Rattle.cip_fwdopen.specs.declared.reply.OpenAnswer.{OpenAnswer}
 use Rattle.cip_fwdopen.specs.declared.reply.OpenAnswer.TheVariants as answer
 use Rattle.cip_productions.specs.Acceptance.{is_duplicate}
+use Rattle.cip_types.specs.declared.names.Triad.{Triad}
+use Rattle.conn_state.specs.declared.names.Link.{Link}
 use Rattle.conn_state.specs.Answers.{is_requested_id, answer_tests, has_intervals}
 use Rattle.scanner_table.specs.declared.profile.SlotConfig.{SlotConfig}
 use Rattle.cip_events.specs.declared.event.Unanswered.{Unanswered}
@@ -41,22 +43,22 @@ use Rattle.scanner_table.specs.declared.table.ScannerTable.{ScannerTable}
 use Rattle.scanner_table.specs.declared.table.Stage.{Stage}
 use Rattle.scanner_table.specs.declared.table.Stage.TheVariants.{Waiting, Up, Unused}
 use Rattle.scanner_table.specs.declared.table.TargetStream.{TargetStream}
-use Rattle.scanner_table.specs.Slots.{indexed_from, IndexedSlot, indexed_slots, slot_at, is_numbered, is_with}
+use Rattle.scanner_table.specs.Slots.{indexed_from, IndexedSlot, indexed_slots, slot_at, is_numbered, is_with, with_slot, is_timed_out, is_wanted}
 use Rattle.scanner_table.specs.declared.table.Session.{Session}
 use Rattle.scanner_table.specs.Sessions.{session_with, is_stream, is_other_stream, is_to, is_taken, with_stream, without_stream, with_stage}
 use Rattle.scanner_table.specs.Requests.{is_large}
-use Rattle.scanner_table.specs.Effects.{Next, changed, counted, done}
-use Rattle.scanner_table.specs.Opening.{has_request, has_id, can_open, drawn, opening_slot, resigned, exhausted, open_requested, opened_within, opened, is_ready_slot, ready_slots, ready_opened, target_opened}
-use Rattle.scanner_table.specs.Replies.{uses_id, open_answer, is_id_free, new_connection, established_slot, failed_slot, refused, judged_success, answered}
-use Rattle.scanner_table.specs.Closing.{idle_slot, given_up_state, given_up, target_lost, closing_slot, close_requested, slot_resigned, closed_within, stopped, stopped_at}
+use Rattle.scanner_table.specs.Effects.{Next, nothing, and_then, changed, counted, done}
+use Rattle.scanner_table.specs.Opening.{has_request, has_id, can_open, drawn, opening_slot, resigned, exhausted, open_requested, opened_within, closing_slot, close_requested, cleared_within, opened_from, opened, is_ready_slot, ready_slots, ready_opened, target_opened}
+use Rattle.scanner_table.specs.Replies.{uses_id, open_answer, is_id_free, new_connection, established_slot, failed_slot, refused, disowned, disowned_within, rejected, judged_success, answered}
+use Rattle.scanner_table.specs.Closing.{requested_link, idle_slot, given_up_state, given_up, target_lost, closed, slot_resigned, closed_within, stopped, stopped_at}
 use Rattle.scanner_table.specs.Explicit.{is_request, others, with_explicit, has_number, awaits, has_explicit_length, service_of, is_for_slots, is_barred, connects_to, explicit_sent, explicit_within, explicit_request, explicit_reply, explicit_answered, explicit_timed_out, explicit_lost}
 use Rattle.scanner_table.specs.Encapsulation.{registering_on, ignored, stream_opened, message_answer, cut_of, stream_cut, is_registered, session_begun, session_failed, registered, is_awaiting, replied, replied_to, reported, frame_answer, frame_of, frame}
 use Rattle.scanner_table.specs.Datagrams.{accepts_at, delivered, is_for, accepted_connection, accepted_table, accepted, sized, state_received, received_at, received_as, received}
 use Rattle.scanner_table.specs.Points.{stop_of, stop}
-use Rattle.scanner_table.specs.WellFormed.{RequestsDiffer, IdsDiffer, FitsState, FitsSlot, IsWellFormed, IsWatched}
-use Rattle.scanner_table.proofs.IdsLemmas.{Weaker, idle_weaker, opening_weaker, closing_weaker, linked_weaker, all_set, differ_weaker, differ_established}
-use Rattle.scanner_table.proofs.RequestLemmas.{Quieter, WaitsFor, idle_quieter, established_quieter, set_quieter, differ_quieter, differ_numbered}
-use Rattle.scanner_table.proofs.WholeLemmas.{IsNow, each_now, slots_later, IsAt, Each, each_filter, each_found, each_at, whole_with, Keeps, keeps_nothing, KeepsAt, keeps_each, Any, each_any, each_passes, few_with, differ_with, few_left, differ_left, differ_staged}
+use Rattle.scanner_table.specs.WellFormed.{RequestsDiffer, IdsDiffer, FitsState, FitsSlot, StateIsDesired, IsWellFormed, IsWatched}
+use Rattle.scanner_table.proofs.IdsLemmas.{Weaker, idle_weaker, opening_weaker, timed_out_weaker, closing_weaker, linked_weaker, all_set, differ_weaker, differ_established}
+use Rattle.scanner_table.proofs.RequestLemmas.{Quieter, WaitsFor, idle_quieter, established_quieter, timed_out_quieter, set_quieter, differ_quieter, differ_numbered}
+use Rattle.scanner_table.proofs.WholeLemmas.{IsNow, each_now, slots_later, later_later, IsAt, Each, each_filter, each_found, each_at, DesiredIn, whole_with, Keeps, keeps_nothing, KeepsAt, keeps_each, Any, each_any, each_passes, few_with, differ_with, few_left, differ_left, differ_staged}
 
 -- ---- one slot is changed
 
@@ -71,9 +73,9 @@ quiet_set t indexed slot whole quieter =
     differ_quieter t.slots (slice_set t.slots indexed.number slot) (set_quieter indexed.number t.slots slot (λ old is. quieter old.state)) whole.requests_differ
 
 -- another slot under one number, and nothing else
-pub keeps_changed : (t : ScannerTable) (indexed : IndexedSlot) (slot : Slot) (reported : List Notice) → IsWellFormed t → IsAt t indexed → FitsSlot t.next_request t.clock.0 indexed.config slot → ((old : SlotState) → Weaker old slot.state) → ((old : SlotState) → Quieter old slot.state) → Keeps t (changed t indexed slot reported)
-keeps_changed t indexed slot reported whole at fits weaker quieter = record {
-  whole = whole_with t indexed slot whole at.config fits (differ_set t indexed slot whole weaker) (quiet_set t indexed slot whole quieter);
+pub keeps_changed : (t : ScannerTable) (indexed : IndexedSlot) (slot : Slot) (reported : List Notice) → IsWellFormed t → IsAt t indexed → FitsSlot t.next_request t.clock.0 indexed.config slot → DesiredIn t slot → ((old : SlotState) → Weaker old slot.state) → ((old : SlotState) → Quieter old slot.state) → Keeps t (changed t indexed slot reported)
+keeps_changed t indexed slot reported whole at fits desires weaker quieter = record {
+  whole = whole_with t indexed slot whole at.config fits desires (differ_set t indexed slot whole weaker) (quiet_set t indexed slot whole quieter);
   later = record { profile = refl; clock = refl; requests = omega arith };
 }
 
@@ -87,16 +89,29 @@ idle_fits t indexed slot at output image state = record {
 }
 
 keeps_resigned : (reported : List Notice) (t : ScannerTable) (indexed : IndexedSlot) → IsWellFormed t → IsAt t indexed → Keeps t (changed t indexed (resigned indexed.slot) reported)
-keeps_resigned reported t indexed whole at = keeps_changed t indexed (resigned indexed.slot) reported whole at (idle_fits t indexed (resigned indexed.slot) at refl refl refl) idle_weaker idle_quieter
+keeps_resigned reported t indexed whole at = keeps_changed t indexed (resigned indexed.slot) reported whole at (idle_fits t indexed (resigned indexed.slot) at refl refl refl) (λ untidy. tt) idle_weaker idle_quieter
 
 keeps_failed : (reported : List Notice) (t : ScannerTable) (indexed : IndexedSlot) → IsWellFormed t → IsAt t indexed → Keeps t (changed t indexed (failed_slot t Idle indexed.slot) reported)
-keeps_failed reported t indexed whole at = keeps_changed t indexed (failed_slot t Idle indexed.slot) reported whole at (idle_fits t indexed (failed_slot t Idle indexed.slot) at refl refl refl) idle_weaker idle_quieter
+keeps_failed reported t indexed whole at = keeps_changed t indexed (failed_slot t Idle indexed.slot) reported whole at (idle_fits t indexed (failed_slot t Idle indexed.slot) at refl refl refl) (λ untidy. tt) idle_weaker idle_quieter
 
 keeps_refused : (why : Reason) (t : ScannerTable) (indexed : IndexedSlot) → IsWellFormed t → IsAt t indexed → Keeps t (refused t indexed why)
 keeps_refused why t indexed whole at = keeps_failed (notice.Refused indexed.number why ∷ []) t indexed whole at
 
 keeps_idle : (t : ScannerTable) (indexed : IndexedSlot) → IsWellFormed t → IsAt t indexed → Keeps t (changed t indexed (idle_slot indexed.slot) [])
-keeps_idle t indexed whole at = keeps_changed t indexed (idle_slot indexed.slot) [] whole at (idle_fits t indexed (idle_slot indexed.slot) at refl refl refl) idle_weaker idle_quieter
+keeps_idle t indexed whole at = keeps_changed t indexed (idle_slot indexed.slot) [] whole at (idle_fits t indexed (idle_slot indexed.slot) at refl refl refl) (λ untidy. tt) idle_weaker idle_quieter
+
+-- a connection that timed out
+timed_out_fits : (t : ScannerTable) (indexed : IndexedSlot) (link : Link) (slot : Slot) → IsAt t indexed → slot.output ≡ indexed.slot.output → slot.image ≡ indexed.slot.image → slot.state ≡ TimedOut link → FitsSlot t.next_request t.clock.0 indexed.config slot
+timed_out_fits t indexed link slot at output image state = record {
+  output = rw output at.fits.output;
+  image = rw image at.fits.image;
+  state = rw state tt;
+  watchdog = rw state tt;
+}
+
+-- nothing need hold without `tidy`
+tidy_only : (t : ScannerTable) (slot : Slot) → t.profile.tidy ≡ true → DesiredIn t slot
+tidy_only t slot tidy untidy = absurd (let e : true ≡ false = sym tidy ∙ untidy in cc)
 
 -- ---- requests
 
@@ -109,6 +124,7 @@ whole_counted t left whole = record {
   requests_differ = whole.requests_differ;
   faultless = whole.faultless;
   slots = slots_later t.next_request (t.next_request + 1) t.clock.0 t.clock.0 t.profile.slots t.slots (omega arith) (omega arith) whole.slots;
+  desires = whole.desires;
   clock = whole.clock;
   ids = whole.ids;
   serial_begins = whole.serial_begins;
@@ -134,6 +150,7 @@ whole_drawn t config left whole =
       requests_differ = whole.requests_differ;
       faultless = whole.faultless;
       slots = whole.slots;
+      desires = whole.desires;
       clock = whole.clock;
       ids = id_fits config.multicast t.next_id left whole.ids;
       serial_begins = serial.0;
@@ -143,9 +160,9 @@ whole_drawn t config left whole =
       streams_differ = whole.streams_differ;
     }
 
-keeps_requested : (t : ScannerTable) (indexed : IndexedSlot) (slot : Slot) (reported : List Notice) → has_request t ≡ true → IsWellFormed t → slice_get t.profile.slots indexed.number ≡ Some indexed.config → FitsSlot (t.next_request + 1) t.clock.0 indexed.config slot → ((old : SlotState) → Weaker old slot.state) → WaitsFor t.next_request slot.state → Keeps t (changed (counted t) indexed slot reported)
-keeps_requested t indexed slot reported left whole at fits weaker waits = record {
-  whole = whole_with (counted t) indexed slot (whole_counted t left whole) at fits (differ_set t indexed slot whole weaker)
+keeps_requested : (t : ScannerTable) (indexed : IndexedSlot) (slot : Slot) (reported : List Notice) → has_request t ≡ true → IsWellFormed t → slice_get t.profile.slots indexed.number ≡ Some indexed.config → FitsSlot (t.next_request + 1) t.clock.0 indexed.config slot → DesiredIn t slot → ((old : SlotState) → Weaker old slot.state) → WaitsFor t.next_request slot.state → Keeps t (changed (counted t) indexed slot reported)
+keeps_requested t indexed slot reported left whole at fits desires weaker waits = record {
+  whole = whole_with (counted t) indexed slot (whole_counted t left whole) at fits desires (differ_set t indexed slot whole weaker)
       (differ_numbered t.next_request t.clock.0 indexed.number t.profile.slots t.slots slot waits whole.slots whole.requests_differ);
   later = record { profile = refl; clock = refl; requests = omega arith };
 }
@@ -158,7 +175,7 @@ opening_fits t indexed at desired_up = record { output = at.fits.output; image =
 keeps_open_requested : (t : ScannerTable) (indexed : IndexedSlot) (session : Session) → can_open t indexed.config ≡ true → IsWellFormed t → IsAt t indexed → indexed.slot.desired_up ≡ true → Keeps t (open_requested t indexed session)
 keeps_open_requested t indexed session can whole at desired_up =
     let left = and_parts (has_request t) (has_id t indexed.config) can in
-    let kept = keeps_requested (drawn t indexed.config) indexed (opening_slot t indexed) [] left.0 (whole_drawn t indexed.config left.1 whole) at.config (opening_fits t indexed at desired_up) (λ old. opening_weaker old _) refl in
+    let kept = keeps_requested (drawn t indexed.config) indexed (opening_slot t indexed) [] left.0 (whole_drawn t indexed.config left.1 whole) at.config (opening_fits t indexed at desired_up) (λ untidy. tt) (λ old. opening_weaker old _) refl in
     record { whole = kept.whole; later = record { profile = refl; clock = refl; requests = kept.later.requests } }
 
 can_step : (b : Bool) (t : ScannerTable) (indexed : IndexedSlot) (session : Session) → can_open t indexed.config ≡ b → IsWellFormed t → IsAt t indexed → indexed.slot.desired_up ≡ true → Keeps t (cond b (open_requested t indexed session) (exhausted t indexed))
@@ -169,30 +186,66 @@ keeps_within : (t : ScannerTable) (indexed : IndexedSlot) (session : Option Sess
 keeps_within t indexed None whole at desired_up = keeps_nothing t whole
 keeps_within t indexed (Some session) whole at desired_up = can_step (can_open t indexed.config) t indexed session refl whole at desired_up
 
--- the slot is to be open
-abbrev pub IsDesired : IndexedSlot → Type 0
-IsDesired indexed = indexed.slot.desired_up ≡ true
+-- ---- closing
 
-pub keeps_opened : KeepsAt IsDesired opened
+closing_fits : (t : ScannerTable) (indexed : IndexedSlot) (link : Link) (desired_up : Bool) → IsAt t indexed → FitsSlot (t.next_request + 1) t.clock.0 indexed.config (closing_slot t link desired_up indexed.slot)
+closing_fits t indexed link desired_up at = record { output = at.fits.output; image = at.fits.image; state = omega arith; watchdog = tt }
+
+close_step : (b : Bool) (t : ScannerTable) (indexed : IndexedSlot) (link : Link) (desired_up : Bool) (session : Session) → has_request t ≡ b → IsWellFormed t → IsAt t indexed → DesiredIn t (closing_slot t link desired_up indexed.slot) → Keeps t (cond b (close_requested t indexed link desired_up session) (exhausted t indexed))
+close_step true t indexed link desired_up session left whole at desires =
+    let kept = keeps_requested t indexed (closing_slot t link desired_up indexed.slot) [] left whole at.config (closing_fits t indexed link desired_up at) desires (λ old. closing_weaker old _) refl in
+    record { whole = kept.whole; later = kept.later }
+close_step false t indexed link desired_up session left whole at desires = keeps_resigned (notice.NoIds indexed.number ∷ []) t indexed whole at
+
+keeps_cleared : (t : ScannerTable) (indexed : IndexedSlot) (link : Link) (session : Option Session) → t.profile.tidy ≡ true → IsWellFormed t → IsAt t indexed → Keeps t (cleared_within t indexed link session)
+keeps_cleared t indexed link None tidy whole at = keeps_nothing t whole
+keeps_cleared t indexed link (Some session) tidy whole at =
+    close_step (has_request t) t indexed link indexed.slot.desired_up session refl whole at (tidy_only t (closing_slot t link indexed.slot.desired_up indexed.slot) tidy)
+
+-- the slot is to be open, or to be closed
+abbrev pub IsWanted : IndexedSlot → Type 0
+IsWanted indexed = is_wanted indexed.slot ≡ true
+
+wanted_desired : (desired_up timed_out : Bool) → timed_out ≡ false → (desired_up || timed_out) ≡ true → desired_up ≡ true
+wanted_desired true timed_out is wanted = refl
+wanted_desired false true is wanted = absurd cc
+wanted_desired false false is wanted = absurd cc
+
+-- a slot of this state is desired
+is_desired : (indexed : IndexedSlot) (state : SlotState) → indexed.slot.state ≡ state → is_timed_out state ≡ false → IsWanted indexed → indexed.slot.desired_up ≡ true
+is_desired indexed state is none wanted = wanted_desired indexed.slot.desired_up (is_timed_out indexed.slot.state) (ap is_timed_out is ∙ none) wanted
+
+timed_out_desired : (t : ScannerTable) (indexed : IndexedSlot) (link : Link) → indexed.slot.state ≡ TimedOut link → t.profile.tidy ≡ false → IsAt t indexed → indexed.slot.desired_up ≡ true
+timed_out_desired t indexed link is untidy at = subst (StateIsDesired indexed.slot.desired_up) is (at.desires untidy)
+
+tidy_step : (b : Bool) (t : ScannerTable) (indexed : IndexedSlot) (link : Link) (session : Option Session) → t.profile.tidy ≡ b → indexed.slot.state ≡ TimedOut link → IsWellFormed t → IsAt t indexed → Keeps t (cond b (cleared_within t indexed link session) (opened_within t indexed session))
+tidy_step true t indexed link session tidy is whole at = keeps_cleared t indexed link session tidy whole at
+tidy_step false t indexed link session tidy is whole at = keeps_within t indexed session whole at (timed_out_desired t indexed link is tidy at)
+
+keeps_from : (t : ScannerTable) (indexed : IndexedSlot) (session : Option Session) (state : SlotState) → indexed.slot.state ≡ state → IsWellFormed t → IsAt t indexed → IsWanted indexed → Keeps t (opened_from t indexed session state)
+keeps_from t indexed session (TimedOut link) is whole at wanted = tidy_step t.profile.tidy t indexed link session refl is whole at
+keeps_from t indexed session other is whole at wanted = keeps_within t indexed session whole at (is_desired indexed other is refl wanted)
+
+pub keeps_opened : KeepsAt IsWanted opened
 unfolding opened
-keeps_opened t indexed whole at desired_up = keeps_within t indexed (session_with t indexed.config.target) whole at desired_up
+keeps_opened t indexed whole at wanted = keeps_from t indexed (session_with t indexed.config.target) indexed.slot.state refl whole at wanted
 
-desired_of : (clock : _) (rest : List IndexedSlot) → Each (λ indexed. is_ready_slot clock indexed ≡ true) rest → Each IsDesired rest
-desired_of clock [] ready = tt
-desired_of clock (indexed ∷ rest) ready = ((and_parts indexed.slot.desired_up _ ready.0).0, desired_of clock rest ready.1)
+wanted_of : (clock : _) (rest : List IndexedSlot) → Each (λ indexed. is_ready_slot clock indexed ≡ true) rest → Each IsWanted rest
+wanted_of clock [] ready = tt
+wanted_of clock (indexed ∷ rest) ready = ((and_parts (is_wanted indexed.slot) _ ready.0).0, wanted_of clock rest ready.1)
 
 pub keeps_ready : (t : ScannerTable) → IsWellFormed t → Keeps t (ready_opened t)
 unfolding ready_opened
 keeps_ready t whole =
-    keeps_each IsDesired opened keeps_opened (ready_slots t) t whole (each_filter (IsAt t) (is_ready_slot t.clock) (indexed_slots t) (each_at t whole))
-    (desired_of t.clock (ready_slots t) (each_passes (is_ready_slot t.clock) (indexed_slots t)))
+    keeps_each IsWanted opened keeps_opened (ready_slots t) t whole (each_filter (IsAt t) (is_ready_slot t.clock) (indexed_slots t) (each_at t whole))
+    (wanted_of t.clock (ready_slots t) (each_passes (is_ready_slot t.clock) (indexed_slots t)))
 
 keeps_target : (target : Node) (t : ScannerTable) → IsWellFormed t → Keeps t (target_opened target t)
 unfolding target_opened
 keeps_target target t whole =
-    keeps_each IsDesired opened keeps_opened (filter (is_with target) (ready_slots t)) t whole
+    keeps_each IsWanted opened keeps_opened (filter (is_with target) (ready_slots t)) t whole
     (each_filter (IsAt t) (is_with target) (ready_slots t) (each_filter (IsAt t) (is_ready_slot t.clock) (indexed_slots t) (each_at t whole)))
-    (each_filter IsDesired (is_with target) (ready_slots t) (desired_of t.clock (ready_slots t) (each_passes (is_ready_slot t.clock) (indexed_slots t))))
+    (each_filter IsWanted (is_with target) (ready_slots t) (wanted_of t.clock (ready_slots t) (each_passes (is_ready_slot t.clock) (indexed_slots t))))
 
 -- ---- replies
 
@@ -228,11 +281,32 @@ established_differ t indexed o success at clear whole =
     let numbered : list_any (uses_id (0 + indexed.number) indexed.config.target success.t_o_id) (indexed_slots t) ≡ false = subst (λ (n : ℕ). list_any (uses_id n indexed.config.target success.t_o_id) (indexed_slots t) ≡ false) same free in
     differ_established 0 indexed.number indexed.config indexed.slot (new_connection t indexed o success) (replicate indexed.config.in_len 0) t.profile.slots t.slots at.config numbered whole.ids_differ
 
+-- a request that no slot waits for
+disown_step : (b : Bool) (t : ScannerTable) (config : SlotConfig) (triad : Triad) (session : Session) → has_request t ≡ b → IsWellFormed t → Keeps t (cond b (disowned t config triad session) (nothing t))
+disown_step true t config triad session left whole = record { whole = whole_counted t left whole; later = record { profile = refl; clock = refl; requests = omega arith } }
+disown_step false t config triad session left whole = keeps_nothing t whole
+
+keeps_disowned : (t : ScannerTable) (config : SlotConfig) (triad : Triad) (session : Option Session) → IsWellFormed t → Keeps t (disowned_within t config triad session)
+keeps_disowned t config triad None whole = keeps_nothing t whole
+keeps_disowned t config triad (Some session) whole = disown_step (has_request t) t config triad session refl whole
+
+reject_step : (b : Bool) (t : ScannerTable) (config : SlotConfig) (triad : Triad) → IsWellFormed t → Keeps t (cond b (disowned_within t config triad (session_with t config.target)) (nothing t))
+reject_step true t config triad whole = keeps_disowned t config triad (session_with t config.target) whole
+reject_step false t config triad whole = keeps_nothing t whole
+
+keeps_rejected : (t : ScannerTable) (indexed : IndexedSlot) (why : Reason) (triad : Triad) → IsWellFormed t → IsAt t indexed → Keeps t (and_then (refused t indexed why) (rejected indexed.config triad))
+keeps_rejected t indexed why triad whole at =
+    let first = keeps_refused why t indexed whole at in
+    let u = (refused t indexed why).table in
+    let second = reject_step u.profile.tidy u indexed.config triad first.whole in
+    record { whole = second.whole; later = later_later t u (rejected indexed.config triad u).table first.later second.later }
+
 keeps_success : (t : ScannerTable) (indexed : IndexedSlot) (o : opening.PendingOpen) (success : made.Opened) (why : Option Mismatch) → first_case (answer_tests o.requested success (is_id_free t indexed success.t_o_id)) ≡ why → IsWellFormed t → IsAt t indexed → (indexed.slot.desired_up ≡ true) × (o.request < t.next_request) → Keeps t (judged_success t indexed o success why)
-keeps_success t indexed o success (Some why) is whole at fits = keeps_refused (reason.Mismatch why) t indexed whole at
+keeps_success t indexed o success (Some why) is whole at fits = keeps_rejected t indexed (reason.Mismatch why) o.requested.triad whole at
 keeps_success t indexed o success None is whole at fits = record {
   whole = whole_with t indexed (established_slot indexed (new_connection t indexed o success)) whole at.config
       (established_fits t indexed o success at fits (has_both _ _ (has_intervals success) is))
+      (λ untidy. tt)
       (established_differ t indexed o success at (is_clear _ (is_requested_id o.requested.t_o_id success.t_o_id) (is_id_free t indexed success.t_o_id) _ is) whole)
       (quiet_set t indexed (established_slot indexed (new_connection t indexed o success)) whole (λ old. established_quieter old (new_connection t indexed o success)));
   later = record { profile = refl; clock = refl; requests = omega arith };
@@ -247,9 +321,16 @@ keeps_answered t indexed o (Ok (answer.Opened success)) whole at fits =
 
 -- ---- endings
 
+-- an opening is not answered
+keeps_unanswered : (b : Bool) (t : ScannerTable) (indexed : IndexedSlot) (link : Link) → t.profile.tidy ≡ b → IsWellFormed t → IsAt t indexed → Keeps t (changed t indexed (failed_slot t (cond b (TimedOut link) Idle) indexed.slot) [])
+keeps_unanswered true t indexed link tidy whole at =
+    let slot = failed_slot t (TimedOut link) indexed.slot in
+    keeps_changed t indexed slot [] whole at (timed_out_fits t indexed link slot at refl refl refl) (tidy_only t slot tidy) (λ old. timed_out_weaker old link) (λ old. timed_out_quieter old link)
+keeps_unanswered false t indexed link tidy whole at = keeps_failed [] t indexed whole at
+
 keeps_given_state : (t : ScannerTable) (indexed : IndexedSlot) (state : SlotState) → IsWellFormed t → IsAt t indexed → Keeps t (given_up_state t indexed state)
 keeps_given_state t indexed Idle whole at = keeps_nothing t whole
-keeps_given_state t indexed (Opening o) whole at = keeps_failed [] t indexed whole at
+keeps_given_state t indexed (Opening o) whole at = keeps_unanswered t.profile.tidy t indexed (requested_link o.requested) refl whole at
 keeps_given_state t indexed (Established c) whole at = keeps_nothing t whole
 keeps_given_state t indexed (TimedOut link) whole at = keeps_nothing t whole
 keeps_given_state t indexed (Closing c) whole at = keeps_idle t indexed whole at
@@ -262,18 +343,20 @@ unfolding target_lost
 keeps_lost target t whole =
     keeps_each Any given_up keeps_given (filter (is_with target) (indexed_slots t)) t whole (each_filter (IsAt t) (is_with target) (indexed_slots t) (each_at t whole)) (each_any _)
 
-closing_fits : (t : ScannerTable) (indexed : IndexedSlot) (c : SlotConnection) → IsAt t indexed → FitsSlot (t.next_request + 1) t.clock.0 indexed.config (closing_slot t c indexed.slot)
-closing_fits t indexed c at = record { output = at.fits.output; image = at.fits.image; state = (refl, omega arith); watchdog = tt }
+-- the slot is left with its connection timed out
+keeps_left : (b : Bool) (t : ScannerTable) (indexed : IndexedSlot) (link : Link) → t.profile.tidy ≡ b → IsWellFormed t → IsAt t indexed → Keeps t (changed t indexed (record indexed.slot { state = cond b (TimedOut link) Idle; desired_up = false }) [])
+keeps_left true t indexed link tidy whole at =
+    let slot : Slot = record indexed.slot { state = TimedOut link; desired_up = false } in
+    keeps_changed t indexed slot [] whole at (timed_out_fits t indexed link slot at refl refl refl) (tidy_only t slot tidy) (λ old. timed_out_weaker old link) (λ old. timed_out_quieter old link)
+keeps_left false t indexed link tidy whole at = keeps_resigned [] t indexed whole at
 
-close_step : (b : Bool) (t : ScannerTable) (indexed : IndexedSlot) (c : SlotConnection) (session : Session) → has_request t ≡ b → IsWellFormed t → IsAt t indexed → Keeps t (cond b (close_requested t indexed c session) (exhausted t indexed))
-close_step true t indexed c session left whole at =
-    let kept = keeps_requested t indexed (closing_slot t c indexed.slot) [] left whole at.config (closing_fits t indexed c at) (λ old. closing_weaker old _) refl in
-    record { whole = kept.whole; later = kept.later }
-close_step false t indexed c session left whole at = keeps_resigned (notice.NoIds indexed.number ∷ []) t indexed whole at
+keeps_closed : (t : ScannerTable) (indexed : IndexedSlot) (link : Link) (session : Option Session) → IsWellFormed t → IsAt t indexed → Keeps t (closed_within t indexed link session)
+keeps_closed t indexed link None whole at = keeps_left t.profile.tidy t indexed link refl whole at
+keeps_closed t indexed link (Some session) whole at = close_step (has_request t) t indexed link false session refl whole at (λ untidy. refl)
 
-keeps_closed : (t : ScannerTable) (indexed : IndexedSlot) (c : SlotConnection) (session : Option Session) → IsWellFormed t → IsAt t indexed → Keeps t (closed_within t indexed c session)
-keeps_closed t indexed c None whole at = keeps_resigned [] t indexed whole at
-keeps_closed t indexed c (Some session) whole at = close_step (has_request t) t indexed c session refl whole at
+keeps_dropped : (b : Bool) (t : ScannerTable) (indexed : IndexedSlot) (link : Link) → IsWellFormed t → IsAt t indexed → Keeps t (cond b (closed_within t indexed link (session_with t indexed.config.target)) (slot_resigned t indexed))
+keeps_dropped true t indexed link whole at = keeps_closed t indexed link (session_with t indexed.config.target) whole at
+keeps_dropped false t indexed link whole at = keeps_resigned [] t indexed whole at
 
 -- what is answered leaves a whole table
 abbrev pub LeavesWhole : Result Next StepFault → Type 0
@@ -285,10 +368,10 @@ stop_step false t indexed whole at = tt
 
 stopped_whole : (t : ScannerTable) (indexed : IndexedSlot) (state : SlotState) → IsWellFormed t → IsAt t indexed → LeavesWhole (stop_of (stopped t indexed state))
 stopped_whole t indexed Idle whole at = stop_step indexed.slot.desired_up t indexed whole at
-stopped_whole t indexed (Opening o) whole at = (keeps_resigned [] t indexed whole at).whole
-stopped_whole t indexed (Established c) whole at = (keeps_closed t indexed c (session_with t indexed.config.target) whole at).whole
-stopped_whole t indexed (TimedOut link) whole at = (keeps_resigned [] t indexed whole at).whole
-stopped_whole t indexed (Closing c) whole at = tt
+stopped_whole t indexed (Opening o) whole at = (keeps_dropped t.profile.tidy t indexed (requested_link o.requested) whole at).whole
+stopped_whole t indexed (Established c) whole at = (keeps_closed t indexed c.link (session_with t indexed.config.target) whole at).whole
+stopped_whole t indexed (TimedOut link) whole at = (keeps_dropped t.profile.tidy t indexed link whole at).whole
+stopped_whole t indexed (Closing c) whole at = stop_step indexed.slot.desired_up t indexed whole at
 
 stop_at_whole : (t : ScannerTable) (number : ℕ) (found : Option IndexedSlot) → slot_at t number ≡ found → IsWellFormed t → LeavesWhole (stop_of (stopped_at t found))
 stop_at_whole t number None is whole = tt
@@ -313,6 +396,7 @@ whole_streamed t number target free whole =
       requests_differ = whole.requests_differ;
       faultless = whole.faultless;
       slots = whole.slots;
+      desires = whole.desires;
       clock = whole.clock;
       ids = whole.ids;
       serial_begins = whole.serial_begins;
@@ -336,6 +420,7 @@ whole_without t number whole = record {
   requests_differ = whole.requests_differ;
   faultless = whole.faultless;
   slots = whole.slots;
+  desires = whole.desires;
   clock = whole.clock;
   ids = whole.ids;
   serial_begins = whole.serial_begins;
@@ -354,6 +439,7 @@ whole_explicit t pending whole = record {
   requests_differ = whole.requests_differ;
   faultless = whole.faultless;
   slots = whole.slots;
+  desires = whole.desires;
   clock = whole.clock;
   ids = whole.ids;
   serial_begins = whole.serial_begins;
@@ -415,6 +501,7 @@ whole_staged t number stage whole = record {
   requests_differ = whole.requests_differ;
   faultless = whole.faultless;
   slots = whole.slots;
+  desires = whole.desires;
   clock = whole.clock;
   ids = whole.ids;
   serial_begins = whole.serial_begins;
@@ -433,12 +520,22 @@ registered_step false t stream handle whole = whole_staged t stream.number Unuse
 pub state_fits : (t : ScannerTable) (indexed : IndexedSlot) (state : SlotState) → indexed.slot.state ≡ state → IsAt t indexed → FitsState t.next_request t.clock.0 indexed.slot.desired_up state
 state_fits t indexed state is at = subst (FitsState t.next_request t.clock.0 indexed.slot.desired_up) is at.fits.state
 
+reopen_step : (b : Bool) (t : ScannerTable) (indexed : IndexedSlot) → indexed.slot.desired_up ≡ b → IsWellFormed t → IsAt t indexed → Keeps t (cond b (opened t indexed) (nothing t))
+reopen_step true t indexed desired_up whole at = keeps_opened t indexed whole at (rw desired_up refl)
+reopen_step false t indexed desired_up whole at = keeps_nothing t whole
+
+closed_whole : (t : ScannerTable) (indexed : IndexedSlot) → IsWellFormed t → IsAt t indexed → IsWellFormed (closed t indexed).table
+closed_whole t indexed whole at =
+    let slot = idle_slot indexed.slot in
+    (reopen_step indexed.slot.desired_up (with_slot t indexed.number slot) (record indexed { slot = slot }) refl (keeps_idle t indexed whole at).whole
+    (record { config = at.config; fits = idle_fits t indexed slot at refl refl refl; desires = λ untidy. tt })).whole
+
 replied_whole : (t : ScannerTable) (indexed : IndexedSlot) (m : MessageFields) (state : SlotState) → indexed.slot.state ≡ state → IsWellFormed t → IsAt t indexed → IsWellFormed (replied t indexed m state).1
 replied_whole t indexed m Idle is whole at = whole
 replied_whole t indexed m (Opening o) is whole at = (keeps_answered t indexed o (open_answer (is_large indexed.config) m) whole at (state_fits t indexed (Opening o) is at)).whole
 replied_whole t indexed m (Established c) is whole at = whole
 replied_whole t indexed m (TimedOut link) is whole at = whole
-replied_whole t indexed m (Closing c) is whole at = (keeps_idle t indexed whole at).whole
+replied_whole t indexed m (Closing c) is whole at = closed_whole t indexed whole at
 
 replied_to_whole : (t : ScannerTable) (m : MessageFields) (p : IndexedSlot → Bool) (found : Option IndexedSlot) → find p (indexed_slots t) ≡ found → IsWellFormed t → IsWellFormed (replied_to t m found).1
 replied_to_whole t m p None is whole = whole
@@ -498,6 +595,7 @@ accepted_fits : (t : ScannerTable) (indexed : IndexedSlot) (d : DatagramFields) 
 accepted_fits t indexed d c bytes at fits long now whole =
     whole_with t indexed (record indexed.slot { state = Established (accepted_connection t.clock d c); image = bytes }) whole at.config
     (record { output = at.fits.output; image = long; state = (fits.0, record { opening = fits.1.opening; o_t_api_ms = fits.1.o_t_api_ms; t_o_api_ms = fits.1.t_o_api_ms; due = fits.1.due }); watchdog = subst (IsWatched indexed.config.mult) now.stands at.fits.watchdog })
+    (λ untidy. tt)
     (differ_same t indexed (record indexed.slot { state = Established (accepted_connection t.clock d c); image = bytes }) (Established c) now (linked_weaker c (accepted_connection t.clock d c) refl) whole)
     (quiet_set t indexed (record indexed.slot { state = Established (accepted_connection t.clock d c); image = bytes }) whole (λ old. established_quieter old (accepted_connection t.clock d c)))
 

@@ -1,6 +1,6 @@
 -- Ticks and what the application does keep a scanner's table whole, and so does each step.
 use Rattle.std.proofs.Common.{subst, sym, slice_set, ◌≡◌, ◌≤◌, ℕ, suc, ◌+◌, ◌^◌, Bool, true, false, cond, ◌==◌, nat_lt, List, [], ◌∷◌, length, map, filter, Option, Some, None, Ok, Err, refl, arith, leb-true, eqb-true}
-use Rattle.std.specs.List.{list_any}
+use Rattle.std.specs.List.{list_any, AllByRecursion}
 use Rattle.std.proofs.lemmas.Bool.Decides.{nat_tests}
 use Rattle.std.proofs.lemmas.List.{length-replicate}
 use Rattle.base_lemmas.specs.Booleans.{and_none}
@@ -32,7 +32,7 @@ use Rattle.scanner_table.specs.Productions.{written_connection, produced_connect
 use Rattle.scanner_table.specs.Ticks.{by_deadline, has_expired, expired_slots, expired_state, expired, all_expired, is_overdue, all_given_up, clocked_table, advanced, moved_on, ticked, tick}
 use Rattle.scanner_table.specs.Points.{output_slot, output_written, write_length, write_at, write, same_mode, moded_slot, moded_table, mode, desired_slot, started, start_state, start_at, start}
 use Rattle.scanner_table.specs.Step.{scanner_step, fresh_slot, scanner_table}
-use Rattle.scanner_table.specs.WellFormed.{RequestsDiffer, shares_request, clashes, IdsDiffer, FitsState, FitsSlot, SlotsFit, IsWellFormed, IsWatched}
+use Rattle.scanner_table.specs.WellFormed.{RequestsDiffer, shares_request, clashes, IdsDiffer, FitsState, FitsSlot, SlotsFit, StateIsDesired, IsDesired, IsWellFormed, IsWatched}
 use Rattle.scanner_table.proofs.IdsLemmas.{Weaker, idle_weaker, timed_out_weaker, same_weaker, linked_weaker, AllWeaker, all_set, all_map, differ_weaker}
 use Rattle.scanner_table.proofs.RequestLemmas.{Quieter, AllQuieter, idle_quieter, established_quieter, timed_out_quieter, same_quieter, set_quieter, map_quieter, differ_quieter}
 use Rattle.scanner_table.proofs.WholeLemmas.{IsNow, each_now, slots_later, later_later, IsAt, Each, each_filter, each_found, each_at, whole_with, Keeps, keeps_nothing, keeps_each, Any, each_any}
@@ -55,12 +55,12 @@ each_in_order P before [] all = tt
 each_in_order P before (indexed ∷ rest) all = each_inserted P before indexed (in_order before rest) all.0 (each_in_order P before rest all.1)
 
 expired_fits : (t : ScannerTable) (indexed : IndexedSlot) (c : SlotConnection) → indexed.slot.state ≡ Established c → IsAt t indexed → FitsSlot t.next_request t.clock.0 indexed.config (failed_slot t (TimedOut c.link) indexed.slot)
-expired_fits t indexed c is at = record { output = at.fits.output; image = at.fits.image; state = (state_fits t indexed (Established c) is at).0; watchdog = tt }
+expired_fits t indexed c is at = record { output = at.fits.output; image = at.fits.image; state = tt; watchdog = tt }
 
 keeps_expired_state : (t : ScannerTable) (indexed : IndexedSlot) (state : SlotState) → indexed.slot.state ≡ state → IsWellFormed t → IsAt t indexed → Keeps t (expired_state t indexed state)
 keeps_expired_state t indexed Idle is whole at = keeps_nothing t whole
 keeps_expired_state t indexed (Opening o) is whole at = keeps_nothing t whole
-keeps_expired_state t indexed (Established c) is whole at = keeps_changed t indexed (failed_slot t (TimedOut c.link) indexed.slot) [] whole at (expired_fits t indexed c is at) (λ old. timed_out_weaker old c.link) (λ old. timed_out_quieter old c.link)
+keeps_expired_state t indexed (Established c) is whole at = keeps_changed t indexed (failed_slot t (TimedOut c.link) indexed.slot) [] whole at (expired_fits t indexed c is at) (λ untidy. (state_fits t indexed (Established c) is at).0) (λ old. timed_out_weaker old c.link) (λ old. timed_out_quieter old c.link)
 keeps_expired_state t indexed (TimedOut link) is whole at = keeps_nothing t whole
 keeps_expired_state t indexed (Closing c) is whole at = keeps_nothing t whole
 
@@ -127,12 +127,13 @@ slots_produced r clock (config ∷ configs) [] fit = absurd fit
 slots_produced r clock (config ∷ configs) (slot ∷ slots) fit = (due_step (state_is_due clock slot.state) r clock config slot refl fit.0, slots_produced r clock configs slots fit.1)
 
 -- the slots are others, and each fits its configuration
-whole_slots : (t : ScannerTable) (slots : List Slot) → IsWellFormed t → SlotsFit t.next_request t.clock.0 t.profile.slots slots → AllWeaker t.slots slots → AllQuieter t.slots slots → IsWellFormed (record t { slots = slots })
-whole_slots t slots whole fit weaker quieter = record {
+whole_slots : (t : ScannerTable) (slots : List Slot) → IsWellFormed t → SlotsFit t.next_request t.clock.0 t.profile.slots slots → (t.profile.tidy ≡ false → AllByRecursion IsDesired slots) → AllWeaker t.slots slots → AllQuieter t.slots slots → IsWellFormed (record t { slots = slots })
+whole_slots t slots whole fit desires weaker quieter = record {
   requests_differ = differ_quieter t.slots slots quieter whole.requests_differ;
   ids_differ = differ_weaker 0 t.profile.slots t.slots slots weaker whole.ids_differ;
   faultless = whole.faultless;
   slots = fit;
+  desires = desires;
   clock = whole.clock;
   ids = whole.ids;
   serial_begins = whole.serial_begins;
@@ -170,9 +171,24 @@ due_quieter_by false clock slot = same_quieter slot.state
 due_quieter : (clock : Ms) (slot : Slot) → Quieter slot.state (produced_slot clock slot).state
 due_quieter clock slot = due_quieter_by (state_is_due clock slot.state) clock slot
 
+produced_desired : (clock : Ms) (desired_up : Bool) (state : SlotState) → StateIsDesired desired_up state → StateIsDesired desired_up (produced_state clock state)
+produced_desired clock desired_up Idle desires = tt
+produced_desired clock desired_up (Opening o) desires = tt
+produced_desired clock desired_up (Established c) desires = tt
+produced_desired clock desired_up (TimedOut link) desires = desires
+produced_desired clock desired_up (Closing c) desires = desires
+
+due_desired : (b : Bool) (clock : Ms) (slot : Slot) → IsDesired slot → IsDesired (cond b (record slot { state = produced_state clock slot.state }) slot)
+due_desired true clock slot desires = produced_desired clock slot.desired_up slot.state desires
+due_desired false clock slot desires = desires
+
+all_desired : (clock : Ms) (slots : List Slot) → AllByRecursion IsDesired slots → AllByRecursion IsDesired (map (produced_slot clock) slots)
+all_desired clock [] all = tt
+all_desired clock (slot ∷ slots) all = (due_desired (state_is_due clock slot.state) clock slot all.0, all_desired clock slots all.1)
+
 produced_whole : (t : ScannerTable) → IsWellFormed t → IsWellFormed (produced_table t)
 unfolding produced_table
-produced_whole t whole = whole_slots t (map (produced_slot t.clock) t.slots) whole (slots_produced t.next_request t.clock t.profile.slots t.slots whole.slots) (all_map (produced_slot t.clock) (due_weaker t.clock) t.slots) (map_quieter (produced_slot t.clock) (due_quieter t.clock) t.slots)
+produced_whole t whole = whole_slots t (map (produced_slot t.clock) t.slots) whole (slots_produced t.next_request t.clock t.profile.slots t.slots whole.slots) (λ untidy. all_desired t.clock t.slots (whole.desires untidy)) (all_map (produced_slot t.clock) (due_weaker t.clock) t.slots) (map_quieter (produced_slot t.clock) (due_quieter t.clock) t.slots)
 
 -- ---- a tick
 
@@ -182,6 +198,7 @@ clocked_whole t ms in_time whole = record {
   requests_differ = whole.requests_differ;
   faultless = whole.faultless;
   slots = slots_later t.next_request t.next_request t.clock.0 (t.clock.0 + ms) t.profile.slots t.slots (omega arith) (omega arith) whole.slots;
+  desires = whole.desires;
   clock = in_time;
   ids = whole.ids;
   serial_begins = whole.serial_begins;
@@ -215,6 +232,13 @@ written_fits r k desired_up (Established c) fits = (fits.0, record { opening = f
 written_fits r k desired_up (TimedOut link) fits = fits
 written_fits r k desired_up (Closing c) fits = fits
 
+written_desired : (desired_up : Bool) (state : SlotState) → StateIsDesired desired_up state → StateIsDesired desired_up (written_state state)
+written_desired desired_up Idle desires = tt
+written_desired desired_up (Opening o) desires = tt
+written_desired desired_up (Established c) desires = tt
+written_desired desired_up (TimedOut link) desires = desires
+written_desired desired_up (Closing c) desires = desires
+
 written_watched : (mult : ℕ) (state : SlotState) → IsWatched mult state → IsWatched mult (written_state state)
 written_watched mult Idle is = tt
 written_watched mult (Opening o) is = tt
@@ -240,6 +264,7 @@ length_step : (b : Bool) (t : ScannerTable) (indexed : IndexedSlot) (bytes : Lis
 length_step true t indexed bytes is whole at now =
     whole_with t indexed (output_slot bytes indexed.slot) whole at.config
     (record { output = eqb-true (length bytes) indexed.config.out_len is; image = at.fits.image; state = written_fits t.next_request t.clock.0 indexed.slot.desired_up indexed.slot.state at.fits.state; watchdog = written_watched indexed.config.mult indexed.slot.state at.fits.watchdog })
+    (λ untidy. written_desired indexed.slot.desired_up indexed.slot.state (at.desires untidy))
     (differ_same t indexed (output_slot bytes indexed.slot) indexed.slot.state (record { now = now; stands = refl }) (written_weaker indexed.slot.state) whole)
     (quiet_same t indexed (output_slot bytes indexed.slot) indexed.slot.state (record { now = now; stands = refl }) (written_quieter indexed.slot.state) whole)
 length_step false t indexed bytes is whole at now = tt
@@ -286,12 +311,22 @@ quiet_moded r k number [] (slot ∷ slots) fit = absurd fit
 quiet_moded r k number (config ∷ configs) [] fit = absurd fit
 quiet_moded r k number (config ∷ configs) (slot ∷ slots) fit = (moded_quieter (is_owner config.kind) slot, quiet_moded r k (suc number) configs slots fit.1)
 
+moded_desire : (b : Bool) (slot : Slot) → IsDesired slot → IsDesired (cond b (record slot { state = written_state slot.state }) slot)
+moded_desire true slot desires = written_desired slot.desired_up slot.state desires
+moded_desire false slot desires = desires
+
+desired_moded : (number : ℕ) (configs : List SlotConfig) (slots : List Slot) → AllByRecursion IsDesired slots → AllByRecursion IsDesired (map moded_slot (indexed_from number configs slots))
+desired_moded number [] slots all = tt
+desired_moded number (config ∷ configs) [] all = tt
+desired_moded number (config ∷ configs) (slot ∷ slots) all = (moded_desire (is_owner config.kind) slot all.0, desired_moded (suc number) configs slots all.1)
+
 moded_whole : (t : ScannerTable) (run : Bool) → IsWellFormed t → IsWellFormed (moded_table t run)
 moded_whole t run whole = record {
   ids_differ = differ_weaker 0 t.profile.slots t.slots (map moded_slot (indexed_slots t)) (all_moded t.next_request t.clock.0 0 t.profile.slots t.slots whole.slots) whole.ids_differ;
   requests_differ = differ_quieter t.slots (map moded_slot (indexed_slots t)) (quiet_moded t.next_request t.clock.0 0 t.profile.slots t.slots whole.slots) whole.requests_differ;
   faultless = whole.faultless;
   slots = slots_moded t.next_request t.clock.0 0 t.profile.slots t.slots whole.slots;
+  desires = λ untidy. desired_moded 0 t.profile.slots t.slots (whole.desires untidy);
   clock = whole.clock;
   ids = whole.ids;
   serial_begins = whole.serial_begins;
@@ -328,7 +363,7 @@ started_whole : (t : ScannerTable) (indexed : IndexedSlot) → indexed.slot.stat
 started_whole t indexed is whole at =
     let fits = desired_fits t indexed is at in
     let slot = desired_slot t indexed.slot in
-    (keeps_opened (with_slot t indexed.number slot) (record indexed { slot = slot }) (whole_with t indexed slot whole at.config fits (started_differ t indexed is whole) (started_quiet t indexed is whole)) (record { config = at.config; fits = fits }) refl).whole
+    (keeps_opened (with_slot t indexed.number slot) (record indexed { slot = slot }) (whole_with t indexed slot whole at.config fits (λ untidy. rw is tt) (started_differ t indexed is whole) (started_quiet t indexed is whole)) (record { config = at.config; fits = fits; desires = λ untidy. rw is tt }) refl).whole
 
 start_step : (b : Bool) (t : ScannerTable) (indexed : IndexedSlot) → indexed.slot.state ≡ Idle → IsWellFormed t → IsAt t indexed → LeavesWhole (cond b (Err fault.NotAllowedNow) (Ok (done (started t indexed (desired_slot t indexed.slot)))))
 start_step true t indexed is whole at = tt
@@ -371,6 +406,10 @@ fresh_fit : (configs : List SlotConfig) → SlotsFit 1 0 configs (map fresh_slot
 fresh_fit [] = tt
 fresh_fit (config ∷ configs) = (record { output = length-replicate config.out_len 0; image = length-replicate config.in_len 0; state = tt; watchdog = tt }, fresh_fit configs)
 
+fresh_desired : (configs : List SlotConfig) → AllByRecursion IsDesired (map fresh_slot configs)
+fresh_desired [] = tt
+fresh_desired (config ∷ configs) = (tt, fresh_desired configs)
+
 none_fresh : (n m : ℕ) (config : SlotConfig) (configs : List SlotConfig) → list_any (clashes (record { number = n; config = config; slot = fresh_slot config })) (indexed_from m configs (map fresh_slot configs)) ≡ false
 none_fresh n m config [] = refl
 none_fresh n m config (c ∷ configs) = rw (and_none (c.target.0 == config.target.0)) (none_fresh n (suc m) config configs)
@@ -393,6 +432,7 @@ fresh_whole profile faultless = record {
   requests_differ = fresh_quiet profile.slots;
   faultless = faultless;
   slots = fresh_fit profile.slots;
+  desires = λ untidy. fresh_desired profile.slots;
   clock = omega arith;
   ids = omega arith;
   serial_begins = omega arith;
@@ -408,6 +448,7 @@ whole_later t counter last whole = record {
   requests_differ = whole.requests_differ;
   faultless = whole.faultless;
   slots = whole.slots;
+  desires = whole.desires;
   clock = whole.clock;
   ids = last;
   serial_begins = whole.serial_begins;

@@ -19,10 +19,10 @@ use Rattle.scanner_table.specs.declared.table.TargetStream.{TargetStream}
 use Rattle.scanner_table.specs.Slots.{IndexedSlot, indexed_slots, is_with}
 use Rattle.scanner_table.specs.Sessions.{is_stream, is_taken, with_stream, without_stream, with_stage}
 use Rattle.scanner_table.specs.Requests.{is_large, registration}
-use Rattle.scanner_table.specs.Effects.{Next, Effect, nothing, and_then, changed, done}
+use Rattle.scanner_table.specs.Effects.{Next, Effect, nothing, and_then, done}
 use Rattle.scanner_table.specs.Opening.{target_opened}
 use Rattle.scanner_table.specs.Replies.{open_answer, answered}
-use Rattle.scanner_table.specs.Closing.{idle_slot, target_lost}
+use Rattle.scanner_table.specs.Closing.{closed, target_lost}
 use Rattle.scanner_table.specs.Explicit.{awaits, explicit_reply, explicit_answered, explicit_lost}
 
 -- STREAMS OPEN AND CLOSE
@@ -83,13 +83,13 @@ waits_for number (Closing c) = c.request == number
 abbrev pub is_awaiting : Node → ℕ → IndexedSlot → Bool
 is_awaiting target number indexed = is_with target indexed && waits_for number indexed.slot.state
 
--- The reply to the slot's request. Any reply to a Forward_Close ends the connection, whatever it says.
+-- the reply to the slot's request
 abbrev pub replied : ScannerTable → IndexedSlot → MessageFields → SlotState → Next
 replied t indexed m Idle = ignored t
 replied t indexed m (Opening o) = done (answered t indexed o (open_answer (is_large indexed.config) m))
 replied t indexed m (Established c) = ignored t
 replied t indexed m (TimedOut link) = ignored t
-replied t indexed m (Closing c) = done (changed t indexed (idle_slot indexed.slot) [])
+replied t indexed m (Closing c) = done (closed t indexed)
 
 -- the reply at the slot that waits for it, if any
 abbrev pub replied_to : ScannerTable → MessageFields → Option IndexedSlot → Next

@@ -1,17 +1,19 @@
--- Openings: a slot whose connection is desired sends a Forward_Open to its target (Volume 1, chapter 3, Forward_Open
--- service).
+-- Openings: a slot whose connection is desired sends a Forward_Open to its target. With `tidy` it first closes a connection
+-- that timed out (Volume 1, chapter 3, Forward_Open and Forward_Close services).
 use Rattle.std.specs.Prelude.{ℕ, ◌+◌, ◌^◌, ◌==◌, ◌&&◌, ◌||◌, nat_le, Bool, false, if◌then◌else◌, List, [], ◌∷◌, filter, Option, Some, None}
 use Rattle.cip_types.specs.declared.names.Node.{Node}
 use Rattle.cip_types.specs.declared.names.Ms.{Ms}
 use Rattle.cip_events.specs.declared.event.Notice.TheVariants as notice
+use Rattle.conn_state.specs.declared.names.Link.{Link}
 use Rattle.scanner_table.specs.declared.profile.SlotConfig.{SlotConfig}
 use Rattle.scanner_table.specs.declared.slot.Slot.{Slot}
-use Rattle.scanner_table.specs.declared.slot.SlotState.TheVariants.{Idle, Opening}
+use Rattle.scanner_table.specs.declared.slot.SlotState.{SlotState}
+use Rattle.scanner_table.specs.declared.slot.SlotState.TheVariants.{Idle, Opening, TimedOut, Closing}
 use Rattle.scanner_table.specs.declared.table.ScannerTable.{ScannerTable}
 use Rattle.scanner_table.specs.Slots.{IndexedSlot, indexed_slots, is_with, is_ready}
 use Rattle.scanner_table.specs.declared.table.Session.{Session}
 use Rattle.scanner_table.specs.Sessions.{session_with}
-use Rattle.scanner_table.specs.Requests.{opening, is_large, next_requested, open_fields}
+use Rattle.scanner_table.specs.Requests.{opening, closing, is_large, next_requested, open_fields, close_fields}
 use Rattle.scanner_table.specs.Effects.{Effect, nothing, on_each, changed, request_sent}
 
 -- NUMBERS
@@ -67,9 +69,34 @@ abbrev pub opened_within : ScannerTable → IndexedSlot → Option Session → E
 opened_within t indexed None = nothing t
 opened_within t indexed (Some session) = if can_open t indexed.config then open_requested t indexed session else exhausted t indexed
 
+-- CLOSING BEFORE AN OPENING
+
+-- the slot waits for the reply to its Forward_Close; then its connection is desired or not
+abbrev pub closing_slot : ScannerTable → Link → Bool → Slot → Slot
+closing_slot t link desired_up slot = record slot {
+  state = Closing (record { request = t.next_request; link = link; deadline = later t.clock t.profile.open_timeout });
+  desired_up = desired_up;
+}
+
+-- the slot sends a Forward_Close
+abbrev pub close_requested : ScannerTable → IndexedSlot → Link → Bool → Session → Effect
+close_requested t indexed link desired_up session =
+    request_sent t indexed session (closing (close_fields indexed.config link.triad)) (closing_slot t link desired_up indexed.slot)
+
+-- the slot closes a connection that timed out, if a session with its target is registered
+abbrev pub cleared_within : ScannerTable → IndexedSlot → Link → Option Session → Effect
+cleared_within t indexed link None = nothing t
+cleared_within t indexed link (Some session) =
+    if has_request t then close_requested t indexed link indexed.slot.desired_up session else exhausted t indexed
+
+-- what a slot in a state does to open: with `tidy` it first closes a connection that timed out
+abbrev pub opened_from : ScannerTable → IndexedSlot → Option Session → SlotState → Effect
+opened_from t indexed session (TimedOut link) = if t.profile.tidy then cleared_within t indexed link session else opened_within t indexed session
+opened_from t indexed session other = opened_within t indexed session
+
 -- a slot opens, if the session with its target is registered
 unfoldable pub opened : ScannerTable → IndexedSlot → Effect
-opened t indexed = opened_within t indexed (session_with t indexed.config.target)
+opened t indexed = opened_from t indexed (session_with t indexed.config.target) indexed.slot.state
 
 -- OPENING ALL READY SLOTS
 

@@ -6,6 +6,7 @@ use Rattle.cip_types.specs.Cases.{first_case}
 use Rattle.cip_types.specs.declared.names.ConnId.{ConnId}
 use Rattle.cip_types.specs.declared.names.Mismatch.{Mismatch}
 use Rattle.cip_types.specs.declared.names.Node.{Node}
+use Rattle.cip_types.specs.declared.names.Triad.{Triad}
 use Rattle.cip_netparams.specs.declared.Trigger.TheVariants.{Cyclic}
 use Rattle.cip_netparams.specs.Rate.{interval_ms, timeout}
 use Rattle.cip_fwdopen.specs.declared.fault.ReadFault.{ReadFault}
@@ -29,10 +30,14 @@ use Rattle.scanner_table.specs.declared.slot.Slot.{Slot}
 use Rattle.scanner_table.specs.declared.slot.SlotState.{SlotState}
 use Rattle.scanner_table.specs.declared.slot.SlotState.TheVariants.{Idle, Opening, Established, TimedOut, Closing}
 use Rattle.scanner_table.specs.declared.slot.PendingOpen as pending
+use Rattle.scanner_table.specs.declared.profile.SlotConfig.{SlotConfig}
 use Rattle.scanner_table.specs.declared.table.ScannerTable.{ScannerTable}
+use Rattle.scanner_table.specs.declared.table.Session.{Session}
+use Rattle.scanner_table.specs.Requests.{closing, close_fields, numbered}
+use Rattle.scanner_table.specs.Sessions.{session_with}
 use Rattle.scanner_table.specs.Slots.{IndexedSlot, indexed_slots, is_numbered, is_with}
-use Rattle.scanner_table.specs.Effects.{Effect, changed}
-use Rattle.scanner_table.specs.Opening.{later}
+use Rattle.scanner_table.specs.Effects.{Effect, nothing, and_then, changed, counted}
+use Rattle.scanner_table.specs.Opening.{has_request, later}
 
 -- READING A REPLY
 
@@ -99,8 +104,25 @@ failed_slot t state slot = record slot { state = state; retry_at = later t.clock
 abbrev pub refused : ScannerTable → IndexedSlot → Reason → Effect
 refused t indexed why = changed t indexed (failed_slot t Idle indexed.slot) (notice.Refused indexed.number why ∷ [])
 
+-- the scanner sends a Forward_Close of a connection that no slot has; no slot waits for the reply
+abbrev pub disowned : ScannerTable → SlotConfig → Triad → Session → Effect
+disowned t config triad session = record {
+  sent = numbered session t.next_request (closing (close_fields config triad)) ∷ [];
+  notices = [];
+  table = counted t;
+}
+
+-- within the session with the target, if one is registered and a request number is left
+abbrev pub disowned_within : ScannerTable → SlotConfig → Triad → Option Session → Effect
+disowned_within t config triad None = nothing t
+disowned_within t config triad (Some session) = if has_request t then disowned t config triad session else nothing t
+
+-- with `tidy`, the target's connection is closed, by the triad that the slot requested
+abbrev pub rejected : SlotConfig → Triad → ScannerTable → Effect
+rejected config triad t = if t.profile.tidy then disowned_within t config triad (session_with t config.target) else nothing t
+
 abbrev pub judged_success : ScannerTable → IndexedSlot → pending.PendingOpen → made.Opened → Option Mismatch → Effect
-judged_success t indexed opening opened (Some why) = refused t indexed (reason.Mismatch why)
+judged_success t indexed opening opened (Some why) = and_then (refused t indexed (reason.Mismatch why)) (rejected indexed.config opening.requested.triad)
 judged_success t indexed opening opened None = changed t indexed (established_slot indexed (new_connection t indexed opening opened)) []
 
 -- the effect of the answer on the slot that waits for it

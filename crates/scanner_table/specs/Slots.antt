@@ -1,6 +1,6 @@
 -- The slots of a scanner with their numbers, and the state of each connection (Volume 1, chapter 3, connection object
 -- state).
-use Rattle.std.specs.Prelude.{ℕ, suc, ◌==◌, nat_le, ◌&&◌, Bool, true, false, List, [], ◌∷◌, find, slice_set, Option}
+use Rattle.std.specs.Prelude.{ℕ, suc, ◌==◌, nat_le, ◌&&◌, ◌||◌, Bool, true, false, List, [], ◌∷◌, find, slice_set, Option}
 use Rattle.cip_types.specs.declared.names.Node.{Node}
 use Rattle.cip_types.specs.declared.names.Ms.{Ms}
 use Rattle.scanner_table.specs.declared.profile.SlotConfig.{SlotConfig}
@@ -59,6 +59,18 @@ is_closed (Established c) = false
 is_closed (TimedOut link) = true
 is_closed (Closing c) = false
 
--- the connection is desired, is not open, and its retry time has come
+-- no datagram came in time, and the target may still have the connection
+abbrev pub is_timed_out : SlotState → Bool
+is_timed_out Idle = false
+is_timed_out (Opening o) = false
+is_timed_out (Established c) = false
+is_timed_out (TimedOut link) = true
+is_timed_out (Closing c) = false
+
+-- the connection is desired, or it has timed out and is not closed yet
+abbrev pub is_wanted : Slot → Bool
+is_wanted slot = slot.desired_up || is_timed_out slot.state
+
+-- the connection is wanted, is not open, and its retry time has come
 abbrev pub is_ready : Ms → Slot → Bool
-is_ready clock slot = slot.desired_up && (is_closed slot.state && nat_le slot.retry_at.0 clock.0)
+is_ready clock slot = is_wanted slot && (is_closed slot.state && nat_le slot.retry_at.0 clock.0)

@@ -1,7 +1,7 @@
 -- The invariant of a scanner's table: it holds of a fresh table whose profile has no fault, and every step keeps it. Slots
 -- match their configurations, requests and streams are distinct, and numbers are within their limits.
 use Rattle.std.specs.Prelude.{◌≡◌, ℕ, ◌&&◌, ◌+◌, ◌<◌, ◌≤◌, ◌^◌, Bool, true, false, List, [], ◌∷◌, length, None}
-use Rattle.std.specs.List.{list_any}
+use Rattle.std.specs.List.{list_any, AllByRecursion}
 use Rattle.cip_netparams.specs.Rate.{timeout}
 use Rattle.scanner_table.specs.declared.profile.SlotConfig.{SlotConfig}
 use Rattle.scanner_table.specs.declared.slot.SlotConnection.{SlotConnection}
@@ -26,14 +26,24 @@ pub record FitsConnection (next_request clock : ℕ) (c : SlotConnection) : Type
   pub t_o_api_ms : c.t_o_api_ms ≤ 10000
   pub due : c.production.due.0 ≤ clock + 10000
 
--- Only a slot whose connection is desired opens, is established or has timed out; only one whose connection is not desired
--- closes. The number of a pending request was given out before.
+-- Only a slot whose connection is desired opens or is established. The number of a pending request was given out before.
 abbrev pub FitsState : ℕ → ℕ → Bool → SlotState → Type 0
 FitsState next_request clock desired_up Idle = Unit {0}
 FitsState next_request clock desired_up (Opening o) = (desired_up ≡ true) × (o.request < next_request)
 FitsState next_request clock desired_up (Established c) = (desired_up ≡ true) × FitsConnection next_request clock c
-FitsState next_request clock desired_up (TimedOut link) = desired_up ≡ true
-FitsState next_request clock desired_up (Closing c) = (desired_up ≡ false) × (c.request < next_request)
+FitsState next_request clock desired_up (TimedOut link) = Unit {0}
+FitsState next_request clock desired_up (Closing c) = c.request < next_request
+
+-- a connection that timed out is desired, and one that closes is not
+abbrev pub StateIsDesired : Bool → SlotState → Type 0
+StateIsDesired desired_up Idle = Unit {0}
+StateIsDesired desired_up (Opening o) = Unit {0}
+StateIsDesired desired_up (Established c) = Unit {0}
+StateIsDesired desired_up (TimedOut link) = desired_up ≡ true
+StateIsDesired desired_up (Closing c) = desired_up ≡ false
+
+abbrev pub IsDesired : Slot → Type 0
+IsDesired slot = StateIsDesired slot.desired_up slot.state
 
 -- the watchdog of an open connection is the time-out of this multiplier and of its T->O packet interval
 abbrev pub IsWatched : ℕ → SlotState → Type 0
@@ -107,6 +117,8 @@ StreamsDiffer (stream ∷ streams) = (list_any (is_stream stream.number) streams
 pub record IsWellFormed (t : ScannerTable) : Type 0 where
   pub faultless : profile_fault t.profile ≡ None
   pub slots : SlotsFit t.next_request t.clock.0 t.profile.slots t.slots
+  -- With `tidy` a connection that is no longer desired may be timed out, and one that is desired may close first.
+  pub desires : t.profile.tidy ≡ false → AllByRecursion IsDesired t.slots
   pub ids_differ : IdsDiffer (indexed_slots t)
   pub requests_differ : RequestsDiffer t.slots
   pub clock : t.clock.0 ≤ 2 ^ 48

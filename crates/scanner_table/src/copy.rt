@@ -60,6 +60,7 @@ impl ScannerProfile {
             open_timeout: self.open_timeout,
             retry: self.retry,
             newer: self.newer,
+            tidy: self.tidy,
             slots,
         })
     }

@@ -62,6 +62,8 @@ pub struct ScannerProfile {
     /// A slot accepts sequence numbers that are ahead of its newest by less than this, and by two more for each interval
     /// of its target since then: 2 to 2^31. An absent one limits nothing.
     pub newer: Option<u32>,
+    /// Whether the scanner closes each connection that its targets may have and no slot has.
+    pub tidy: bool,
     /// The connections; a slot's number is its index here.
     pub slots: Items<SlotConfig>,
 }

@@ -6,10 +6,7 @@ use Rattle.scanner_table.specs.declared.slot.Slot.{Slot}
 use Rattle.scanner_table.specs.Slots.{IndexedSlot, indexed_slots, indexed_from, slot_at}
 use Rattle.scanner_table.specs.Effects.{Effect, done}
 use Rattle.cip_encap.specs.Message.{MessageFields}
-use Rattle.scanner_table.specs.declared.slot.PendingClose.{PendingClose}
 use Rattle.scanner_table.specs.declared.slot.SlotState.{SlotState}
-use Rattle.scanner_table.specs.declared.slot.SlotState.TheVariants.{Closing}
-use Rattle.scanner_table.specs.Closing.{given_up, given_up_state}
 use Rattle.scanner_table.specs.Encapsulation.{replied, replied_to}
 use Rattle.scanner_transactions.specs.Transactions.{Progress, begun, followed, at_found, after_at}
 use Rattle.scanner_transactions.specs.MessageOutcomes.{progress_next}
@@ -52,7 +49,3 @@ searched_is t test configs slots indexed same are is =
 -- the reply at a slot that was found in this state
 pub awaited : (t : ScannerTable) (m : MessageFields) (indexed : IndexedSlot) (state : SlotState) (found : Option IndexedSlot) → Some indexed ≡ found → indexed.slot.state ≡ state → replied t indexed m state ≡ replied_to t m found
 awaited t m indexed state found is at = ap (replied t indexed m) (sym at) ∙ ap (replied_to t m) is
-
--- any reply ends a slot that closes
-pub closes : (t : ScannerTable) (m : MessageFields) (indexed : IndexedSlot) (c : PendingClose) → indexed.slot.state ≡ Closing c → done (given_up t indexed) ≡ replied t indexed m (Closing c)
-closes t m indexed c at = ap (λ (s : SlotState). done (given_up_state t indexed s)) at

@@ -6,21 +6,22 @@ use Rattle.cip_events.specs.declared.event.Notice.{Notice}
 use Rattle.scanner_table.specs.declared.slot.Slot.{Slot}
 use Rattle.scanner_table.specs.Effects.{state_notices, changed, nothing, Effect}
 use Rattle.scanner_table.specs.declared.table.ScannerTable.{ScannerTable}
-use Rattle.scanner_table.specs.Slots.{IndexedSlot, slot_at}
+use Rattle.scanner_table.specs.Slots.{IndexedSlot, slot_at, with_slot}
 use Rattle.scanner_transactions.specs.declared.changes.SlotChange.{SlotChange}
 use Rattle.cip_fwdopen.specs.declared.reply.Opened as made
 use Rattle.conn_state.specs.declared.names.Link.{Link}
 use Rattle.conn_state.specs.Answers.{answer_tests, link_of}
 use Rattle.scanner_table.specs.declared.slot.PendingOpen as pending
 use Rattle.scanner_table.specs.declared.slot.SlotConnection.{SlotConnection}
-use Rattle.scanner_table.specs.declared.slot.SlotState.TheVariants.{Established}
-use Rattle.scanner_table.specs.Replies.{established_slot, new_connection, is_id_free, judged_success}
+use Rattle.scanner_table.specs.declared.slot.SlotState.TheVariants.{Idle, Established}
+use Rattle.scanner_table.specs.Replies.{established_slot, new_connection, is_id_free, failed_slot, refused, rejected, judged_success}
 use Rattle.cip_types.specs.Cases.{first_case}
 use Rattle.cip_types.specs.declared.names.Mismatch.{Mismatch}
 use Rattle.cip_events.specs.declared.event.Reason.TheVariants as reason
 use Rattle.scanner_requests.specs.Connections.{connection_of}
-use Rattle.scanner_transactions.specs.Transactions.{occupied, established_by, refused_by, judged_by, Progress, followed, after_at, at_number, at_found, slot_changed, with_change, listed}
-use Rattle.scanner_transactions.proofs.Found.{found}
+use Rattle.scanner_transactions.specs.Transactions.{occupied, established_by, refused_by, rejected_by, judged_by, Progress, followed, after_at, at_number, at_found, slot_changed, with_change, listed}
+use Rattle.scanner_transactions.proofs.Found.{found, refound}
+use Rattle.scanner_transactions.proofs.Remaining.{adds_both}
 
 pub some_found : (effect : ScannerTable → IndexedSlot → Effect) (so_far new : Progress) (number : ℕ) (indexed : IndexedSlot) → Some indexed ≡ slot_at so_far.table number → new ≡ followed so_far (effect so_far.table indexed) → new ≡ followed so_far (at_number effect so_far.table number)
 some_found effect so_far new number indexed is made =
@@ -58,9 +59,17 @@ occupied_adds so_far number opening opened link connection image indexed notices
     let reported : notices ≡ so_far.notices ++ ([] ++ state_notices number indexed.slot.state slot.state) = said ∙ ap (λ (s : Slot). so_far.notices ++ ([] ++ state_notices number indexed.slot.state s.state)) same in
     some_found (established_by opening opened) so_far _ number indexed is (changed_adds so_far indexed slot [] notices slots (reported ∙ ap (λ (n : ℕ). so_far.notices ++ ([] ++ state_notices n indexed.slot.state slot.state)) at) (put ∙ ap (λ (s : Slot). slice_set so_far.table.slots number s) same ∙ ap (λ (n : ℕ). slice_set so_far.table.slots n slot) at))
 
--- a successful reply with a mismatch
-pub judged_adds : (so_far : Progress) (number : ℕ) (indexed : IndexedSlot) (opening : pending.PendingOpen) (opened : made.Opened) (why : Mismatch) → Some indexed ≡ slot_at so_far.table number → first_case (answer_tests opening.requested opened (is_id_free so_far.table indexed opened.t_o_id)) ≡ Some why → after_at (refused_by (reason.Mismatch why)) number so_far ≡ after_at (judged_by opening opened) number so_far
+-- a successful reply with a mismatch, and the close of its connection
+pub judged_adds : (so_far : Progress) (number : ℕ) (indexed : IndexedSlot) (opening : pending.PendingOpen) (opened : made.Opened) (why : Mismatch) → Some indexed ≡ slot_at so_far.table number → first_case (answer_tests opening.requested opened (is_id_free so_far.table indexed opened.t_o_id)) ≡ Some why → after_at (rejected_by opening.requested.triad) number (after_at (refused_by (reason.Mismatch why)) number so_far) ≡ after_at (judged_by opening opened) number so_far
 judged_adds so_far number indexed opening opened why is amiss =
-    ap (λ (o : Option IndexedSlot). followed so_far (at_found (refused_by (reason.Mismatch why)) so_far.table o)) (sym is)
-    ∙ ap (λ (m : Option Mismatch). followed so_far (judged_success so_far.table indexed opening opened m)) (sym amiss)
-    ∙ ap (λ (o : Option IndexedSlot). followed so_far (at_found (judged_by opening opened) so_far.table o)) is
+    let t = so_far.table in
+    let triad = opening.requested.triad in
+    let known = found number t.profile.slots t.slots indexed is in
+    let slot : Slot = failed_slot t Idle indexed.slot in
+    let first : Effect = refused t indexed (reason.Mismatch why) in
+    let there : Some (record indexed { slot = slot }) ≡ slot_at first.table number = refound number t.profile.slots t.slots indexed slot is ∙ ap (λ (n : ℕ). slot_at (with_slot t n slot) number) (sym known.numbered) in
+    ap (λ (o : Option IndexedSlot). after_at (rejected_by triad) number (followed so_far (at_found (refused_by (reason.Mismatch why)) t o))) (sym is)
+    ∙ ap (λ (o : Option IndexedSlot). followed (followed so_far first) (at_found (rejected_by triad) first.table o)) (sym there)
+    ∙ adds_both so_far first (rejected indexed.config triad first.table)
+    ∙ ap (λ (m : Option Mismatch). followed so_far (judged_success t indexed opening opened m)) (sym amiss)
+    ∙ ap (λ (o : Option IndexedSlot). followed so_far (at_found (judged_by opening opened) t o)) is

@@ -10,7 +10,8 @@ use Rattle.scanner_table.specs.declared.table.Session.{Session}
 use Rattle.scanner_table.specs.Slots.{IndexedSlot, with_slot}
 use Rattle.scanner_table.specs.Sessions.{session_with}
 use Rattle.scanner_table.specs.Effects.{Effect}
-use Rattle.scanner_table.specs.Opening.{can_open, open_requested, exhausted, opened_within, opened}
+use Rattle.conn_state.specs.declared.names.Link.{Link}
+use Rattle.scanner_table.specs.Opening.{has_request, can_open, open_requested, exhausted, opened_within, close_requested, cleared_within, opened_from, opened}
 use Rattle.scanner_table.specs.Closing.{given_up_state}
 use Rattle.scanner_table.specs.Ticks.{expired, expired_state}
 use Rattle.scanner_transactions.specs.declared.running.SlotAction.{SlotAction}
@@ -52,9 +53,19 @@ tame_within t indexed None = nothing_changes indexed.number t
 tame_within t indexed (Some session) =
     either_changes (can_open t indexed.config) indexed.number t (open_requested t indexed session) (exhausted t indexed) (set_changes indexed.number t _ _ refl refl) (set_changes indexed.number t _ _ refl refl)
 
+tame_cleared : (t : ScannerTable) (indexed : IndexedSlot) (link : Link) (session : Option Session) → Changes indexed.number t (cleared_within t indexed link session).table
+tame_cleared t indexed link None = nothing_changes indexed.number t
+tame_cleared t indexed link (Some session) =
+    either_changes (has_request t) indexed.number t (close_requested t indexed link indexed.slot.desired_up session) (exhausted t indexed) (set_changes indexed.number t _ _ refl refl) (set_changes indexed.number t _ _ refl refl)
+
+tame_from : (t : ScannerTable) (indexed : IndexedSlot) (session : Option Session) (state : SlotState) → Changes indexed.number t (opened_from t indexed session state).table
+tame_from t indexed session (TimedOut link) =
+    either_changes t.profile.tidy indexed.number t (cleared_within t indexed link session) (opened_within t indexed session) (tame_cleared t indexed link session) (tame_within t indexed session)
+tame_from t indexed session other = tame_within t indexed session
+
 tame_opened : IsTame opened
 unfolding opened
-tame_opened t indexed = tame_within t indexed (session_with t indexed.config.target)
+tame_opened t indexed = tame_from t indexed (session_with t indexed.config.target) indexed.slot.state
 
 tame_given : (t : ScannerTable) (indexed : IndexedSlot) (state : SlotState) → Changes indexed.number t (given_up_state t indexed state).table
 tame_given t indexed Idle = nothing_changes indexed.number t

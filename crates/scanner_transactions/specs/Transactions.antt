@@ -1,5 +1,5 @@
 -- Transactions: the effects of one event so far, and the changes of one slot that they are made of.
-use Rattle.std.specs.Prelude.{◌≡◌, ℕ, false, List, [], ◌∷◌, ◌++◌, map, Option, Some, None, Result, Ok, Err}
+use Rattle.std.specs.Prelude.{◌≡◌, ℕ, Bool, false, List, [], ◌∷◌, ◌++◌, map, Option, Some, None, Result, Ok, Err}
 use Rattle.std.specs.Result.{MatchResult}
 use Rattle.cip_types.specs.declared.memory.OutOfMemory as memory
 use Rattle.cip_fwdopen.specs.declared.reply.Opened as made
@@ -13,7 +13,8 @@ use Rattle.cip_events.specs.declared.event.Notice.{Notice}
 use Rattle.cip_events.specs.declared.event.OutgoingDatagram.{OutgoingDatagram}
 use Rattle.cip_events.specs.declared.event.Verdict.TheVariants.{Done}
 use Rattle.scanner_table.specs.declared.profile.SlotConfig.{SlotConfig}
-use Rattle.scanner_table.specs.declared.slot.SlotConnection.{SlotConnection}
+use Rattle.cip_types.specs.declared.names.Triad.{Triad}
+use Rattle.conn_state.specs.declared.names.Link.{Link}
 use Rattle.scanner_table.specs.declared.slot.PendingOpen as pending
 use Rattle.scanner_table.specs.declared.slot.Slot.{Slot}
 use Rattle.scanner_table.specs.declared.slot.SlotState.{SlotState}
@@ -23,11 +24,11 @@ use Rattle.scanner_table.specs.declared.table.ScannerTable.{ScannerTable}
 use Rattle.scanner_table.specs.Requests.{sent_frame, next_requested}
 use Rattle.scanner_table.specs.Effects.{Effect, nothing, changed, counted}
 use Rattle.scanner_table.specs.Points.{started, desired_slot}
-use Rattle.scanner_table.specs.Closing.{close_requested, closed_within}
-use Rattle.scanner_table.specs.Replies.{answered, refused, established_slot, new_connection, judged_success, is_id_free}
+use Rattle.scanner_table.specs.Closing.{left_slot, closed_within, dropped}
+use Rattle.scanner_table.specs.Replies.{answered, refused, rejected, established_slot, new_connection, judged_success, is_id_free}
 use Rattle.conn_state.specs.Answers.{answer_tests}
 use Rattle.cip_types.specs.Cases.{first_case}
-use Rattle.scanner_table.specs.Opening.{later, open_requested}
+use Rattle.scanner_table.specs.Opening.{later, open_requested, opened_within, close_requested, cleared_within}
 use Rattle.scanner_table.specs.declared.table.Stage.{Stage}
 use Rattle.scanner_table.specs.Sessions.{session_with, with_stage, without_stream}
 use Rattle.scanner_table.specs.Slots.{IndexedSlot, slot_at}
@@ -106,6 +107,14 @@ with_request frame so_far = record so_far { frames = so_far.frames ++ frame ∷ 
 abbrev pub freshly_started : ScannerTable → IndexedSlot → Effect
 freshly_started t indexed = started t indexed (desired_slot t indexed.slot)
 
+-- the slot opens, if a session with its target is registered
+abbrev pub opened_there : ScannerTable → IndexedSlot → Effect
+opened_there t indexed = opened_within t indexed (session_with t indexed.config.target)
+
+-- the slot closes a connection that timed out
+abbrev pub cleared_by : Link → ScannerTable → IndexedSlot → Effect
+cleared_by link t indexed = cleared_within t indexed link (session_with t indexed.config.target)
+
 -- the slot sends a Forward_Open within this session
 abbrev pub open_requested_within : Session → ScannerTable → IndexedSlot → Effect
 open_requested_within session t indexed = open_requested t indexed session
@@ -123,20 +132,32 @@ abbrev pub progress_answer : Progress → List OutgoingDatagram → Answer
 progress_answer so_far datagrams = record { frames = so_far.frames; datagrams = datagrams; verdict = Done; notices = so_far.notices }
 
 -- the change of a slot that waits for the reply to its Forward_Close
-abbrev pub closing_change : ScannerTable → SlotConnection → Slot → SlotChange
-closing_change t connection slot = record {
-  state = Closing (record { request = t.next_request; link = connection.link; deadline = later t.clock t.profile.open_timeout });
-  desired_up = false;
+abbrev pub closing_change : ScannerTable → Link → Bool → Slot → SlotChange
+closing_change t link desired_up slot = record {
+  state = Closing (record { request = t.next_request; link = link; deadline = later t.clock t.profile.open_timeout });
+  desired_up = desired_up;
   retry_at = slot.retry_at;
 }
 
 -- the slot sends a Forward_Close within this session
-abbrev pub close_requested_within : SlotConnection → Session → ScannerTable → IndexedSlot → Effect
-close_requested_within connection session t indexed = close_requested t indexed connection session
+abbrev pub close_requested_within : Link → Bool → Session → ScannerTable → IndexedSlot → Effect
+close_requested_within link desired_up session t indexed = close_requested t indexed link desired_up session
+
+-- the slot ends a connection which its target may still have
+abbrev pub left_by : Link → ScannerTable → IndexedSlot → Effect
+left_by link t indexed = changed t indexed (left_slot t link indexed.slot) []
 
 -- the slot closes its connection
-abbrev pub closed : SlotConnection → ScannerTable → IndexedSlot → Effect
-closed connection t indexed = closed_within t indexed connection (session_with t indexed.config.target)
+abbrev pub closed_by : Link → ScannerTable → IndexedSlot → Effect
+closed_by link t indexed = closed_within t indexed link (session_with t indexed.config.target)
+
+-- the slot gives up a connection that its target may have
+abbrev pub dropped_by : Link → ScannerTable → IndexedSlot → Effect
+dropped_by link t indexed = dropped t indexed link
+
+-- a connection that no slot has is closed, at the target of the slot
+abbrev pub rejected_by : Triad → ScannerTable → IndexedSlot → Effect
+rejected_by triad t indexed = rejected indexed.config triad t
 
 -- the effect of the answer on the slot that waits for it
 abbrev pub answered_by : pending.PendingOpen → Result OpenAnswer Reason → ScannerTable → IndexedSlot → Effect

@@ -1,19 +1,20 @@
 //! How the connection of a slot ends.
 
-ghost use Rattle.std.specs.Prelude.{◌≡◌, ◌≤◌, ◌^◌};
+ghost use Rattle.std.specs.Prelude.{◌≡◌, ◌≤◌, ◌^◌, if◌then◌else◌};
 ghost use Rattle.scanner_table.specs.Slots.{slot_at};
-ghost use Rattle.scanner_table.specs.Closing.{given_up, slot_resigned, stopped_at};
+ghost use Rattle.scanner_table.specs.Closing.{closed, given_up, requested_link, slot_resigned, stopped_at};
 ghost use Rattle.scanner_table.specs.Opening.{exhausted};
-ghost use Rattle.scanner_transactions.specs.Transactions.{view_transaction, after_at, resigned_change, close_requested_within, closed, faulted, Adds};
+ghost use Rattle.scanner_transactions.specs.Transactions.{view_transaction, after_at, resigned_change, close_requested_within, closed_by, dropped_by, left_by, rejected_by, faulted, Adds};
 ghost use Rattle.scanner_transactions.specs.Undoing.{GoesOn, Performs};
 
 use crate::changes::SlotChange;
 use crate::transaction::Transaction;
 use cip_events::{Notice, StepFault};
-use cip_types::OutOfMemory;
+use cip_types::{ConnId, OutOfMemory, Triad};
+use conn_state::{Link, Requested};
 use scanner_requests::{LAST_REQUEST, close_frame, later};
 use scanner_slots::session_with;
-use scanner_table::{PendingClose, Session, Slot, SlotConnection, SlotState};
+use scanner_table::{PendingClose, ScannerProfile, Session, Slot, SlotState};
 
 /// Returns the change of a slot whose connection is no longer desired.
 fn resigned(slot: &Slot) -> SlotChange
@@ -23,6 +24,28 @@ fn resigned(slot: &Slot) -> SlotChange
         state: SlotState::Idle,
         desired_up: false,
         retry_at: slot.retry_at,
+    }
+}
+
+/// Returns a requested connection, whose O->T id is not known.
+fn requested_link(requested: &Requested) -> Link
+    ensures { result ≡ requested_link requested.now }
+{
+    Link {
+        triad: requested.triad,
+        o_t_id: ConnId(0),
+        t_o_id: requested.t_o_id.unwrap_or(ConnId(0)),
+    }
+}
+
+/// Returns the state of a slot that ends a connection which its target may still have.
+fn left_state(profile: &ScannerProfile, link: Link) -> SlotState
+    ensures { result ≡ (if profile.now.tidy then SlotState.TimedOut link else SlotState.Idle) }
+{
+    if profile.tidy {
+        SlotState::TimedOut(link)
+    } else {
+        SlotState::Idle
     }
 }
 
@@ -45,19 +68,47 @@ impl Transaction<'_> {
         let Some(indexed) = self.find(number) else {
             return Ok(());
         };
-        let retry_at = match indexed.slot.state {
-            SlotState::Opening(_) => later(self.scanner.clock, self.profile.retry),
-            SlotState::Closing(_) => indexed.slot.retry_at,
+        let desired_up = indexed.slot.desired_up;
+        let (state, retry_at) = match indexed.slot.state {
+            SlotState::Opening(opening) => {
+                let link = requested_link(&opening.requested);
+                let retry_at = later(self.scanner.clock, self.profile.retry);
+                (left_state(self.profile, link), retry_at)
+            }
+            SlotState::Closing(_) => (SlotState::Idle, indexed.slot.retry_at),
             SlotState::Idle | SlotState::Established(_) | SlotState::TimedOut(_) => {
                 return Ok(());
             }
         };
         let slot_change = SlotChange {
-            state: SlotState::Idle,
-            desired_up: indexed.slot.desired_up,
+            state,
+            desired_up,
             retry_at,
         };
         self.change(number, slot_change, None)
+    }
+
+    /// Takes the reply to the Forward_Close of a slot, whatever it says: the slot becomes idle, and opens if its connection
+    /// is desired.
+    ///
+    /// Volume 1, chapter 3, Forward_Close service.
+    pub fn end_close(&mut self, number: u32) -> Result<(), OutOfMemory>
+        ensures { Performs (after_at closed number) self.old result self.new }
+    {
+        let Some(indexed) = self.find(number) else {
+            return Ok(());
+        };
+        let desired_up = indexed.slot.desired_up;
+        let slot_change = SlotChange {
+            state: SlotState::Idle,
+            desired_up,
+            retry_at: indexed.slot.retry_at,
+        };
+        self.change(number, slot_change, None)?;
+        if desired_up {
+            return self.open(number);
+        }
+        Ok(())
     }
 
     /// Makes a slot idle, with its connection no longer desired.
@@ -83,20 +134,35 @@ impl Transaction<'_> {
         self.change(number, slot_change, Some(reported))
     }
 
-    /// Sends the Forward_Close of a slot within a session. A request number is left for it.
-    fn request_close(
-        &mut self,
-        number: u32,
-        connection: &SlotConnection,
-        session: Session,
-    ) -> Result<(), OutOfMemory>
-        requires left { self.old.scanner.next_request ≤ 2 ^ 48 }
-        ensures { Performs (after_at (close_requested_within connection.now session) number) self.old result self.new }
+    /// Ends the connection of a slot without a Forward_Close. With `tidy` the connection is timed out until it is closed.
+    fn leave(&mut self, number: u32, link: Link) -> Result<(), OutOfMemory>
+        ensures { Performs (after_at (left_by link) number) self.old result self.new }
     {
         let Some(indexed) = self.find(number) else {
             return Ok(());
         };
-        let link = connection.link;
+        let slot_change = SlotChange {
+            state: left_state(self.profile, link),
+            ..resigned(indexed.slot)
+        };
+        self.change(number, slot_change, None)
+    }
+
+    /// Sends the Forward_Close of a slot within a session. A request number is left for it.
+    pub(crate) fn request_close(
+        &mut self,
+        number: u32,
+        link: Link,
+        desired_up: bool,
+        session: Session,
+    ) -> Result<(), OutOfMemory>
+        requires left { self.old.scanner.next_request ≤ 2 ^ 48 }
+        ensures { Performs (after_at (close_requested_within link desired_up session) number)
+            self.old result self.new }
+    {
+        let Some(indexed) = self.find(number) else {
+            return Ok(());
+        };
         let request = self.scanner.next_request;
         let frame = close_frame(self.alloc, indexed.config, link.triad, session, request)?;
         let closing = PendingClose {
@@ -106,35 +172,72 @@ impl Transaction<'_> {
         };
         let slot_change = SlotChange {
             state: SlotState::Closing(closing),
-            ..resigned(indexed.slot)
+            desired_up,
+            retry_at: indexed.slot.retry_at,
         };
         self.send_request(number, frame, slot_change)
+    }
+
+    /// Closes a connection that no slot has, at the target of a slot: by a Forward_Close within the session with the target.
+    /// No slot waits for the reply. Nothing is sent without `tidy`, without a session, or if no request number is left.
+    ///
+    /// Volume 1, chapter 3, Forward_Close service.
+    pub(crate) fn reject(&mut self, number: u32, triad: Triad) -> Result<(), OutOfMemory>
+        ensures { Performs (after_at (rejected_by triad) number) self.old result self.new }
+    {
+        let Some(indexed) = self.find(number) else {
+            return Ok(());
+        };
+        if !self.profile.tidy {
+            return Ok(());
+        }
+        let Some(session) = session_with(&self.scanner.streams, indexed.config.target) else {
+            return Ok(());
+        };
+        let request = self.scanner.next_request;
+        if request > LAST_REQUEST {
+            return Ok(());
+        }
+        let frame = close_frame(self.alloc, indexed.config, triad, session, request)?;
+        self.frames.push(frame)?;
+        self.scanner.next_request += 1;
+        Ok(())
     }
 
     /// Closes the connection of a slot: by a Forward_Close within the session with its target, or without one by dropping
     /// it. If no request number is left, the slot becomes idle.
     ///
     /// Volume 1, chapter 3, Forward_Close service.
-    fn close(&mut self, number: u32, connection: &SlotConnection) -> Result<(), OutOfMemory>
-        ensures { Performs (after_at (closed connection.now) number) self.old result self.new }
+    fn close(&mut self, number: u32, link: Link) -> Result<(), OutOfMemory>
+        ensures { Performs (after_at (closed_by link) number) self.old result self.new }
     {
         let Some(indexed) = self.find(number) else {
             return Ok(());
         };
         let target = indexed.config.target;
         let Some(session) = session_with(&self.scanner.streams, target) else {
-            return self.resign(number);
+            return self.leave(number, link);
         };
         if self.scanner.next_request > LAST_REQUEST {
             return self.exhaust(number);
         }
-        self.request_close(number, connection, session)
+        self.request_close(number, link, false, session)
+    }
+
+    /// Gives up a connection of a slot that its target may have. With `tidy` the slot closes it.
+    fn drop_link(&mut self, number: u32, link: Link) -> Result<(), OutOfMemory>
+        ensures { Performs (after_at (dropped_by link) number) self.old result self.new }
+    {
+        if self.profile.tidy {
+            return self.close(number, link);
+        }
+        self.resign(number)
     }
 
     /// Stops a slot: closes its connection, or gives up its opening.
     ///
     /// The errors, in order: `NoSuchSlot` if no slot has the number; `NotAllowedNow` if the slot was not started, or is
-    /// closing; `OutOfMemory`.
+    /// closing for good; `OutOfMemory`.
     pub fn stop(&mut self, number: u32) -> Result<(), StepFault>
         ensures effect { let d = view_transaction self.old in Adds
             (stopped_at d.table (slot_at d.table number)) d result (view_transaction self.new) }
@@ -147,9 +250,12 @@ impl Transaction<'_> {
         match indexed.slot.state {
             SlotState::Idle if desired_up => faulted(self.resign(number)),
             SlotState::Idle => Err(StepFault::NotAllowedNow),
-            SlotState::Opening(_) => faulted(self.resign(number)),
-            SlotState::Established(connection) => faulted(self.close(number, &connection)),
-            SlotState::TimedOut(_) => faulted(self.resign(number)),
+            SlotState::Opening(opening) => {
+                faulted(self.drop_link(number, requested_link(&opening.requested)))
+            }
+            SlotState::Established(connection) => faulted(self.close(number, connection.link)),
+            SlotState::TimedOut(link) => faulted(self.drop_link(number, link)),
+            SlotState::Closing(_) if desired_up => faulted(self.resign(number)),
             SlotState::Closing(_) => Err(StepFault::NotAllowedNow),
         }
     }

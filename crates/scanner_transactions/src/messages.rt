@@ -50,7 +50,7 @@ fn replied_to(
             Ok(MessageOutcome::Answered)
         }
         SlotState::Closing(_) => {
-            transaction.give_up(number)?;
+            transaction.end_close(number)?;
             Ok(MessageOutcome::Answered)
         }
         SlotState::Idle | SlotState::Established(_) | SlotState::TimedOut(_) => Ok(

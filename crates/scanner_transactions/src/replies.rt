@@ -105,7 +105,8 @@ impl Transaction<'_> {
         Ok(())
     }
 
-    /// Takes a successful reply to the slot that waits for it: establishes the slot, or refuses the reply for a mismatch.
+    /// Takes a successful reply to the slot that waits for it: establishes the slot, or refuses the reply for a mismatch. With
+    /// `tidy` it then closes the connection that the target opened.
     fn judge(
         &mut self,
         number: u32,
@@ -127,7 +128,10 @@ impl Transaction<'_> {
         );
         match linked(opening.requested, opened, !used) {
             Ok(link) => self.establish(number, opening, opened, link),
-            Err(why) => self.refuse(number, Reason::Mismatch(why)),
+            Err(why) => {
+                self.refuse(number, Reason::Mismatch(why))?;
+                self.reject(number, opening.requested.triad)
+            }
         }
     }
 

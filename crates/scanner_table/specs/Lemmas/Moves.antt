@@ -1,5 +1,5 @@
 -- The changes of one slot that the effects of an event make, and the events that make them.
-use Rattle.std.proofs.Common.{◌≡◌, ◌≢◌, ◌≤◌, ℕ, ◌+◌, Bool, true, false, cond, not, ◌&&◌, ◌==◌, nat_lt, List, [], ◌∷◌, filter, find, slice_get, Option, Some, None, Result, Ok, Err, IfOk, refl, sym, ◌∙◌, arith}
+use Rattle.std.proofs.Common.{◌≡◌, ◌≢◌, ◌≤◌, ℕ, ◌+◌, Bool, true, false, cond, not, ◌&&◌, ◌==◌, nat_lt, List, [], ◌∷◌, filter, find, slice_get, Option, Some, None, Result, Ok, Err, IfOk, refl, sym, ◌∙◌, ap, arith}
 use Rattle.std.specs.List.{list_any}
 use Rattle.std.proofs.lemmas.Bool.{and_parts}
 use Rattle.cip_types.specs.Cases.{first_case}
@@ -33,6 +33,8 @@ use Rattle.cip_events.specs.declared.event.Unanswered.{Unanswered}
 use Rattle.cip_events.specs.declared.event.Unanswered.TheVariants as unanswered
 use Rattle.cip_router.specs.RouterReplies.{RouterReplyFields}
 use Rattle.scanner_table.specs.declared.explicit.PendingExplicit.{PendingExplicit}
+use Rattle.conn_state.specs.declared.names.Link.{Link}
+use Rattle.cip_types.specs.declared.names.Triad.{Triad}
 use Rattle.scanner_table.specs.declared.slot.SlotConnection.{SlotConnection}
 use Rattle.scanner_table.specs.declared.slot.PendingOpen as opening
 use Rattle.scanner_table.specs.declared.slot.Slot.{Slot}
@@ -43,13 +45,14 @@ use Rattle.scanner_table.specs.declared.table.Session.{Session}
 use Rattle.scanner_table.specs.declared.table.Stage.{Stage}
 use Rattle.scanner_table.specs.declared.table.Stage.TheVariants.{Waiting, Up, Unused}
 use Rattle.scanner_table.specs.declared.table.TargetStream.{TargetStream}
-use Rattle.scanner_table.specs.Slots.{IndexedSlot, indexed_slots, slot_at, is_numbered, is_with, with_slot, is_closed}
+use Rattle.scanner_table.specs.declared.profile.SlotConfig.{SlotConfig}
+use Rattle.scanner_table.specs.Slots.{IndexedSlot, indexed_slots, slot_at, is_numbered, is_with, with_slot, is_closed, is_wanted}
 use Rattle.scanner_table.specs.Sessions.{session_with, is_stream, is_taken, with_stream, without_stream, with_stage}
 use Rattle.scanner_table.specs.Requests.{is_large}
-use Rattle.scanner_table.specs.Effects.{Next, Effect, nothing, on_each, counted, changed, done}
-use Rattle.scanner_table.specs.Opening.{has_request, can_open, drawn, opening_slot, resigned, exhausted, open_requested, opened_within, opened, is_ready_slot, ready_slots, ready_opened, target_opened}
-use Rattle.scanner_table.specs.Replies.{open_answer, is_id_free, new_connection, established_slot, failed_slot, judged_success, answered}
-use Rattle.scanner_table.specs.Closing.{idle_slot, given_up_state, given_up, target_lost, closing_slot, close_requested, slot_resigned, closed_within, stopped, stopped_at}
+use Rattle.scanner_table.specs.Effects.{Next, Effect, nothing, and_then, on_each, counted, changed, done}
+use Rattle.scanner_table.specs.Opening.{has_request, can_open, drawn, opening_slot, resigned, exhausted, open_requested, opened_within, closing_slot, close_requested, cleared_within, opened_from, opened, is_ready_slot, ready_slots, ready_opened, target_opened}
+use Rattle.scanner_table.specs.Replies.{open_answer, is_id_free, new_connection, established_slot, failed_slot, refused, disowned, disowned_within, rejected, judged_success, answered}
+use Rattle.scanner_table.specs.Closing.{requested_link, idle_slot, given_up_state, given_up, target_lost, closed, slot_resigned, closed_within, stopped, stopped_at}
 use Rattle.scanner_table.specs.Explicit.{is_request, is_over, is_late, others, awaits, has_explicit_length, is_barred, connects_to, explicit_sent, explicit_within, explicit_request, explicit_reply, explicit_ended, explicit_answered, without_explicit, explicit_timed_out, explicit_lost}
 use Rattle.scanner_table.specs.Encapsulation.{registering_on, ignored, stream_opened, message_answer, cut_of, stream_cut, is_registered, session_begun, session_failed, registered, is_awaiting, replied, replied_to, reported, frame_answer, frame_of, frame}
 use Rattle.cip_productions.specs.Window.{since_accepted, is_within}
@@ -69,14 +72,28 @@ pub record BecomesIdle (old new : Slot) : Type 0 where
   pub output : new.output ≡ old.output
   pub image : new.image ≡ old.image
 
+-- the connection that the slot has, or asked for
+abbrev pub link_in : SlotState → Option Link
+link_in Idle = None
+link_in (Opening o) = Some (requested_link o.requested)
+link_in (Established c) = Some c.link
+link_in (TimedOut link) = Some link
+link_in (Closing c) = None
+
+-- the slot keeps its connection as timed out; its bytes stay
+pub record BecomesTimedOut (link : Link) (old new : Slot) : Type 0 where
+  pub state : new.state ≡ TimedOut link
+  pub output : new.output ≡ old.output
+  pub image : new.image ≡ old.image
+
 -- a relation from tables to later ones, which holds where one slot opens, becomes idle, times out or closes
 pub record Kept (R : ScannerTable → ScannerTable → Type 0) : Type 0 where
   pub same : (t : ScannerTable) → R t t
   pub after : (t u v : ScannerTable) → R t u → R u v → R t v
   pub opening : (t : ScannerTable) (indexed : IndexedSlot) → Stands t indexed → is_closed indexed.slot.state ≡ true → R t (with_slot (counted (drawn t indexed.config)) indexed.number (opening_slot t indexed))
   pub idling : (t : ScannerTable) (indexed : IndexedSlot) (slot : Slot) → Stands t indexed → BecomesIdle indexed.slot slot → R t (with_slot t indexed.number slot)
-  pub timing_out : (t : ScannerTable) (indexed : IndexedSlot) (c : SlotConnection) → Stands t indexed → indexed.slot.state ≡ Established c → R t (with_slot t indexed.number (failed_slot t (TimedOut c.link) indexed.slot))
-  pub closing : (t : ScannerTable) (indexed : IndexedSlot) (c : SlotConnection) → Stands t indexed → indexed.slot.state ≡ Established c → R t (with_slot (counted t) indexed.number (closing_slot t c indexed.slot))
+  pub timing_out : (t : ScannerTable) (indexed : IndexedSlot) (link : Link) (slot : Slot) → Stands t indexed → link_in indexed.slot.state ≡ Some link → BecomesTimedOut link indexed.slot slot → R t (with_slot t indexed.number slot)
+  pub closing : (t : ScannerTable) (indexed : IndexedSlot) (link : Link) (desired_up : Bool) → Stands t indexed → link_in indexed.slot.state ≡ Some link → R t (with_slot (counted t) indexed.number (closing_slot t link desired_up indexed.slot))
 
 -- it holds too where streams change, time passes, slots produce, the mode changes, and explicit requests are sent and end
 pub record KeptWidely (R : ScannerTable → ScannerTable → Type 0) : Type 0 where
@@ -174,9 +191,32 @@ within_does R kept t indexed (Some session) stands closed_before = open_step (ca
 abbrev pub IsClosedSlot : IndexedSlot → Type 0
 IsClosedSlot indexed = is_closed indexed.slot.state ≡ true
 
+-- the slot closes its connection
+closing_does : (R : ScannerTable → ScannerTable → Type 0) → Kept R → (t : ScannerTable) (indexed : IndexedSlot) (link : Link) (desired_up : Bool) (session : Session) → Stands t indexed → link_in indexed.slot.state ≡ Some link → Does R t indexed (close_requested t indexed link desired_up session)
+closing_does R kept t indexed link desired_up session stands is = record {
+  leads = kept.closing t indexed link desired_up stands is;
+  local = set_local t (counted t) indexed.number (closing_slot t link desired_up indexed.slot) refl refl;
+}
+
+close_step : (b : Bool) (R : ScannerTable → ScannerTable → Type 0) → Kept R → (t : ScannerTable) (indexed : IndexedSlot) (link : Link) (desired_up : Bool) (session : Session) → Stands t indexed → link_in indexed.slot.state ≡ Some link → Does R t indexed (cond b (close_requested t indexed link desired_up session) (exhausted t indexed))
+close_step true R kept t indexed link desired_up session stands is = closing_does R kept t indexed link desired_up session stands is
+close_step false R kept t indexed link desired_up session stands is = does_resigned R kept t indexed (notice.NoIds indexed.number ∷ []) stands
+
+cleared_does : (R : ScannerTable → ScannerTable → Type 0) → Kept R → (t : ScannerTable) (indexed : IndexedSlot) (link : Link) (session : Option Session) → Stands t indexed → link_in indexed.slot.state ≡ Some link → Does R t indexed (cleared_within t indexed link session)
+cleared_does R kept t indexed link None stands is = does_nothing R kept t indexed
+cleared_does R kept t indexed link (Some session) stands is = close_step (has_request t) R kept t indexed link indexed.slot.desired_up session stands is
+
+tidy_step : (b : Bool) (R : ScannerTable → ScannerTable → Type 0) → Kept R → (t : ScannerTable) (indexed : IndexedSlot) (link : Link) (session : Option Session) → Stands t indexed → IsClosedSlot indexed → link_in indexed.slot.state ≡ Some link → Does R t indexed (cond b (cleared_within t indexed link session) (opened_within t indexed session))
+tidy_step true R kept t indexed link session stands closed_before is = cleared_does R kept t indexed link session stands is
+tidy_step false R kept t indexed link session stands closed_before is = within_does R kept t indexed session stands closed_before
+
+from_does : (R : ScannerTable → ScannerTable → Type 0) → Kept R → (t : ScannerTable) (indexed : IndexedSlot) (session : Option Session) (state : SlotState) → indexed.slot.state ≡ state → Stands t indexed → IsClosedSlot indexed → Does R t indexed (opened_from t indexed session state)
+from_does R kept t indexed session (TimedOut link) is stands closed_before = tidy_step t.profile.tidy R kept t indexed link session stands closed_before (ap link_in is)
+from_does R kept t indexed session other is stands closed_before = within_does R kept t indexed session stands closed_before
+
 pub opened_does : (R : ScannerTable → ScannerTable → Type 0) → Kept R → (t : ScannerTable) (indexed : IndexedSlot) → Stands t indexed → IsClosedSlot indexed → Does R t indexed (opened t indexed)
 unfolding opened
-opened_does R kept t indexed stands closed_before = within_does R kept t indexed (session_with t indexed.config.target) stands closed_before
+opened_does R kept t indexed stands closed_before = from_does R kept t indexed (session_with t indexed.config.target) indexed.slot.state refl stands closed_before
 
 -- ---- effects on slots, one after another
 
@@ -192,7 +232,7 @@ each_does R kept Q effect does (indexed ∷ rest) t stand apart holds =
     (each_does R kept Q effect does rest next (stand_on t next indexed.number rest first.local apart.0 stand.1) apart.1 holds.1)
 
 ready_rests : (clock : Ms) (indexed : IndexedSlot) → is_ready_slot clock indexed ≡ true → IsClosedSlot indexed
-ready_rests clock indexed ready = (and_parts (is_closed indexed.slot.state) _ (and_parts indexed.slot.desired_up _ ready).1).0
+ready_rests clock indexed ready = (and_parts (is_closed indexed.slot.state) _ (and_parts (is_wanted indexed.slot) _ ready).1).0
 
 ready_stand : (t : ScannerTable) → Each (Stands t) (ready_slots t)
 ready_stand t = each_filter (Stands t) (is_ready_slot t.clock) (indexed_slots t) (each_stands t)
@@ -215,15 +255,25 @@ target_leads R kept target t =
 
 -- ---- endings
 
-given_state_does : (R : ScannerTable → ScannerTable → Type 0) → Kept R → (t : ScannerTable) (indexed : IndexedSlot) (state : SlotState) → Stands t indexed → Does R t indexed (given_up_state t indexed state)
-given_state_does R kept t indexed Idle stands = does_nothing R kept t indexed
-given_state_does R kept t indexed (Opening o) stands = does_failed R kept t indexed [] stands
-given_state_does R kept t indexed (Established c) stands = does_nothing R kept t indexed
-given_state_does R kept t indexed (TimedOut link) stands = does_nothing R kept t indexed
-given_state_does R kept t indexed (Closing c) stands = does_clear R kept t indexed stands
+-- the slot keeps its connection as timed out
+does_time_out : (R : ScannerTable → ScannerTable → Type 0) → Kept R → (t : ScannerTable) (indexed : IndexedSlot) (link : Link) (slot : Slot) → Stands t indexed → link_in indexed.slot.state ≡ Some link → BecomesTimedOut link indexed.slot slot → Does R t indexed (changed t indexed slot [])
+does_time_out R kept t indexed link slot stands is becomes = record { leads = kept.timing_out t indexed link slot stands is becomes; local = set_local t t indexed.number slot refl refl }
+
+-- an opening is not answered
+unanswered_step : (b : Bool) (R : ScannerTable → ScannerTable → Type 0) → Kept R → (t : ScannerTable) (indexed : IndexedSlot) (o : opening.PendingOpen) → indexed.slot.state ≡ Opening o → Stands t indexed → Does R t indexed (changed t indexed (failed_slot t (cond b (TimedOut (requested_link o.requested)) Idle) indexed.slot) [])
+unanswered_step true R kept t indexed o is stands =
+    does_time_out R kept t indexed (requested_link o.requested) (failed_slot t (TimedOut (requested_link o.requested)) indexed.slot) stands (ap link_in is) (record { state = refl; output = refl; image = refl })
+unanswered_step false R kept t indexed o is stands = does_failed R kept t indexed [] stands
+
+given_state_does : (R : ScannerTable → ScannerTable → Type 0) → Kept R → (t : ScannerTable) (indexed : IndexedSlot) (state : SlotState) → indexed.slot.state ≡ state → Stands t indexed → Does R t indexed (given_up_state t indexed state)
+given_state_does R kept t indexed Idle is stands = does_nothing R kept t indexed
+given_state_does R kept t indexed (Opening o) is stands = unanswered_step t.profile.tidy R kept t indexed o is stands
+given_state_does R kept t indexed (Established c) is stands = does_nothing R kept t indexed
+given_state_does R kept t indexed (TimedOut link) is stands = does_nothing R kept t indexed
+given_state_does R kept t indexed (Closing c) is stands = does_clear R kept t indexed stands
 
 pub given_does : (R : ScannerTable → ScannerTable → Type 0) → Kept R → DoesAt R Any given_up
-given_does R kept t indexed stands any = given_state_does R kept t indexed indexed.slot.state stands
+given_does R kept t indexed stands any = given_state_does R kept t indexed indexed.slot.state refl stands
 
 pub lost_leads : (R : ScannerTable → ScannerTable → Type 0) → Kept R → (target : Node) (t : ScannerTable) → R t (target_lost target t).table
 unfolding target_lost
@@ -240,7 +290,7 @@ overdue_leads R kept t =
 expired_state_does : (R : ScannerTable → ScannerTable → Type 0) → Kept R → (t : ScannerTable) (indexed : IndexedSlot) (state : SlotState) → indexed.slot.state ≡ state → Stands t indexed → Does R t indexed (expired_state t indexed state)
 expired_state_does R kept t indexed Idle is stands = does_nothing R kept t indexed
 expired_state_does R kept t indexed (Opening o) is stands = does_nothing R kept t indexed
-expired_state_does R kept t indexed (Established c) is stands = record { leads = kept.timing_out t indexed c stands is; local = set_local t t indexed.number (failed_slot t (TimedOut c.link) indexed.slot) refl refl }
+expired_state_does R kept t indexed (Established c) is stands = does_time_out R kept t indexed c.link (failed_slot t (TimedOut c.link) indexed.slot) stands (ap link_in is) (record { state = refl; output = refl; image = refl })
 expired_state_does R kept t indexed (TimedOut link) is stands = does_nothing R kept t indexed
 expired_state_does R kept t indexed (Closing c) is stands = does_nothing R kept t indexed
 
@@ -266,13 +316,17 @@ advanced_leads R kept t =
 abbrev pub Leads : (ScannerTable → ScannerTable → Type 0) → ScannerTable → Result Next StepFault → Type 0
 Leads R t said = IfOk said (λ next. R t next.1)
 
-close_step : (b : Bool) (R : ScannerTable → ScannerTable → Type 0) → Kept R → (t : ScannerTable) (indexed : IndexedSlot) (c : SlotConnection) (session : Session) → Stands t indexed → indexed.slot.state ≡ Established c → R t (cond b (close_requested t indexed c session) (exhausted t indexed)).table
-close_step true R kept t indexed c session stands is = kept.closing t indexed c stands is
-close_step false R kept t indexed c session stands is = (does_resigned R kept t indexed (notice.NoIds indexed.number ∷ []) stands).leads
+left_step : (b : Bool) (R : ScannerTable → ScannerTable → Type 0) → Kept R → (t : ScannerTable) (indexed : IndexedSlot) (link : Link) → Stands t indexed → link_in indexed.slot.state ≡ Some link → R t (with_slot t indexed.number (record indexed.slot { state = cond b (TimedOut link) Idle; desired_up = false }))
+left_step true R kept t indexed link stands is = kept.timing_out t indexed link (record indexed.slot { state = TimedOut link; desired_up = false }) stands is (record { state = refl; output = refl; image = refl })
+left_step false R kept t indexed link stands is = (does_resigned R kept t indexed [] stands).leads
 
-closed_leads : (R : ScannerTable → ScannerTable → Type 0) → Kept R → (t : ScannerTable) (indexed : IndexedSlot) (c : SlotConnection) (session : Option Session) → Stands t indexed → indexed.slot.state ≡ Established c → R t (closed_within t indexed c session).table
-closed_leads R kept t indexed c None stands is = (does_resigned R kept t indexed [] stands).leads
-closed_leads R kept t indexed c (Some session) stands is = close_step (has_request t) R kept t indexed c session stands is
+closed_leads : (R : ScannerTable → ScannerTable → Type 0) → Kept R → (t : ScannerTable) (indexed : IndexedSlot) (link : Link) (session : Option Session) → Stands t indexed → link_in indexed.slot.state ≡ Some link → R t (closed_within t indexed link session).table
+closed_leads R kept t indexed link None stands is = left_step t.profile.tidy R kept t indexed link stands is
+closed_leads R kept t indexed link (Some session) stands is = (close_step (has_request t) R kept t indexed link false session stands is).leads
+
+dropped_step : (b : Bool) (R : ScannerTable → ScannerTable → Type 0) → Kept R → (t : ScannerTable) (indexed : IndexedSlot) (link : Link) → Stands t indexed → link_in indexed.slot.state ≡ Some link → R t (cond b (closed_within t indexed link (session_with t indexed.config.target)) (slot_resigned t indexed)).table
+dropped_step true R kept t indexed link stands is = closed_leads R kept t indexed link (session_with t indexed.config.target) stands is
+dropped_step false R kept t indexed link stands is = (does_resigned R kept t indexed [] stands).leads
 
 stop_step : (b : Bool) (R : ScannerTable → ScannerTable → Type 0) → Kept R → (t : ScannerTable) (indexed : IndexedSlot) → Stands t indexed → Leads R t (stop_of (cond b (Ok (slot_resigned t indexed)) (Err fault.NotAllowedNow)))
 stop_step true R kept t indexed stands = (does_resigned R kept t indexed [] stands).leads
@@ -280,10 +334,10 @@ stop_step false R kept t indexed stands = tt
 
 stopped_leads : (R : ScannerTable → ScannerTable → Type 0) → Kept R → (t : ScannerTable) (indexed : IndexedSlot) (state : SlotState) → indexed.slot.state ≡ state → Stands t indexed → Leads R t (stop_of (stopped t indexed state))
 stopped_leads R kept t indexed Idle is stands = stop_step indexed.slot.desired_up R kept t indexed stands
-stopped_leads R kept t indexed (Opening o) is stands = (does_resigned R kept t indexed [] stands).leads
-stopped_leads R kept t indexed (Established c) is stands = closed_leads R kept t indexed c (session_with t indexed.config.target) stands is
-stopped_leads R kept t indexed (TimedOut link) is stands = (does_resigned R kept t indexed [] stands).leads
-stopped_leads R kept t indexed (Closing c) is stands = tt
+stopped_leads R kept t indexed (Opening o) is stands = dropped_step t.profile.tidy R kept t indexed (requested_link o.requested) stands (ap link_in is)
+stopped_leads R kept t indexed (Established c) is stands = closed_leads R kept t indexed c.link (session_with t indexed.config.target) stands (ap link_in is)
+stopped_leads R kept t indexed (TimedOut link) is stands = dropped_step t.profile.tidy R kept t indexed link stands (ap link_in is)
+stopped_leads R kept t indexed (Closing c) is stands = stop_step indexed.slot.desired_up R kept t indexed stands
 
 stop_at_leads : (R : ScannerTable → ScannerTable → Type 0) → Kept R → (t : ScannerTable) (number : ℕ) (found : Option IndexedSlot) → slot_at t number ≡ found → Leads R t (stop_of (stopped_at t found))
 stop_at_leads R kept t number None is = tt
@@ -417,8 +471,26 @@ is_requested true x y c none = absurd cc
 is_requested false true y c none = refl
 is_requested false false y c none = absurd cc
 
+-- a request that no slot waits for
+disown_step : (b : Bool) (R : ScannerTable → ScannerTable → Type 0) → KeptWidely R → (t : ScannerTable) (config : SlotConfig) (triad : Triad) (session : Session) → R t (cond b (disowned t config triad session) (nothing t)).table
+disown_step true R kept t config triad session = kept.explicit t t.explicit (t.next_request + 1) (omega arith)
+disown_step false R kept t config triad session = kept.slots.same t
+
+disowned_leads : (R : ScannerTable → ScannerTable → Type 0) → KeptWidely R → (t : ScannerTable) (config : SlotConfig) (triad : Triad) (session : Option Session) → R t (disowned_within t config triad session).table
+disowned_leads R kept t config triad None = kept.slots.same t
+disowned_leads R kept t config triad (Some session) = disown_step (has_request t) R kept t config triad session
+
+reject_step : (b : Bool) (R : ScannerTable → ScannerTable → Type 0) → KeptWidely R → (t : ScannerTable) (config : SlotConfig) (triad : Triad) → R t (cond b (disowned_within t config triad (session_with t config.target)) (nothing t)).table
+reject_step true R kept t config triad = disowned_leads R kept t config triad (session_with t config.target)
+reject_step false R kept t config triad = kept.slots.same t
+
+rejected_leads : (R : ScannerTable → ScannerTable → Type 0) → KeptWidely R → (t : ScannerTable) (indexed : IndexedSlot) (why : Reason) (triad : Triad) → Stands t indexed → R t (and_then (refused t indexed why) (rejected indexed.config triad)).table
+rejected_leads R kept t indexed why triad stands =
+    let u = (refused t indexed why).table in
+    kept.slots.after t u (rejected indexed.config triad u).table (does_failed R kept.slots t indexed (notice.Refused indexed.number why ∷ []) stands).leads (reject_step u.profile.tidy R kept u indexed.config triad)
+
 success_leads : (R C : ScannerTable → ScannerTable → Type 0) (t : ScannerTable) → OrEstablished R C t → (indexed : IndexedSlot) (o : opening.PendingOpen) (success : made.Opened) (why : Option Mismatch) → first_case (answer_tests o.requested success (is_id_free t indexed success.t_o_id)) ≡ why → Stands t indexed → indexed.slot.state ≡ Opening o → C t (judged_success t indexed o success why).table
-success_leads R C t either indexed o success (Some why) is stands opens = either.weaker _ (does_failed R either.kept.slots t indexed (notice.Refused indexed.number (reason.Mismatch why) ∷ []) stands).leads
+success_leads R C t either indexed o success (Some why) is stands opens = either.weaker _ (rejected_leads R either.kept t indexed (reason.Mismatch why) o.requested.triad stands)
 success_leads R C t either indexed o success None is stands opens = either.establishing indexed o success stands opens (is_requested _ (is_requested_id o.requested.t_o_id success.t_o_id) (is_id_free t indexed success.t_o_id) (has_intervals success) is)
 
 answered_leads : (R C : ScannerTable → ScannerTable → Type 0) (t : ScannerTable) → OrEstablished R C t → (indexed : IndexedSlot) (o : opening.PendingOpen) (said : Result OpenAnswer Reason) → Stands t indexed → indexed.slot.state ≡ Opening o → C t (answered t indexed o said).table
@@ -431,12 +503,24 @@ answered_leads R C t either indexed o (Ok (answer.Opened success)) stands opens 
 stays_leads : (R C : ScannerTable → ScannerTable → Type 0) (t : ScannerTable) → OrEstablished R C t → C t t
 stays_leads R C t either = either.weaker t (either.kept.slots.same t)
 
+-- the slot opens, if its connection is desired
+reopen_step : (b : Bool) (R : ScannerTable → ScannerTable → Type 0) → Kept R → (t : ScannerTable) (indexed : IndexedSlot) → Stands t indexed → IsClosedSlot indexed → R t (cond b (opened t indexed) (nothing t)).table
+reopen_step true R kept t indexed stands closed_before = (opened_does R kept t indexed stands closed_before).leads
+reopen_step false R kept t indexed stands closed_before = kept.same t
+
+pub closed_does : (R : ScannerTable → ScannerTable → Type 0) → Kept R → (t : ScannerTable) (indexed : IndexedSlot) → Stands t indexed → R t (closed t indexed).table
+closed_does R kept t indexed stands =
+    let slot = idle_slot indexed.slot in
+    let now = with_slot t indexed.number slot in
+    kept.after t now (closed t indexed).table (does_clear R kept t indexed stands).leads
+    (reopen_step indexed.slot.desired_up R kept now (record indexed { slot = slot }) (stands_with t indexed slot stands) refl)
+
 replied_leads : (R C : ScannerTable → ScannerTable → Type 0) (t : ScannerTable) → OrEstablished R C t → (indexed : IndexedSlot) (m : MessageFields) (state : SlotState) → indexed.slot.state ≡ state → Stands t indexed → C t (replied t indexed m state).1
 replied_leads R C t either indexed m Idle is stands = stays_leads R C t either
 replied_leads R C t either indexed m (Opening o) is stands = answered_leads R C t either indexed o (open_answer (is_large indexed.config) m) stands is
 replied_leads R C t either indexed m (Established c) is stands = stays_leads R C t either
 replied_leads R C t either indexed m (TimedOut link) is stands = stays_leads R C t either
-replied_leads R C t either indexed m (Closing c) is stands = either.weaker _ (does_clear R either.kept.slots t indexed stands).leads
+replied_leads R C t either indexed m (Closing c) is stands = either.weaker _ (closed_does R either.kept.slots t indexed stands)
 
 replied_to_leads : (R C : ScannerTable → ScannerTable → Type 0) (t : ScannerTable) → OrEstablished R C t → (m : MessageFields) (p : IndexedSlot → Bool) (found : Option IndexedSlot) → find p (indexed_slots t) ≡ found → C t (replied_to t m found).1
 replied_to_leads R C t either m p None is = stays_leads R C t either

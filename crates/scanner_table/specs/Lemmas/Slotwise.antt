@@ -8,23 +8,23 @@ use Rattle.cip_fwdopen.specs.declared.reply.Opened as made
 use Rattle.conn_state.specs.Answers.{is_requested_id}
 use Rattle.scanner_table.specs.declared.profile.ScannerProfile.{ScannerProfile}
 use Rattle.scanner_table.specs.declared.profile.SlotConfig.{SlotConfig}
+use Rattle.conn_state.specs.declared.names.Link.{Link}
 use Rattle.scanner_table.specs.declared.slot.SlotConnection.{SlotConnection}
 use Rattle.scanner_table.specs.declared.slot.PendingOpen as opening
 use Rattle.scanner_table.specs.declared.slot.Slot.{Slot}
-use Rattle.scanner_table.specs.declared.slot.SlotState.TheVariants.{Opening, Established, TimedOut}
+use Rattle.scanner_table.specs.declared.slot.SlotState.TheVariants.{Opening, Established}
 use Rattle.scanner_table.specs.declared.table.ScannerTable.{ScannerTable}
 use Rattle.scanner_table.specs.Slots.{IndexedSlot, indexed_from, indexed_slots, with_slot, is_closed}
 use Rattle.scanner_table.specs.Effects.{counted}
-use Rattle.scanner_table.specs.Opening.{drawn, opening_slot}
-use Rattle.scanner_table.specs.Replies.{new_connection, established_slot, failed_slot}
-use Rattle.scanner_table.specs.Closing.{closing_slot}
+use Rattle.scanner_table.specs.Opening.{drawn, opening_slot, closing_slot}
+use Rattle.scanner_table.specs.Replies.{new_connection, established_slot}
 use Rattle.scanner_table.specs.Datagrams.{accepted_connection, accepted_table}
 use Rattle.scanner_table.specs.Points.{output_slot, moded_slot, moded_table}
 use Rattle.scanner_table.specs.Productions.{produced_slot, produced_table}
 use Rattle.scanner_table.specs.Ticks.{clocked_table}
 use Rattle.scanner_table.specs.Runs.{OfEachSlot, OfEachChange}
 use Rattle.scanner_table.specs.Lemmas.SlotLookups.{get_same, get_other, Stands, indexed_at, slot_is, slot_stands, IsIndexed}
-use Rattle.scanner_table.specs.Lemmas.Moves.{BecomesIdle, Kept, KeptWidely, IsAccepted, KeptAlways}
+use Rattle.scanner_table.specs.Lemmas.Moves.{BecomesIdle, link_in, BecomesTimedOut, Kept, KeptWidely, IsAccepted, KeptAlways}
 
 -- ---- later tables
 
@@ -81,8 +81,8 @@ pub record Slotwise (S : Relation) : Type 0 where
   pub after : (t u v : ScannerTable) (number : ℕ) (config : SlotConfig) (a b c : Slot) → Later t u → Later u v → S t u number config a b → S u v number config b c → S t v number config a c
   pub opening : (t : ScannerTable) (indexed : IndexedSlot) → is_closed indexed.slot.state ≡ true → S t (with_slot (counted (drawn t indexed.config)) indexed.number (opening_slot t indexed)) indexed.number indexed.config indexed.slot (opening_slot t indexed)
   pub idling : (t : ScannerTable) (indexed : IndexedSlot) (slot : Slot) → BecomesIdle indexed.slot slot → S t (with_slot t indexed.number slot) indexed.number indexed.config indexed.slot slot
-  pub timing_out : (t : ScannerTable) (indexed : IndexedSlot) (c : SlotConnection) → indexed.slot.state ≡ Established c → S t (with_slot t indexed.number (failed_slot t (TimedOut c.link) indexed.slot)) indexed.number indexed.config indexed.slot (failed_slot t (TimedOut c.link) indexed.slot)
-  pub closing : (t : ScannerTable) (indexed : IndexedSlot) (c : SlotConnection) → indexed.slot.state ≡ Established c → S t (with_slot (counted t) indexed.number (closing_slot t c indexed.slot)) indexed.number indexed.config indexed.slot (closing_slot t c indexed.slot)
+  pub timing_out : (t : ScannerTable) (indexed : IndexedSlot) (link : Link) (slot : Slot) → link_in indexed.slot.state ≡ Some link → BecomesTimedOut link indexed.slot slot → S t (with_slot t indexed.number slot) indexed.number indexed.config indexed.slot slot
+  pub closing : (t : ScannerTable) (indexed : IndexedSlot) (link : Link) (desired_up : Bool) → link_in indexed.slot.state ≡ Some link → S t (with_slot (counted t) indexed.number (closing_slot t link desired_up indexed.slot)) indexed.number indexed.config indexed.slot (closing_slot t link desired_up indexed.slot)
   pub producing : ProducesSo S
   pub moding : ModesSo S
 
@@ -209,8 +209,10 @@ goes_kept S by = record {
   after = goes_after S by;
   opening = λ t indexed stands closed_before. set_goes S by.stays t (counted (drawn t indexed.config)) indexed (opening_slot t indexed) (drawn_later t indexed.config indexed.number (opening_slot t indexed)) refl stands (by.opening t indexed closed_before);
   idling = λ t indexed slot stands idle. set_goes S by.stays t t indexed slot (set_later t indexed.number slot) refl stands (by.idling t indexed slot idle);
-  timing_out = λ t indexed c stands is. set_goes S by.stays t t indexed (failed_slot t (TimedOut c.link) indexed.slot) (set_later t indexed.number (failed_slot t (TimedOut c.link) indexed.slot)) refl stands (by.timing_out t indexed c is);
-  closing = λ t indexed c stands is. set_goes S by.stays t (counted t) indexed (closing_slot t c indexed.slot) (counted_later t indexed.number (closing_slot t c indexed.slot)) refl stands (by.closing t indexed c is);
+  timing_out = λ t indexed link slot stands is becomes. set_goes S by.stays t t indexed slot (set_later t indexed.number slot) refl stands (by.timing_out t indexed link slot is becomes);
+  closing = λ t indexed link desired_up stands is.
+      let slot = closing_slot t link desired_up indexed.slot in
+      set_goes S by.stays t (counted t) indexed slot (counted_later t indexed.number slot) refl stands (by.closing t indexed link desired_up is);
 }
 
 pub goes_widely : (S : Relation) → Slotwise S → KeptWidely (Goes S)

@@ -1,7 +1,7 @@
 use Rattle.std.proofs.Common.{refl}
-use Rattle.scanner_transactions.specs.Transactions.{view_transaction, closed}
+use Rattle.scanner_transactions.specs.Transactions.{view_transaction, closed_by}
 use Rattle.scanner_transactions.proofs.Steps.{none_found}
 use Rattle.scanner_transactions.proofs.transaction.Transaction.close.Goals as goal
 
 pub returns-in_default : goal.returns-in_default
-returns-in_default c = record { effect = none_found (closed c.args.connection.now) (view_transaction c.args.self.now) c.args.number c.in_default.ensures.found; kept = (refl, refl, refl) }
+returns-in_default c = record { effect = none_found (closed_by c.args.link) (view_transaction c.args.self.now) c.args.number c.in_default.ensures.found; kept = (refl, refl, refl) }

@@ -17,7 +17,7 @@ pub later-requires-clause-wait : goal.later-requires-clause-wait
 later-requires-clause-wait c = open_timeout_fits c.args.self.now.profile.now c.args.self.now.faultless
 
 pub returns-in_default : goal.returns-in_default
-returns-in_default c = record { effect = none_found (close_requested_within c.args.connection.now c.args.session) (view_transaction c.args.self.now) c.args.number c.in_default.ensures.found; kept = (refl, refl, refl) }
+returns-in_default c = record { effect = none_found (close_requested_within c.args.link c.args.desired_up c.args.session) (view_transaction c.args.self.now) c.args.number c.in_default.ensures.found; kept = (refl, refl, refl) }
 
 pub returns : goal.returns
 returns c =
@@ -25,6 +25,6 @@ returns c =
     let indexed = view_slot c.in-Some.indexed in
     let wait : c.later.result ≡ later so_far.table.clock so_far.table.profile.open_timeout = c.later.ensures in
     record {
-      effect = subst (λ (d : Progress). IfOk c.send_request.result (λ x. view_transaction c.send_request.new.self ≡ d)) (requests_close so_far c.args.number indexed c.args.connection.now c.args.session c.in_ok-frame.frame (record { state = Closing (record { request = so_far.table.next_request; link = c.args.connection.now.link; deadline = c.later.result }); desired_up = c.resigned.result.desired_up; retry_at = c.resigned.result.retry_at }) (c.in-Some.ensures.found) c.in_ok-frame.ensures (rw (wait, c.resigned.ensures) refl)) c.send_request.ensures.effect;
+      effect = subst (λ (d : Progress). IfOk c.send_request.result (λ x. view_transaction c.send_request.new.self ≡ d)) (requests_close so_far c.args.number indexed c.args.link c.args.desired_up c.args.session c.in_ok-frame.frame (record { state = Closing (record { request = so_far.table.next_request; link = c.args.link; deadline = c.later.result }); desired_up = c.args.desired_up; retry_at = indexed.slot.retry_at }) (c.in-Some.ensures.found) c.in_ok-frame.ensures (rw wait refl)) c.send_request.ensures.effect;
       kept = c.send_request.ensures.kept;
     }

@@ -1,0 +1,7 @@
+use Rattle.std.proofs.Common.{refl}
+use Rattle.scanner_transactions.specs.Transactions.{view_transaction, left_by}
+use Rattle.scanner_transactions.proofs.Steps.{none_found}
+use Rattle.scanner_transactions.proofs.transaction.Transaction.leave.Goals as goal
+
+pub returns-in_default : goal.returns-in_default
+returns-in_default c = record { effect = none_found (left_by c.args.link) (view_transaction c.args.self.now) c.args.number c.in_default.ensures.found; kept = (refl, refl, refl) }
