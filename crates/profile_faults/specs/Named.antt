@@ -42,6 +42,7 @@ adapter_line profile name.Newer index = line_of limit_words (option_map limit.Ne
 adapter_line profile name.Object index = line_of object_words (slice_get profile.objects index)
 adapter_line profile name.Heartbeat index = heartbeat_words profile
 adapter_line profile name.Scanner index = []
+adapter_line profile name.Tidy index = []
 adapter_line profile name.Slot index = []
 
 abbrev pub scanner_line : ScannerProfile → LineName → ℕ → List (List ℕ)

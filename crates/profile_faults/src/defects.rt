@@ -23,6 +23,7 @@ pub enum LineName {
     Object,
     Heartbeat,
     Scanner,
+    Tidy,
     Slot,
 }
 

@@ -108,6 +108,9 @@ heartbeat_shape = of_shape HeartbeatLine [] HEARTBEAT _ (λ _ _. ends_at Heartbe
 scanner_shape : IsOfShape ScannerLine scanner_reader (Some (SCANNER, []))
 scanner_shape = of_shape ScannerLine [] SCANNER _ (λ _ _ _ _ _ _. ends_at ScannerLine _)
 
+tidy_shape : IsOfShape TraceLine (ends line.Tidy) (Some ([], []))
+tidy_shape = of_shape TraceLine [] [] (ends line.Tidy) (ends_at TraceLine line.Tidy)
+
 stated_shape : IsOfShape Rate stated_rate (Some (RATE, []))
 stated_shape = of_shape Rate [] RATE _ (λ _ _. ends_at Rate _)
 
@@ -149,7 +152,7 @@ slot_shape : IsOfShape SlotConfig slot_reader (Some (SLOT, RATE))
 slot_shape = of_shape SlotConfig RATE SLOT _ (λ _ _ _ _ _ _ _ _ _ _ _ _ _. λ words. some_mapped Rate SlotConfig _ (rate_reader words) ∙ rate_goes_on words)
 
 lines_are_tied : AreTied TraceLine line_meanings line_shapes
-lines_are_tied = ((refl, mapped_shape _ _ line.Adapter adapter_reader (ADAPTER, []) adapter_shape), ((refl, mapped_shape _ _ line.Output output_reader (OUTPUT, []) output_shape), ((refl, mapped_shape _ _ line.Input point_reader (POINT, []) point_shape), ((refl, mapped_shape _ _ line.Config point_reader (POINT, []) point_shape), ((refl, mapped_shape _ _ line.Description description_reader (DESCRIBE, []) description_shape), ((refl, limit_shape NUMBER _ (λ _. ends_at LimitLine _)), ((refl, places_shape), ((refl, node_shape), ((refl, limit_shape CLOSERS _ (λ _. ends_at LimitLine _)), ((refl, limit_shape NUMBER _ (λ _. ends_at LimitLine _)), ((refl, mapped_shape _ _ line.Object object_reader (NUMBER, []) object_shape), ((refl, mapped_shape _ _ line.Heartbeat heartbeat_reader (HEARTBEAT, []) heartbeat_shape), ((refl, mapped_shape _ _ line.Scanner scanner_reader (SCANNER, []) scanner_shape), ((refl, mapped_shape _ _ line.Slot slot_reader (SLOT, RATE) slot_shape), ((refl, event_shape FROM_NODE _ (λ _ _. ends_at Event _)), ((refl, event_shape FROM_NODE _ (λ _ _. ends_at Event _)), ((refl, event_shape EXPLICIT _ (λ _ _ _. ends_at Event _)), ((refl, event_shape ANSWER _ (λ _ _ _. ends_at Event _)), ((refl, event_shape STREAM _ (λ _ _. ends_at Event _)), ((refl, event_shape FRAME _ (λ _ _. ends_at Event _)), ((refl, event_shape CUT _ (λ _. ends_at Event _)), ((refl, event_shape FROM_NODE _ (λ _ _. ends_at Event _)), ((refl, event_shape WRITE _ (λ _ _. ends_at Event _)), ((refl, event_shape NUMBER _ (λ _. ends_at Event _)), ((refl, event_shape NUMBER _ (λ _. ends_at Event _)), ((refl, event_shape MODE _ (λ _. ends_at Event _)), ((refl, event_shape NUMBER _ (λ _. ends_at Event _)), ((refl, event_shape NUMBER _ (λ _. ends_at Event _)), tt))))))))))))))))))))))))))))
+lines_are_tied = ((refl, mapped_shape _ _ line.Adapter adapter_reader (ADAPTER, []) adapter_shape), ((refl, mapped_shape _ _ line.Output output_reader (OUTPUT, []) output_shape), ((refl, mapped_shape _ _ line.Input point_reader (POINT, []) point_shape), ((refl, mapped_shape _ _ line.Config point_reader (POINT, []) point_shape), ((refl, mapped_shape _ _ line.Description description_reader (DESCRIBE, []) description_shape), ((refl, limit_shape NUMBER _ (λ _. ends_at LimitLine _)), ((refl, places_shape), ((refl, node_shape), ((refl, limit_shape CLOSERS _ (λ _. ends_at LimitLine _)), ((refl, limit_shape NUMBER _ (λ _. ends_at LimitLine _)), ((refl, mapped_shape _ _ line.Object object_reader (NUMBER, []) object_shape), ((refl, mapped_shape _ _ line.Heartbeat heartbeat_reader (HEARTBEAT, []) heartbeat_shape), ((refl, mapped_shape _ _ line.Scanner scanner_reader (SCANNER, []) scanner_shape), ((refl, tidy_shape), ((refl, mapped_shape _ _ line.Slot slot_reader (SLOT, RATE) slot_shape), ((refl, event_shape FROM_NODE _ (λ _ _. ends_at Event _)), ((refl, event_shape FROM_NODE _ (λ _ _. ends_at Event _)), ((refl, event_shape EXPLICIT _ (λ _ _ _. ends_at Event _)), ((refl, event_shape ANSWER _ (λ _ _ _. ends_at Event _)), ((refl, event_shape STREAM _ (λ _ _. ends_at Event _)), ((refl, event_shape FRAME _ (λ _ _. ends_at Event _)), ((refl, event_shape CUT _ (λ _. ends_at Event _)), ((refl, event_shape FROM_NODE _ (λ _ _. ends_at Event _)), ((refl, event_shape WRITE _ (λ _ _. ends_at Event _)), ((refl, event_shape NUMBER _ (λ _. ends_at Event _)), ((refl, event_shape NUMBER _ (λ _. ends_at Event _)), ((refl, event_shape MODE _ (λ _. ends_at Event _)), ((refl, event_shape NUMBER _ (λ _. ends_at Event _)), ((refl, event_shape NUMBER _ (λ _. ends_at Event _)), tt)))))))))))))))))))))))))))))
 
 -- the words behind a first word are read as those of a line exactly if they have its shape
 pub line_tied : (word : List ℕ) (words : List (List ℕ)) (shape : Shape) → shape_of word ≡ Some shape → is_some (line_reader (word ∷ words)) ≡ is_shaped shape words

@@ -32,6 +32,7 @@ fn name_of(word: &str) -> Option<LineName> {
         "object" => Some(LineName::Object),
         "heartbeat" => Some(LineName::Heartbeat),
         "scanner" => Some(LineName::Scanner),
+        "tidy" => Some(LineName::Tidy),
         "slot" => Some(LineName::Slot),
         _ => None,
     }
@@ -81,6 +82,7 @@ struct ProfileDraft {
     objects: Vec<u32>,
     heartbeat: Option<HeartbeatLine>,
     scanner: Option<ScannerLine>,
+    tidy: bool,
     slots: Vec<SlotConfig>,
 }
 
@@ -96,6 +98,7 @@ impl ProfileDraft {
             objects: Vec::new(alloc),
             heartbeat: None,
             scanner: None,
+            tidy: false,
             slots: Vec::new(alloc),
         }
     }
@@ -121,6 +124,7 @@ impl ProfileDraft {
             LineName::Object => self.objects.push(read_object(words)?)?,
             LineName::Heartbeat => self.heartbeat = Some(read_heartbeat(words)?),
             LineName::Scanner => self.scanner = Some(read_scanner(words)?),
+            LineName::Tidy => self.tidy = words.last(true)?,
             LineName::Slot => self.slots.push(read_slot(alloc, words)?)?,
         }
         Ok(())
@@ -139,7 +143,8 @@ impl ProfileDraft {
         let objects = Items::from_vec(self.objects);
         let slots = Items::from_vec(self.slots);
         if let Some(scanner) = self.scanner {
-            return Some(Config::Scanner(scanner_with(scanner, self.limits.newer, slots)));
+            let profile = scanner_with(scanner, self.limits.newer, self.tidy, slots);
+            return Some(Config::Scanner(profile));
         }
         let profile = profile_with(
             self.adapter?,

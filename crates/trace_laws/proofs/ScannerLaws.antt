@@ -28,7 +28,7 @@ use Rattle.trace_lines.specs.declared.forms.ScannerLine.{ScannerLine}
 use Rattle.trace_lines.specs.Kinds.{kind_of, multicast_of, trigger_of, key_of_bytes, key_of, key_with, kind_word, multicast_word, instance_word, key_word}
 use Rattle.trace_lines.specs.declared.limit_lines.LimitLine.TheVariants as limit
 use Rattle.trace_lines.specs.Limits.{limit_text}
-use Rattle.trace_lines.specs.Slots.{rate_reader, slot_reader, rate_words, slot_words, scanner_words, scanner_text}
+use Rattle.trace_lines.specs.Slots.{rate_reader, slot_reader, rate_words, slot_words, scanner_words, tidy_text, scanner_text}
 use Rattle.trace_text.specs.declared.builder.TraceBuilder.TheVariants.{Empty, Slots}
 use Rattle.trace_text.specs.declared.forms.TraceLine.TheVariants as line
 use Rattle.trace_text.specs.Forms.{line_reader}
@@ -257,20 +257,25 @@ scanner_clean profile fits =
 
 -- ONE AFTER THE OTHER
 
-slots_read : (scanner : ScannerLine) (newer : Option ℕ) (before slots : List SlotConfig) → All SlotFits slots → Reads (Slots scanner newer before) (flat_map (λ slot. line_text (slot_words slot)) slots) (Slots scanner newer (before ++ slots))
-slots_read scanner newer before [] fit = subst (λ all. Reads (Slots scanner newer before) [] (Slots scanner newer all)) (sym (append-nil before)) (reads_none (Slots scanner newer before))
-slots_read scanner newer before (slot ∷ slots) fit =
+slots_read : (scanner : ScannerLine) (newer : Option ℕ) (tidy : Bool) (before slots : List SlotConfig) → All SlotFits slots → Reads (Slots scanner newer tidy before) (flat_map (λ slot. line_text (slot_words slot)) slots) (Slots scanner newer tidy (before ++ slots))
+slots_read scanner newer tidy before [] fit = subst (λ all. Reads (Slots scanner newer tidy before) [] (Slots scanner newer tidy all)) (sym (append-nil before)) (reads_none (Slots scanner newer tidy before))
+slots_read scanner newer tidy before (slot ∷ slots) fit =
     let fits : SlotFits slot = first_of SlotFits slot slots fit in
-    let one : Reads (Slots scanner newer before) (line_text (slot_words slot)) (Slots scanner newer (before ++ slot ∷ [])) = line_reads _ _ (codes "slot") (behind_slot slot) (line.Slot slot) refl refl (slot_clean slot fits) (slot_line_read slot fits) refl in
-    let more : Reads (Slots scanner newer (before ++ slot ∷ [])) (flat_map (λ s. line_text (slot_words s)) slots) (Slots scanner newer (before ++ slot ∷ slots)) = subst (λ all. Reads (Slots scanner newer (before ++ slot ∷ [])) (flat_map (λ s. line_text (slot_words s)) slots) (Slots scanner newer all)) (append_assoc before (slot ∷ []) slots) (slots_read scanner newer (before ++ slot ∷ []) slots (rest_of SlotFits slot slots fit)) in
+    let one : Reads (Slots scanner newer tidy before) (line_text (slot_words slot)) (Slots scanner newer tidy (before ++ slot ∷ [])) = line_reads _ _ (codes "slot") (behind_slot slot) (line.Slot slot) refl refl (slot_clean slot fits) (slot_line_read slot fits) refl in
+    let more : Reads (Slots scanner newer tidy (before ++ slot ∷ [])) (flat_map (λ s. line_text (slot_words s)) slots) (Slots scanner newer tidy (before ++ slot ∷ slots)) = subst (λ all. Reads (Slots scanner newer tidy (before ++ slot ∷ [])) (flat_map (λ s. line_text (slot_words s)) slots) (Slots scanner newer tidy all)) (append_assoc before (slot ∷ []) slots) (slots_read scanner newer tidy (before ++ slot ∷ []) slots (rest_of SlotFits slot slots fit)) in
     reads_both _ _ _ _ _ one more
 
 -- the line of the limit on numbers, if there is one
-newer_read : (scanner : ScannerLine) (newer : Option ℕ) → IfSome newer (λ within. within < 2 ^ 32) → Reads (Slots scanner None []) (limit_text (option_map limit.Newer newer)) (Slots scanner newer [])
-newer_read scanner None fit = reads_none (Slots scanner None [])
-newer_read scanner (Some within) fit = limit_reads (Slots scanner None []) (Slots scanner (Some within) []) (limit.Newer within) fit refl
+newer_read : (scanner : ScannerLine) (newer : Option ℕ) → IfSome newer (λ within. within < 2 ^ 32) → Reads (Slots scanner None false []) (limit_text (option_map limit.Newer newer)) (Slots scanner newer false [])
+newer_read scanner None fit = reads_none (Slots scanner None false [])
+newer_read scanner (Some within) fit = limit_reads (Slots scanner None false []) (Slots scanner (Some within) false []) (limit.Newer within) fit refl
 
-pub scanner_read : (profile : ScannerProfile) → ScannerFits profile → Reads Empty (scanner_text profile) (Slots (scanner_line profile) profile.newer profile.slots)
+-- the line of a tidy scanner
+tidy_read : (scanner : ScannerLine) (newer : Option ℕ) (tidy : Bool) → Reads (Slots scanner newer false []) (tidy_text tidy) (Slots scanner newer tidy [])
+tidy_read scanner newer true = line_reads (Slots scanner newer false []) (Slots scanner newer true []) (codes "tidy") [] line.Tidy refl refl refl refl refl
+tidy_read scanner newer false = reads_none (Slots scanner newer false [])
+
+pub scanner_read : (profile : ScannerProfile) → ScannerFits profile → Reads Empty (scanner_text profile) (Slots (scanner_line profile) profile.newer profile.tidy profile.slots)
 scanner_read profile fits =
-    let one : Reads Empty (line_text (scanner_words profile)) (Slots (scanner_line profile) None []) = line_reads _ _ (codes "scanner") (drop 1 (scanner_words profile)) (line.Scanner (scanner_line profile)) refl refl (scanner_clean profile fits) (scanner_line_read profile fits) refl in
-    reads_both _ _ _ _ _ one (reads_both _ _ _ _ _ (newer_read (scanner_line profile) profile.newer fits.newer_fits) (slots_read (scanner_line profile) profile.newer [] profile.slots fits.slots_fit))
+    let one : Reads Empty (line_text (scanner_words profile)) (Slots (scanner_line profile) None false []) = line_reads _ _ (codes "scanner") (drop 1 (scanner_words profile)) (line.Scanner (scanner_line profile)) refl refl (scanner_clean profile fits) (scanner_line_read profile fits) refl in
+    reads_both _ _ _ _ _ one (reads_both _ _ _ _ _ (newer_read (scanner_line profile) profile.newer fits.newer_fits) (reads_both _ _ _ _ _ (tidy_read (scanner_line profile) profile.newer profile.tidy) (slots_read (scanner_line profile) profile.newer profile.tidy [] profile.slots fits.slots_fit)))

@@ -108,14 +108,14 @@ unfolding number_of node_of read_ipv4 read_octet read_number
 scanners_are_read = refl
 
 scanners_are_written :
-    scanner_text (scanner_with scanner None (owner ∷ listener ∷ []))
+    scanner_text (scanner_with scanner None false (owner ∷ listener ∷ []))
     ≡ codes "scanner 32 192.168.1.20 1 305419896 2000 70000\nslot 192.168.1.10 exclusive 151 150 100 4 6 10000 20000 2 p2p - -\nslot 192.168.1.10 listen - 153 100 0 6 10000 20000 2 multicast - -\n"
 unfolding digits
 scanners_are_written = refl
 
--- the limit on numbers goes before the slots
+-- the limit on numbers and `tidy` go before the slots
 limits_are_written :
-    scanner_text (scanner_with scanner (Some 8) (listener ∷ []))
-    ≡ codes "scanner 32 192.168.1.20 1 305419896 2000 70000\nnewer 8\nslot 192.168.1.10 listen - 153 100 0 6 10000 20000 2 multicast - -\n"
+    scanner_text (scanner_with scanner (Some 8) true (listener ∷ []))
+    ≡ codes "scanner 32 192.168.1.20 1 305419896 2000 70000\nnewer 8\ntidy\nslot 192.168.1.10 listen - 153 100 0 6 10000 20000 2 multicast - -\n"
 unfolding digits
 limits_are_written = refl

@@ -86,6 +86,7 @@ line_shapes =
     ∷ (codes "object", alone NUMBER)
     ∷ (codes "heartbeat", alone HEARTBEAT)
     ∷ (codes "scanner", alone SCANNER)
+    ∷ (codes "tidy", alone [])
     ∷ (codes "slot", Some (SLOT, RATE))
     ∷ (codes "request", alone FROM_NODE)
     ∷ (codes "inquiry", alone FROM_NODE)

@@ -1,6 +1,6 @@
 -- The lines of a scanner's profile: how they are read behind their keywords, and how they are written. Their last two
 -- words, the trigger and the inhibit time of the target, are left out if it produces cyclically without inhibit time.
-use Rattle.std.specs.Prelude.{ℕ, ◌==◌, if◌then◌else◌, List, [], ◌∷◌, ◌++◌, codes, flat_map, option_map, Option, Some}
+use Rattle.std.specs.Prelude.{ℕ, ◌==◌, if◌then◌else◌, Bool, true, false, List, [], ◌∷◌, ◌++◌, codes, flat_map, option_map, Option, Some}
 use Rattle.cip_netparams.specs.declared.Trigger.{Trigger}
 use Rattle.cip_netparams.specs.declared.Trigger.TheVariants.{Cyclic, ChangeOfState}
 use Rattle.scanner_table.specs.declared.profile.SlotConfig.{SlotConfig}
@@ -50,8 +50,8 @@ slot_reader = shaped SLOT (λ target kind config consumed produced out_len in_le
 }))
 
 -- the profile with the values of its lines
-abbrev pub scanner_with : ScannerLine → Option ℕ → List SlotConfig → ScannerProfile
-scanner_with scanner newer slots = record {
+abbrev pub scanner_with : ScannerLine → Option ℕ → Bool → List SlotConfig → ScannerProfile
+scanner_with scanner newer tidy slots = record {
   incarnation = scanner.incarnation;
   node = scanner.node;
   vendor = scanner.vendor;
@@ -59,6 +59,7 @@ scanner_with scanner newer slots = record {
   open_timeout = scanner.open_timeout;
   retry = scanner.retry;
   newer = newer;
+  tidy = tidy;
   slots = slots;
 }
 
@@ -78,6 +79,11 @@ scanner_words profile = spelled (codes "scanner" ∷ []) SCANNER profile.incarna
 abbrev pub slots_text : ScannerProfile → List ℕ
 slots_text profile = flat_map (λ slot. line_text (slot_words slot)) profile.slots
 
--- the line of the limit on numbers, if there is one, goes before the slots
+-- the line of a scanner that closes each connection which no slot has
+abbrev pub tidy_text : Bool → List ℕ
+tidy_text true = line_text (codes "tidy" ∷ [])
+tidy_text false = []
+
+-- the lines of the limit on numbers and of `tidy`, if there are such, go before the slots
 abbrev pub scanner_text : ScannerProfile → List ℕ
-scanner_text profile = line_text (scanner_words profile) ++ (limit_text (option_map Newer profile.newer) ++ slots_text profile)
+scanner_text profile = line_text (scanner_words profile) ++ (limit_text (option_map Newer profile.newer) ++ (tidy_text profile.tidy ++ slots_text profile))

@@ -76,9 +76,10 @@ pub fn profile_with(
 pub fn scanner_with(
     scanner: ScannerLine,
     newer: Option<u32>,
+    tidy: bool,
     slots: Items<SlotConfig>,
 ) -> ScannerProfile
-    ensures { result ≡ scanner_with scanner newer slots }
+    ensures { result ≡ scanner_with scanner newer tidy slots }
 {
     ScannerProfile {
         incarnation: scanner.incarnation,
@@ -88,6 +89,7 @@ pub fn scanner_with(
         open_timeout: scanner.open_timeout,
         retry: scanner.retry,
         newer,
+        tidy,
         slots,
     }
 }

@@ -193,6 +193,7 @@ pub fn shape_of(first: &str) -> Option<Shape>
         "closers" => Some((&CLOSERS, &[])),
         "heartbeat" => Some((&HEARTBEAT, &[])),
         "scanner" => Some((&SCANNER, &[])),
+        "tidy" => Some((&[], &[])),
         "slot" => Some((&SLOT, &RATE)),
         "request" | "datagram" | "inquiry" => Some((&FROM_NODE, &[])),
         "explicit" => Some((&EXPLICIT, &[])),

@@ -4,7 +4,7 @@ ghost use Rattle.std.specs.Prelude.{◌≡◌, ◌++◌, OnOk, string_bytes, fla
 ghost use Rattle.std.specs.List.{join_with_byte};
 ghost use Rattle.trace_words.specs.Words.{line_text};
 ghost use Rattle.trace_lines.specs.Kinds.{multicast_word, key_word};
-ghost use Rattle.trace_lines.specs.Slots.{slot_words, scanner_words, scanner_text};
+ghost use Rattle.trace_lines.specs.Slots.{slot_words, scanner_words, tidy_text, scanner_text};
 
 use crate::limit_lines::push_newer;
 use crate::names::kind_name;
@@ -20,6 +20,7 @@ pub fn push_scanner(out: &mut String, profile: &ScannerProfile) -> Result<(), Ou
 {
     push_first(out, profile)?;
     push_newer(out, profile.newer)?;
+    push_tidy(out, profile.tidy)?;
     push_slots(out, profile.slots.as_slice())?;
     Ok(())
 }
@@ -35,6 +36,16 @@ fn push_first(out: &mut String, profile: &ScannerProfile) -> Result<(), OutOfMem
         profile.vendor, profile.serial, profile.open_timeout, profile.retry
     )?;
     Ok(())
+}
+
+fn push_tidy(out: &mut String, tidy: bool) -> Result<(), OutOfMemory>
+    ensures { OnOk result (string_bytes out.new ≡ string_bytes out.old ++ tidy_text tidy) }
+{
+    if tidy {
+        Ok(out.push_str("tidy\n")?)
+    } else {
+        Ok(())
+    }
 }
 
 fn push_slots(out: &mut String, slots: &[SlotConfig]) -> Result<(), OutOfMemory>

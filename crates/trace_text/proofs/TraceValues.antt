@@ -1,6 +1,6 @@
 -- What was read so far, as the lines that were read: each line that is allowed adds itself, each beginning can be
 -- completed, and the lines of a trace lead to that trace.
-use Rattle.std.proofs.Common.{◌≡◌, ℕ, ◌+◌, Bool, true, false, cond, is_none, ◌&&◌, eqb, List, [], ◌∷◌, ◌++◌, length, map, Option, Some, None, Ok, Err, refl, sym, ap, ◌∙◌, arith, append_assoc}
+use Rattle.std.proofs.Common.{◌≡◌, ℕ, ◌+◌, Bool, true, false, cond, is_none, not, ◌&&◌, eqb, List, [], ◌∷◌, ◌++◌, length, map, Option, Some, None, Ok, Err, refl, sym, ap, ◌∙◌, arith, append_assoc}
 use Rattle.std.specs.Prelude.{option_to_list, option_map, option_and_then}
 use Rattle.std.proofs.lemmas.Bool.Decides.{nat_tests}
 use Rattle.std.proofs.lemmas.List.{append-nil, length-append}
@@ -41,8 +41,8 @@ use Rattle.trace_text.specs.declared.forms.TraceLine.{TraceLine}
 use Rattle.trace_text.specs.declared.forms.TraceLine.TheVariants as line
 use Rattle.trace_text.specs.declared.trace.Trace.{Trace}
 use Rattle.trace_text.proofs.LimitLines.{some_is, limit_added}
-use Rattle.trace_text.specs.Reading.{Entry, front_of, with_stated, with_newer, builder_with, parsed, judged_by}
-use Rattle.trace_text.specs.Texts.{adapter_line_of, heartbeat_line_of, scanner_line_of, config_values, outcome_parts, recorded_parts, entry_values, entries_values, trace_values}
+use Rattle.trace_text.specs.Reading.{Entry, front_of, with_stated, with_newer, with_tidy, builder_with, parsed, judged_by}
+use Rattle.trace_text.specs.Texts.{adapter_line_of, heartbeat_line_of, scanner_line_of, tidy_lines, config_values, outcome_parts, recorded_parts, entry_values, entries_values, trace_values}
 
 -- LISTS AND OPTIONS
 
@@ -88,7 +88,7 @@ so_far (Points adapter outputs inputs) = line.Adapter adapter ∷ (map line.Outp
 so_far (Configured adapter outputs inputs point) = line.Adapter adapter ∷ (map line.Output outputs ++ (map line.Input inputs ++ line.Config point ∷ []))
 so_far (Stated front) = line.Adapter front.adapter ∷ (map line.Output front.outputs ++ (map line.Input front.inputs ++ (map line.Config (option_to_list front.config) ++ (map line.Description (option_to_list front.description) ++ map line.Limit (limit_lines front.limits)))))
 so_far (Objects front objects) = line.Adapter front.adapter ∷ (map line.Output front.outputs ++ (map line.Input front.inputs ++ (map line.Config (option_to_list front.config) ++ (map line.Description (option_to_list front.description) ++ (map line.Limit (limit_lines front.limits) ++ map line.Object objects)))))
-so_far (Slots scanner newer slots) = line.Scanner scanner ∷ (map line.Limit (option_to_list (option_map limit.Newer newer)) ++ map line.Slot slots)
+so_far (Slots scanner newer tidy slots) = line.Scanner scanner ∷ (map line.Limit (option_to_list (option_map limit.Newer newer)) ++ (tidy_lines tidy ++ map line.Slot slots))
 so_far (Events made_of entries last) = config_values made_of ++ entries_values 1 (entries ++ option_to_list last)
 
 so_far_is : (one other : TraceBuilder) → Some one ≡ Some other → so_far other ≡ so_far one
@@ -219,16 +219,28 @@ behind_stated front last = stated_last front.adapter (map line.Output front.outp
 behind_objects : (front : ProfileFront) (objects : List ℕ) (last : TraceLine) → line.Adapter front.adapter ∷ (map line.Output front.outputs ++ (map line.Input front.inputs ++ (map line.Config (option_to_list front.config) ++ (map line.Description (option_to_list front.description) ++ (map line.Limit (limit_lines front.limits) ++ (map line.Object objects ++ last ∷ [])))))) ≡ so_far (Objects front objects) ++ last ∷ []
 behind_objects front objects last = objects_last front.adapter (map line.Output front.outputs) (map line.Input front.inputs) (map line.Config (option_to_list front.config)) (map line.Description (option_to_list front.description)) (map line.Limit (limit_lines front.limits)) (map line.Object objects) last
 
-newer_here : (scanner : ScannerLine) (newer : Option ℕ) (slots : List SlotConfig) (within : ℕ) → (is_none newer && eqb (length slots) 0) ≡ true → so_far (Slots scanner (Some within) slots) ≡ so_far (Slots scanner newer slots) ++ line.Limit (limit.Newer within) ∷ []
-newer_here scanner (Some other) slots within first = absurd (cc)
-newer_here scanner None [] within first = refl
-newer_here scanner None (slot ∷ slots) within first = absurd (let none = no_elements (slot ∷ slots) (is_zero (length (slot ∷ slots)) first) in cc)
+newer_here : (scanner : ScannerLine) (newer : Option ℕ) (tidy : Bool) (slots : List SlotConfig) (within : ℕ) → (is_none newer && (not tidy && eqb (length slots) 0)) ≡ true → so_far (Slots scanner (Some within) tidy slots) ≡ so_far (Slots scanner newer tidy slots) ++ line.Limit (limit.Newer within) ∷ []
+newer_here scanner (Some other) tidy slots within first = absurd (cc)
+newer_here scanner None true slots within first = absurd (cc)
+newer_here scanner None false [] within first = refl
+newer_here scanner None false (slot ∷ slots) within first = absurd (let none = no_elements (slot ∷ slots) (is_zero (length (slot ∷ slots)) first) in cc)
 
-newer_added : (scanner : ScannerLine) (newer : Option ℕ) (slots : List SlotConfig) (value : LimitLine) (next : TraceBuilder) → with_newer scanner newer slots value ≡ Some next → so_far next ≡ so_far (Slots scanner newer slots) ++ line.Limit value ∷ []
-newer_added scanner newer slots (limit.Newer within) next is =
-    let pair = passed (is_none newer && eqb (length slots) 0) (Some (Slots scanner (Some within) slots)) next is in
-    so_far_is _ _ pair.1 ∙ newer_here scanner newer slots within pair.0
-newer_added scanner newer slots other next is = absurd (cc)
+newer_added : (scanner : ScannerLine) (newer : Option ℕ) (tidy : Bool) (slots : List SlotConfig) (value : LimitLine) (next : TraceBuilder) → with_newer scanner newer tidy slots value ≡ Some next → so_far next ≡ so_far (Slots scanner newer tidy slots) ++ line.Limit value ∷ []
+newer_added scanner newer tidy slots (limit.Newer within) next is =
+    let pair = passed (is_none newer && (not tidy && eqb (length slots) 0)) (Some (Slots scanner (Some within) tidy slots)) next is in
+    so_far_is _ _ pair.1 ∙ newer_here scanner newer tidy slots within pair.0
+newer_added scanner newer tidy slots other next is = absurd (cc)
+
+tidy_here : (scanner : ScannerLine) (newer : Option ℕ) (tidy : Bool) (slots : List SlotConfig) → (not tidy && eqb (length slots) 0) ≡ true → so_far (Slots scanner newer true slots) ≡ so_far (Slots scanner newer tidy slots) ++ line.Tidy ∷ []
+tidy_here scanner newer true slots first = absurd (cc)
+tidy_here scanner None false [] first = refl
+tidy_here scanner (Some within) false [] first = refl
+tidy_here scanner newer false (slot ∷ slots) first = absurd (let none = no_elements (slot ∷ slots) (is_zero (length (slot ∷ slots)) first) in cc)
+
+tidy_added : (scanner : ScannerLine) (newer : Option ℕ) (tidy : Bool) (slots : List SlotConfig) (next : TraceBuilder) → with_tidy scanner newer tidy slots ≡ Some next → so_far next ≡ so_far (Slots scanner newer tidy slots) ++ line.Tidy ∷ []
+tidy_added scanner newer tidy slots next is =
+    let pair = passed (not tidy && eqb (length slots) 0) (Some (Slots scanner newer true slots)) next is in
+    so_far_is _ _ pair.1 ∙ tidy_here scanner newer tidy slots pair.0
 
 limit_added_to : (front : ProfileFront) (limit : LimitLine) (next : TraceBuilder) → with_stated front limit ≡ Some next → so_far next ≡ so_far (Stated front) ++ line.Limit limit ∷ []
 limit_added_to front limit next is =
@@ -253,6 +265,7 @@ added Empty (line.Limit value) next is = absurd (cc)
 added Empty (line.Object value) next is = absurd (cc)
 added Empty (line.Heartbeat value) next is = absurd (cc)
 added Empty (line.Scanner value) next is = so_far_is _ _ is
+added Empty line.Tidy next is = absurd (cc)
 added Empty (line.Slot value) next is = absurd (cc)
 added Empty (line.Event value) next is = absurd (cc)
 added Empty (line.Recorded number value) next is = absurd (cc)
@@ -265,6 +278,7 @@ added (Points adapter outputs inputs) (line.Limit value) next is = limit_added_t
 added (Points adapter outputs inputs) (line.Object value) next is = so_far_is _ _ is ∙ points_last adapter (map line.Output outputs) (map line.Input inputs) (line.Object value)
 added (Points adapter outputs inputs) (line.Heartbeat value) next is = so_far_is _ _ is ∙ append-nil _ ∙ points_last adapter (map line.Output outputs) (map line.Input inputs) (line.Heartbeat value)
 added (Points adapter outputs inputs) (line.Scanner value) next is = absurd (cc)
+added (Points adapter outputs inputs) line.Tidy next is = absurd (cc)
 added (Points adapter outputs inputs) (line.Slot value) next is = absurd (cc)
 added (Points adapter outputs inputs) (line.Event value) next is = absurd (cc)
 added (Points adapter outputs inputs) (line.Recorded number value) next is = absurd (cc)
@@ -277,6 +291,7 @@ added (Configured adapter outputs inputs point) (line.Limit value) next is = lim
 added (Configured adapter outputs inputs point) (line.Object value) next is = so_far_is _ _ is ∙ ends_last adapter (map line.Output outputs) (map line.Input inputs) (line.Config point ∷ []) (line.Object value)
 added (Configured adapter outputs inputs point) (line.Heartbeat value) next is = so_far_is _ _ is ∙ append-nil _ ∙ ends_last adapter (map line.Output outputs) (map line.Input inputs) (line.Config point ∷ []) (line.Heartbeat value)
 added (Configured adapter outputs inputs point) (line.Scanner value) next is = absurd (cc)
+added (Configured adapter outputs inputs point) line.Tidy next is = absurd (cc)
 added (Configured adapter outputs inputs point) (line.Slot value) next is = absurd (cc)
 added (Configured adapter outputs inputs point) (line.Event value) next is = absurd (cc)
 added (Configured adapter outputs inputs point) (line.Recorded number value) next is = absurd (cc)
@@ -289,6 +304,7 @@ added (Stated front) (line.Limit value) next is = limit_added_to front value nex
 added (Stated front) (line.Object value) next is = so_far_is _ _ is ∙ behind_stated front (line.Object value)
 added (Stated front) (line.Heartbeat value) next is = so_far_is _ _ is ∙ append-nil _ ∙ behind_stated front (line.Heartbeat value)
 added (Stated front) (line.Scanner value) next is = absurd (cc)
+added (Stated front) line.Tidy next is = absurd (cc)
 added (Stated front) (line.Slot value) next is = absurd (cc)
 added (Stated front) (line.Event value) next is = absurd (cc)
 added (Stated front) (line.Recorded number value) next is = absurd (cc)
@@ -301,21 +317,28 @@ added (Objects front objects) (line.Limit value) next is = absurd (cc)
 added (Objects front objects) (line.Object value) next is = so_far_is _ _ is ∙ object_added_to front objects value
 added (Objects front objects) (line.Heartbeat value) next is = so_far_is _ _ is ∙ append-nil _ ∙ behind_objects front objects (line.Heartbeat value)
 added (Objects front objects) (line.Scanner value) next is = absurd (cc)
+added (Objects front objects) line.Tidy next is = absurd (cc)
 added (Objects front objects) (line.Slot value) next is = absurd (cc)
 added (Objects front objects) (line.Event value) next is = absurd (cc)
 added (Objects front objects) (line.Recorded number value) next is = absurd (cc)
-added (Slots scanner newer slots) (line.Adapter value) next is = absurd (cc)
-added (Slots scanner newer slots) (line.Output value) next is = absurd (cc)
-added (Slots scanner newer slots) (line.Input value) next is = absurd (cc)
-added (Slots scanner newer slots) (line.Config value) next is = absurd (cc)
-added (Slots scanner newer slots) (line.Description value) next is = absurd (cc)
-added (Slots scanner newer slots) (line.Limit value) next is = newer_added scanner newer slots value next is
-added (Slots scanner newer slots) (line.Object value) next is = absurd (cc)
-added (Slots scanner newer slots) (line.Heartbeat value) next is = absurd (cc)
-added (Slots scanner newer slots) (line.Scanner value) next is = absurd (cc)
-added (Slots scanner newer slots) (line.Slot value) next is = so_far_is _ _ is ∙ ap (λ t. line.Scanner scanner ∷ (map line.Limit (option_to_list (option_map limit.Newer newer)) ++ t)) (map_last line.Slot slots value) ∙ ap (λ t. line.Scanner scanner ∷ t) (sym (append_assoc (map line.Limit (option_to_list (option_map limit.Newer newer))) (map line.Slot slots) (line.Slot value ∷ [])))
-added (Slots scanner newer slots) (line.Event value) next is = so_far_is _ _ is
-added (Slots scanner newer slots) (line.Recorded number value) next is = absurd (cc)
+added (Slots scanner newer tidy slots) (line.Adapter value) next is = absurd (cc)
+added (Slots scanner newer tidy slots) (line.Output value) next is = absurd (cc)
+added (Slots scanner newer tidy slots) (line.Input value) next is = absurd (cc)
+added (Slots scanner newer tidy slots) (line.Config value) next is = absurd (cc)
+added (Slots scanner newer tidy slots) (line.Description value) next is = absurd (cc)
+added (Slots scanner newer tidy slots) (line.Limit value) next is = newer_added scanner newer tidy slots value next is
+added (Slots scanner newer tidy slots) (line.Object value) next is = absurd (cc)
+added (Slots scanner newer tidy slots) (line.Heartbeat value) next is = absurd (cc)
+added (Slots scanner newer tidy slots) (line.Scanner value) next is = absurd (cc)
+added (Slots scanner newer tidy slots) line.Tidy next is = tidy_added scanner newer tidy slots next is
+added (Slots scanner newer tidy slots) (line.Slot value) next is =
+    let limits = map line.Limit (option_to_list (option_map limit.Newer newer)) in
+    so_far_is _ _ is
+    ∙ ap (λ t. line.Scanner scanner ∷ (limits ++ (tidy_lines tidy ++ t))) (map_last line.Slot slots value)
+    ∙ ap (λ t. line.Scanner scanner ∷ (limits ++ t)) (sym (append_assoc (tidy_lines tidy) (map line.Slot slots) (line.Slot value ∷ [])))
+    ∙ ap (λ t. line.Scanner scanner ∷ t) (sym (append_assoc limits (tidy_lines tidy ++ map line.Slot slots) (line.Slot value ∷ [])))
+added (Slots scanner newer tidy slots) (line.Event value) next is = so_far_is _ _ is
+added (Slots scanner newer tidy slots) (line.Recorded number value) next is = absurd (cc)
 added (Events made_of entries None) (line.Adapter value) next is = absurd (cc)
 added (Events made_of entries None) (line.Output value) next is = absurd (cc)
 added (Events made_of entries None) (line.Input value) next is = absurd (cc)
@@ -325,6 +348,7 @@ added (Events made_of entries None) (line.Limit value) next is = absurd (cc)
 added (Events made_of entries None) (line.Object value) next is = absurd (cc)
 added (Events made_of entries None) (line.Heartbeat value) next is = absurd (cc)
 added (Events made_of entries None) (line.Scanner value) next is = absurd (cc)
+added (Events made_of entries None) line.Tidy next is = absurd (cc)
 added (Events made_of entries None) (line.Slot value) next is = absurd (cc)
 added (Events made_of entries None) (line.Event value) next is = so_far_is _ _ is ∙ event_added made_of (entries ++ []) value
 added (Events made_of entries None) (line.Recorded number value) next is = absurd (cc)
@@ -337,6 +361,7 @@ added (Events made_of entries (Some (event, recorded))) (line.Limit value) next 
 added (Events made_of entries (Some (event, recorded))) (line.Object value) next is = absurd (cc)
 added (Events made_of entries (Some (event, recorded))) (line.Heartbeat value) next is = absurd (cc)
 added (Events made_of entries (Some (event, recorded))) (line.Scanner value) next is = absurd (cc)
+added (Events made_of entries (Some (event, recorded))) line.Tidy next is = absurd (cc)
 added (Events made_of entries (Some (event, recorded))) (line.Slot value) next is = absurd (cc)
 added (Events made_of entries (Some (event, recorded))) (line.Event value) next is = so_far_is _ _ is ∙ event_added made_of (entries ++ (event, recorded) ∷ []) value
 added (Events made_of entries (Some (event, recorded))) (line.Recorded number value) next is = part_added made_of entries event recorded number value next is
@@ -371,7 +396,7 @@ run_adds builder (Some value ∷ lines) end is =
 -- WHAT IS READ CAN BE COMPLETED
 
 abbrev no_scanner : ScannerProfile
-no_scanner = record { incarnation = 0; node = record { 0 = 0 }; vendor = 0; serial = 0; open_timeout = 0; retry = 0; newer = None; slots = [] }
+no_scanner = record { incarnation = 0; node = record { 0 = 0 }; vendor = 0; serial = 0; open_timeout = 0; retry = 0; newer = None; tidy = false; slots = [] }
 
 abbrev no_points : HeartbeatLine
 no_points = record { input_only = 0; listen_only = 0 }
@@ -390,7 +415,7 @@ completed (Stated front) =
     (record { config = config.Adapter (whole_of front [] no_points); events = [] }, (line.Heartbeat no_points ∷ [], sym (added (Stated front) (line.Heartbeat no_points) _ refl)))
 completed (Objects front objects) =
     (record { config = config.Adapter (whole_of front objects no_points); events = [] }, (line.Heartbeat no_points ∷ [], sym (added (Objects front objects) (line.Heartbeat no_points) _ refl)))
-completed (Slots scanner newer slots) = (record { config = config.Scanner (scanner_with scanner newer slots); events = [] }, ([], refl))
+completed (Slots scanner newer tidy slots) = (record { config = config.Scanner (scanner_with scanner newer tidy slots); events = [] }, ([], refl))
 completed (Events made_of entries last) = (record { config = made_of; events = entries ++ option_to_list last }, ([], append-nil _))
 
 -- THE LINES OF A TRACE LEAD TO IT
@@ -489,18 +514,24 @@ adapter_run profile =
     (both_run (Points (adapter_line_of profile) profile.outputs []) (Points (adapter_line_of profile) profile.outputs profile.inputs) (map line.Input profile.inputs) _ _ (inputs_run (adapter_line_of profile) profile.outputs [] profile.inputs)
     (ends_run (adapter_line_of profile) profile.outputs profile.inputs profile.config profile.description profile.limits profile.objects (heartbeat_line_of profile)))
 
-slots_run : (scanner : ScannerLine) (newer : Option ℕ) (before slots : List SlotConfig) → run (Slots scanner newer before) (map Some (map line.Slot slots)) ≡ Some (Slots scanner newer (before ++ slots))
-slots_run scanner newer before [] = ap (λ t. Some (Slots scanner newer t)) (sym (append-nil before))
-slots_run scanner newer before (slot ∷ slots) = slots_run scanner newer (before ++ slot ∷ []) slots ∙ ap (λ t. Some (Slots scanner newer t)) (append_assoc before (slot ∷ []) slots)
+slots_run : (scanner : ScannerLine) (newer : Option ℕ) (tidy : Bool) (before slots : List SlotConfig) → run (Slots scanner newer tidy before) (map Some (map line.Slot slots)) ≡ Some (Slots scanner newer tidy (before ++ slots))
+slots_run scanner newer tidy before [] = ap (λ t. Some (Slots scanner newer tidy t)) (sym (append-nil before))
+slots_run scanner newer tidy before (slot ∷ slots) = slots_run scanner newer tidy (before ++ slot ∷ []) slots ∙ ap (λ t. Some (Slots scanner newer tidy t)) (append_assoc before (slot ∷ []) slots)
 
-slot_limit_run : (scanner : ScannerLine) (newer : Option ℕ) → run (Slots scanner None []) (map Some (map line.Limit (option_to_list (option_map limit.Newer newer)))) ≡ Some (Slots scanner newer [])
+slot_limit_run : (scanner : ScannerLine) (newer : Option ℕ) → run (Slots scanner None false []) (map Some (map line.Limit (option_to_list (option_map limit.Newer newer)))) ≡ Some (Slots scanner newer false [])
 slot_limit_run scanner None = refl
 slot_limit_run scanner (Some within) = refl
 
-scanner_run : (profile : ScannerProfile) → run Empty (map Some (config_values (config.Scanner profile))) ≡ Some (Slots (scanner_line_of profile) profile.newer profile.slots)
+tidy_run : (scanner : ScannerLine) (newer : Option ℕ) (tidy : Bool) → run (Slots scanner newer false []) (map Some (tidy_lines tidy)) ≡ Some (Slots scanner newer tidy [])
+tidy_run scanner newer true = refl
+tidy_run scanner newer false = refl
+
+scanner_run : (profile : ScannerProfile) → run Empty (map Some (config_values (config.Scanner profile))) ≡ Some (Slots (scanner_line_of profile) profile.newer profile.tidy profile.slots)
 scanner_run profile =
-    both_run (Slots (scanner_line_of profile) None []) (Slots (scanner_line_of profile) profile.newer []) (map line.Limit (option_to_list (option_map limit.Newer profile.newer))) (map line.Slot profile.slots) _
-    (slot_limit_run (scanner_line_of profile) profile.newer) (slots_run (scanner_line_of profile) profile.newer [] profile.slots)
+    both_run (Slots (scanner_line_of profile) None false []) (Slots (scanner_line_of profile) profile.newer false []) (map line.Limit (option_to_list (option_map limit.Newer profile.newer))) (tidy_lines profile.tidy ++ map line.Slot profile.slots) _
+    (slot_limit_run (scanner_line_of profile) profile.newer)
+    (both_run (Slots (scanner_line_of profile) profile.newer false []) (Slots (scanner_line_of profile) profile.newer profile.tidy []) (tidy_lines profile.tidy) (map line.Slot profile.slots) _
+    (tidy_run (scanner_line_of profile) profile.newer profile.tidy) (slots_run (scanner_line_of profile) profile.newer profile.tidy [] profile.slots))
 
 abbrev answer_of : Verdict → List Frame → List OutgoingDatagram → List Notice → Answer
 answer_of verdict frames datagrams notices = record { frames = frames; datagrams = datagrams; verdict = verdict; notices = notices }
@@ -581,10 +612,10 @@ of_entries made_of values entries last n events all begun number are =
 pub trace_run : (made_of : Config) (events : List Entry) → TraceRun made_of events
 trace_run (config.Adapter profile) events = of_entries (config.Adapter profile) (config_values (config.Adapter profile)) [] None 1 events events (adapter_run profile) refl refl
 trace_run (config.Scanner profile) [] =
-    (Slots (scanner_line_of profile) profile.newer profile.slots, (ap (λ t. run Empty (map Some t)) (append-nil (config_values (config.Scanner profile))) ∙ scanner_run profile, λ place. refl))
+    (Slots (scanner_line_of profile) profile.newer profile.tidy profile.slots, (ap (λ t. run Empty (map Some t)) (append-nil (config_values (config.Scanner profile))) ∙ scanner_run profile, λ place. refl))
 trace_run (config.Scanner profile) ((event, recorded) ∷ events) =
-    let slots : run Empty (map Some (config_values (config.Scanner profile))) ≡ Some (Slots (scanner_line_of profile) profile.newer profile.slots) = scanner_run profile in
-    let one : run (Slots (scanner_line_of profile) profile.newer profile.slots) (map Some (entry_values 1 (event, recorded))) ≡ Some (Events (config.Scanner profile) [] (Some (event, recorded))) = recorded_run (config.Scanner profile) [] event 1 refl recorded in
-    let front : run Empty (map Some (config_values (config.Scanner profile) ++ entry_values 1 (event, recorded))) ≡ Some (Events (config.Scanner profile) [] (Some (event, recorded))) = both_run Empty (Slots (scanner_line_of profile) profile.newer profile.slots) (config_values (config.Scanner profile)) (entry_values 1 (event, recorded)) _ slots one in
+    let slots : run Empty (map Some (config_values (config.Scanner profile))) ≡ Some (Slots (scanner_line_of profile) profile.newer profile.tidy profile.slots) = scanner_run profile in
+    let one : run (Slots (scanner_line_of profile) profile.newer profile.tidy profile.slots) (map Some (entry_values 1 (event, recorded))) ≡ Some (Events (config.Scanner profile) [] (Some (event, recorded))) = recorded_run (config.Scanner profile) [] event 1 refl recorded in
+    let front : run Empty (map Some (config_values (config.Scanner profile) ++ entry_values 1 (event, recorded))) ≡ Some (Events (config.Scanner profile) [] (Some (event, recorded))) = both_run Empty (Slots (scanner_line_of profile) profile.newer profile.tidy profile.slots) (config_values (config.Scanner profile)) (entry_values 1 (event, recorded)) _ slots one in
     let (end, (runs, ends)) = of_entries (config.Scanner profile) (config_values (config.Scanner profile) ++ entry_values 1 (event, recorded)) [] (Some (event, recorded)) 2 events ((event, recorded) ∷ events) front refl refl in
     (end, (ap (λ t. run Empty (map Some t)) (sym (append_assoc (config_values (config.Scanner profile)) (entry_values 1 (event, recorded)) (entries_values 2 events))) ∙ runs, ends))

@@ -41,6 +41,7 @@ line_meanings =
     ∷ (codes "object", mapped line.Object object_reader)
     ∷ (codes "heartbeat", mapped line.Heartbeat heartbeat_reader)
     ∷ (codes "scanner", mapped line.Scanner scanner_reader)
+    ∷ (codes "tidy", ends line.Tidy)
     ∷ (codes "slot", mapped line.Slot slot_reader)
     ∷ (codes "request", mapped line.Event (shaped FROM_NODE (λ peer bytes. ends (event.Request peer bytes))))
     ∷ (codes "inquiry", mapped line.Event (shaped FROM_NODE (λ peer bytes. ends (event.Inquiry peer bytes))))

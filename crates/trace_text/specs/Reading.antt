@@ -1,6 +1,6 @@
 -- How a text is read as a trace, line by line. LF ends a line. Empty lines and lines that begin with `#` are skipped,
 -- and counted.
-use Rattle.std.specs.Prelude.{ℕ, ◌+◌, ◌≡◌, ◌==◌, ◌&&◌, if◌then◌else◌, Bool, true, List, [], ◌∷◌, ◌++◌, length, is_none, option_map, option_and_then, option_to_list, ok_or, Option, Some, None, Result, Ok, Err}
+use Rattle.std.specs.Prelude.{ℕ, ◌+◌, ◌≡◌, ◌==◌, ◌&&◌, not, if◌then◌else◌, Bool, true, false, List, [], ◌∷◌, ◌++◌, length, is_none, option_map, option_and_then, option_to_list, ok_or, Option, Some, None, Result, Ok, Err}
 use Rattle.std.specs.List.{slice_split}
 use Rattle.adapter_table.specs.declared.profile.OutputPoint.{OutputPoint}
 use Rattle.adapter_table.specs.declared.profile.InputPoint.{InputPoint}
@@ -69,10 +69,14 @@ with_object front objects class = Some (Objects front (objects ++ class ∷ []))
 abbrev pub with_profile : ProfileFront → List ℕ → HeartbeatLine → Option TraceBuilder
 with_profile front objects heartbeat = Some (Events (config.Adapter (profile_with front.adapter front.outputs front.inputs front.config front.description front.limits objects heartbeat)) [] None)
 
--- a scanner's limit on numbers, which comes once and before all slots
-abbrev pub with_newer : ScannerLine → Option ℕ → List SlotConfig → LimitLine → Option TraceBuilder
-with_newer scanner newer slots (Newer within) = if is_none newer && length slots == 0 then Some (Slots scanner (Some within) slots) else None
-with_newer scanner newer slots other = None
+-- a scanner's limit on numbers, which comes once, before `tidy` and all slots
+abbrev pub with_newer : ScannerLine → Option ℕ → Bool → List SlotConfig → LimitLine → Option TraceBuilder
+with_newer scanner newer tidy slots (Newer within) = if is_none newer && (not tidy && length slots == 0) then Some (Slots scanner (Some within) tidy slots) else None
+with_newer scanner newer tidy slots other = None
+
+-- a scanner is tidy, which comes once and before all slots
+abbrev pub with_tidy : ScannerLine → Option ℕ → Bool → List SlotConfig → Option TraceBuilder
+with_tidy scanner newer tidy slots = if not tidy && length slots == 0 then Some (Slots scanner newer true slots) else None
 
 -- a part of the outcome of the event that came last, whose number it has
 abbrev pub with_part : Config → List Entry → Entry → ℕ → Part → Option TraceBuilder
@@ -81,7 +85,7 @@ with_part made_of entries last number parsed = if number == length entries + 1 t
 -- the part that was read so far, with one line more; None if the line is not allowed there
 abbrev pub builder_with : TraceBuilder → TraceLine → Option TraceBuilder
 builder_with Empty (line.Adapter adapter) = Some (Points adapter [] [])
-builder_with Empty (line.Scanner scanner) = Some (Slots scanner None [])
+builder_with Empty (line.Scanner scanner) = Some (Slots scanner None false [])
 builder_with (Points adapter outputs inputs) (line.Output output) = with_output adapter outputs inputs output
 builder_with (Points adapter outputs inputs) (line.Input input) = Some (Points adapter outputs (inputs ++ input ∷ []))
 builder_with (Points adapter outputs inputs) (line.Config point) = Some (Configured adapter outputs inputs point)
@@ -98,9 +102,10 @@ builder_with (Stated front) (line.Object class) = with_object front [] class
 builder_with (Stated front) (line.Heartbeat heartbeat) = with_profile front [] heartbeat
 builder_with (Objects front objects) (line.Object class) = with_object front objects class
 builder_with (Objects front objects) (line.Heartbeat heartbeat) = with_profile front objects heartbeat
-builder_with (Slots scanner newer slots) (line.Limit limit) = with_newer scanner newer slots limit
-builder_with (Slots scanner newer slots) (line.Slot slot) = Some (Slots scanner newer (slots ++ slot ∷ []))
-builder_with (Slots scanner newer slots) (line.Event event) = Some (Events (config.Scanner (scanner_with scanner newer slots)) [] (Some (event, None)))
+builder_with (Slots scanner newer tidy slots) (line.Limit limit) = with_newer scanner newer tidy slots limit
+builder_with (Slots scanner newer tidy slots) line.Tidy = with_tidy scanner newer tidy slots
+builder_with (Slots scanner newer tidy slots) (line.Slot slot) = Some (Slots scanner newer tidy (slots ++ slot ∷ []))
+builder_with (Slots scanner newer tidy slots) (line.Event event) = Some (Events (config.Scanner (scanner_with scanner newer tidy slots)) [] (Some (event, None)))
 builder_with (Events made_of entries last) (line.Event event) = Some (Events made_of (entries ++ option_to_list last) (Some (event, None)))
 builder_with (Events made_of entries (Some last)) (line.Recorded number parsed) = with_part made_of entries last number parsed
 builder_with builder parsed = None
@@ -140,7 +145,7 @@ judged_by made_of entries = judged (record { config = made_of; events = entries 
 
 -- the trace at the end of the text; the end is a bad line if the profile is not complete
 abbrev pub parsed : ℕ → TraceBuilder → Result Trace TraceFault
-parsed number (Slots scanner newer slots) = judged_by (config.Scanner (scanner_with scanner newer slots)) []
+parsed number (Slots scanner newer tidy slots) = judged_by (config.Scanner (scanner_with scanner newer tidy slots)) []
 parsed number (Events made_of entries last) = judged_by made_of (entries ++ option_to_list last)
 parsed number builder = Err (fault.BadLine number)
 

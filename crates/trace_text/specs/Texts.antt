@@ -38,8 +38,13 @@ heartbeat_line_of profile = record { input_only = profile.input_only; listen_onl
 abbrev pub scanner_line_of : ScannerProfile → ScannerLine
 scanner_line_of profile = record { incarnation = profile.incarnation; node = profile.node; vendor = profile.vendor; serial = profile.serial; open_timeout = profile.open_timeout; retry = profile.retry }
 
+-- the line of a scanner that is tidy
+abbrev pub tidy_lines : Bool → List TraceLine
+tidy_lines true = line.Tidy ∷ []
+tidy_lines false = []
+
 -- a profile: an adapter's outputs, inputs, configuration, description, limits, own classes and heartbeats, or a scanner's
--- limit on numbers and its slots
+-- limit on numbers, whether it is tidy, and its slots
 abbrev pub config_values : Config → List TraceLine
 config_values (config.Adapter profile) =
     line.Adapter (adapter_line_of profile)
@@ -52,7 +57,7 @@ config_values (config.Adapter profile) =
     ++ line.Heartbeat (heartbeat_line_of profile) ∷ []))))))
 config_values (config.Scanner profile) =
     line.Scanner (scanner_line_of profile)
-    ∷ (map line.Limit (option_to_list (option_map Newer profile.newer)) ++ map line.Slot profile.slots)
+    ∷ (map line.Limit (option_to_list (option_map Newer profile.newer)) ++ (tidy_lines profile.tidy ++ map line.Slot profile.slots))
 
 -- an outcome: the verdict, the frames, the datagrams and the notices, or the fault
 abbrev pub outcome_parts : Outcome → List Part

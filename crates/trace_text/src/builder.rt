@@ -3,7 +3,7 @@
 ghost use Rattle.std.specs.Prelude.{◌≡◌, ◌==◌, ◌+◌, [], length, ◌++◌, OnOk, option_to_list, Some};
 ghost use Rattle.trace_words.specs.Reader.{Finds};
 ghost use Rattle.cip_tables.specs.declared.table.Config.{Config};
-ghost use Rattle.trace_text.specs.Reading.{front_of, with_stated, with_object, with_profile, with_newer, builder_with, Leaves};
+ghost use Rattle.trace_text.specs.Reading.{front_of, with_stated, with_object, with_profile, with_newer, with_tidy, builder_with, Leaves};
 
 use crate::forms::TraceLine;
 use crate::kept::Recorded;
@@ -53,10 +53,11 @@ pub enum TraceBuilder {
     Stated(ProfileFront),
     /// A profile up to the classes of its maker's own objects.
     Objects(ProfileFront, Items<u32>),
-    /// A scanner's profile up to its slots, with the limit on numbers, if it has one.
+    /// A scanner's profile up to its slots, with the limit on numbers, if it has one, and whether it is tidy.
     Slots {
         scanner: ScannerLine,
         newer: Option<u32>,
+        tidy: bool,
         slots: Items<SlotConfig>,
     },
     /// The configuration of a device, and events with their recorded outcomes. The last outcome may get more parts.
@@ -114,8 +115,9 @@ fn builder_with(
         TraceBuilder::Slots {
             scanner,
             newer,
+            tidy,
             slots,
-        } => after_slots(alloc, scanner, newer, slots, parsed),
+        } => after_slots(alloc, scanner, newer, tidy, slots, parsed),
         TraceBuilder::Events {
             config,
             entries,
@@ -136,6 +138,7 @@ fn after_nothing(alloc: Global, parsed: TraceLine) -> Result<TraceBuilder, TextF
         TraceLine::Scanner(scanner) => Ok(TraceBuilder::Slots {
             scanner,
             newer: None,
+            tidy: false,
             slots: Items::new(alloc),
         }),
         _ => Err(TextFault::Bad),
@@ -325,45 +328,70 @@ fn after_slots(
     alloc: Global,
     scanner: ScannerLine,
     newer: Option<u32>,
+    tidy: bool,
     slots: Items<SlotConfig>,
     parsed: TraceLine,
 ) -> Result<TraceBuilder, TextFault>
-    ensures { Finds (builder_with (TraceBuilder.Slots scanner newer slots) parsed) result }
+    ensures { Finds (builder_with (TraceBuilder.Slots scanner newer tidy slots) parsed) result }
 {
     match parsed {
-        TraceLine::Limit(limit) => with_newer(scanner, newer, slots, limit),
+        TraceLine::Limit(limit) => with_newer(scanner, newer, tidy, slots, limit),
+        TraceLine::Tidy => with_tidy(scanner, newer, tidy, slots),
         TraceLine::Slot(slot) => Ok(TraceBuilder::Slots {
             scanner,
             newer,
+            tidy,
             slots: with_item(slots, slot)?,
         }),
         TraceLine::Event(event) => {
-            let config = Config::Scanner(scanner_with(scanner, newer, slots));
+            let config = Config::Scanner(scanner_with(scanner, newer, tidy, slots));
             Ok(after_profile(alloc, config, Some((event, None))))
         }
         _ => Err(TextFault::Bad),
     }
 }
 
-/// The limit on numbers, before all slots and once.
+/// The limit on numbers, before `tidy` and all slots, and once.
 fn with_newer(
     scanner: ScannerLine,
     newer: Option<u32>,
+    tidy: bool,
     slots: Items<SlotConfig>,
     limit: LimitLine,
 ) -> Result<TraceBuilder, TextFault>
-    ensures { Finds (with_newer scanner newer slots limit) result }
+    ensures { Finds (with_newer scanner newer tidy slots limit) result }
 {
     match limit {
-        LimitLine::Newer(within) if newer.is_none() && slots.as_slice().is_empty() => {
+        LimitLine::Newer(within) if newer.is_none() && !tidy && slots.as_slice().is_empty() => {
             Ok(TraceBuilder::Slots {
                 scanner,
                 newer: Some(within),
+                tidy,
                 slots,
             })
         }
         _ => Err(TextFault::Bad),
     }
+}
+
+/// A scanner is tidy, before all slots and once.
+fn with_tidy(
+    scanner: ScannerLine,
+    newer: Option<u32>,
+    tidy: bool,
+    slots: Items<SlotConfig>,
+) -> Result<TraceBuilder, TextFault>
+    ensures { Finds (with_tidy scanner newer tidy slots) result }
+{
+    if tidy || !slots.as_slice().is_empty() {
+        return Err(TextFault::Bad);
+    }
+    Ok(TraceBuilder::Slots {
+        scanner,
+        newer,
+        tidy: true,
+        slots,
+    })
 }
 
 fn after_events(

@@ -19,6 +19,8 @@ pub enum TraceLine {
     Object(u32),
     Heartbeat(HeartbeatLine),
     Scanner(ScannerLine),
+    /// A scanner closes each connection that its targets may have and no slot has.
+    Tidy,
     Slot(SlotConfig),
     Event(Event),
     /// A part of the outcome of the event of this number, from 1.

@@ -178,7 +178,7 @@ fn read_profile_line(
     words: &mut Words<'_>,
     word: &str,
 ) -> Result<TraceLine, TextFault>
-    ensures { Takes (meaning (take 14 line_meanings) (numbered (number_of 64 word.now)) word.now
+    ensures { Takes (meaning (take 15 line_meanings) (numbered (number_of 64 word.now)) word.now
         (unread_words words.old)) result (unread_words words.new) }
 {
     match word {
@@ -195,6 +195,7 @@ fn read_profile_line(
         "object" => read_object(words).map(TraceLine::Object),
         "heartbeat" => read_heartbeat(words).map(TraceLine::Heartbeat),
         "scanner" => read_scanner(words).map(TraceLine::Scanner),
+        "tidy" => words.last(TraceLine::Tidy),
         "slot" => read_slot(alloc, words).map(TraceLine::Slot),
         _ => read_recorded(alloc, words, word),
     }

@@ -147,9 +147,10 @@ fn parsed(alloc: Global, builder: TraceBuilder, number: u64) -> Result<Trace, Tr
         TraceBuilder::Slots {
             scanner,
             newer,
+            tidy,
             slots,
         } => judged(Trace {
-            config: Config::Scanner(scanner_with(scanner, newer, slots)),
+            config: Config::Scanner(scanner_with(scanner, newer, tidy, slots)),
             events: Items::new(alloc),
         }),
         TraceBuilder::Events {
