@@ -19,15 +19,15 @@ use Rattle.cip_events.specs.Clock.{longest_tick, clock_end}
 use Rattle.cip_productions.specs.Productions.{sent}
 use Rattle.scanner_table.specs.declared.explicit.PendingExplicit.{PendingExplicit}
 use Rattle.scanner_table.specs.declared.slot.SlotState.{SlotState}
-use Rattle.scanner_table.specs.declared.slot.SlotState.TheVariants.{Idle, Opening, Established, Closing}
+use Rattle.scanner_table.specs.declared.slot.SlotState.TheVariants.{Idle, Opening, Established, TimedOut, Closing}
 use Rattle.scanner_table.specs.declared.table.ScannerTable.{ScannerTable}
 use Rattle.scanner_table.specs.declared.table.Session.{Session}
 use Rattle.scanner_table.specs.declared.table.Stage.{Stage}
 use Rattle.scanner_table.specs.declared.table.Stage.TheVariants.{Waiting, Up, Unused}
 use Rattle.scanner_table.specs.declared.table.TargetStream.{TargetStream}
 use Rattle.scanner_table.specs.Requests.{is_large, sent_frame}
-use Rattle.scanner_table.specs.Closing.{idle_slot, target_lost, slot_resigned, closed_within, stopped, stopped_at}
-use Rattle.scanner_table.specs.Effects.{Next, Effect, and_then, changed, sent_answer, done}
+use Rattle.scanner_table.specs.Closing.{requested_link, target_lost, closed, slot_resigned, closed_within, dropped, stopped_desire, stopped, stopped_at}
+use Rattle.scanner_table.specs.Effects.{Next, Effect, and_then, sent_answer, done}
 use Rattle.scanner_table.specs.Explicit.{awaits, connects_to, has_explicit_length, is_barred, explicit_sent, explicit_within, explicit_sized, explicit_request, explicit_reply, unanswered_notice, replied_verdict, without_explicit, explicit_answered, explicit_timed_out, explicit_lost}
 use Rattle.scanner_table.specs.Encapsulation.{registering_on, stream_opened, stream_lost, message_answer, cut_of, stream_cut, is_registered, session_begun, session_failed, registered, ignored, is_awaiting, replied, replied_to, reported, frame_answer, frame_of, frame}
 use Rattle.scanner_table.specs.Points.{desired_slot, started, start_state, start_at, start, stop_of, stop}
@@ -43,7 +43,7 @@ use Rattle.answer_sizes.specs.Sizes.{IsShortFrame, IsShortDatagram, IsSmall}
 use Rattle.answer_sizes.proofs.Answers.{both_small, plain_small, AnswersSmall}
 use Rattle.answer_sizes.proofs.Few.{Few, few_none, few_one, few_most, few_mapped, each_found, either}
 use Rattle.answer_sizes.proofs.ScannerDatagrams.{due_few}
-use Rattle.answer_sizes.proofs.ScannerFrames.{HasShortRequests, SendsRequests, few_slots, opened_sends, target_sends, closed_sends, IsQuiet, lost_quiet, answered_quiet, advanced_sends}
+use Rattle.answer_sizes.proofs.ScannerFrames.{HasShortRequests, SendsRequests, few_slots, opened_sends, target_sends, closed_sends, dropped_sends, ended_sends, answered_sends, lost_quiet, advanced_sends}
 use Rattle.answer_sizes.proofs.ScannerRequests.{IsShortRequest, registration_short, requesting_short}
 use Rattle.scanner_table.specs.Lemmas.SlotEventLemmas.{slots_hold}
 
@@ -61,9 +61,6 @@ done_small effect few_requests = effect_small effect [] few_requests (few_none 6
 
 once_small : (effect : Effect) → SendsRequests 1 effect → IsSmall (done effect).0
 once_small effect few_requests = done_small effect (few_most 64 1 IsShortRequest effect.sent (omega arith) few_requests)
-
-quiet_small : (t : ScannerTable) (effect : Effect) → IsQuiet t effect → IsSmall (done effect).0
-quiet_small t effect quiet = done_small effect (subst (Few 64 IsShortRequest) (sym quiet.silent) (few_none 64 IsShortRequest))
 
 -- ---- streams and messages
 
@@ -96,18 +93,19 @@ registered_sends : (t : ScannerTable) (stream : TargetStream) (m : MessageFields
 registered_sends t stream m none =
     either (SendsRequests 64) (is_registered m) (session_begun t stream m.session) (session_failed t stream) (target_sends stream.peer (with_stage t stream.number (Up m.session)) none) (few_none 64 IsShortRequest)
 
-replied_small : (t : ScannerTable) (indexed : IndexedSlot) (m : MessageFields) (state : SlotState) → IsSmall (replied t indexed m state).0
-replied_small t indexed m (Opening o) = quiet_small t (answered t indexed o (open_answer (is_large indexed.config) m)) (answered_quiet t indexed o (open_answer (is_large indexed.config) m))
-replied_small t indexed m (Closing c) = done_small (changed t indexed (idle_slot indexed.slot) []) (few_none 64 IsShortRequest)
-replied_small t indexed m other = plain_small Ignored
+replied_small : (t : ScannerTable) (indexed : IndexedSlot) (m : MessageFields) (state : SlotState) → HasShortRequests indexed → IsSmall (replied t indexed m state).0
+replied_small t indexed m (Opening o) few = once_small (answered t indexed o (open_answer (is_large indexed.config) m)) (answered_sends t indexed o (open_answer (is_large indexed.config) m) few)
+replied_small t indexed m (Closing c) few = once_small (closed t indexed) (ended_sends t indexed few)
+replied_small t indexed m other few = plain_small Ignored
 
-awaited_small : (t : ScannerTable) (m : MessageFields) (found : Option IndexedSlot) → IsSmall (replied_to t m found).0
-awaited_small t m None = plain_small Ignored
-awaited_small t m (Some indexed) = replied_small t indexed m indexed.slot.state
+awaited_small : (t : ScannerTable) (m : MessageFields) (found : Option IndexedSlot) → IfSome found HasShortRequests → IsSmall (replied_to t m found).0
+awaited_small t m None few = plain_small Ignored
+awaited_small t m (Some indexed) few = replied_small t indexed m indexed.slot.state few
 
 reported_small : (t : ScannerTable) (stream : TargetStream) (m : MessageFields) (stage : Stage) → profile_fault t.profile ≡ None → IsSmall (reported t stream m stage).0
 reported_small t stream m Waiting none = either NextSmall (m.context == 0) (done (registered t stream m)) (ignored t) (done_small (registered t stream m) (registered_sends t stream m none)) (plain_small Ignored)
-reported_small t stream m (Up handle) none = awaited_small t m (find (is_awaiting stream.peer m.context) (indexed_slots t))
+reported_small t stream m (Up handle) none =
+    awaited_small t m (find (is_awaiting stream.peer m.context) (indexed_slots t)) (each_found HasShortRequests (is_awaiting stream.peer m.context) (indexed_slots t) (few_slots t none).each)
 reported_small t stream m Unused none = plain_small Ignored
 
 explicit_answered_small : (t : ScannerTable) (pending : PendingExplicit) (reply : Result RouterReplyFields Unanswered) → IsSmall (explicit_answered t pending reply).0
@@ -160,11 +158,15 @@ state_started t indexed Idle few =
     either (AnswersSmall {T = ScannerTable}) indexed.slot.desired_up (Err fault.NotAllowedNow) (Ok (done (started t indexed slot))) tt (once_small (started t indexed slot) (opened_sends (with_slot t indexed.number slot) (record indexed { slot = slot }) few))
 state_started t indexed other few = tt
 
+resigned_small : (t : ScannerTable) (indexed : IndexedSlot) → AnswersSmall (stop_of (stopped_desire t indexed))
+resigned_small t indexed = either (λ said. AnswersSmall (stop_of said)) indexed.slot.desired_up (Ok (slot_resigned t indexed)) (Err fault.NotAllowedNow) (done_small (slot_resigned t indexed) (few_none 64 IsShortRequest)) tt
+
 state_stopped : (t : ScannerTable) (indexed : IndexedSlot) (state : SlotState) → HasShortRequests indexed → AnswersSmall (stop_of (stopped t indexed state))
-state_stopped t indexed Idle few = either (λ said. AnswersSmall (stop_of said)) indexed.slot.desired_up (Ok (slot_resigned t indexed)) (Err fault.NotAllowedNow) (done_small (slot_resigned t indexed) (few_none 64 IsShortRequest)) tt
-state_stopped t indexed (Established c) few = once_small (closed_within t indexed c (session_with t indexed.config.target)) (closed_sends t indexed c (session_with t indexed.config.target) few)
-state_stopped t indexed (Closing c) few = tt
-state_stopped t indexed other few = done_small (slot_resigned t indexed) (few_none 64 IsShortRequest)
+state_stopped t indexed Idle few = resigned_small t indexed
+state_stopped t indexed (Opening o) few = once_small (dropped t indexed (requested_link o.requested)) (dropped_sends t indexed (requested_link o.requested) few)
+state_stopped t indexed (Established c) few = once_small (closed_within t indexed c.link (session_with t indexed.config.target)) (closed_sends t indexed c.link (session_with t indexed.config.target) few)
+state_stopped t indexed (TimedOut link) few = once_small (dropped t indexed link) (dropped_sends t indexed link few)
+state_stopped t indexed (Closing c) few = resigned_small t indexed
 
 -- the slot that the lookup found has short requests
 found_sends : (t : ScannerTable) (number : ℕ) → profile_fault t.profile ≡ None → IfSome (slot_at t number) HasShortRequests

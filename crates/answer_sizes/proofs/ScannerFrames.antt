@@ -1,34 +1,36 @@
 -- The frames of a scanner: an event sends one request at most for each slot, and each request is short.
-use Rattle.std.proofs.Common.{◌≡◌, ◌≤◌, ℕ, suc, ◌+◌, true, List, [], ◌∷◌, ◌++◌, length, filter, Option, Some, None, Result, Ok, Err, refl, sym, ◌∙◌, subst, arith}
+use Rattle.std.proofs.Common.{◌≡◌, ◌≤◌, ℕ, suc, ◌+◌, Bool, true, false, cond, List, [], ◌∷◌, ◌++◌, length, filter, Option, Some, None, Result, Ok, Err, refl, sym, ◌∙◌, subst, arith}
 use Rattle.std.specs.List.{AllByRecursion, list_all}
 use Rattle.std.proofs.lemmas.Bool.{not-false, and_parts}
 use Rattle.std.proofs.lemmas.Bool.Decides.{nat_tests}
 use Rattle.cip_types.specs.Cases.{first_case}
 use Rattle.cip_types.specs.declared.names.Mismatch.{Mismatch}
 use Rattle.cip_types.specs.declared.names.Node.{Node}
+use Rattle.cip_types.specs.declared.names.Triad.{Triad}
 use Rattle.cip_events.specs.declared.event.Reason.{Reason}
+use Rattle.cip_events.specs.declared.event.Reason.TheVariants as reason
 use Rattle.cip_fwdopen.specs.declared.reply.Opened as made
 use Rattle.cip_fwdopen.specs.declared.reply.OpenAnswer.{OpenAnswer}
 use Rattle.cip_fwdopen.specs.declared.reply.OpenAnswer.TheVariants as answer
 use Rattle.conn_state.specs.Answers.{answer_tests}
+use Rattle.conn_state.specs.declared.names.Link.{Link}
 use Rattle.adapter_table.specs.Shaping.{all_pass}
 use Rattle.scanner_table.specs.declared.profile.ScannerProfile.{ScannerProfile}
 use Rattle.scanner_table.specs.declared.profile.SlotConfig.{SlotConfig}
-use Rattle.scanner_table.specs.declared.slot.SlotConnection.{SlotConnection}
 use Rattle.scanner_table.specs.declared.slot.PendingOpen as opening
 use Rattle.scanner_table.specs.declared.slot.Slot.{Slot}
 use Rattle.scanner_table.specs.declared.slot.SlotState.{SlotState}
-use Rattle.scanner_table.specs.declared.slot.SlotState.TheVariants.{Opening, Established}
+use Rattle.scanner_table.specs.declared.slot.SlotState.TheVariants.{Opening, Established, TimedOut}
 use Rattle.scanner_table.specs.declared.table.ScannerTable.{ScannerTable}
 use Rattle.scanner_table.specs.declared.table.Session.{Session}
 use Rattle.scanner_table.specs.Requests.{is_large, next_requested}
-use Rattle.scanner_table.specs.Closing.{given_up_state, given_up, target_lost, close_requested, closed_within}
-use Rattle.scanner_table.specs.Effects.{Effect, and_then, on_each}
-use Rattle.scanner_table.specs.Opening.{has_request, can_open, open_requested, exhausted, opened_within, opened, is_ready_slot, ready_slots, ready_opened, target_opened}
+use Rattle.scanner_table.specs.Closing.{idle_slot, given_up_state, given_up, target_lost, reopened, closed, slot_resigned, closed_within, dropped}
+use Rattle.scanner_table.specs.Effects.{Effect, nothing, and_then, on_each}
+use Rattle.scanner_table.specs.Opening.{has_request, can_open, open_requested, exhausted, opened_within, close_requested, cleared_within, opened_from, opened, is_ready_slot, ready_slots, ready_opened, target_opened}
 use Rattle.scanner_table.specs.Profiles.{are_few, listens_to_group, is_config, has_lengths, profile_tests, profile_fault}
-use Rattle.scanner_table.specs.Replies.{is_id_free, judged_success, answered}
+use Rattle.scanner_table.specs.Replies.{is_id_free, refused, disowned, disowned_within, rejected, judged_success, answered}
 use Rattle.scanner_table.specs.Sessions.{session_with}
-use Rattle.scanner_table.specs.Slots.{IndexedSlot, indexed_from, indexed_slots, is_with}
+use Rattle.scanner_table.specs.Slots.{IndexedSlot, indexed_from, indexed_slots, is_with, with_slot}
 use Rattle.scanner_table.specs.Ticks.{expired_state, expired, expired_slots, all_expired, is_overdue, all_given_up, advanced}
 use Rattle.answer_sizes.proofs.Few.{Few, few_none, few_one, few_more, few_most, few_both, few_filtered, either}
 use Rattle.answer_sizes.proofs.ScannerRequests.{HasFewData, IsShortRequest, open_short, close_short}
@@ -86,9 +88,24 @@ within_sends t indexed (Some session) few =
     either (SendsRequests 1) (can_open t indexed.config) (open_requested t indexed session) (exhausted t indexed)
     (few_one 1 IsShortRequest _ (omega arith) (open_short session t.next_request (is_large indexed.config) indexed.config (next_requested t indexed.config) few)) (few_none 1 IsShortRequest)
 
+-- a Forward_Close of a slot
+close_sends : (t : ScannerTable) (indexed : IndexedSlot) (link : Link) (desired_up : Bool) (session : Session) → HasShortRequests indexed → SendsRequests 1 (cond (has_request t) (close_requested t indexed link desired_up session) (exhausted t indexed))
+close_sends t indexed link desired_up session few =
+    either (SendsRequests 1) (has_request t) (close_requested t indexed link desired_up session) (exhausted t indexed)
+    (few_one 1 IsShortRequest _ (omega arith) (close_short session t.next_request indexed.config link.triad few)) (few_none 1 IsShortRequest)
+
+cleared_sends : (t : ScannerTable) (indexed : IndexedSlot) (link : Link) (session : Option Session) → HasShortRequests indexed → SendsRequests 1 (cleared_within t indexed link session)
+cleared_sends t indexed link None few = few_none 1 IsShortRequest
+cleared_sends t indexed link (Some session) few = close_sends t indexed link indexed.slot.desired_up session few
+
+from_sends : (t : ScannerTable) (indexed : IndexedSlot) (session : Option Session) (state : SlotState) → HasShortRequests indexed → SendsRequests 1 (opened_from t indexed session state)
+from_sends t indexed session (TimedOut link) few =
+    either (SendsRequests 1) t.profile.tidy (cleared_within t indexed link session) (opened_within t indexed session) (cleared_sends t indexed link session few) (within_sends t indexed session few)
+from_sends t indexed session other few = within_sends t indexed session few
+
 pub opened_sends : (t : ScannerTable) (indexed : IndexedSlot) → HasShortRequests indexed → SendsRequests 1 (opened t indexed)
 unfolding opened
-opened_sends t indexed few = within_sends t indexed (session_with t indexed.config.target) few
+opened_sends t indexed few = from_sends t indexed (session_with t indexed.config.target) indexed.slot.state few
 
 each_sends : (all : List IndexedSlot) → AllByRecursion HasShortRequests all → (t : ScannerTable) → SendsRequests (length all) (on_each opened all t)
 each_sends [] few t = few_none 0 IsShortRequest
@@ -114,11 +131,44 @@ target_sends target t none = few_send (filter (is_with target) (ready_slots t)) 
 
 -- ---- closings
 
-pub closed_sends : (t : ScannerTable) (indexed : IndexedSlot) (c : SlotConnection) (session : Option Session) → HasShortRequests indexed → SendsRequests 1 (closed_within t indexed c session)
-closed_sends t indexed c None few = few_none 1 IsShortRequest
-closed_sends t indexed c (Some session) few =
-    either (SendsRequests 1) (has_request t) (close_requested t indexed c session) (exhausted t indexed)
-    (few_one 1 IsShortRequest _ (omega arith) (close_short session t.next_request indexed.config c.link.triad few)) (few_none 1 IsShortRequest)
+pub closed_sends : (t : ScannerTable) (indexed : IndexedSlot) (link : Link) (session : Option Session) → HasShortRequests indexed → SendsRequests 1 (closed_within t indexed link session)
+closed_sends t indexed link None few = few_none 1 IsShortRequest
+closed_sends t indexed link (Some session) few = close_sends t indexed link false session few
+
+pub dropped_sends : (t : ScannerTable) (indexed : IndexedSlot) (link : Link) → HasShortRequests indexed → SendsRequests 1 (dropped t indexed link)
+dropped_sends t indexed link few =
+    either (SendsRequests 1) t.profile.tidy (closed_within t indexed link (session_with t indexed.config.target)) (slot_resigned t indexed) (closed_sends t indexed link (session_with t indexed.config.target) few) (few_none 1 IsShortRequest)
+
+-- any reply to a Forward_Close
+reopened_sends : (t : ScannerTable) (indexed : IndexedSlot) → HasShortRequests indexed → SendsRequests 1 (reopened indexed t)
+reopened_sends t indexed few = either (SendsRequests 1) indexed.slot.desired_up (opened t indexed) (nothing t) (opened_sends t indexed few) (few_none 1 IsShortRequest)
+
+pub ended_sends : (t : ScannerTable) (indexed : IndexedSlot) → HasShortRequests indexed → SendsRequests 1 (closed t indexed)
+ended_sends t indexed few =
+    let slot : Slot = idle_slot indexed.slot in
+    reopened_sends (with_slot t indexed.number slot) (record indexed { slot = slot }) few
+
+-- ---- replies
+
+disowned_sends : (t : ScannerTable) (config : SlotConfig) (triad : Triad) (session : Option Session) → HasFewData config → SendsRequests 1 (disowned_within t config triad session)
+disowned_sends t config triad None few = few_none 1 IsShortRequest
+disowned_sends t config triad (Some session) few =
+    either (SendsRequests 1) (has_request t) (disowned t config triad session) (nothing t)
+    (few_one 1 IsShortRequest _ (omega arith) (close_short session t.next_request config triad few)) (few_none 1 IsShortRequest)
+
+rejected_sends : (t : ScannerTable) (config : SlotConfig) (triad : Triad) → HasFewData config → SendsRequests 1 (rejected config triad t)
+rejected_sends t config triad few =
+    either (SendsRequests 1) t.profile.tidy (disowned_within t config triad (session_with t config.target)) (nothing t) (disowned_sends t config triad (session_with t config.target) few) (few_none 1 IsShortRequest)
+
+success_sends : (t : ScannerTable) (indexed : IndexedSlot) (o : opening.PendingOpen) (success : made.Opened) (why : Option Mismatch) → HasShortRequests indexed → SendsRequests 1 (judged_success t indexed o success why)
+success_sends t indexed o success None few = few_none 1 IsShortRequest
+success_sends t indexed o success (Some why) few = rejected_sends (refused t indexed (reason.Mismatch why)).table indexed.config o.requested.triad few
+
+pub answered_sends : (t : ScannerTable) (indexed : IndexedSlot) (o : opening.PendingOpen) (says : Result OpenAnswer Reason) → HasShortRequests indexed → SendsRequests 1 (answered t indexed o says)
+unfolding answered
+answered_sends t indexed o (Err why) few = few_none 1 IsShortRequest
+answered_sends t indexed o (Ok (answer.Refused r)) few = few_none 1 IsShortRequest
+answered_sends t indexed o (Ok (answer.Opened success)) few = success_sends t indexed o success (first_case (answer_tests o.requested success (is_id_free t indexed success.t_o_id))) few
 
 -- ---- effects without a request
 
@@ -148,16 +198,6 @@ expired_quiet t indexed other = record { silent = refl; profile = refl }
 pub lost_quiet : (target : Node) (t : ScannerTable) → IsQuiet t (target_lost target t)
 unfolding target_lost
 lost_quiet target t = each_quiet given_up (λ u indexed. given_quiet u indexed indexed.slot.state) (filter (is_with target) (indexed_slots t)) t
-
-success_quiet : (t : ScannerTable) (indexed : IndexedSlot) (o : opening.PendingOpen) (success : made.Opened) (why : Option Mismatch) → IsQuiet t (judged_success t indexed o success why)
-success_quiet t indexed o success None = record { silent = refl; profile = refl }
-success_quiet t indexed o success (Some why) = record { silent = refl; profile = refl }
-
-pub answered_quiet : (t : ScannerTable) (indexed : IndexedSlot) (o : opening.PendingOpen) (says : Result OpenAnswer Reason) → IsQuiet t (answered t indexed o says)
-unfolding answered
-answered_quiet t indexed o (Err why) = record { silent = refl; profile = refl }
-answered_quiet t indexed o (Ok (answer.Refused r)) = record { silent = refl; profile = refl }
-answered_quiet t indexed o (Ok (answer.Opened success)) = success_quiet t indexed o success (first_case (answer_tests o.requested success (is_id_free t indexed success.t_o_id)))
 
 -- ---- a tick
 

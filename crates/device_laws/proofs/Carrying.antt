@@ -29,8 +29,11 @@ use Rattle.cip_types.specs.Ids.{connection_id}
 use Rattle.scanner_table.specs.Requests.{next_t_o_id, id_or_zero}
 use Rattle.scanner_table.specs.Effects.{Next as ScannerNext}
 use Rattle.scanner_table.specs.Replies.{packet_answer, command_answer, open_answer}
+use Rattle.scanner_table.specs.Closing.{requested_link}
+use Rattle.scanner_table.specs.Lemmas.Moves.{link_in}
 use Rattle.scanner_table.specs.Slots.{IndexedSlot, indexed_slots}
 use Rattle.scanner_table.specs.Step.{scanner_step}
+use Rattle.std.proofs.lemmas.Option.{same_Some}
 use Rattle.device_laws.specs.Newest.{came_from}
 use Rattle.cip_tables.specs.declared.table.DeviceTable.{DeviceTable}
 use Rattle.cip_tables.specs.declared.table.DeviceTable.TheVariants.{Adapter, Scanner}
@@ -99,11 +102,19 @@ zero_or : (P : ℕ → Type 0) (id : Option ConnId) → P 0 → RequestedId P id
 zero_or P None zero_passes requested = zero_passes
 zero_or P (Some id) zero_passes requested = requested
 
-ids_kept : (P : ℕ → Type 0) (t : ScannerTable) (to : ℕ) (happens : Event) → IdsFromTo P t.profile.incarnation t.next_id to → EventIds P happens → Kept (ById P) t to happens
-ids_kept P t to happens drawn ids = record {
+-- the ids of the connection that the slot has, or asked for
+link_ids : (P : ℕ → Type 0) → P 0 → (state : SlotState) (link : Link) → link_in state ≡ Some link → StateIds P state → LinkIds P link
+link_ids P zero_passes Idle link from is = absurd cc
+link_ids P zero_passes (Opening o) link from is = subst (LinkIds P) (same_Some (requested_link o.requested) link from) (zero_passes, zero_or P o.requested.t_o_id zero_passes is)
+link_ids P zero_passes (Established c) link from is = subst (LinkIds P) (same_Some c.link link from) is
+link_ids P zero_passes (TimedOut other) link from is = subst (LinkIds P) (same_Some other link from) is
+link_ids P zero_passes (Closing c) link from is = absurd cc
+
+ids_kept : (P : ℕ → Type 0) → P 0 → (t : ScannerTable) (to : ℕ) (happens : Event) → IdsFromTo P t.profile.incarnation t.next_id to → EventIds P happens → Kept (ById P) t to happens
+ids_kept P zero_passes t to happens drawn ids = record {
   rests = λ number config. tt;
-  times_out = λ number config c is. is;
-  closes = λ number config c close same is. subst (LinkIds P) (sym same) is;
+  times_out = λ number config link state from is. link_ids P zero_passes state link from is;
+  closes = λ number config link state close same from is. subst (LinkIds P) (sym same) (link_ids P zero_passes state link from is);
   goes_on = λ number config c d opening link is. subst (LinkIds P) (sym link) is;
   opens = λ number config now o can request requested. let e = ap (λ (w : Requested). w.t_o_id) requested in subst (RequestedId P) (sym e) (next_requested_id P t now config to can drawn);
   establishes = λ number config o success c waits replied matches opening link is. subst (LinkIds P) (sym link) (replied_ids P t happens config o.request success replied ids);
@@ -138,7 +149,7 @@ steps_carry back few ids openings (Scanner t) happens a next is whole fits zero_
     let small = few (Scanner t) happens a next whole is in
     let done = scanner_carries (ById (Passes ids)) (Passes ids) (scanner_step t happens) a next is
     (scanner_holds back (ById (Passes ids)) (Passes ids) (cuts_passing ids fits) (λ number config c link. link.0) (next_id_of next) t happens
-    (ids_kept (Passes ids) t (next_id_of next) happens drawn event_ids)
+    (ids_kept (Passes ids) zero_passes t (next_id_of next) happens drawn event_ids)
     (λ now config can. zero_or (Passes ids) (next_t_o_id now config) zero_passes (next_requested_id (Passes ids) t now config (next_id_of next) can drawn)) table) small in
     (subst (TableIds ids openings) (sym done.1) done.3, done.2)
 
@@ -181,8 +192,8 @@ requested_from profile first (Some requested) id is wants = subst (IsFrom profil
 from_kept : (request first : ℕ) (t : ScannerTable) (to : ℕ) (happens : Event) → first ≤ t.next_id → to ≤ 2 ^ 24 → Kept (From t.profile request first) t to happens
 from_kept request first t to happens below in_range = record {
   rests = λ number config single. tt;
-  times_out = λ number config c is single. tt;
-  closes = λ number config c close same is single. tt;
+  times_out = λ number config link state from is single. tt;
+  closes = λ number config link state close same from is single. tt;
   goes_on = λ number config c d opening link is single over.
       let before = is single (omega (arith, over, opening)) in
       subst (IsFrom t.profile first) (ap (λ (l : Link). l.t_o_id) (sym link)) before;
@@ -208,8 +219,8 @@ came_same t happens number a b same is = subst (λ (n : ℕ). Stands t number n 
 came_kept : (t : ScannerTable) (to : ℕ) (happens : Event) → Kept (Came t happens) t to happens
 came_kept t to happens = record {
   rests = λ number config. tt;
-  times_out = λ number config c is. tt;
-  closes = λ number config c close same is. tt;
+  times_out = λ number config link state from is. tt;
+  closes = λ number config link state close same from is. tt;
   goes_on = λ number config c d opening link is. came_same t happens number c.opening d.opening opening is;
   opens = λ number config now o can numbered requested. tt;
   establishes = λ number config o success c waits replied matches opening link is.

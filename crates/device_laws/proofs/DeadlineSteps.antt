@@ -26,7 +26,7 @@ use Rattle.scanner_table.specs.Slots.{IndexedSlot, indexed_slots, is_numbered, w
 use Rattle.scanner_table.specs.Effects.{Next, Effect, on_each}
 use Rattle.scanner_table.specs.Opening.{ready_opened}
 use Rattle.scanner_table.specs.Replies.{failed_slot}
-use Rattle.scanner_table.specs.Closing.{idle_slot, given_up_state, given_up}
+use Rattle.scanner_table.specs.Closing.{requested_link, left_state, idle_slot, given_up_state, given_up}
 use Rattle.scanner_table.specs.Productions.{written_state, state_is_due, produced_state, produced_table}
 use Rattle.scanner_table.specs.Ticks.{state_has_expired, has_expired, by_deadline, expired_slots, expired_state, expired, all_expired, state_is_overdue, is_overdue, all_given_up, clocked_table, advanced, moved_on, ticked, tick}
 use Rattle.scanner_table.specs.Explicit.{explicit_timed_out}
@@ -46,8 +46,8 @@ clock_kept = record {
   after = λ t u v first next. next ∙ first;
   opening = λ t indexed stands closed_before. refl;
   idling = λ t indexed slot stands idle. refl;
-  timing_out = λ t indexed c stands is. refl;
-  closing = λ t indexed c stands is. refl;
+  timing_out = λ t indexed link slot stands is becomes. refl;
+  closing = λ t indexed link desired_up stands is. refl;
 }
 
 -- ---- an effect on each slot of which a test holds leaves none of which it holds
@@ -166,9 +166,13 @@ expired_clears k t indexed (Established c) is stands late local = set_clears (st
 expired_clears k t indexed (TimedOut link) is stands late local = absurd cc
 expired_clears k t indexed (Closing c) is stands late local = absurd cc
 
+left_rests : (b : Bool) (k : Ms) (link : Link) → state_is_overdue k (cond b (TimedOut link) Idle) ≡ false
+left_rests true k link = refl
+left_rests false k link = refl
+
 given_clears : (k : Ms) (t : ScannerTable) (indexed : IndexedSlot) (state : SlotState) → indexed.slot.state ≡ state → Stands t indexed → state_is_overdue k state ≡ true → Local indexed.number t (given_up_state t indexed state).table → Clears (state_is_overdue k) indexed t (given_up_state t indexed state).table
 given_clears k t indexed Idle is stands late local = absurd cc
-given_clears k t indexed (Opening o) is stands late local = set_clears (state_is_overdue k) t indexed (failed_slot t Idle indexed.slot) stands local refl
+given_clears k t indexed (Opening o) is stands late local = set_clears (state_is_overdue k) t indexed (failed_slot t (left_state t (requested_link o.requested)) indexed.slot) stands local (left_rests t.profile.tidy k (requested_link o.requested))
 given_clears k t indexed (Established c) is stands late local = absurd cc
 given_clears k t indexed (TimedOut link) is stands late local = absurd cc
 given_clears k t indexed (Closing c) is stands late local = set_clears (state_is_overdue k) t indexed (idle_slot indexed.slot) stands local refl
@@ -257,8 +261,8 @@ clear_widely k test calms = record {
   after = λ t u v number config a b c first next before behind from wait is. behind (omega (arith, from, first.clock)) (subst (λ (p : ScannerProfile). 1 ≤ p.open_timeout) (sym first.profile) wait) (before from wait is);
   opening = λ t indexed closed_before from wait is. calms.opening _ (not_yet k.0 t.clock.0 t.profile.open_timeout from wait);
   idling = λ t indexed slot idle from wait is. rw idle.state calms.idle;
-  timing_out = λ t indexed c was from wait is. calms.timed_out c.link;
-  closing = λ t indexed c was from wait is. calms.closing _ (not_yet k.0 t.clock.0 t.profile.open_timeout from wait);
+  timing_out = λ t indexed link slot was becomes from wait is. rw becomes.state (calms.timed_out link);
+  closing = λ t indexed link desired_up was from wait is. calms.closing _ (not_yet k.0 t.clock.0 t.profile.open_timeout from wait);
   producing = λ t number config slot from wait is. due_clear (state_is_due t.clock slot.state) k test t.clock slot calms is;
   moding = λ t run indexed from wait is. moded_clear (is_owner indexed.config.kind) k test indexed.slot calms is;
 }

@@ -3,6 +3,7 @@ use Rattle.std.proofs.Common.{◌≡◌, ◌≤◌, ◌⊎◌, inl, inr, ℕ, �
 use Rattle.cip_types.specs.declared.names.ConnId.{ConnId}
 use Rattle.cip_types.specs.declared.names.Ms.{Ms}
 use Rattle.cip_productions.specs.Kinds.{is_owner}
+use Rattle.conn_state.specs.declared.names.Link.{Link}
 use Rattle.scanner_table.specs.declared.profile.ScannerProfile.{ScannerProfile}
 use Rattle.scanner_table.specs.declared.profile.SlotConfig.{SlotConfig}
 use Rattle.scanner_table.specs.declared.slot.PendingOpen as pending
@@ -89,6 +90,9 @@ moded_opening false slot opening is = is
 idle_opens_none : (state : SlotState) (opening : pending.PendingOpen) → state ≡ Idle → state ≡ Opening opening → ⊥
 idle_opens_none state opening idle is = absurd cc
 
+timed_out_opens_none : (state : SlotState) (link : Link) (opening : pending.PendingOpen) → state ≡ TimedOut link → state ≡ Opening opening → ⊥
+timed_out_opens_none state link opening timed_out is = absurd (let e : TimedOut link ≡ Opening opening = sym timed_out ∙ is in cc)
+
 opens_always : SlotwiseAlways Opens
 opens_always = record {
   widely = record {
@@ -98,8 +102,8 @@ opens_always = record {
         let same : (opening_slot t indexed).state ≡ Opening opening = is in
         inr (subst (Began t _ indexed.config) (opens_is _ opening is) (record { begins = omega arith; ends = omega arith; id = next_drawn t.profile t.next_id indexed.config.multicast }));
     idling = λ t indexed slot idle opening is. absurd (idle_opens_none slot.state opening idle.state is);
-    timing_out = λ t indexed c was opening is. absurd cc;
-    closing = λ t indexed c was opening is. absurd cc;
+    timing_out = λ t indexed link slot was becomes opening is. absurd (timed_out_opens_none slot.state link opening becomes.state is);
+    closing = λ t indexed link desired_up was opening is. absurd cc;
     producing = λ t number config slot opening is. inl (due_opening (state_is_due t.clock slot.state) t.clock slot opening is);
     moding = λ t run indexed opening is. inl (moded_opening (is_owner indexed.config.kind) indexed.slot opening is);
   };

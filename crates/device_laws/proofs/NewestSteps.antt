@@ -19,6 +19,7 @@ use Rattle.cip_events.specs.Answers.{is_accepted}
 use Rattle.cip_productions.specs.declared.acceptance.Accepted.{Accepted}
 use Rattle.cip_productions.specs.Acceptance.{accepts_sequence, is_duplicate}
 use Rattle.cip_productions.specs.Kinds.{is_owner}
+use Rattle.conn_state.specs.declared.names.Link.{Link}
 use Rattle.scanner_table.specs.declared.profile.SlotConfig.{SlotConfig}
 use Rattle.scanner_table.specs.declared.slot.SlotConnection.{SlotConnection}
 use Rattle.scanner_table.specs.declared.slot.Slot.{Slot}
@@ -62,6 +63,9 @@ numbered_is r state other is numbered = subst (StateIsNumbered r) is numbered
 idle_numbered : (r : ℕ) (state : SlotState) → state ≡ Idle → StateIsNumbered r state
 idle_numbered r state is = rw is tt
 
+timed_out_numbered : (r : ℕ) (link : Link) (state : SlotState) → state ≡ TimedOut link → StateIsNumbered r state
+timed_out_numbered r link state is = rw is tt
+
 written_numbered : (r : ℕ) (state : SlotState) → StateIsNumbered r state → StateIsNumbered r (written_state state)
 written_numbered r Idle numbered = tt
 written_numbered r (Opening o) numbered = numbered
@@ -95,8 +99,8 @@ numbered_always = record {
     after = λ t u v number config a b c first next before behind numbered. behind (before numbered);
     opening = λ t indexed closed_before numbered. omega arith;
     idling = λ t indexed slot idle numbered. idle_numbered t.next_request slot.state idle.state;
-    timing_out = λ t indexed c is numbered. tt;
-    closing = λ t indexed c is numbered. tt;
+    timing_out = λ t indexed link slot is becomes numbered. timed_out_numbered t.next_request link slot.state becomes.state;
+    closing = λ t indexed link desired_up is numbered. tt;
     producing = table_numbered;
     moding = λ t run indexed numbered. moded_numbered (is_owner indexed.config.kind) t.next_request indexed.slot numbered;
   };
@@ -166,6 +170,9 @@ moded_remembers false opening last slot remembers = remembers
 idle_remembers : (opening : ℕ) (last : Option Accepted) (state : SlotState) → state ≡ Idle → StateRemembers opening last state
 idle_remembers opening last state is = rw is tt
 
+timed_out_remembers : (opening : ℕ) (last : Option Accepted) (link : Link) (state : SlotState) → state ≡ TimedOut link → StateRemembers opening last state
+timed_out_remembers opening last link state is = rw is tt
+
 remembers_is : (opening : ℕ) (last : Option Accepted) (state other : SlotState) → state ≡ other → StateRemembers opening last state → StateRemembers opening last other
 remembers_is opening last state other is remembers = subst (StateRemembers opening last) is remembers
 
@@ -183,8 +190,8 @@ remembers_widely opening last = record {
   after = λ t u v number config a b c first next before behind knows. behind (before knows);
   opening = λ t indexed closed_before knows. record { numbered = omega arith; unopened = λ more. knows.unopened (omega (arith, more)); remembers = λ is. knows.unopened (omega (arith, is)) };
   idling = λ t indexed slot idle knows. record { numbered = idle_numbered t.next_request slot.state idle.state; unopened = knows.unopened; remembers = idle_remembers opening last slot.state idle.state };
-  timing_out = λ t indexed c is knows. record { numbered = tt; unopened = knows.unopened; remembers = tt };
-  closing = λ t indexed c is knows. record { numbered = tt; unopened = λ more. knows.unopened (omega (arith, more)); remembers = tt };
+  timing_out = λ t indexed link slot is becomes knows. record { numbered = timed_out_numbered t.next_request link slot.state becomes.state; unopened = knows.unopened; remembers = timed_out_remembers opening last link slot.state becomes.state };
+  closing = λ t indexed link desired_up is knows. record { numbered = tt; unopened = λ more. knows.unopened (omega (arith, more)); remembers = tt };
   producing = table_remembers opening last;
   moding = λ t run indexed knows. record { numbered = moded_numbered (is_owner indexed.config.kind) t.next_request indexed.slot knows.numbered; unopened = knows.unopened; remembers = moded_remembers (is_owner indexed.config.kind) opening last indexed.slot knows.remembers };
 }

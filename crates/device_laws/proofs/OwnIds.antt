@@ -7,6 +7,7 @@ use Rattle.std.proofs.lemmas.Bool.Decides.{nat_tests}
 use Rattle.cip_types.specs.Cases.{first_case}
 use Rattle.cip_types.specs.declared.names.Mismatch.{Mismatch}
 use Rattle.cip_types.specs.declared.names.Node.{Node}
+use Rattle.cip_types.specs.declared.names.Triad.{Triad}
 use Rattle.cip_encap.specs.declared.message.EncapFault.{EncapFault}
 use Rattle.cip_encap.specs.Message.{MessageFields}
 use Rattle.cip_encap.specs.Reading.{message_reading}
@@ -14,6 +15,7 @@ use Rattle.cip_encap.specs.ReadsBack.{ItemsReadBack}
 use Rattle.cip_events.specs.declared.event.Event.{Event}
 use Rattle.cip_events.specs.declared.event.Event.TheVariants as event
 use Rattle.cip_events.specs.declared.event.Reason.{Reason}
+use Rattle.cip_events.specs.declared.event.Reason.TheVariants as reason
 use Rattle.cip_events.specs.declared.event.StepFault.{StepFault}
 use Rattle.cip_events.specs.declared.event.StepFault.TheVariants as fault
 use Rattle.cip_events.specs.Clock.{longest_tick, clock_end}
@@ -21,9 +23,9 @@ use Rattle.cip_fwdopen.specs.declared.reply.Opened as made
 use Rattle.cip_fwdopen.specs.declared.reply.OpenAnswer.{OpenAnswer}
 use Rattle.cip_fwdopen.specs.declared.reply.OpenAnswer.TheVariants as answer
 use Rattle.conn_state.specs.Answers.{answer_tests}
+use Rattle.conn_state.specs.declared.names.Link.{Link}
 use Rattle.scanner_table.specs.declared.profile.ScannerProfile.{ScannerProfile}
 use Rattle.scanner_table.specs.declared.profile.SlotConfig.{SlotConfig}
-use Rattle.scanner_table.specs.declared.slot.SlotConnection.{SlotConnection}
 use Rattle.scanner_table.specs.declared.slot.PendingOpen as pending
 use Rattle.scanner_table.specs.declared.slot.Slot.{Slot}
 use Rattle.scanner_table.specs.declared.slot.SlotState.{SlotState}
@@ -34,15 +36,15 @@ use Rattle.scanner_table.specs.declared.table.Stage.{Stage}
 use Rattle.scanner_table.specs.declared.table.Stage.TheVariants.{Waiting, Up, Unused}
 use Rattle.scanner_table.specs.declared.table.TargetStream.{TargetStream}
 use Rattle.scanner_table.specs.Requests.{o_t_size, t_o_size, is_large, next_requested, open_fields}
-use Rattle.scanner_table.specs.Closing.{idle_slot, given_up_state, given_up, target_lost, close_requested, closed_within, stopped, stopped_at, slot_resigned}
-use Rattle.scanner_table.specs.Effects.{Next, Effect, and_then, on_each, changed, done}
+use Rattle.scanner_table.specs.Closing.{idle_slot, requested_link, given_up_state, given_up, target_lost, reopened, closed, closed_within, dropped, stopped, stopped_at, slot_resigned}
+use Rattle.scanner_table.specs.Effects.{Next, Effect, nothing, and_then, on_each, changed, done}
 use Rattle.scanner_table.specs.Explicit.{awaits, without_explicit, explicit_sent, explicit_request, explicit_timed_out, explicit_lost}
 use Rattle.scanner_table.specs.Encapsulation.{registering_on, stream_opened, stream_lost, cut_of, stream_cut, is_registered, session_begun, session_failed, registered, ignored, is_awaiting, replied, replied_to, reported, frame_answer, frame_of, frame}
-use Rattle.scanner_table.specs.Opening.{has_request, has_id, can_open, open_requested, exhausted, opened_within, opened, is_ready_slot, ready_slots, ready_opened, target_opened}
+use Rattle.scanner_table.specs.Opening.{has_request, has_id, can_open, open_requested, exhausted, opened_within, close_requested, cleared_within, opened_from, opened, is_ready_slot, ready_slots, ready_opened, target_opened}
 use Rattle.scanner_table.specs.Points.{desired_slot, started, start_state, start_at, start, stop_of, stop}
 use Rattle.scanner_table.specs.Productions.{produced_table}
 use Rattle.scanner_table.specs.Profiles.{is_point_len, is_out_len, is_config, has_lengths, profile_fault}
-use Rattle.scanner_table.specs.Replies.{is_id_free, judged_success, open_answer, answered}
+use Rattle.scanner_table.specs.Replies.{is_id_free, refused, disowned, disowned_within, rejected, judged_success, open_answer, answered}
 use Rattle.scanner_table.specs.Sessions.{is_stream, is_other_stream, is_taken, with_stream, without_stream, staged_stream, with_stage, session_with}
 use Rattle.scanner_table.specs.Slots.{IndexedSlot, indexed_from, indexed_slots, slot_at, is_numbered, is_with, with_slot}
 use Rattle.scanner_table.specs.Step.{scanner_step}
@@ -132,9 +134,23 @@ within_asks : (profile : ScannerProfile) (now : ScannerTable) (indexed : Indexed
 within_asks profile now indexed None same short = record { sent = tt; profile_is = same; streams_are = refl }
 within_asks profile now indexed (Some session) same short = within_step (can_open now indexed.config) profile now indexed session refl same short
 
+close_asks : (profile : ScannerProfile) (now : ScannerTable) (indexed : IndexedSlot) (link : Link) (desired_up : Bool) (session : Session) → now.profile ≡ profile → Asks profile now.streams (cond (has_request now) (close_requested now indexed link desired_up session) (exhausted now indexed))
+close_asks profile now indexed link desired_up session same =
+    either (Asks profile now.streams) (has_request now) (close_requested now indexed link desired_up session) (exhausted now indexed)
+    (record { sent = (tt, tt); profile_is = same; streams_are = refl }) (record { sent = tt; profile_is = same; streams_are = refl })
+
+cleared_asks : (profile : ScannerProfile) (now : ScannerTable) (indexed : IndexedSlot) (link : Link) (session : Option Session) → now.profile ≡ profile → Asks profile now.streams (cleared_within now indexed link session)
+cleared_asks profile now indexed link None same = record { sent = tt; profile_is = same; streams_are = refl }
+cleared_asks profile now indexed link (Some session) same = close_asks profile now indexed link indexed.slot.desired_up session same
+
+from_asks : (profile : ScannerProfile) (now : ScannerTable) (indexed : IndexedSlot) (session : Option Session) (state : SlotState) → now.profile ≡ profile → IsShort indexed → Asks profile now.streams (opened_from now indexed session state)
+from_asks profile now indexed session (TimedOut link) same short =
+    either (Asks profile now.streams) now.profile.tidy (cleared_within now indexed link session) (opened_within now indexed session) (cleared_asks profile now indexed link session same) (within_asks profile now indexed session same short)
+from_asks profile now indexed session other same short = within_asks profile now indexed session same short
+
 opened_asks : (profile : ScannerProfile) (now : ScannerTable) (indexed : IndexedSlot) → now.profile ≡ profile → IsShort indexed → Asks profile now.streams (opened now indexed)
 unfolding opened
-opened_asks profile now indexed same short = within_asks profile now indexed (session_with now indexed.config.target) same short
+opened_asks profile now indexed same short = from_asks profile now indexed (session_with now indexed.config.target) indexed.slot.state same short
 
 none_wrong : (profile : ScannerProfile) (now : ScannerTable) → now.profile ≡ profile → profile_fault profile ≡ None → profile_fault now.profile ≡ None
 none_wrong profile now same none = ap profile_fault same ∙ none
@@ -180,9 +196,20 @@ advanced_asks profile now none same =
     let both = asks_then profile now.streams (all_expired now) all_given_up one two in
     asks_then profile now.streams (and_then (all_expired now) all_given_up) ready_opened both (ready_asks profile (all_given_up (all_expired now).table).table none two.profile_is)
 
+disowned_asks : (profile : ScannerProfile) (now : ScannerTable) (config : SlotConfig) (triad : Triad) (session : Option Session) → now.profile ≡ profile → Asks profile now.streams (disowned_within now config triad session)
+disowned_asks profile now config triad None same = record { sent = tt; profile_is = same; streams_are = refl }
+disowned_asks profile now config triad (Some session) same =
+    either (Asks profile now.streams) (has_request now) (disowned now config triad session) (nothing now)
+    (record { sent = (tt, tt); profile_is = same; streams_are = refl }) (record { sent = tt; profile_is = same; streams_are = refl })
+
+rejected_asks : (profile : ScannerProfile) (now : ScannerTable) (config : SlotConfig) (triad : Triad) → now.profile ≡ profile → Asks profile now.streams (rejected config triad now)
+rejected_asks profile now config triad same =
+    either (Asks profile now.streams) now.profile.tidy (disowned_within now config triad (session_with now config.target)) (nothing now) (disowned_asks profile now config triad (session_with now config.target) same) (record { sent = tt; profile_is = same; streams_are = refl })
+
 success_asks : (t : ScannerTable) (indexed : IndexedSlot) (o : pending.PendingOpen) (success : made.Opened) (why : Option Mismatch) → Asks t.profile t.streams (judged_success t indexed o success why)
 success_asks t indexed o success None = record { sent = tt; profile_is = refl; streams_are = refl }
-success_asks t indexed o success (Some why) = record { sent = tt; profile_is = refl; streams_are = refl }
+success_asks t indexed o success (Some why) =
+    asks_then t.profile t.streams (refused t indexed (reason.Mismatch why)) (rejected indexed.config o.requested.triad) (record { sent = tt; profile_is = refl; streams_are = refl }) (rejected_asks t.profile (refused t indexed (reason.Mismatch why)).table indexed.config o.requested.triad refl)
 
 answered_asks : (t : ScannerTable) (indexed : IndexedSlot) (o : pending.PendingOpen) (says : Result OpenAnswer Reason) → Asks t.profile t.streams (answered t indexed o says)
 unfolding answered
@@ -190,11 +217,24 @@ answered_asks t indexed o (Err why) = record { sent = tt; profile_is = refl; str
 answered_asks t indexed o (Ok (answer.Refused r)) = record { sent = tt; profile_is = refl; streams_are = refl }
 answered_asks t indexed o (Ok (answer.Opened success)) = success_asks t indexed o success (first_case (answer_tests o.requested success (is_id_free t indexed success.t_o_id)))
 
-closed_asks : (t : ScannerTable) (indexed : IndexedSlot) (c : SlotConnection) (session : Option Session) → Asks t.profile t.streams (closed_within t indexed c session)
-closed_asks t indexed c None = record { sent = tt; profile_is = refl; streams_are = refl }
-closed_asks t indexed c (Some session) =
-    either (Asks t.profile t.streams) (has_request t) (close_requested t indexed c session) (exhausted t indexed)
-    (record { sent = (tt, tt); profile_is = refl; streams_are = refl }) (record { sent = tt; profile_is = refl; streams_are = refl })
+closed_asks : (t : ScannerTable) (indexed : IndexedSlot) (link : Link) (session : Option Session) → Asks t.profile t.streams (closed_within t indexed link session)
+closed_asks t indexed link None = record { sent = tt; profile_is = refl; streams_are = refl }
+closed_asks t indexed link (Some session) = close_asks t.profile t indexed link false session refl
+
+dropped_asks : (t : ScannerTable) (indexed : IndexedSlot) (link : Link) → Asks t.profile t.streams (dropped t indexed link)
+dropped_asks t indexed link =
+    either (Asks t.profile t.streams) t.profile.tidy (closed_within t indexed link (session_with t indexed.config.target)) (slot_resigned t indexed) (closed_asks t indexed link (session_with t indexed.config.target)) (record { sent = tt; profile_is = refl; streams_are = refl })
+
+-- any reply to a Forward_Close
+reopened_asks : (profile : ScannerProfile) (now : ScannerTable) (indexed : IndexedSlot) → now.profile ≡ profile → IsShort indexed → Asks profile now.streams (reopened indexed now)
+reopened_asks profile now indexed same short =
+    either (Asks profile now.streams) indexed.slot.desired_up (opened now indexed) (nothing now) (opened_asks profile now indexed same short) (record { sent = tt; profile_is = same; streams_are = refl })
+
+ended_asks : (t : ScannerTable) (indexed : IndexedSlot) → IsShort indexed → Asks t.profile t.streams (closed t indexed)
+ended_asks t indexed short =
+    let idle : Effect = changed t indexed (idle_slot indexed.slot) [] in
+    let now : IndexedSlot = record indexed { slot = idle_slot indexed.slot } in
+    asks_then t.profile t.streams idle (reopened now) (record { sent = tt; profile_is = refl; streams_are = refl }) (reopened_asks t.profile idle.table now refl short)
 
 -- ---- streams
 
@@ -238,16 +278,16 @@ own_asks back t happens effect asks = done_asks back t happens t.streams effect 
 
 -- ---- messages
 
-replied_asks : ItemsReadBack → (t : ScannerTable) (happens : Event) (indexed : IndexedSlot) (m : MessageFields) (state : SlotState) → NextAsks t happens (replied t indexed m state)
-replied_asks back t happens indexed m (Opening o) = own_asks back t happens (answered t indexed o (open_answer (is_large indexed.config) m)) (answered_asks t indexed o (open_answer (is_large indexed.config) m))
-replied_asks back t happens indexed m (Closing c) = own_asks back t happens (changed t indexed (idle_slot indexed.slot) []) (record { sent = tt; profile_is = refl; streams_are = refl })
-replied_asks back t happens indexed m Idle = quiet_next t happens (ignored t) refl refl
-replied_asks back t happens indexed m (Established c) = quiet_next t happens (ignored t) refl refl
-replied_asks back t happens indexed m (TimedOut link) = quiet_next t happens (ignored t) refl refl
+replied_asks : ItemsReadBack → (t : ScannerTable) (happens : Event) (indexed : IndexedSlot) (m : MessageFields) (state : SlotState) → IsShort indexed → NextAsks t happens (replied t indexed m state)
+replied_asks back t happens indexed m (Opening o) short = own_asks back t happens (answered t indexed o (open_answer (is_large indexed.config) m)) (answered_asks t indexed o (open_answer (is_large indexed.config) m))
+replied_asks back t happens indexed m (Closing c) short = own_asks back t happens (closed t indexed) (ended_asks t indexed short)
+replied_asks back t happens indexed m Idle short = quiet_next t happens (ignored t) refl refl
+replied_asks back t happens indexed m (Established c) short = quiet_next t happens (ignored t) refl refl
+replied_asks back t happens indexed m (TimedOut link) short = quiet_next t happens (ignored t) refl refl
 
-awaited_asks : ItemsReadBack → (t : ScannerTable) (happens : Event) (m : MessageFields) (found : Option IndexedSlot) → NextAsks t happens (replied_to t m found)
-awaited_asks back t happens m None = quiet_next t happens (ignored t) refl refl
-awaited_asks back t happens m (Some indexed) = replied_asks back t happens indexed m indexed.slot.state
+awaited_asks : ItemsReadBack → (t : ScannerTable) (happens : Event) (m : MessageFields) (found : Option IndexedSlot) → IfSome found IsShort → NextAsks t happens (replied_to t m found)
+awaited_asks back t happens m None short = quiet_next t happens (ignored t) refl refl
+awaited_asks back t happens m (Some indexed) short = replied_asks back t happens indexed m indexed.slot.state short
 
 registered_asks : ItemsReadBack → (t : ScannerTable) (happens : Event) (stream : TargetStream) (m : MessageFields) → profile_fault t.profile ≡ None → NextAsks t happens (done (registered t stream m))
 registered_asks back t happens stream m none =
@@ -259,7 +299,8 @@ registered_asks back t happens stream m none =
 message_asks : ItemsReadBack → (t : ScannerTable) (happens : Event) (stream : TargetStream) (m : MessageFields) (stage : Stage) → profile_fault t.profile ≡ None → NextAsks t happens (reported t stream m stage)
 message_asks back t happens stream m Waiting none =
     either (NextAsks t happens) (m.context == 0) (done (registered t stream m)) (ignored t) (registered_asks back t happens stream m none) (quiet_next t happens (ignored t) refl refl)
-message_asks back t happens stream m (Up handle) none = awaited_asks back t happens m (find (is_awaiting stream.peer m.context) (indexed_slots t))
+message_asks back t happens stream m (Up handle) none =
+    awaited_asks back t happens m (find (is_awaiting stream.peer m.context) (indexed_slots t)) (all_found IsShort (is_awaiting stream.peer m.context) (indexed_slots t) (slots_short t none))
 message_asks back t happens stream m Unused none = quiet_next t happens (ignored t) refl refl
 
 answer_asks : ItemsReadBack → (t : ScannerTable) (happens : Event) (stream : TargetStream) (reading : Result MessageFields EncapFault) → profile_fault t.profile ≡ None → NextAsks t happens (frame_answer t stream reading)
@@ -311,11 +352,11 @@ resigned_asks back t happens indexed = own_asks back t happens (slot_resigned t 
 
 stopped_asks : ItemsReadBack → (t : ScannerTable) (happens : Event) (indexed : IndexedSlot) (state : SlotState) → OkAsks t happens (stop_of (stopped t indexed state))
 stopped_asks back t happens indexed Idle = either (λ said. OkAsks t happens (stop_of said)) indexed.slot.desired_up (Ok (slot_resigned t indexed)) (Err fault.NotAllowedNow) (resigned_asks back t happens indexed) tt
-stopped_asks back t happens indexed (Opening o) = resigned_asks back t happens indexed
+stopped_asks back t happens indexed (Opening o) = own_asks back t happens (dropped t indexed (requested_link o.requested)) (dropped_asks t indexed (requested_link o.requested))
 stopped_asks back t happens indexed (Established c) =
-    own_asks back t happens (closed_within t indexed c (session_with t indexed.config.target)) (closed_asks t indexed c (session_with t indexed.config.target))
-stopped_asks back t happens indexed (TimedOut link) = resigned_asks back t happens indexed
-stopped_asks back t happens indexed (Closing c) = tt
+    own_asks back t happens (closed_within t indexed c.link (session_with t indexed.config.target)) (closed_asks t indexed c.link (session_with t indexed.config.target))
+stopped_asks back t happens indexed (TimedOut link) = own_asks back t happens (dropped t indexed link) (dropped_asks t indexed link)
+stopped_asks back t happens indexed (Closing c) = either (λ said. OkAsks t happens (stop_of said)) indexed.slot.desired_up (Ok (slot_resigned t indexed)) (Err fault.NotAllowedNow) (resigned_asks back t happens indexed) tt
 
 stop_asks : ItemsReadBack → (t : ScannerTable) (happens : Event) (found : Option IndexedSlot) → OkAsks t happens (stop_of (stopped_at t found))
 stop_asks back t happens None = tt

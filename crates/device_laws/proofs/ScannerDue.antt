@@ -12,6 +12,8 @@ use Rattle.cip_events.specs.declared.event.Verdict.TheVariants.{Done}
 use Rattle.cip_events.specs.Answers.{plain_answer}
 use Rattle.cip_events.specs.Clock.{longest_tick, clock_end}
 use Rattle.cip_productions.specs.Productions.{sent}
+use Rattle.conn_state.specs.declared.names.Link.{Link}
+use Rattle.scanner_table.specs.declared.slot.PendingOpen.{PendingOpen}
 use Rattle.scanner_table.specs.declared.slot.SlotState.{SlotState}
 use Rattle.scanner_table.specs.declared.slot.SlotState.TheVariants.{Idle, Opening, Established, TimedOut, Closing}
 use Rattle.scanner_table.specs.declared.table.ScannerTable.{ScannerTable}
@@ -19,12 +21,12 @@ use Rattle.scanner_table.specs.declared.table.Session.{Session}
 use Rattle.scanner_table.specs.declared.table.TargetStream.{TargetStream}
 use Rattle.scanner_table.specs.Requests.{sent_frame}
 use Rattle.scanner_table.specs.Sessions.{session_with}
-use Rattle.scanner_table.specs.Slots.{IndexedSlot, indexed_slots, is_closed}
+use Rattle.scanner_table.specs.Slots.{IndexedSlot, indexed_slots, is_closed, is_wanted}
 use Rattle.cip_events.specs.declared.event.StepFault.{StepFault}
 use Rattle.cip_events.specs.declared.event.StepFault.TheVariants as fault
 use Rattle.scanner_table.specs.Effects.{Next, Effect, nothing, on_each, after, state_notices}
-use Rattle.scanner_table.specs.Closing.{given_up, given_up_state}
-use Rattle.scanner_table.specs.Opening.{can_open, opened, opened_within, open_requested, exhausted, is_ready_slot, ready_slots, ready_opened}
+use Rattle.scanner_table.specs.Closing.{requested_link, left_state, given_up, given_up_state}
+use Rattle.scanner_table.specs.Opening.{has_request, can_open, opened, opened_within, close_requested, cleared_within, opened_from, open_requested, exhausted, is_ready_slot, ready_slots, ready_opened}
 use Rattle.scanner_table.specs.Productions.{is_due, state_is_due, by_due, slot_production, state_production, due_productions}
 use Rattle.cip_events.specs.declared.event.Unanswered.TheVariants as unanswered
 use Rattle.scanner_table.specs.declared.explicit.PendingExplicit.{PendingExplicit}
@@ -78,7 +80,7 @@ slots_wait streams clock (indexed ∷ all) below unexpired pending resting close
     let waits = none_kept (is_overdue clock) indexed all pending in
     let rests = none_kept (is_due clock) indexed all resting in
     let parts = kept_parts streams (is_ready_slot clock) indexed all closed in
-    let here : clock.0 < slot_due streams indexed = state_waits clock indexed.slot.retry_at.0 indexed.slot.desired_up (has_session streams indexed.config.target) indexed.slot.state below lasts.0 waits.0 rests.0 parts.0 in
+    let here : clock.0 < slot_due streams indexed = state_waits clock indexed.slot.retry_at.0 (is_wanted indexed.slot) (has_session streams indexed.config.target) indexed.slot.state below lasts.0 waits.0 rests.0 parts.0 in
     let rest = slots_wait streams clock all below lasts.1 waits.1 rests.1 parts.1 in
     omega (arith, here, rest)
 
@@ -95,9 +97,14 @@ expired_noted t indexed clock (Established c) is late none = absurd (let e = sta
 expired_noted t indexed clock (TimedOut link) is late none = sym late
 expired_noted t indexed clock (Closing c) is late none = sym late
 
+left_noted : (b : Bool) (n : ℕ) (o : PendingOpen) (link : Link) → state_notices n (Opening o) (cond b (TimedOut link) Idle) ≡ [] → true ≡ false
+left_noted true n o link none = absurd cc
+left_noted false n o link none = absurd cc
+
 given_up_noted : (t : ScannerTable) (indexed : IndexedSlot) (clock : Ms) (state : SlotState) → indexed.slot.state ≡ state → state_is_overdue clock state ≡ true → (given_up_state t indexed state).notices ≡ [] → true ≡ false
 given_up_noted t indexed clock Idle is late none = sym late
-given_up_noted t indexed clock (Opening o) is late none = absurd (let e = state_noted indexed.number indexed.slot.state (Opening o) Idle is none in cc)
+given_up_noted t indexed clock (Opening o) is late none =
+    left_noted t.profile.tidy indexed.number o (requested_link o.requested) (state_noted indexed.number indexed.slot.state (Opening o) (left_state t (requested_link o.requested)) is none)
 given_up_noted t indexed clock (Established c) is late none = sym late
 given_up_noted t indexed clock (TimedOut link) is late none = sym late
 given_up_noted t indexed clock (Closing c) is late none = absurd (let e = state_noted indexed.number indexed.slot.state (Closing c) Idle is none in cc)
@@ -138,6 +145,32 @@ unopened t indexed (Some session) is sends notes = split (can_open t indexed.con
     split true sends notes = absurd cc
     split false sends notes = absurd cc
 
+uncleared : (t : ScannerTable) (indexed : IndexedSlot) (link : Link) (session : Option Session) → (cleared_within t indexed link session).sent ≡ [] → (cleared_within t indexed link session).notices ≡ [] → session ≡ None
+uncleared t indexed link None sends notes = refl
+uncleared t indexed link (Some session) sends notes = split (has_request t) sends notes
+  where
+    split : (b : Bool) → (cond b (close_requested t indexed link indexed.slot.desired_up session) (exhausted t indexed)).sent ≡ [] → (cond b (close_requested t indexed link indexed.slot.desired_up session) (exhausted t indexed)).notices ≡ [] → Some session ≡ None
+    split true sends notes = absurd cc
+    split false sends notes = absurd cc
+
+-- neither does one that first closes a connection
+unopened_from : (t : ScannerTable) (indexed : IndexedSlot) (session : Option Session) (state : SlotState) → session_with t indexed.config.target ≡ session → (opened_from t indexed session state).sent ≡ [] → (opened_from t indexed session state).notices ≡ [] → session ≡ None
+unopened_from t indexed session (TimedOut link) is sends notes = split t.profile.tidy sends notes
+  where
+    split : (b : Bool) → (cond b (cleared_within t indexed link session) (opened_within t indexed session)).sent ≡ [] → (cond b (cleared_within t indexed link session) (opened_within t indexed session)).notices ≡ [] → session ≡ None
+    split true sends notes = uncleared t indexed link session sends notes
+    split false sends notes = unopened t indexed session is sends notes
+unopened_from t indexed session other is sends notes = unopened t indexed session is sends notes
+
+either_none : (b : Bool) (t : ScannerTable) → cond b (nothing t) (nothing t) ≡ nothing t
+either_none true t = refl
+either_none false t = refl
+
+-- without a session nothing happens to a slot
+from_none : (t : ScannerTable) (indexed : IndexedSlot) (state : SlotState) → opened_from t indexed None state ≡ nothing t
+from_none t indexed (TimedOut link) = either_none t.profile.tidy t
+from_none t indexed other = refl
+
 -- the slots have no session, and nothing happens to them
 pub record StayClosed (t : ScannerTable) (all : List IndexedSlot) : Type 0 where
   pub none : AllByRecursion (HasNone t.streams) all
@@ -149,7 +182,7 @@ closed_one t indexed rest first is none quiet more = record {
   rests = ap (λ (e : Effect). after e (on_each opened rest e.table)) (is ∙ quiet) ∙ ap (after (nothing t)) more.rests;
 }
 
-opened_is : (t : ScannerTable) (indexed : IndexedSlot) → opened t indexed ≡ opened_within t indexed (session_with t indexed.config.target)
+opened_is : (t : ScannerTable) (indexed : IndexedSlot) → opened t indexed ≡ opened_from t indexed (session_with t indexed.config.target) indexed.slot.state
 unfolding opened
 opened_is t indexed = refl
 
@@ -160,8 +193,8 @@ stay_closed t (indexed ∷ rest) sends notes =
     let sent_parts = none_joined first.sent (on_each opened rest first.table).sent sends in
     let note_parts = none_joined first.notices (on_each opened rest first.table).notices notes in
     let is = opened_is t indexed in
-    let none : session_with t indexed.config.target ≡ None = unopened t indexed (session_with t indexed.config.target) refl (ap (λ (e : Effect). e.sent) (sym is) ∙ sent_parts.0) (ap (λ (e : Effect). e.notices) (sym is) ∙ note_parts.0) in
-    let quiet : first ≡ nothing t = is ∙ ap (opened_within t indexed) none in
+    let none : session_with t indexed.config.target ≡ None = unopened_from t indexed (session_with t indexed.config.target) indexed.slot.state refl (ap (λ (e : Effect). e.sent) (sym is) ∙ sent_parts.0) (ap (λ (e : Effect). e.notices) (sym is) ∙ note_parts.0) in
+    let quiet : first ≡ nothing t = is ∙ ap (λ (s : Option Session). opened_from t indexed s indexed.slot.state) none ∙ from_none t indexed indexed.slot.state in
     closed_one t indexed rest first refl none quiet (stay_closed t rest (subst (λ (e : Effect). (on_each opened rest e.table).sent ≡ []) quiet sent_parts.1) (subst (λ (e : Effect). (on_each opened rest e.table).notices ≡ []) quiet note_parts.1))
 
 none_opens : (t : ScannerTable) → (ready_opened t).sent ≡ [] → (ready_opened t).notices ≡ [] → StayClosed t (ready_slots t)

@@ -89,7 +89,8 @@ plain_effects = record {
   stays = λ t u notices like. tt;
   next = λ t first second one other. all_both SentPlain first.sent second.sent one other;
   opens = λ t place session is. (trigger_plain place.config.trigger, tt);
-  closes = λ t place c session is. (tt, tt);
+  closes = λ t place link desired_up session is. (tt, tt);
+  disowns = λ t config triad session is. (tt, tt);
   requests = λ t target session number bytes goes. (goes.explicit, tt);
 }
 

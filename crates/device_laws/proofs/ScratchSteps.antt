@@ -17,6 +17,7 @@ use Rattle.cip_events.specs.declared.event.StepFault.TheVariants as fault
 use Rattle.cip_fwdopen.specs.declared.reply.Opened as made
 use Rattle.cip_productions.specs.Acceptance.{is_duplicate}
 use Rattle.cip_productions.specs.Kinds.{is_owner}
+use Rattle.conn_state.specs.declared.names.Link.{Link}
 use Rattle.scanner_table.specs.declared.profile.SlotConfig.{SlotConfig}
 use Rattle.scanner_table.specs.declared.slot.SlotConnection.{SlotConnection}
 use Rattle.scanner_table.specs.declared.slot.PendingOpen as pending
@@ -79,14 +80,17 @@ moded_holds : (b : Bool) (slot : Slot) → Holds slot (cond b (record slot { sta
 moded_holds true slot = record { image = refl; begun = written_begun slot.state }
 moded_holds false slot = record { image = refl; begun = λ is. is }
 
+not_begun : (state : SlotState) (link : Link) → state ≡ TimedOut link → is_established state ≡ true → ⊥
+not_begun state link timed_out is = absurd (let e : false ≡ true = sym (ap is_established timed_out) ∙ is in cc)
+
 calm_slotwise : Slotwise Calm
 calm_slotwise = record {
   stays = λ t u number config slot later. record { image = refl; begun = λ is. is };
   after = λ t u v number config a b c first next before behind. record { image = behind.image ∙ before.image; begun = λ is. before.begun (behind.begun is) };
   opening = λ t indexed closed_before. record { image = refl; begun = λ is. absurd cc };
   idling = λ t indexed slot idle. record { image = idle.image; begun = λ is. absurd (not_established slot.state idle.state is) };
-  timing_out = λ t indexed c was. record { image = refl; begun = λ is. absurd cc };
-  closing = λ t indexed c was. record { image = refl; begun = λ is. absurd cc };
+  timing_out = λ t indexed link slot was becomes. record { image = becomes.image; begun = λ is. absurd (not_begun slot.state link becomes.state is) };
+  closing = λ t indexed link desired_up was. record { image = refl; begun = λ is. absurd cc };
   producing = λ t number config slot. due_holds (state_is_due t.clock slot.state) t.clock slot;
   moding = λ t run indexed. moded_holds (is_owner indexed.config.kind) indexed.slot;
 }
@@ -248,8 +252,8 @@ same_slotwise = record {
   after = λ t u v number config a b c first next before behind. behind ∙ before;
   opening = λ t indexed closed_before. refl;
   idling = λ t indexed slot idle. idle.output;
-  timing_out = λ t indexed c was. refl;
-  closing = λ t indexed c was. refl;
+  timing_out = λ t indexed link slot was becomes. becomes.output;
+  closing = λ t indexed link desired_up was. refl;
   producing = λ t number config slot. due_same (state_is_due t.clock slot.state) t.clock slot;
   moding = λ t run indexed. moded_same (is_owner indexed.config.kind) indexed.slot;
 }
@@ -414,8 +418,8 @@ anything_always = record {
     after = λ t u v number config a b c first next before behind. tt;
     opening = λ t indexed closed_before. tt;
     idling = λ t indexed slot idle. tt;
-    timing_out = λ t indexed c is. tt;
-    closing = λ t indexed c is. tt;
+    timing_out = λ t indexed link slot is becomes. tt;
+    closing = λ t indexed link desired_up is. tt;
     producing = λ t number config slot. tt;
     moding = λ t run indexed. tt;
   };

@@ -81,7 +81,8 @@ effects_send = record {
   stays = λ t u notices like. record { streams = like.streams; sent = tt };
   next = then_sends;
   opens = λ t place session is. record { streams = λ n. refl; sent = (session_over t place.config.target session is, tt) };
-  closes = λ t place c session is. record { streams = λ n. refl; sent = (session_over t place.config.target session is, tt) };
+  closes = λ t place link desired_up session is. record { streams = λ n. refl; sent = (session_over t place.config.target session is, tt) };
+  disowns = λ t config triad session is. record { streams = λ n. refl; sent = (session_over t config.target session is, tt) };
   requests = λ t target session number bytes goes. record { streams = λ n. refl; sent = (session_over t target session goes.session_is, tt) };
 }
 

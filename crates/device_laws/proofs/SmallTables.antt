@@ -56,6 +56,7 @@ profile = record {
   open_timeout = 2000;
   retry = 3000;
   newer = None;
+  tidy = false;
   slots = owner ∷ gatherer ∷ [];
 }
 

@@ -10,10 +10,8 @@ use Rattle.scanner_table.specs.declared.slot.Slot.{Slot}
 use Rattle.scanner_table.specs.declared.slot.SlotState.{SlotState}
 use Rattle.scanner_table.specs.declared.slot.SlotState.TheVariants.{Idle, Opening, Established, TimedOut, Closing}
 use Rattle.scanner_table.specs.declared.table.ScannerTable.{ScannerTable}
-use Rattle.scanner_table.specs.Closing.{closing_slot}
-use Rattle.scanner_table.specs.Opening.{opening_slot}
+use Rattle.scanner_table.specs.Opening.{opening_slot, closing_slot}
 use Rattle.scanner_table.specs.Productions.{by_due, due_slots, is_due, produced_state, state_is_due, written_state}
-use Rattle.scanner_table.specs.Replies.{failed_slot}
 use Rattle.scanner_table.specs.Slots.{IndexedSlot, indexed_slots}
 use Rattle.scanner_table.specs.Ticks.{clocked_table, advanced}
 use Rattle.device_laws.specs.Newest.{came_from}
@@ -87,8 +85,8 @@ outputs_slotwise = record {
   after = λ t u v number config a b c one two first next. out_after a b c first next;
   opening = λ t place resting. not_open place.slot (opening_slot t place) (opening_slot t place).state refl (λ c is. let e = is in cc) refl;
   idling = λ t place slot idle. not_open place.slot slot Idle idle.state (λ c is. let e = is in cc) idle.output;
-  timing_out = λ t place c is. not_open place.slot (failed_slot t (TimedOut c.link) place.slot) (TimedOut c.link) refl (λ d now. let e = now in cc) refl;
-  closing = λ t place c is. not_open place.slot (closing_slot t c place.slot) (closing_slot t c place.slot).state refl (λ d now. let e = now in cc) refl;
+  timing_out = λ t place link slot is becomes. not_open place.slot slot (TimedOut link) becomes.state (λ d now. let e = now in cc) becomes.output;
+  closing = λ t place link desired_up is. not_open place.slot (closing_slot t link desired_up place.slot) (closing_slot t link desired_up place.slot).state refl (λ d now. let e = now in cc) refl;
   producing = λ t number config slot. changed_out (state_is_due t.clock slot.state) slot (produced_state t.clock) (made_out t.clock slot.state);
   moding = λ t run place. changed_out (is_owner place.config.kind) place.slot written_state (written_out place.slot.state);
 }
@@ -103,8 +101,8 @@ runs_kept = record {
   after = λ t u v first next. next ∙ first;
   opening = λ t place stands resting. refl;
   idling = λ t place slot stands idle. refl;
-  timing_out = λ t place c stands is. refl;
-  closing = λ t place c stands is. refl;
+  timing_out = λ t place link slot stands is becomes. refl;
+  closing = λ t place link desired_up stands is. refl;
 }
 
 -- ---- a tick

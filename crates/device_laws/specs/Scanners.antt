@@ -1,5 +1,5 @@
 -- Properties of every scanner's table that a run reaches, and of its slots.
-use Rattle.std.specs.Prelude.{ℕ, ◌≡◌, ◌<◌, Bool, true, false, List, [], ◌∷◌, length, None}
+use Rattle.std.specs.Prelude.{ℕ, ◌≡◌, ◌<◌, not, Bool, true, false, List, [], ◌∷◌, length, None}
 use Rattle.cip_events.specs.declared.event.Event.{Event}
 use Rattle.cip_events.specs.Outcomes.{Outcome}
 use Rattle.scanner_table.specs.declared.slot.SlotState.{SlotState}
@@ -32,17 +32,17 @@ EachSlot P (indexed ∷ indexed_slots) = P indexed × EachSlot P indexed_slots
 abbrev pub HasLengths : IndexedSlot → Type 0
 HasLengths indexed = (length indexed.slot.output ≡ indexed.config.out_len) × (length indexed.slot.image ≡ indexed.config.in_len)
 
--- the slot is opening, established or timed out
-abbrev pub is_kept_up : SlotState → Bool
-is_kept_up Idle = false
-is_kept_up (Opening o) = true
-is_kept_up (Established c) = true
-is_kept_up (TimedOut link) = true
-is_kept_up (Closing c) = false
+-- the slot is opening or established, or, at a scanner that is not tidy, timed out
+abbrev pub is_kept_up : Bool → SlotState → Bool
+is_kept_up tidy Idle = false
+is_kept_up tidy (Opening o) = true
+is_kept_up tidy (Established c) = true
+is_kept_up tidy (TimedOut link) = not tidy
+is_kept_up tidy (Closing c) = false
 
 -- only a slot whose connection is desired is so
-abbrev pub IsOpenAsDesired : IndexedSlot → Type 0
-IsOpenAsDesired indexed = is_kept_up indexed.slot.state ≡ true → indexed.slot.desired_up ≡ true
+abbrev pub IsOpenAsDesired : Bool → IndexedSlot → Type 0
+IsOpenAsDesired tidy indexed = is_kept_up tidy indexed.slot.state ≡ true → indexed.slot.desired_up ≡ true
 
 abbrev pub is_closing : SlotState → Bool
 is_closing Idle = false
@@ -51,9 +51,9 @@ is_closing (Established c) = false
 is_closing (TimedOut link) = false
 is_closing (Closing c) = true
 
--- only a slot whose connection is not desired is closing
-abbrev pub ClosesAsDesired : IndexedSlot → Type 0
-ClosesAsDesired indexed = is_closing indexed.slot.state ≡ true → indexed.slot.desired_up ≡ false
+-- only a slot whose connection is not desired is closing, at a scanner that is not tidy
+abbrev pub ClosesAsDesired : Bool → IndexedSlot → Type 0
+ClosesAsDesired tidy indexed = tidy ≡ false → is_closing indexed.slot.state ≡ true → indexed.slot.desired_up ≡ false
 
 -- the number of a pending request, and that of the request that opened an established connection, are below this number
 abbrev pub IsNumberedBelow : ℕ → SlotState → Type 0

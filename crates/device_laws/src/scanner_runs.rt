@@ -43,16 +43,16 @@ pub fn slots_have_their_lengths()
     tables_are_whole();
 }
 
-/// Only a slot whose connection is desired is opening, established or timed out.
+/// Only a slot whose connection is desired is opening or established, or, without `tidy`, timed out.
 pub fn slots_open_as_desired()
-    ensures { OverEveryScanner (λ t. EachSlot IsOpenAsDesired (indexed_slots t)) }
+    ensures { OverEveryScanner (λ t. EachSlot (IsOpenAsDesired t.profile.tidy) (indexed_slots t)) }
 {
     tables_are_whole();
 }
 
-/// Only a slot whose connection is not desired is closing.
+/// Without `tidy`, only a slot whose connection is not desired is closing.
 pub fn slots_close_as_desired()
-    ensures { OverEveryScanner (λ t. EachSlot ClosesAsDesired (indexed_slots t)) }
+    ensures { OverEveryScanner (λ t. EachSlot (ClosesAsDesired t.profile.tidy) (indexed_slots t)) }
 {
     tables_are_whole();
 }

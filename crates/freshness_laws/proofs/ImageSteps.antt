@@ -115,8 +115,8 @@ calm_slotwise = record {
   after = λ t u v number config a b d first next before behind c is. kept_after a b d c (behind c is) (before (behind c is).old (behind c is).is);
   opening = λ t indexed closed_before c is. absurd (let e = is in cc);
   idling = λ t indexed slot idle c is. absurd (not_established slot.state c idle.state is);
-  timing_out = λ t indexed was_c was c is. absurd (let e = is in cc);
-  closing = λ t indexed was_c was c is. absurd (let e = is in cc);
+  timing_out = λ t indexed link slot was becomes c is. absurd (let e : TimedOut link ≡ Established c = sym becomes.state ∙ is in cc);
+  closing = λ t indexed link desired_up was c is. absurd (let e = is in cc);
   producing = λ t number config slot c is. due_kept (state_is_due t.clock slot.state) t.clock slot c is;
   moding = λ t run indexed c is. moded_kept (is_owner indexed.config.kind) indexed.slot c is;
 }

@@ -55,6 +55,7 @@ profile = record {
   open_timeout = 2000;
   retry = 3000;
   newer = None;
+  tidy = false;
   slots = owner ∷ [];
 }
 

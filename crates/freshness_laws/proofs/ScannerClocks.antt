@@ -34,8 +34,8 @@ later_slots = record {
   after = λ t u v first next. omega (arith, first, next);
   opening = λ t indexed stands closed_before. omega arith;
   idling = λ t indexed slot stands idle. omega arith;
-  timing_out = λ t indexed c stands is. omega arith;
-  closing = λ t indexed c stands is. omega arith;
+  timing_out = λ t indexed link slot stands is becomes. omega arith;
+  closing = λ t indexed link desired_up stands is. omega arith;
 }
 
 later_widely : KeptWidely Later

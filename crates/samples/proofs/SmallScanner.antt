@@ -64,6 +64,7 @@ profile slots = record {
   open_timeout = 2000;
   retry = 3000;
   newer = None;
+  tidy = false;
   slots = slots;
 }
 

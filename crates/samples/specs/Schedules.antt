@@ -58,6 +58,7 @@ scanner slot = record {
   open_timeout = 2000;
   retry = 3000;
   newer = None;
+  tidy = false;
   slots = slot ∷ [];
 }
 

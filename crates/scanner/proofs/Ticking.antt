@@ -38,6 +38,7 @@ unfolding explicit_timed_out
 whole_on t whole = record {
   faultless = whole.faultless;
   slots = whole.slots;
+  desires = whole.desires;
   ids_differ = whole.ids_differ;
   requests_differ = whole.requests_differ;
   clock = whole.clock;

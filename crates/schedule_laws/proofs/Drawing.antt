@@ -7,7 +7,6 @@ use Rattle.cip_events.specs.declared.event.StepFault.{StepFault}
 use Rattle.cip_productions.specs.Kinds.{is_owner}
 use Rattle.scanner_table.specs.declared.slot.Slot.{Slot}
 use Rattle.scanner_table.specs.declared.slot.SlotState.{SlotState}
-use Rattle.scanner_table.specs.declared.slot.SlotState.TheVariants.{TimedOut}
 use Rattle.scanner_table.specs.declared.table.ScannerTable.{ScannerTable}
 use Rattle.scanner_table.specs.Effects.{Next}
 use Rattle.scanner_table.specs.Productions.{state_is_due, produced_slot}
@@ -52,8 +51,8 @@ draws_always = record {
     after = λ t u v number config a b c first next before behind. drew_after t.next_request u.next_request a.state b.state c.state first.requests before behind;
     opening = λ t place closed_before number has. inr (let same = same_Some t.next_request number has in omega (arith, same));
     idling = λ t place slot idle. none_left t.next_request place.slot.state slot.state (ap opening_number idle.state);
-    timing_out = λ t place c is. none_left t.next_request place.slot.state (TimedOut c.link) refl;
-    closing = λ t place c is number has. absurd (let e = has in cc);
+    timing_out = λ t place link slot is becomes. none_left t.next_request place.slot.state slot.state (ap opening_number becomes.state);
+    closing = λ t place link desired_up is number has. absurd (let e = has in cc);
     producing = λ t number config slot. kept t.next_request slot.state (produced_slot t.clock slot).state (due_number (state_is_due t.clock slot.state) t.clock slot);
     moding = λ t run place number has. inl (sym (moded_number (is_owner place.config.kind) place.slot) ∙ has);
   };

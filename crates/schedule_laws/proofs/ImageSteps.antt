@@ -10,11 +10,10 @@ use Rattle.scanner_table.specs.declared.slot.Slot.{Slot}
 use Rattle.scanner_table.specs.declared.slot.SlotState.{SlotState}
 use Rattle.scanner_table.specs.declared.slot.SlotState.TheVariants.{Idle, Opening, Established, TimedOut, Closing}
 use Rattle.scanner_table.specs.declared.table.ScannerTable.{ScannerTable}
-use Rattle.scanner_table.specs.Closing.{closing_slot}
-use Rattle.scanner_table.specs.Opening.{opening_slot}
+use Rattle.scanner_table.specs.Opening.{opening_slot, closing_slot}
 use Rattle.scanner_table.specs.Points.{output_slot}
 use Rattle.scanner_table.specs.Productions.{produced_state, state_is_due, written_state}
-use Rattle.scanner_table.specs.Replies.{established_slot, failed_slot, new_connection}
+use Rattle.scanner_table.specs.Replies.{established_slot, new_connection}
 use Rattle.scanner_table.specs.Slots.{IndexedSlot, with_slot}
 use Rattle.scanner_table.specs.Step.{scanner_step}
 use Rattle.scanner_table.specs.Lemmas.Moves.{Leads, write_leads}
@@ -103,8 +102,8 @@ images_slotwise = record {
   after = λ t u v number config a b c one two first next. goes_after config a b c first next;
   opening = λ t place resting. not_established place.config place.slot (opening_slot t place) (opening_slot t place).state refl (λ c is. let e = is in cc) refl;
   idling = λ t place slot idle. not_established place.config place.slot slot Idle idle.state (λ c is. let e = is in cc) idle.image;
-  timing_out = λ t place c is. not_established place.config place.slot (failed_slot t (TimedOut c.link) place.slot) (TimedOut c.link) refl (λ d now. let e = now in cc) refl;
-  closing = λ t place c is. not_established place.config place.slot (closing_slot t c place.slot) (closing_slot t c place.slot).state refl (λ d now. let e = now in cc) refl;
+  timing_out = λ t place link slot is becomes. not_established place.config place.slot slot (TimedOut link) becomes.state (λ d now. let e = now in cc) becomes.image;
+  closing = λ t place link desired_up is. not_established place.config place.slot (closing_slot t link desired_up place.slot) (closing_slot t link desired_up place.slot).state refl (λ d now. let e = now in cc) refl;
   producing = λ t number config slot. produced_on (state_is_due t.clock slot.state) config slot slot.state (produced_state t.clock) refl (made_same t.clock slot.state);
   moding = λ t run place. produced_on (is_owner place.config.kind) place.config place.slot place.slot.state written_state refl (written_same place.slot.state);
 }

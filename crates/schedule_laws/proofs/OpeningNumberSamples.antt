@@ -51,6 +51,7 @@ profile = record {
   open_timeout = 2000;
   retry = 3000;
   newer = None;
+  tidy = false;
   slots = owner ∷ record owner { produced = 101 } ∷ [];
 }
 

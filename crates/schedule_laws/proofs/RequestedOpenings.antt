@@ -1,5 +1,5 @@
 -- Each request to open that a scanner sends is the request of the slot that has its number, now and later.
-use Rattle.std.proofs.Common.{◌≡◌, ◌≤◌, ◌<◌, ◌⊎◌, inl, inr, ℕ, ◌+◌, ◌==◌, nat_lt, Bool, true, false, List, [], ◌∷◌, map, filter, find, slice_get, Option, Some, None, Result, Ok, Err, IfOk, refl, sym, ◌∙◌, ap, subst, arith, eqb-true}
+use Rattle.std.proofs.Common.{◌≡◌, ◌≤◌, ◌<◌, ◌⊎◌, inl, inr, ℕ, ◌+◌, ◌==◌, nat_lt, Bool, true, false, cond, List, [], ◌∷◌, map, filter, find, slice_get, Option, Some, None, Result, Ok, Err, IfOk, refl, sym, ◌∙◌, ap, subst, arith, eqb-true}
 use Rattle.std.specs.List.{AllByRecursion}
 use Rattle.std.proofs.lemmas.Bool.{and_parts, eqb-false}
 use Rattle.std.proofs.lemmas.Option.{same_Some}
@@ -8,12 +8,14 @@ use Rattle.cip_types.specs.Cases.{first_case}
 use Rattle.cip_types.specs.declared.names.Mismatch.{Mismatch}
 use Rattle.cip_types.specs.declared.names.Ms.{Ms}
 use Rattle.cip_types.specs.declared.names.Node.{Node}
+use Rattle.cip_types.specs.declared.names.Triad.{Triad}
 use Rattle.cip_encap.specs.declared.message.EncapFault.{EncapFault}
 use Rattle.cip_encap.specs.Message.{MessageFields}
 use Rattle.cip_encap.specs.Reading.{message_reading}
 use Rattle.cip_events.specs.declared.event.Event.{Event}
 use Rattle.cip_events.specs.declared.event.Event.TheVariants as event
 use Rattle.cip_events.specs.declared.event.Reason.{Reason}
+use Rattle.cip_events.specs.declared.event.Reason.TheVariants as reason
 use Rattle.cip_events.specs.declared.event.StepFault.{StepFault}
 use Rattle.cip_events.specs.declared.event.StepFault.TheVariants as fault
 use Rattle.cip_events.specs.Clock.{longest_tick, clock_end}
@@ -22,10 +24,10 @@ use Rattle.cip_fwdopen.specs.declared.reply.OpenAnswer.{OpenAnswer}
 use Rattle.cip_fwdopen.specs.declared.reply.OpenAnswer.TheVariants as answer
 use Rattle.cip_fwdopen.specs.Open.{OpenFields}
 use Rattle.conn_state.specs.Answers.{answer_tests}
+use Rattle.conn_state.specs.declared.names.Link.{Link}
 use Rattle.conn_state.specs.declared.names.Requested.{Requested}
 use Rattle.cip_productions.specs.Kinds.{is_owner}
 use Rattle.scanner_table.specs.declared.profile.SlotConfig.{SlotConfig}
-use Rattle.scanner_table.specs.declared.slot.SlotConnection.{SlotConnection}
 use Rattle.scanner_table.specs.declared.slot.PendingOpen as pending
 use Rattle.scanner_table.specs.declared.slot.Slot.{Slot}
 use Rattle.scanner_table.specs.declared.slot.SlotState.{SlotState}
@@ -36,16 +38,16 @@ use Rattle.scanner_table.specs.declared.table.Stage.{Stage}
 use Rattle.scanner_table.specs.declared.table.Stage.TheVariants.{Waiting, Up, Unused}
 use Rattle.scanner_table.specs.declared.table.TargetStream.{TargetStream}
 use Rattle.scanner_table.specs.Requests.{Request, registering, opening, closing, requesting, Sent, is_large, next_requested, open_fields, sent_frame}
-use Rattle.scanner_table.specs.Closing.{idle_slot, given_up_state, given_up, target_lost, closed_within, close_requested, slot_resigned, stopped, stopped_at}
-use Rattle.scanner_table.specs.Effects.{Next, Effect, after, on_each, changed, done}
+use Rattle.scanner_table.specs.Closing.{idle_slot, requested_link, given_up_state, given_up, target_lost, reopened, closed, closed_within, dropped, slot_resigned, stopped_desire, stopped, stopped_at}
+use Rattle.scanner_table.specs.Effects.{Next, Effect, nothing, after, on_each, done}
 use Rattle.scanner_table.specs.Explicit.{awaits, without_explicit, explicit_sent, explicit_request, explicit_timed_out, explicit_lost}
 use Rattle.scanner_table.specs.Encapsulation.{registering_on, stream_opened, stream_lost, cut_of, stream_cut, is_registered, session_begun, session_failed, registered, ignored, is_awaiting, replied, replied_to, reported, frame_answer, frame_of, frame}
-use Rattle.scanner_table.specs.Opening.{has_request, can_open, opening_slot, open_requested, exhausted, opened_within, opened, is_ready_slot, ready_slots, ready_opened, target_opened}
+use Rattle.scanner_table.specs.Opening.{has_request, can_open, opening_slot, open_requested, exhausted, opened_within, close_requested, cleared_within, opened_from, opened, is_ready_slot, ready_slots, ready_opened, target_opened}
 use Rattle.scanner_table.specs.Points.{desired_slot, started, start_state, start_at, start, stop_of, stop}
 use Rattle.scanner_table.specs.Productions.{state_is_due, produced_table}
-use Rattle.scanner_table.specs.Replies.{is_id_free, judged_success, open_answer, answered}
+use Rattle.scanner_table.specs.Replies.{is_id_free, refused, disowned, disowned_within, rejected, judged_success, open_answer, answered}
 use Rattle.scanner_table.specs.Sessions.{is_stream, is_taken, without_stream, with_stage, session_with}
-use Rattle.scanner_table.specs.Slots.{IndexedSlot, indexed_slots, is_numbered, is_closed, is_with, slot_at, with_slot}
+use Rattle.scanner_table.specs.Slots.{IndexedSlot, indexed_slots, is_numbered, is_closed, is_wanted, is_with, slot_at, with_slot}
 use Rattle.scanner_table.specs.Step.{scanner_step}
 use Rattle.scanner_table.specs.Ticks.{expired_slots, expired_state, expired, all_expired, is_overdue, all_given_up, clocked_table, advanced, moved_on, ticked, tick}
 use Rattle.device_laws.specs.Newest.{StateIsNumbered, OpeningsAreNumbered}
@@ -96,8 +98,8 @@ draws_always = record {
     after = λ t u v number config a b c first next before behind. drew_after t.next_request u.next_request v.next_request a.state b.state c.state first.requests next.requests before behind;
     opening = λ t place closed_before number has. inr (let same = same_Some t.next_request number has in record { first = omega (arith, same); last = omega (arith, same) });
     idling = λ t place slot idle. none_left t.next_request t.next_request place.slot.state slot.state (ap opening_number idle.state);
-    timing_out = λ t place c is. none_left t.next_request t.next_request place.slot.state (TimedOut c.link) refl;
-    closing = λ t place c is number has. absurd (let e = has in cc);
+    timing_out = λ t place link slot is becomes. none_left t.next_request t.next_request place.slot.state slot.state (ap opening_number becomes.state);
+    closing = λ t place link desired_up is number has. absurd (let e = has in cc);
     producing = λ t n config slot number has. inl (sym (due_number (state_is_due t.clock slot.state) t.clock slot) ∙ has);
     moding = λ t run place number has. inl (sym (moded_number (is_owner place.config.kind) place.slot) ∙ has);
   };
@@ -244,10 +246,27 @@ within_opens t place (Some session) stands all =
     either (λ (e : Effect). AllByRecursion (SentIsFor t.next_request e.table) e.sent) (can_open t place.config) (open_requested t place session) (exhausted t place)
     (record { first = omega arith; last = omega arith; slots = λ other there has. open_is_for t place other session stands all there has }, tt) tt
 
+-- the effect's requests are those of their slots
+abbrev SentFrom : ℕ → Effect → Type 0
+SentFrom from effect = AllByRecursion (SentIsFor from effect.table) effect.sent
+
+-- a Forward_Close of a slot
+close_opens : (t : ScannerTable) (place : IndexedSlot) (link : Link) (desired_up : Bool) (session : Session) → SentFrom t.next_request (cond (has_request t) (close_requested t place link desired_up session) (exhausted t place))
+close_opens t place link desired_up session = either (SentFrom t.next_request) (has_request t) (close_requested t place link desired_up session) (exhausted t place) (tt, tt) tt
+
+cleared_opens : (t : ScannerTable) (place : IndexedSlot) (link : Link) (session : Option Session) → SentFrom t.next_request (cleared_within t place link session)
+cleared_opens t place link None = tt
+cleared_opens t place link (Some session) = close_opens t place link place.slot.desired_up session
+
+from_opens : (t : ScannerTable) (place : IndexedSlot) (session : Option Session) (state : SlotState) → Stands t place → OpeningsAreNumbered t → SentFrom t.next_request (opened_from t place session state)
+from_opens t place session (TimedOut link) stands all =
+    either (SentFrom t.next_request) t.profile.tidy (cleared_within t place link session) (opened_within t place session) (cleared_opens t place link session) (within_opens t place session stands all)
+from_opens t place session other stands all = within_opens t place session stands all
+
 -- the effect of one slot, which leaves all others
 one_opens : (t : ScannerTable) (place : IndexedSlot) → Stands t place → IsClosedSlot place → OpeningsAreNumbered t → Does (Goes Draws) t place (opened t place) → OpensFor t (opened t place)
 unfolding opened
-one_opens t place stands closed_before all does = record { goes = does.leads; sent = within_opens t place (session_with t place.config.target) stands all }
+one_opens t place stands closed_before all does = record { goes = does.leads; sent = from_opens t place (session_with t place.config.target) place.slot.state stands all }
 
 each_opens : (places : List IndexedSlot) (t : ScannerTable) → Each (Stands t) places → EachTwo Apart places → Each IsClosedSlot places → OpeningsAreNumbered t → OpensFor t (on_each opened places t)
 each_opens [] t stand apart closed_before all = record { goes = slots_kept.same t; sent = tt }
@@ -258,7 +277,7 @@ each_opens (place ∷ rest) t stand apart closed_before all =
     (each_opens rest next (stand_on t next place.number rest does.local apart.0 stand.1) apart.1 closed_before.1 (numbered_on t next does.leads all))
 
 ready_closed : (clock : Ms) (place : IndexedSlot) → is_ready_slot clock place ≡ true → IsClosedSlot place
-ready_closed clock place ready = (and_parts (is_closed place.slot.state) _ (and_parts place.slot.desired_up _ ready).1).0
+ready_closed clock place ready = (and_parts (is_closed place.slot.state) _ (and_parts (is_wanted place.slot) _ ready).1).0
 
 all_closed : (t : ScannerTable) → Each IsClosedSlot (ready_slots t)
 all_closed t = each_more (λ place. is_ready_slot t.clock place ≡ true) IsClosedSlot (ready_closed t.clock) (ready_slots t) (each_passes (is_ready_slot t.clock) (indexed_slots t))
@@ -369,26 +388,46 @@ done_opens t effect sent = record { requests = effect.sent; frames = refl; are_f
 silent_opens : (t : ScannerTable) (effect : Effect) → SendsNone effect → NextOpens t (done effect)
 silent_opens t effect none = done_opens t effect (subst (AllByRecursion (SentIsFor t.next_request effect.table)) (sym none) tt)
 
-success_silent : (t : ScannerTable) (place : IndexedSlot) (o : pending.PendingOpen) (success : made.Opened) (why : Option Mismatch) → SendsNone (judged_success t place o success why)
-success_silent t place o success None = refl
-success_silent t place o success (Some why) = refl
+disowned_sent : (from : ℕ) (t : ScannerTable) (config : SlotConfig) (triad : Triad) (session : Option Session) → SentFrom from (disowned_within t config triad session)
+disowned_sent from t config triad None = tt
+disowned_sent from t config triad (Some session) = either (SentFrom from) (has_request t) (disowned t config triad session) (nothing t) (tt, tt) tt
 
-answered_silent : (t : ScannerTable) (place : IndexedSlot) (o : pending.PendingOpen) (says : Result OpenAnswer Reason) → SendsNone (answered t place o says)
+rejected_sent : (from : ℕ) (t : ScannerTable) (config : SlotConfig) (triad : Triad) → SentFrom from (rejected config triad t)
+rejected_sent from t config triad =
+    either (SentFrom from) t.profile.tidy (disowned_within t config triad (session_with t config.target)) (nothing t) (disowned_sent from t config triad (session_with t config.target)) tt
+
+success_sent : (t : ScannerTable) (place : IndexedSlot) (o : pending.PendingOpen) (success : made.Opened) (why : Option Mismatch) → SentFrom t.next_request (judged_success t place o success why)
+success_sent t place o success None = tt
+success_sent t place o success (Some why) = rejected_sent t.next_request (refused t place (reason.Mismatch why)).table place.config o.requested.triad
+
+answered_sent : (t : ScannerTable) (place : IndexedSlot) (o : pending.PendingOpen) (says : Result OpenAnswer Reason) → SentFrom t.next_request (answered t place o says)
 unfolding answered
-answered_silent t place o (Err why) = refl
-answered_silent t place o (Ok (answer.Refused r)) = refl
-answered_silent t place o (Ok (answer.Opened success)) = success_silent t place o success (first_case (answer_tests o.requested success (is_id_free t place success.t_o_id)))
+answered_sent t place o (Err why) = tt
+answered_sent t place o (Ok (answer.Refused r)) = tt
+answered_sent t place o (Ok (answer.Opened success)) = success_sent t place o success (first_case (answer_tests o.requested success (is_id_free t place success.t_o_id)))
 
-replied_opens : (t : ScannerTable) (place : IndexedSlot) (m : MessageFields) (state : SlotState) → NextOpens t (replied t place m state)
-replied_opens t place m Idle = quiet t (ignored t) refl
-replied_opens t place m (Opening o) = silent_opens t (answered t place o (open_answer (is_large place.config) m)) (answered_silent t place o (open_answer (is_large place.config) m))
-replied_opens t place m (Established c) = quiet t (ignored t) refl
-replied_opens t place m (TimedOut link) = quiet t (ignored t) refl
-replied_opens t place m (Closing c) = silent_opens t (changed t place (idle_slot place.slot) []) refl
+-- any reply to a Forward_Close
+reopened_sent : (t : ScannerTable) (place : IndexedSlot) → Stands t place → IsClosedSlot place → OpeningsAreNumbered t → SentFrom t.next_request (reopened place t)
+reopened_sent t place stands closed_before all =
+    let opens = one_opens t place stands closed_before all (opened_does (Goes Draws) slots_kept t place stands closed_before) in
+    either (SentFrom t.next_request) place.slot.desired_up (opened t place) (nothing t) opens.sent tt
 
-awaited_opens : (t : ScannerTable) (m : MessageFields) (found : Option IndexedSlot) → NextOpens t (replied_to t m found)
-awaited_opens t m None = quiet t (ignored t) refl
-awaited_opens t m (Some place) = replied_opens t place m place.slot.state
+ended_sent : (t : ScannerTable) (place : IndexedSlot) → Stands t place → OpeningsAreNumbered t → SentFrom t.next_request (closed t place)
+ended_sent t place stands all =
+    let here : IndexedSlot = record place { slot = idle_slot place.slot } in
+    let went : Goes Draws t (with_slot t place.number (idle_slot place.slot)) = slots_kept.idling t place (idle_slot place.slot) stands (record { state = refl; output = refl; image = refl }) in
+    reopened_sent (with_slot t place.number (idle_slot place.slot)) here (stands_with t place (idle_slot place.slot) stands) refl (numbered_on t (with_slot t place.number (idle_slot place.slot)) went all)
+
+replied_opens : (t : ScannerTable) (place : IndexedSlot) (m : MessageFields) (state : SlotState) → Stands t place → OpeningsAreNumbered t → NextOpens t (replied t place m state)
+replied_opens t place m Idle stands all = quiet t (ignored t) refl
+replied_opens t place m (Opening o) stands all = done_opens t (answered t place o (open_answer (is_large place.config) m)) (answered_sent t place o (open_answer (is_large place.config) m))
+replied_opens t place m (Established c) stands all = quiet t (ignored t) refl
+replied_opens t place m (TimedOut link) stands all = quiet t (ignored t) refl
+replied_opens t place m (Closing c) stands all = done_opens t (closed t place) (ended_sent t place stands all)
+
+awaited_opens : (t : ScannerTable) (m : MessageFields) (test : IndexedSlot → Bool) (found : Option IndexedSlot) → find test (indexed_slots t) ≡ found → OpeningsAreNumbered t → NextOpens t (replied_to t m found)
+awaited_opens t m test None is all = quiet t (ignored t) refl
+awaited_opens t m test (Some place) is all = replied_opens t place m place.slot.state (each_found (Stands t) test (indexed_slots t) place is (each_stands t)) all
 
 registered_opens : (t : ScannerTable) (stream : TargetStream) (m : MessageFields) → OpeningsAreNumbered t → NextOpens t (done (registered t stream m))
 registered_opens t stream m all =
@@ -399,7 +438,8 @@ registered_opens t stream m all =
 
 reported_opens : (t : ScannerTable) (stream : TargetStream) (m : MessageFields) (stage : Stage) → OpeningsAreNumbered t → NextOpens t (reported t stream m stage)
 reported_opens t stream m Waiting all = either (NextOpens t) (m.context == 0) (done (registered t stream m)) (ignored t) (registered_opens t stream m all) (quiet t (ignored t) refl)
-reported_opens t stream m (Up handle) all = awaited_opens t m (find (is_awaiting stream.peer m.context) (indexed_slots t))
+reported_opens t stream m (Up handle) all =
+    awaited_opens t m (is_awaiting stream.peer m.context) (find (is_awaiting stream.peer m.context) (indexed_slots t)) refl all
 reported_opens t stream m Unused all = quiet t (ignored t) refl
 
 answer_opens : (t : ScannerTable) (stream : TargetStream) (reading : Result MessageFields EncapFault) → OpeningsAreNumbered t → NextOpens t (frame_answer t stream reading)
@@ -449,21 +489,27 @@ start_opens : (t : ScannerTable) (number : ℕ) (found : Option IndexedSlot) →
 start_opens t number None is all = tt
 start_opens t number (Some place) is all = start_state_opens t place place.slot.state refl (each_found (Stands t) (is_numbered number) (indexed_slots t) place is (each_stands t)) all
 
-closed_opens : (t : ScannerTable) (place : IndexedSlot) (c : SlotConnection) (session : Option Session) → NextOpens t (done (closed_within t place c session))
-closed_opens t place c None = silent_opens t (slot_resigned t place) refl
-closed_opens t place c (Some session) =
-    either (λ (e : Effect). NextOpens t (done e)) (has_request t) (close_requested t place c session) (exhausted t place)
-    (done_opens t (close_requested t place c session) (tt, tt)) (silent_opens t (exhausted t place) refl)
-
 resigned_opens : (t : ScannerTable) (place : IndexedSlot) → NextOpens t (done (slot_resigned t place))
 resigned_opens t place = silent_opens t (slot_resigned t place) refl
 
+desire_opens : (t : ScannerTable) (place : IndexedSlot) → OkOpens t (stop_of (stopped_desire t place))
+desire_opens t place = either (λ said. OkOpens t (stop_of said)) place.slot.desired_up (Ok (slot_resigned t place)) (Err fault.NotAllowedNow) (resigned_opens t place) tt
+
+closed_opens : (t : ScannerTable) (place : IndexedSlot) (link : Link) (session : Option Session) → NextOpens t (done (closed_within t place link session))
+closed_opens t place link None = silent_opens t (closed_within t place link None) refl
+closed_opens t place link (Some session) = done_opens t (closed_within t place link (Some session)) (close_opens t place link false session)
+
+dropped_opens : (t : ScannerTable) (place : IndexedSlot) (link : Link) → NextOpens t (done (dropped t place link))
+dropped_opens t place link =
+    either (λ (e : Effect). NextOpens t (done e)) t.profile.tidy (closed_within t place link (session_with t place.config.target)) (slot_resigned t place)
+    (closed_opens t place link (session_with t place.config.target)) (resigned_opens t place)
+
 stopped_opens : (t : ScannerTable) (place : IndexedSlot) (state : SlotState) → OkOpens t (stop_of (stopped t place state))
-stopped_opens t place Idle = either (λ said. OkOpens t (stop_of said)) place.slot.desired_up (Ok (slot_resigned t place)) (Err fault.NotAllowedNow) (resigned_opens t place) tt
-stopped_opens t place (Opening o) = resigned_opens t place
-stopped_opens t place (Established c) = closed_opens t place c (session_with t place.config.target)
-stopped_opens t place (TimedOut link) = resigned_opens t place
-stopped_opens t place (Closing c) = tt
+stopped_opens t place Idle = desire_opens t place
+stopped_opens t place (Opening o) = dropped_opens t place (requested_link o.requested)
+stopped_opens t place (Established c) = closed_opens t place c.link (session_with t place.config.target)
+stopped_opens t place (TimedOut link) = dropped_opens t place link
+stopped_opens t place (Closing c) = desire_opens t place
 
 stop_opens : (t : ScannerTable) (found : Option IndexedSlot) → OkOpens t (stop_of (stopped_at t found))
 stop_opens t None = tt

@@ -5,36 +5,40 @@ use Rattle.cip_types.specs.Cases.{first_case}
 use Rattle.cip_types.specs.declared.names.Mismatch.{Mismatch}
 use Rattle.cip_types.specs.declared.names.Mismatch.TheVariants as mismatch
 use Rattle.cip_types.specs.declared.names.Node.{Node}
+use Rattle.cip_types.specs.declared.names.Triad.{Triad}
 use Rattle.cip_encap.specs.declared.message.EncapFault.{EncapFault}
 use Rattle.cip_encap.specs.Message.{MessageFields}
 use Rattle.cip_encap.specs.Reading.{message_reading}
 use Rattle.cip_events.specs.declared.event.Reason.{Reason}
+use Rattle.cip_events.specs.declared.event.Reason.TheVariants as reason
 use Rattle.cip_events.specs.declared.event.StepFault.TheVariants as fault
 use Rattle.cip_fwdopen.specs.declared.reply.Opened as made
 use Rattle.cip_fwdopen.specs.declared.reply.OpenAnswer.{OpenAnswer}
 use Rattle.cip_fwdopen.specs.declared.reply.OpenAnswer.TheVariants as answer
 use Rattle.conn_state.specs.Answers.{is_requested_id, answer_tests, has_intervals}
+use Rattle.scanner_table.specs.declared.profile.SlotConfig.{SlotConfig}
 use Rattle.scanner_table.specs.declared.slot.PendingOpen as opening
 use Rattle.scanner_table.specs.declared.slot.SlotState.{SlotState}
 use Rattle.scanner_table.specs.declared.slot.SlotState.TheVariants.{Idle, Opening, Established, TimedOut, Closing}
 use Rattle.scanner_table.specs.declared.table.ScannerTable.{ScannerTable}
+use Rattle.scanner_table.specs.declared.table.Session.{Session}
 use Rattle.scanner_table.specs.declared.table.Stage.{Stage}
 use Rattle.scanner_table.specs.declared.table.Stage.TheVariants.{Waiting, Up, Unused}
 use Rattle.scanner_table.specs.declared.table.TargetStream.{TargetStream}
 use Rattle.scanner_table.specs.Slots.{IndexedSlot, indexed_slots, is_with}
-use Rattle.scanner_table.specs.Sessions.{is_stream, is_taken, with_stream, without_stream, with_stage}
+use Rattle.scanner_table.specs.Sessions.{session_with, is_stream, is_taken, with_stream, without_stream, with_stage}
 use Rattle.scanner_table.specs.Requests.{is_large}
-use Rattle.scanner_table.specs.Effects.{changed, done}
-use Rattle.scanner_table.specs.Opening.{ready_opened, target_opened}
-use Rattle.scanner_table.specs.Replies.{open_answer, is_id_free, failed_slot, judged_success, answered}
-use Rattle.scanner_table.specs.Closing.{idle_slot, given_up, target_lost}
+use Rattle.scanner_table.specs.Effects.{nothing, and_then, changed, done}
+use Rattle.scanner_table.specs.Opening.{has_request, ready_opened, target_opened}
+use Rattle.scanner_table.specs.Replies.{open_answer, is_id_free, failed_slot, refused, disowned, disowned_within, rejected, judged_success, answered}
+use Rattle.scanner_table.specs.Closing.{given_up, target_lost}
 use Rattle.scanner_table.specs.Encapsulation.{registering_on, ignored, stream_opened, cut_of, stream_cut, is_registered, session_begun, session_failed, registered, is_awaiting, replied, replied_to, reported, frame_answer, frame_of, frame}
 use Rattle.scanner_table.specs.declared.explicit.PendingExplicit.{PendingExplicit}
 use Rattle.scanner_table.specs.Explicit.{awaits, without_explicit, explicit_sent, explicit_request, explicit_timed_out, explicit_lost}
 use Rattle.scanner_table.specs.Ticks.{clocked_table, all_expired, all_given_up, advanced}
 use Rattle.device_laws.specs.Lemmas.ExplicitRequests.{explicit_holds, message_ends}
 use Rattle.scanner_table.specs.Lemmas.SlotLookups.{Stands, Any, Apart, each_any, each_filter, two_filter, each_found, each_stands, slots_apart}
-use Rattle.scanner_table.specs.Lemmas.Moves.{Kept, Leads, Establishes, each_does, given_does, ready_leads, target_leads, expired_leads, overdue_leads}
+use Rattle.scanner_table.specs.Lemmas.Moves.{Kept, Leads, Establishes, each_does, given_does, ready_leads, target_leads, expired_leads, overdue_leads, closed_does}
 
 -- it holds too where streams change, time passes, and explicit requests are sent and end
 pub record KeptQuietly (R : ScannerTable → ScannerTable → Type 0) : Type 0 where
@@ -106,8 +110,26 @@ is_requested_one false false y c none = absurd cc
 failed_leads : (R : ScannerTable → ScannerTable → Type 0) → Kept R → (t : ScannerTable) (place : IndexedSlot) → Stands t place → R t (changed t place (failed_slot t Idle place.slot) []).table
 failed_leads R kept t place stands = kept.idling t place (failed_slot t Idle place.slot) stands (record { state = refl; output = refl; image = refl })
 
+-- a connection that no slot has is closed
+disown_step : (b : Bool) (R : ScannerTable → ScannerTable → Type 0) → KeptQuietly R → (t : ScannerTable) (config : SlotConfig) (triad : Triad) (session : Session) → R t (cond b (disowned t config triad session) (nothing t)).table
+disown_step true R kept t config triad session = kept.explicit t t.explicit (t.next_request + 1) (omega arith)
+disown_step false R kept t config triad session = kept.slots.same t
+
+disowned_leads : (R : ScannerTable → ScannerTable → Type 0) → KeptQuietly R → (t : ScannerTable) (config : SlotConfig) (triad : Triad) (session : Option Session) → R t (disowned_within t config triad session).table
+disowned_leads R kept t config triad None = kept.slots.same t
+disowned_leads R kept t config triad (Some session) = disown_step (has_request t) R kept t config triad session
+
+reject_step : (b : Bool) (R : ScannerTable → ScannerTable → Type 0) → KeptQuietly R → (t : ScannerTable) (config : SlotConfig) (triad : Triad) → R t (cond b (disowned_within t config triad (session_with t config.target)) (nothing t)).table
+reject_step true R kept t config triad = disowned_leads R kept t config triad (session_with t config.target)
+reject_step false R kept t config triad = kept.slots.same t
+
+mismatch_leads : (R : ScannerTable → ScannerTable → Type 0) → KeptQuietly R → (t : ScannerTable) (place : IndexedSlot) (why : Reason) (triad : Triad) → Stands t place → R t (and_then (refused t place why) (rejected place.config triad)).table
+mismatch_leads R kept t place why triad stands =
+    let u = (refused t place why).table in
+    kept.slots.after t u (rejected place.config triad u).table (failed_leads R kept.slots t place stands) (reject_step u.profile.tidy R kept u place.config triad)
+
 success_leads : (R : ScannerTable → ScannerTable → Type 0) (t : ScannerTable) → KeptQuietly R → (place : IndexedSlot) (o : opening.PendingOpen) (success : made.Opened) (why : Option Mismatch) → first_case (answer_tests o.requested success (is_id_free t place success.t_o_id)) ≡ why → Stands t place → place.slot.state ≡ Opening o → R t (judged_success t place o success why).table
-success_leads R t kept place o success (Some why) is stands opens = failed_leads R kept.slots t place stands
+success_leads R t kept place o success (Some why) is stands opens = mismatch_leads R kept t place (reason.Mismatch why) o.requested.triad stands
 success_leads R t kept place o success None is stands opens = kept.establishing t place o success stands opens (is_requested_one _ (is_requested_id o.requested.t_o_id success.t_o_id) (is_id_free t place success.t_o_id) (has_intervals success) is)
 
 answered_leads : (R : ScannerTable → ScannerTable → Type 0) (t : ScannerTable) → KeptQuietly R → (place : IndexedSlot) (o : opening.PendingOpen) (said : Result OpenAnswer Reason) → Stands t place → place.slot.state ≡ Opening o → R t (answered t place o said).table
@@ -122,7 +144,7 @@ replied_leads R t kept place m Idle is stands = kept.slots.same t
 replied_leads R t kept place m (Opening o) is stands = answered_leads R t kept place o (open_answer (is_large place.config) m) stands is
 replied_leads R t kept place m (Established c) is stands = kept.slots.same t
 replied_leads R t kept place m (TimedOut link) is stands = kept.slots.same t
-replied_leads R t kept place m (Closing c) is stands = kept.slots.idling t place (idle_slot place.slot) stands (record { state = refl; output = refl; image = refl })
+replied_leads R t kept place m (Closing c) is stands = closed_does R kept.slots t place stands
 
 replied_to_leads : (R : ScannerTable → ScannerTable → Type 0) (t : ScannerTable) → KeptQuietly R → (m : MessageFields) (p : IndexedSlot → Bool) (found : Option IndexedSlot) → find p (indexed_slots t) ≡ found → R t (replied_to t m found).1
 replied_to_leads R t kept m p None is = kept.slots.same t

@@ -21,17 +21,19 @@ use Rattle.cip_fwdopen.specs.Close.{close_text}
 use Rattle.cip_router.specs.Requests.{RouterRequestFields, nothing, refused, object, router_request_reading}
 use Rattle.cip_router.specs.Requests as router
 use Rattle.scanner_table.specs.declared.profile.ScannerProfile.{ScannerProfile}
-use Rattle.scanner_table.specs.declared.slot.SlotConnection.{SlotConnection}
+use Rattle.cip_types.specs.declared.names.Triad.{Triad}
+use Rattle.conn_state.specs.declared.names.Link.{Link}
+use Rattle.scanner_table.specs.declared.profile.SlotConfig.{SlotConfig}
 use Rattle.scanner_table.specs.declared.table.ScannerTable.{ScannerTable}
 use Rattle.scanner_table.specs.declared.table.Session.{Session}
 use Rattle.cip_fwdopen.specs.Services.{open_service}
 use Rattle.cip_types.specs.Ids.{connection_id}
 use Rattle.scanner_table.specs.Requests.{Request, registering, opening, closing, requesting, Sent, manager_text, sent_message, sent_frame, id_or_zero}
-use Rattle.scanner_table.specs.Closing.{close_requested}
+use Rattle.scanner_table.specs.Replies.{disowned}
 use Rattle.scanner_table.specs.Effects.{Next, Effect, after, done}
 use Rattle.scanner_table.specs.Encapsulation.{registering_on, stream_opened}
 use Rattle.scanner_table.specs.Explicit.{explicit_sent}
-use Rattle.scanner_table.specs.Opening.{open_requested}
+use Rattle.scanner_table.specs.Opening.{open_requested, close_requested}
 use Rattle.scanner_table.specs.Sessions.{is_taken}
 use Rattle.scanner_table.specs.Slots.{IndexedSlot}
 use Rattle.scanner_table.specs.Step.{scanner_step}
@@ -227,8 +229,11 @@ requested_asks id some t place session = record {
     ids_after true n = omega arith
     ids_after false n = omega arith
 
-closed_asks : (id : ℕ) (t : ScannerTable) (place : IndexedSlot) (c : SlotConnection) (session : Session) → Asks id t (close_requested t place c session)
-closed_asks id t place c session = record { profile = refl; ids = omega arith; requested = λ byte below. record { fits = (tt, tt); count = omega arith } }
+closed_asks : (id : ℕ) (t : ScannerTable) (place : IndexedSlot) (link : Link) (desired_up : Bool) (session : Session) → Asks id t (close_requested t place link desired_up session)
+closed_asks id t place link desired_up session = record { profile = refl; ids = omega arith; requested = λ byte below. record { fits = (tt, tt); count = omega arith } }
+
+disowned_asks : (id : ℕ) (t : ScannerTable) (config : SlotConfig) (triad : Triad) (session : Session) → Asks id t (disowned t config triad session)
+disowned_asks id t config triad session = record { profile = refl; ids = omega arith; requested = λ byte below. record { fits = (tt, tt); count = omega arith } }
 
 explicit_asks : (id : ℕ) (t : ScannerTable) (session : Session) (number : ℕ) (bytes : List ℕ) → IsExplicit bytes → Asks id t (explicit_sent t session number bytes)
 explicit_asks id t session number bytes explicit = record { profile = refl; ids = omega arith; requested = λ byte below. record { fits = (explicit, tt); count = omega arith } }
@@ -238,7 +243,8 @@ effects_ask id some = record {
   stays = λ t u notices like. silent_asks id t (silent notices u) like.profile (omega (arith, like.next_id)) refl;
   next = then_asks id;
   opens = λ t place session is. requested_asks id some t place session;
-  closes = λ t place c session is. closed_asks id t place c session;
+  closes = λ t place link desired_up session is. closed_asks id t place link desired_up session;
+  disowns = λ t config triad session is. disowned_asks id t config triad session;
   requests = λ t target session number bytes goes. explicit_asks id t session number bytes goes.explicit;
 }
 

@@ -5,6 +5,7 @@ use Rattle.std.proofs.lemmas.Option.{same_Some}
 use Rattle.std.proofs.lemmas.Bool.{eqb-false}
 use Rattle.cip_datagram.specs.Header.{mode_header}
 use Rattle.cip_productions.specs.Kinds.{is_owner}
+use Rattle.conn_state.specs.declared.names.Link.{Link}
 use Rattle.scanner_table.specs.declared.profile.SlotConfig.{SlotConfig}
 use Rattle.scanner_table.specs.declared.slot.Slot.{Slot}
 use Rattle.scanner_table.specs.declared.slot.SlotState.{SlotState}
@@ -12,9 +13,8 @@ use Rattle.scanner_table.specs.declared.slot.SlotState.TheVariants.{Idle, Openin
 use Rattle.scanner_table.specs.declared.table.ScannerTable.{ScannerTable}
 use Rattle.scanner_table.specs.Slots.{IndexedSlot, with_slot, is_closed}
 use Rattle.scanner_table.specs.Effects.{counted}
-use Rattle.scanner_table.specs.Opening.{drawn, opening_slot}
-use Rattle.scanner_table.specs.Replies.{new_connection, established_slot, failed_slot}
-use Rattle.scanner_table.specs.Closing.{closing_slot}
+use Rattle.scanner_table.specs.Opening.{drawn, opening_slot, closing_slot}
+use Rattle.scanner_table.specs.Replies.{new_connection, established_slot}
 use Rattle.scanner_table.specs.Datagrams.{accepted_connection}
 use Rattle.scanner_table.specs.Points.{output_slot}
 use Rattle.scanner_table.specs.Productions.{written_state}
@@ -137,6 +137,9 @@ none_old t place slot state is none r opens = absurd (let e : opening_in r state
 idle_state : (sent : List Production) (device : ℕ) (run : Bool) (next : ℕ) (config : SlotConfig) (slot : Slot) → slot.state ≡ Idle → StateBooks sent device run next config slot slot.state
 idle_state sent device run next config slot is = rw is tt
 
+timed_out_state : (sent : List Production) (device : ℕ) (run : Bool) (next : ℕ) (config : SlotConfig) (slot : Slot) (link : Link) → slot.state ≡ TimedOut link → StateBooks sent device run next config slot slot.state
+timed_out_state sent device run next config slot link is = rw is tt
+
 next_old : (t : ScannerTable) (place : IndexedSlot) → IsOldOrNext t place (opening_slot t place)
 next_old t place r opens = inr (sym (eqb-true t.next_request r opens))
 
@@ -151,8 +154,10 @@ books_kept sent device = record {
   after = λ t u v first next ok. next (first ok);
   opening = opening_keeps sent device;
   idling = λ t place slot stands idle ok. set_books sent device t t place slot (same_alike t) stands (none_old t place slot Idle idle.state (λ r. refl)) (idle_state sent device t.run t.next_request place.config slot idle.state) ok;
-  timing_out = λ t place c stands is ok. set_books sent device t t place (failed_slot t (TimedOut c.link) place.slot) (same_alike t) stands (none_old t place (failed_slot t (TimedOut c.link) place.slot) (TimedOut c.link) refl (λ r. refl)) tt ok;
-  closing = λ t place c stands is ok. set_books sent device t (counted t) place (closing_slot t c place.slot) (record { profile = refl; slots = refl; run = refl; requests = omega arith }) stands (none_old t place (closing_slot t c place.slot) (closing_slot t c place.slot).state refl (λ r. refl)) tt ok;
+  timing_out = λ t place link slot stands is becomes ok. set_books sent device t t place slot (same_alike t) stands (none_old t place slot (TimedOut link) becomes.state (λ r. refl)) (timed_out_state sent device t.run t.next_request place.config slot link becomes.state) ok;
+  closing = λ t place link desired_up stands is ok.
+      let slot = closing_slot t link desired_up place.slot in
+      set_books sent device t (counted t) place slot (record { profile = refl; slots = refl; run = refl; requests = omega arith }) stands (none_old t place slot slot.state refl (λ r. refl)) tt ok;
 }
 
 -- the slot's opening stays

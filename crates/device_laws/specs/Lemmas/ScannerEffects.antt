@@ -22,7 +22,9 @@ use Rattle.cip_fwdopen.specs.declared.reply.Opened as made
 use Rattle.cip_fwdopen.specs.declared.reply.OpenAnswer.{OpenAnswer}
 use Rattle.cip_fwdopen.specs.declared.reply.OpenAnswer.TheVariants as answer
 use Rattle.conn_state.specs.Answers.{answer_tests}
-use Rattle.scanner_table.specs.declared.slot.SlotConnection.{SlotConnection}
+use Rattle.cip_types.specs.declared.names.Triad.{Triad}
+use Rattle.conn_state.specs.declared.names.Link.{Link}
+use Rattle.scanner_table.specs.declared.profile.SlotConfig.{SlotConfig}
 use Rattle.scanner_table.specs.declared.slot.PendingOpen as pending
 use Rattle.scanner_table.specs.declared.slot.Slot.{Slot}
 use Rattle.scanner_table.specs.declared.slot.SlotState.{SlotState}
@@ -33,14 +35,14 @@ use Rattle.scanner_table.specs.declared.table.Stage.{Stage}
 use Rattle.scanner_table.specs.declared.table.Stage.TheVariants.{Waiting, Up, Unused}
 use Rattle.scanner_table.specs.declared.table.TargetStream.{TargetStream}
 use Rattle.scanner_table.specs.Requests.{Sent, is_large, sent_frame}
-use Rattle.scanner_table.specs.Closing.{idle_slot, given_up_state, given_up, target_lost, closed_within, close_requested, slot_resigned, stopped, stopped_at}
+use Rattle.scanner_table.specs.Closing.{requested_link, left_state, idle_slot, given_up_state, given_up, target_lost, reopened, closed, left_slot, closed_within, dropped, slot_resigned, stopped, stopped_at}
 use Rattle.scanner_table.specs.Effects.{Next, Effect, after, on_each, changed, done}
 use Rattle.scanner_table.specs.Encapsulation.{registering_on, stream_opened, cut_of, stream_cut, is_registered, session_begun, session_failed, registered, ignored, is_awaiting, replied, replied_to, reported, frame_answer, frame_of, frame}
 use Rattle.scanner_table.specs.Explicit.{awaits, explicit_sent, explicit_request, explicit_timed_out, explicit_lost}
-use Rattle.scanner_table.specs.Opening.{has_request, can_open, open_requested, exhausted, opened_within, opened, resigned, ready_slots, ready_opened, target_opened}
+use Rattle.scanner_table.specs.Opening.{has_request, can_open, open_requested, exhausted, opened_within, close_requested, cleared_within, opened_from, opened, resigned, ready_slots, ready_opened, target_opened}
 use Rattle.scanner_table.specs.Points.{desired_slot, started, start_state, start_at, start, stop_of, stop}
 use Rattle.scanner_table.specs.Productions.{produced_table}
-use Rattle.scanner_table.specs.Replies.{is_id_free, new_connection, established_slot, failed_slot, judged_success, open_answer, answered}
+use Rattle.scanner_table.specs.Replies.{is_id_free, new_connection, established_slot, failed_slot, refused, disowned, disowned_within, rejected, judged_success, open_answer, answered}
 use Rattle.scanner_table.specs.Sessions.{is_stream, is_taken, without_stream, staged_stream, with_stage, session_with}
 use Rattle.scanner_table.specs.Slots.{IndexedSlot, indexed_slots, is_with, slot_at, with_slot}
 use Rattle.scanner_table.specs.Step.{scanner_step}
@@ -68,7 +70,8 @@ pub record EffectsDo (R : ScannerTable → Effect → Type 0) : Type 0 where
   pub stays : (t u : ScannerTable) (notices : List Notice) → IsLike t u → R t (silent notices u)
   pub next : (t : ScannerTable) (first second : Effect) → R t first → R first.table second → R t (after first second)
   pub opens : (t : ScannerTable) (place : IndexedSlot) (session : Session) → session_with t place.config.target ≡ Some session → R t (open_requested t place session)
-  pub closes : (t : ScannerTable) (place : IndexedSlot) (c : SlotConnection) (session : Session) → session_with t place.config.target ≡ Some session → R t (close_requested t place c session)
+  pub closes : (t : ScannerTable) (place : IndexedSlot) (link : Link) (desired_up : Bool) (session : Session) → session_with t place.config.target ≡ Some session → R t (close_requested t place link desired_up session)
+  pub disowns : (t : ScannerTable) (config : SlotConfig) (triad : Triad) (session : Session) → session_with t config.target ≡ Some session → R t (disowned t config triad session)
   pub requests : (t : ScannerTable) (target : Node) (session : Session) (number : ℕ) (bytes : List ℕ) → GoesOut t target bytes session → R t (explicit_sent t session number bytes)
 
 abbrev Relation : Type 1
@@ -99,13 +102,26 @@ within_does R does t place None is = nothing_does R does t
 within_does R does t place (Some session) is =
     either (R t) (can_open t place.config) (open_requested t place session) (exhausted t place) (does.opens t place session is) (changed_does R does t place (resigned place.slot) (notice.NoIds place.number ∷ []))
 
+close_does : (R : Relation) → EffectsDo R → (t : ScannerTable) (place : IndexedSlot) (link : Link) (desired_up : Bool) (session : Session) → session_with t place.config.target ≡ Some session → R t (cond (has_request t) (close_requested t place link desired_up session) (exhausted t place))
+close_does R does t place link desired_up session is =
+    either (R t) (has_request t) (close_requested t place link desired_up session) (exhausted t place) (does.closes t place link desired_up session is) (changed_does R does t place (resigned place.slot) (notice.NoIds place.number ∷ []))
+
+cleared_does : (R : Relation) → EffectsDo R → (t : ScannerTable) (place : IndexedSlot) (link : Link) (session : Option Session) → session_with t place.config.target ≡ session → R t (cleared_within t place link session)
+cleared_does R does t place link None is = nothing_does R does t
+cleared_does R does t place link (Some session) is = close_does R does t place link place.slot.desired_up session is
+
+from_does : (R : Relation) → EffectsDo R → (t : ScannerTable) (place : IndexedSlot) (session : Option Session) (state : SlotState) → session_with t place.config.target ≡ session → R t (opened_from t place session state)
+from_does R does t place session (TimedOut link) is =
+    either (R t) t.profile.tidy (cleared_within t place link session) (opened_within t place session) (cleared_does R does t place link session is) (within_does R does t place session is)
+from_does R does t place session other is = within_does R does t place session is
+
 opened_does : (R : Relation) → EffectsDo R → (t : ScannerTable) (place : IndexedSlot) → R t (opened t place)
 unfolding opened
-opened_does R does t place = within_does R does t place (session_with t place.config.target) refl
+opened_does R does t place = from_does R does t place (session_with t place.config.target) place.slot.state refl
 
 given_does : (R : Relation) → EffectsDo R → (t : ScannerTable) (place : IndexedSlot) (state : SlotState) → R t (given_up_state t place state)
 given_does R does t place Idle = nothing_does R does t
-given_does R does t place (Opening o) = changed_does R does t place (failed_slot t Idle place.slot) []
+given_does R does t place (Opening o) = changed_does R does t place (failed_slot t (left_state t (requested_link o.requested)) place.slot) []
 given_does R does t place (Established c) = nothing_does R does t
 given_does R does t place (TimedOut link) = nothing_does R does t
 given_does R does t place (Closing c) = changed_does R does t place (idle_slot place.slot) []
@@ -140,8 +156,19 @@ target_does : (R : Relation) → EffectsDo R → (target : Node) (t : ScannerTab
 unfolding target_opened
 target_does R does target t = each_does R does opened (opened_does R does) (filter (is_with target) (ready_slots t)) t
 
+disowned_does : (R : Relation) → EffectsDo R → (t : ScannerTable) (config : SlotConfig) (triad : Triad) (session : Option Session) → session_with t config.target ≡ session → R t (disowned_within t config triad session)
+disowned_does R does t config triad None is = nothing_does R does t
+disowned_does R does t config triad (Some session) is =
+    either (R t) (has_request t) (disowned t config triad session) (silent [] t) (does.disowns t config triad session is) (nothing_does R does t)
+
+rejected_does : (R : Relation) → EffectsDo R → (config : SlotConfig) (triad : Triad) (t : ScannerTable) → R t (rejected config triad t)
+rejected_does R does config triad t =
+    either (R t) t.profile.tidy (disowned_within t config triad (session_with t config.target)) (silent [] t) (disowned_does R does t config triad (session_with t config.target) refl) (nothing_does R does t)
+
 success_does : (R : Relation) → EffectsDo R → (t : ScannerTable) (place : IndexedSlot) (o : pending.PendingOpen) (success : made.Opened) (why : Option Mismatch) → R t (judged_success t place o success why)
-success_does R does t place o success (Some why) = changed_does R does t place (failed_slot t Idle place.slot) (notice.Refused place.number (reason.Mismatch why) ∷ [])
+success_does R does t place o success (Some why) =
+    let first = refused t place (reason.Mismatch why) in
+    does.next t first (rejected place.config o.requested.triad first.table) (changed_does R does t place (failed_slot t Idle place.slot) (notice.Refused place.number (reason.Mismatch why) ∷ [])) (rejected_does R does place.config o.requested.triad first.table)
 success_does R does t place o success None = changed_does R does t place (established_slot place (new_connection t place o success)) []
 
 answered_does : (R : Relation) → EffectsDo R → (t : ScannerTable) (place : IndexedSlot) (o : pending.PendingOpen) (says : Result OpenAnswer Reason) → R t (answered t place o says)
@@ -150,10 +177,21 @@ answered_does R does t place o (Err why) = changed_does R does t place (failed_s
 answered_does R does t place o (Ok (answer.Refused r)) = changed_does R does t place (failed_slot t Idle place.slot) (notice.Refused place.number (reason.Cip r.fault) ∷ [])
 answered_does R does t place o (Ok (answer.Opened success)) = success_does R does t place o success (first_case (answer_tests o.requested success (is_id_free t place success.t_o_id)))
 
-closed_does : (R : Relation) → EffectsDo R → (t : ScannerTable) (place : IndexedSlot) (c : SlotConnection) (session : Option Session) → session_with t place.config.target ≡ session → R t (closed_within t place c session)
-closed_does R does t place c None is = changed_does R does t place (resigned place.slot) []
-closed_does R does t place c (Some session) is =
-    either (R t) (has_request t) (close_requested t place c session) (exhausted t place) (does.closes t place c session is) (changed_does R does t place (resigned place.slot) (notice.NoIds place.number ∷ []))
+closed_does : (R : Relation) → EffectsDo R → (t : ScannerTable) (place : IndexedSlot) (link : Link) (session : Option Session) → session_with t place.config.target ≡ session → R t (closed_within t place link session)
+closed_does R does t place link None is = changed_does R does t place (left_slot t link place.slot) []
+closed_does R does t place link (Some session) is = close_does R does t place link false session is
+
+dropped_does : (R : Relation) → EffectsDo R → (t : ScannerTable) (place : IndexedSlot) (link : Link) → R t (dropped t place link)
+dropped_does R does t place link =
+    either (R t) t.profile.tidy (closed_within t place link (session_with t place.config.target)) (slot_resigned t place) (closed_does R does t place link (session_with t place.config.target) refl) (changed_does R does t place (resigned place.slot) [])
+
+-- any reply to a Forward_Close
+reopened_does : (R : Relation) → EffectsDo R → (t : ScannerTable) (place : IndexedSlot) → R t (closed t place)
+reopened_does R does t place =
+    let now : IndexedSlot = record place { slot = idle_slot place.slot } in
+    let u = with_slot t place.number (idle_slot place.slot) in
+    does.next t (changed t place (idle_slot place.slot) []) (reopened now u) (changed_does R does t place (idle_slot place.slot) [])
+    (either (R u) place.slot.desired_up (opened u now) (silent [] u) (opened_does R does u now) (nothing_does R does u))
 
 staged_same : (number : ℕ) (stage : Stage) (n : ℕ) (streams : List TargetStream) → list_any (is_stream n) (map (staged_stream number stage) streams) ≡ list_any (is_stream n) streams
 staged_same number stage n [] = refl
@@ -200,7 +238,7 @@ replied_does R does t place m Idle = inl refl
 replied_does R does t place m (Opening o) = done_does R t (answered t place o (open_answer (is_large place.config) m)) (answered_does R does t place o (open_answer (is_large place.config) m))
 replied_does R does t place m (Established c) = inl refl
 replied_does R does t place m (TimedOut link) = inl refl
-replied_does R does t place m (Closing c) = done_does R t (changed t place (idle_slot place.slot) []) (changed_does R does t place (idle_slot place.slot) [])
+replied_does R does t place m (Closing c) = done_does R t (closed t place) (reopened_does R does t place)
 
 awaited_does : (R : Relation) → EffectsDo R → (t : ScannerTable) (m : MessageFields) (found : Option IndexedSlot) → NextDoes R t (replied_to t m found)
 awaited_does R does t m None = inl refl
@@ -270,10 +308,11 @@ start_at_does R does t (Some place) = start_does R does t place place.slot.state
 stopped_does : (R : Relation) → EffectsDo R → (t : ScannerTable) (place : IndexedSlot) (state : SlotState) → IfOk (stopped t place state) (R t)
 stopped_does R does t place Idle =
     either (λ (said : Result Effect StepFault). IfOk said (R t)) place.slot.desired_up (Ok (slot_resigned t place)) (Err fault.NotAllowedNow) (changed_does R does t place (resigned place.slot) []) tt
-stopped_does R does t place (Opening o) = changed_does R does t place (resigned place.slot) []
-stopped_does R does t place (Established c) = closed_does R does t place c (session_with t place.config.target) refl
-stopped_does R does t place (TimedOut link) = changed_does R does t place (resigned place.slot) []
-stopped_does R does t place (Closing c) = tt
+stopped_does R does t place (Opening o) = dropped_does R does t place (requested_link o.requested)
+stopped_does R does t place (Established c) = closed_does R does t place c.link (session_with t place.config.target) refl
+stopped_does R does t place (TimedOut link) = dropped_does R does t place link
+stopped_does R does t place (Closing c) =
+    either (λ (said : Result Effect StepFault). IfOk said (R t)) place.slot.desired_up (Ok (slot_resigned t place)) (Err fault.NotAllowedNow) (changed_does R does t place (resigned place.slot) []) tt
 
 stopped_at_does : (R : Relation) → EffectsDo R → (t : ScannerTable) (found : Option IndexedSlot) → IfOk (stopped_at t found) (R t)
 stopped_at_does R does t None = tt
@@ -345,7 +384,8 @@ any_effects = record {
   stays = λ t u notices like. tt;
   next = λ t first second one other. all_both SendsIfExplicit first.sent second.sent one other;
   opens = λ t place session is. (tt, tt);
-  closes = λ t place c session is. (tt, tt);
+  closes = λ t place link desired_up session is. (tt, tt);
+  disowns = λ t config triad session is. (tt, tt);
   requests = λ t target session number bytes goes. (goes.explicit, tt);
 }
 

@@ -29,6 +29,7 @@ use Rattle.cip_productions.specs.Acceptance.{is_duplicate}
 use Rattle.cip_productions.specs.Kinds.{is_owner}
 use Rattle.cip_productions.specs.Productions.{Produced, sent}
 use Rattle.scanner_table.specs.declared.profile.SlotConfig.{SlotConfig}
+use Rattle.conn_state.specs.declared.names.Link.{Link}
 use Rattle.scanner_table.specs.declared.slot.SlotConnection.{SlotConnection}
 use Rattle.scanner_table.specs.declared.slot.Slot.{Slot}
 use Rattle.scanner_table.specs.declared.slot.SlotState.{SlotState}
@@ -40,12 +41,12 @@ use Rattle.scanner_table.specs.declared.table.Stage.TheVariants.{Waiting, Up, Un
 use Rattle.scanner_table.specs.declared.table.TargetStream.{TargetStream}
 use Rattle.cip_fwdopen.specs.Services.{open_service}
 use Rattle.scanner_table.specs.Requests.{Request, registering, opening, closing, requesting, Sent, is_large, manager_text, sent_message, sent_frame}
-use Rattle.scanner_table.specs.Closing.{idle_slot, target_lost, closing_slot, close_requested, slot_resigned, closed_within, stopped, stopped_at}
+use Rattle.scanner_table.specs.Closing.{requested_link, idle_slot, target_lost, reopened, closed, left_slot, slot_resigned, closed_within, dropped, stopped, stopped_at}
 use Rattle.scanner_table.specs.Datagrams.{accepts_at, is_for, accepted_connection, accepted_table, delivered, accepted, sized, connected, state_received, received_at, received_as, received}
-use Rattle.scanner_table.specs.Effects.{Next, Effect, and_then, changed, counted, done}
+use Rattle.scanner_table.specs.Effects.{Next, Effect, nothing, and_then, changed, done}
 use Rattle.scanner_table.specs.Explicit.{awaits, explicit_sent, explicit_request, explicit_timed_out, explicit_lost}
 use Rattle.scanner_table.specs.Encapsulation.{registering_on, stream_opened, stream_lost, cut_of, stream_cut, is_registered, session_begun, session_failed, registered, ignored, waits_for, is_awaiting, replied, replied_to, reported, frame_answer, frame_of, frame}
-use Rattle.scanner_table.specs.Opening.{has_request, exhausted, resigned}
+use Rattle.scanner_table.specs.Opening.{opened, resigned}
 use Rattle.scanner_table.specs.Points.{write_length, write_at, write, output_written, output_slot, same_mode, moded_slot, moded_table, mode, desired_slot, started, start_state, start_at, start, stop_of, stop}
 use Rattle.scanner_table.specs.Productions.{written_state, state_production, slot_production, state_is_due, is_due, by_due, due_slots, due_productions, produced_state, produced_slot, produced_table}
 use Rattle.scanner_table.specs.Replies.{open_answer, answered}
@@ -60,7 +61,8 @@ use Rattle.device_laws.specs.Lemmas.Lists.{all_both, all_filtered, all_found, al
 use Rattle.device_laws.specs.Lemmas.Texts.{either, Cuts, message_ids, packet_ids, datagram_id}
 use Rattle.device_laws.specs.Lemmas.Payloads.{request_ids, close_request_ids}
 use Rattle.device_laws.specs.Lemmas.AdapterIds.{plain_protocol, few_bytes}
-use Rattle.device_laws.specs.Lemmas.Slots.{OfSlots, SlotHolds, SlotsHold, IsSlotOf, all_slots, with_slot_holds, mapped_indexed, mapped_slots, Kept, RequestId, SentId, RequestIdsHold, EffectHolds, same_counts, changed_counts, changed_holds, opened_holds, target_holds, lost_holds, advanced_holds, SaysSo, answered_holds}
+use Rattle.device_laws.specs.Lemmas.Slots.{OfSlots, SlotHolds, SlotsHold, IsSlotOf, all_slots, with_slot_holds, mapped_indexed, mapped_slots, Kept, RequestId, SentId, RequestIdsHold, EffectHolds, same_counts, changed_counts, changed_holds, both_hold, closing_holds, left_holds, opened_holds, target_holds, lost_holds, advanced_holds, SaysSo, answered_holds}
+use Rattle.scanner_table.specs.Lemmas.Moves.{link_in}
 use Rattle.scanner_table.specs.Lemmas.PassiveLemmas.{passive_holds}
 
 -- ---- requests that are sent
@@ -112,19 +114,28 @@ says_so t happens stream m large target request (Ok (answer.Refused r)) is by pe
 says_so t happens stream m large target request (Ok (answer.Opened success)) is by peer context =
     record { stream = by.number; bytes = by.bytes; is = by.is; over = stream; found = by.found; peer = peer; message = m; reads = by.reads; context = context; large = large; success_is = is }
 
-reply_holds : ItemsReadBack → (G : OfSlots) (P : ℕ → Type 0) → Cuts P → (to : ℕ) (t : ScannerTable) (happens : Event) → Kept G t to happens → (stream : TargetStream) (m : MessageFields) (indexed : IndexedSlot) (state : SlotState) → indexed.slot.state ≡ state → Contains (indexed_slots t) indexed → ComesBy t happens stream m → SlotsHold G t → slice_get t.profile.slots indexed.number ≡ Some indexed.config → G indexed.number indexed.config state → (is_with stream.peer indexed && waits_for m.context state) ≡ true → NextHolds G P to (replied t indexed m state)
-reply_holds back G P cuts to t happens kept stream m indexed (Opening o) is among by slots there waits awaits =
+reply_holds : ItemsReadBack → (G : OfSlots) (P : ℕ → Type 0) → Cuts P → (to : ℕ) (t : ScannerTable) (happens : Event) → Kept G t to happens → RequestIdsHold P t to → (stream : TargetStream) (m : MessageFields) (indexed : IndexedSlot) (state : SlotState) → indexed.slot.state ≡ state → Contains (indexed_slots t) indexed → ComesBy t happens stream m → SlotsHold G t → slice_get t.profile.slots indexed.number ≡ Some indexed.config → G indexed.number indexed.config state → (is_with stream.peer indexed && waits_for m.context state) ≡ true → NextHolds G P to (replied t indexed m state)
+reply_holds back G P cuts to t happens kept requested_ids stream m indexed (Opening o) is among by slots there waits awaits =
     let parts = and_parts (is_with stream.peer indexed) (o.request == m.context) awaits in
     let peer : stream.peer.0 ≡ indexed.config.target.0 = sym (eqb-true indexed.config.target.0 stream.peer.0 parts.0) in
     let context : m.context ≡ o.request = sym (eqb-true o.request m.context parts.1) in
     let says = open_answer (is_large indexed.config) m in
     done_holds back G P cuts to (answered t indexed o (open_answer (is_large indexed.config) m))
     (λ below. answered_holds G P t to happens kept indexed o says (record { indexed = indexed; there = among; number_is = refl; config_is = refl; state = is }) (says_so t happens stream m (is_large indexed.config) indexed.config.target o.request says refl by peer context) slots there waits)
-reply_holds back G P cuts to t happens kept stream m indexed (Closing c) is among by slots there waits awaits =
-    done_holds back G P cuts to (changed t indexed (idle_slot indexed.slot) []) (λ below. changed_holds G P t t indexed (idle_slot indexed.slot) [] (same_counts t) there (kept.rests indexed.number indexed.config) slots)
-reply_holds back G P cuts to t happens kept stream m indexed Idle is among by slots there waits awaits = λ below small. (record { frames = tt; datagrams = tt }, slots)
-reply_holds back G P cuts to t happens kept stream m indexed (Established c) is among by slots there waits awaits = λ below small. (record { frames = tt; datagrams = tt }, slots)
-reply_holds back G P cuts to t happens kept stream m indexed (TimedOut link) is among by slots there waits awaits = λ below small. (record { frames = tt; datagrams = tt }, slots)
+reply_holds back G P cuts to t happens kept requested_ids stream m indexed (Closing c) is among by slots there waits awaits =
+    done_holds back G P cuts to (closed t indexed)
+    (λ below.
+    let slot = idle_slot indexed.slot in
+    let u = with_slot t indexed.number slot in
+    let now : IndexedSlot = record indexed { slot = slot } in
+    let one = changed_holds G P t t indexed slot [] (same_counts t) there (kept.rests indexed.number indexed.config) slots in
+    both_hold G P (changed t indexed slot []) (reopened now u) one
+    (either (λ (e : Effect). e.table.next_id ≤ to → EffectHolds G P e) indexed.slot.desired_up (opened u now) (nothing u)
+    (λ under. opened_holds G P t to happens kept requested_ids u now (changed_counts t indexed slot) under one.slots (record { there = there; holds = kept.rests indexed.number indexed.config }))
+    (λ under. record { slots = one.slots; sent = tt }) below))
+reply_holds back G P cuts to t happens kept requested_ids stream m indexed Idle is among by slots there waits awaits = λ below small. (record { frames = tt; datagrams = tt }, slots)
+reply_holds back G P cuts to t happens kept requested_ids stream m indexed (Established c) is among by slots there waits awaits = λ below small. (record { frames = tt; datagrams = tt }, slots)
+reply_holds back G P cuts to t happens kept requested_ids stream m indexed (TimedOut link) is among by slots there waits awaits = λ below small. (record { frames = tt; datagrams = tt }, slots)
 
 here : {X : Type 0} (x : X) (xs : List X) → Contains (x ∷ xs) x
 here x xs = Contains-append_left (x ∷ []) xs x (Contains-push [] x)
@@ -144,10 +155,10 @@ found_among p (x ∷ xs) found is = among_step (p x) x found (find p xs) xs is (
 found_slot : (G : OfSlots) (t : ScannerTable) (p : IndexedSlot → Bool) → SlotsHold G t → IfSome (find p (indexed_slots t)) (IsSlotOf G t.profile.slots)
 found_slot G t p slots = all_found (IsSlotOf G t.profile.slots) p (indexed_slots t) (all_slots G t slots)
 
-awaited_holds : ItemsReadBack → (G : OfSlots) (P : ℕ → Type 0) → Cuts P → (to : ℕ) (t : ScannerTable) (happens : Event) → Kept G t to happens → (stream : TargetStream) (m : MessageFields) (found : Option IndexedSlot) → find (is_awaiting stream.peer m.context) (indexed_slots t) ≡ found → IfSome found (IsSlotOf G t.profile.slots) → ComesBy t happens stream m → SlotsHold G t → NextHolds G P to (replied_to t m found)
-awaited_holds back G P cuts to t happens kept stream m None is is_slot by slots = λ below small. (record { frames = tt; datagrams = tt }, slots)
-awaited_holds back G P cuts to t happens kept stream m (Some indexed) is is_slot by slots =
-    reply_holds back G P cuts to t happens kept stream m indexed indexed.slot.state refl (found_among (is_awaiting stream.peer m.context) (indexed_slots t) indexed is) by slots is_slot.there is_slot.holds (found_passes (is_awaiting stream.peer m.context) (indexed_slots t) indexed is)
+awaited_holds : ItemsReadBack → (G : OfSlots) (P : ℕ → Type 0) → Cuts P → (to : ℕ) (t : ScannerTable) (happens : Event) → Kept G t to happens → RequestIdsHold P t to → (stream : TargetStream) (m : MessageFields) (found : Option IndexedSlot) → find (is_awaiting stream.peer m.context) (indexed_slots t) ≡ found → IfSome found (IsSlotOf G t.profile.slots) → ComesBy t happens stream m → SlotsHold G t → NextHolds G P to (replied_to t m found)
+awaited_holds back G P cuts to t happens kept requested_ids stream m None is is_slot by slots = λ below small. (record { frames = tt; datagrams = tt }, slots)
+awaited_holds back G P cuts to t happens kept requested_ids stream m (Some indexed) is is_slot by slots =
+    reply_holds back G P cuts to t happens kept requested_ids stream m indexed indexed.slot.state refl (found_among (is_awaiting stream.peer m.context) (indexed_slots t) indexed is) by slots is_slot.there is_slot.holds (found_passes (is_awaiting stream.peer m.context) (indexed_slots t) indexed is)
 
 registered_holds : ItemsReadBack → (G : OfSlots) (P : ℕ → Type 0) → Cuts P → (to : ℕ) (t : ScannerTable) (happens : Event) → Kept G t to happens → RequestIdsHold P t to → (stream : TargetStream) (m : MessageFields) → SlotsHold G t → NextHolds G P to (done (registered t stream m))
 registered_holds back G P cuts to t happens kept requested_ids stream m slots =
@@ -160,7 +171,7 @@ reported_holds : ItemsReadBack → (G : OfSlots) (P : ℕ → Type 0) → Cuts P
 reported_holds back G P cuts to t happens kept requested_ids stream m Waiting by slots =
     either (NextHolds G P to) (m.context == 0) (done (registered t stream m)) (ignored t) (registered_holds back G P cuts to t happens kept requested_ids stream m slots) (λ below small. (record { frames = tt; datagrams = tt }, slots))
 reported_holds back G P cuts to t happens kept requested_ids stream m (Up handle) by slots =
-    awaited_holds back G P cuts to t happens kept stream m (find (is_awaiting stream.peer m.context) (indexed_slots t)) refl (found_slot G t (is_awaiting stream.peer m.context) slots) by slots
+    awaited_holds back G P cuts to t happens kept requested_ids stream m (find (is_awaiting stream.peer m.context) (indexed_slots t)) refl (found_slot G t (is_awaiting stream.peer m.context) slots) by slots
 reported_holds back G P cuts to t happens kept requested_ids stream m Unused by slots = λ below small. (record { frames = tt; datagrams = tt }, slots)
 
 message_holds : ItemsReadBack → (G : OfSlots) (P : ℕ → Type 0) → Cuts P → (to : ℕ) (t : ScannerTable) (number : ℕ) (bytes : List ℕ) → Kept G t to (event.Frame number bytes) → RequestIdsHold P t to → (stream : TargetStream) (reading : Result MessageFields EncapFault) → message_reading bytes ≡ reading → find (is_stream number) t.streams ≡ Some stream → SlotsHold G t → NextHolds G P to (frame_answer t stream reading)
@@ -283,25 +294,27 @@ resigned_holds : ItemsReadBack → (G : OfSlots) (P : ℕ → Type 0) → Cuts P
 resigned_holds back G P cuts to t happens kept indexed is_slot slots =
     done_holds back G P cuts to (slot_resigned t indexed) (λ below. changed_holds G P t t indexed (resigned indexed.slot) [] (same_counts t) is_slot.there (kept.rests indexed.number indexed.config) slots)
 
-closed_holds : ItemsReadBack → (G : OfSlots) (P : ℕ → Type 0) → Cuts P → (to : ℕ) (t : ScannerTable) (happens : Event) → Kept G t to happens → (indexed : IndexedSlot) (c : SlotConnection) (session : Option Session) → IsSlotOf G t.profile.slots indexed → G indexed.number indexed.config (Established c) → SlotsHold G t → NextHolds G P to (done (closed_within t indexed c session))
-closed_holds back G P cuts to t happens kept indexed c None is_slot is slots = resigned_holds back G P cuts to t happens kept indexed is_slot slots
-closed_holds back G P cuts to t happens kept indexed c (Some session) is_slot is slots =
-    done_holds back G P cuts to (closed_within t indexed c (Some session))
-    (λ below.
-    either (EffectHolds G P) (has_request t) (close_requested t indexed c session) (exhausted t indexed)
-    (record {
-      slots = with_slot_holds G t.profile.slots (counted t) indexed (closing_slot t c indexed.slot) refl is_slot.there (kept.closes indexed.number indexed.config c _ refl is) slots;
-      sent = (tt, tt);
-    })
-    (record { slots = with_slot_holds G t.profile.slots t indexed (resigned indexed.slot) refl is_slot.there (kept.rests indexed.number indexed.config) slots; sent = tt }))
+closed_holds : ItemsReadBack → (G : OfSlots) (P : ℕ → Type 0) → Cuts P → (to : ℕ) (t : ScannerTable) (happens : Event) → Kept G t to happens → (indexed : IndexedSlot) (link : Link) (session : Option Session) (state : SlotState) → link_in state ≡ Some link → IsSlotOf G t.profile.slots indexed → G indexed.number indexed.config state → SlotsHold G t → NextHolds G P to (done (closed_within t indexed link session))
+closed_holds back G P cuts to t happens kept indexed link None state from is_slot is slots =
+    done_holds back G P cuts to (closed_within t indexed link None)
+    (λ below. changed_holds G P t t indexed (left_slot t link indexed.slot) [] (same_counts t) is_slot.there (left_holds G t to happens kept t indexed link state from is) slots)
+closed_holds back G P cuts to t happens kept indexed link (Some session) state from is_slot is slots =
+    done_holds back G P cuts to (closed_within t indexed link (Some session))
+    (λ below. closing_holds G P t to happens kept t indexed link false session state from is (same_counts t) is_slot.there slots)
+
+dropped_holds : ItemsReadBack → (G : OfSlots) (P : ℕ → Type 0) → Cuts P → (to : ℕ) (t : ScannerTable) (happens : Event) → Kept G t to happens → (indexed : IndexedSlot) (link : Link) (state : SlotState) → link_in state ≡ Some link → IsSlotOf G t.profile.slots indexed → G indexed.number indexed.config state → SlotsHold G t → NextHolds G P to (done (dropped t indexed link))
+dropped_holds back G P cuts to t happens kept indexed link state from is_slot is slots =
+    either (λ (e : Effect). NextHolds G P to (done e)) t.profile.tidy (closed_within t indexed link (session_with t indexed.config.target)) (slot_resigned t indexed)
+    (closed_holds back G P cuts to t happens kept indexed link (session_with t indexed.config.target) state from is_slot is slots) (resigned_holds back G P cuts to t happens kept indexed is_slot slots)
 
 state_stopped : ItemsReadBack → (G : OfSlots) (P : ℕ → Type 0) → Cuts P → (to : ℕ) (t : ScannerTable) (happens : Event) → Kept G t to happens → (indexed : IndexedSlot) (state : SlotState) → IsSlotOf G t.profile.slots indexed → G indexed.number indexed.config state → SlotsHold G t → OkHolds G P to (stop_of (stopped t indexed state))
 state_stopped back G P cuts to t happens kept indexed Idle is_slot is slots =
     either (λ said. OkHolds G P to (stop_of said)) indexed.slot.desired_up (Ok (slot_resigned t indexed)) (Err fault.NotAllowedNow) (resigned_holds back G P cuts to t happens kept indexed is_slot slots) tt
-state_stopped back G P cuts to t happens kept indexed (Opening o) is_slot is slots = resigned_holds back G P cuts to t happens kept indexed is_slot slots
-state_stopped back G P cuts to t happens kept indexed (Established c) is_slot is slots = closed_holds back G P cuts to t happens kept indexed c (session_with t indexed.config.target) is_slot is slots
-state_stopped back G P cuts to t happens kept indexed (TimedOut link) is_slot is slots = resigned_holds back G P cuts to t happens kept indexed is_slot slots
-state_stopped back G P cuts to t happens kept indexed (Closing c) is_slot is slots = tt
+state_stopped back G P cuts to t happens kept indexed (Opening o) is_slot is slots = dropped_holds back G P cuts to t happens kept indexed (requested_link o.requested) (Opening o) refl is_slot is slots
+state_stopped back G P cuts to t happens kept indexed (Established c) is_slot is slots = closed_holds back G P cuts to t happens kept indexed c.link (session_with t indexed.config.target) (Established c) refl is_slot is slots
+state_stopped back G P cuts to t happens kept indexed (TimedOut link) is_slot is slots = dropped_holds back G P cuts to t happens kept indexed link (TimedOut link) refl is_slot is slots
+state_stopped back G P cuts to t happens kept indexed (Closing c) is_slot is slots =
+    either (λ said. OkHolds G P to (stop_of said)) indexed.slot.desired_up (Ok (slot_resigned t indexed)) (Err fault.NotAllowedNow) (resigned_holds back G P cuts to t happens kept indexed is_slot slots) tt
 
 stop_holds : ItemsReadBack → (G : OfSlots) (P : ℕ → Type 0) → Cuts P → (to : ℕ) (t : ScannerTable) (happens : Event) → Kept G t to happens → (found : Option IndexedSlot) → IfSome found (IsSlotOf G t.profile.slots) → SlotsHold G t → OkHolds G P to (stop_of (stopped_at t found))
 stop_holds back G P cuts to t happens kept None is_slot slots = tt

@@ -32,8 +32,8 @@ same_on t happens number config c d opening link (inr by) =
 pub ids_kept : (t : ScannerTable) (to : ℕ) (happens : Event) → Kept (HasItsIds t happens) t to happens
 ids_kept t to happens = record {
   rests = λ number config. tt;
-  times_out = λ number config c is. tt;
-  closes = λ number config c close same is. tt;
+  times_out = λ number config link state from is. tt;
+  closes = λ number config link state close same from is. tt;
   goes_on = λ number config c d opening link is. same_on t happens number config c d opening link is;
   opens = λ number config now o can requested by. tt;
   establishes = λ number config o success c waits replied requested opening link is.

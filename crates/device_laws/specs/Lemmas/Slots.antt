@@ -17,6 +17,8 @@ use Rattle.cip_fwdopen.specs.declared.reply.Opened as made
 use Rattle.cip_fwdopen.specs.declared.reply.OpenAnswer.{OpenAnswer}
 use Rattle.cip_fwdopen.specs.declared.reply.OpenAnswer.TheVariants as answer
 use Rattle.conn_state.specs.Answers.{answer_tests, is_requested_id, link_of}
+use Rattle.cip_types.specs.declared.names.Triad.{Triad}
+use Rattle.conn_state.specs.declared.names.Link.{Link}
 use Rattle.scanner_table.specs.declared.profile.ScannerProfile.{ScannerProfile}
 use Rattle.scanner_table.specs.declared.profile.SlotConfig.{SlotConfig}
 use Rattle.scanner_table.specs.declared.slot.PendingClose as closing_slots
@@ -29,10 +31,11 @@ use Rattle.scanner_table.specs.declared.table.ScannerTable.{ScannerTable}
 use Rattle.scanner_table.specs.declared.table.Session.{Session}
 use Rattle.scanner_table.specs.Slots.{IndexedSlot, indexed_from, indexed_slots, is_with, with_slot}
 use Rattle.scanner_table.specs.Requests.{Request, registering, opening, closing, requesting, Sent, next_t_o_id, next_requested, id_or_zero}
-use Rattle.scanner_table.specs.Effects.{Effect, after, and_then, on_each, changed, counted}
-use Rattle.scanner_table.specs.Opening.{can_open, drawn, opening_slot, resigned, exhausted, open_requested, opened_within, opened, is_ready_slot, ready_slots, ready_opened, target_opened}
-use Rattle.scanner_table.specs.Closing.{idle_slot, given_up_state, given_up, target_lost}
-use Rattle.scanner_table.specs.Replies.{is_id_free, new_connection, established_slot, failed_slot, judged_success, answered}
+use Rattle.scanner_table.specs.Effects.{Effect, nothing, after, and_then, on_each, changed, counted}
+use Rattle.scanner_table.specs.Opening.{has_request, closing_slot, close_requested, cleared_within, opened_from, can_open, drawn, opening_slot, resigned, exhausted, open_requested, opened_within, opened, is_ready_slot, ready_slots, ready_opened, target_opened}
+use Rattle.scanner_table.specs.Closing.{requested_link, left_state, idle_slot, given_up_state, given_up, target_lost}
+use Rattle.scanner_table.specs.Replies.{is_id_free, new_connection, established_slot, failed_slot, refused, disowned, disowned_within, rejected, judged_success, answered}
+use Rattle.scanner_table.specs.Lemmas.Moves.{link_in}
 use Rattle.scanner_table.specs.Sessions.{session_with}
 use Rattle.scanner_table.specs.Ticks.{by_deadline, has_expired, expired_slots, expired_state, expired, all_expired, is_overdue, all_given_up, advanced}
 use Rattle.device_laws.specs.Ids.{Replied}
@@ -108,8 +111,8 @@ pub record CanDraw (old : ScannerTable) (to : ℕ) (now : ScannerTable) (config 
 
 pub record Kept (G : OfSlots) (old : ScannerTable) (to : ℕ) (happens : Event) : Type 0 where
   pub rests : (number : ℕ) (config : SlotConfig) → G number config Idle
-  pub times_out : (number : ℕ) (config : SlotConfig) (c : SlotConnection) → G number config (Established c) → G number config (TimedOut c.link)
-  pub closes : (number : ℕ) (config : SlotConfig) (c : SlotConnection) (close : closing_slots.PendingClose) → close.link ≡ c.link → G number config (Established c) → G number config (Closing close)
+  pub times_out : (number : ℕ) (config : SlotConfig) (link : Link) (state : SlotState) → link_in state ≡ Some link → G number config state → G number config (TimedOut link)
+  pub closes : (number : ℕ) (config : SlotConfig) (link : Link) (state : SlotState) (close : closing_slots.PendingClose) → close.link ≡ link → link_in state ≡ Some link → G number config state → G number config (Closing close)
   pub goes_on : (number : ℕ) (config : SlotConfig) (c d : SlotConnection) → d.opening ≡ c.opening → d.link ≡ c.link → G number config (Established c) → G number config (Established d)
   pub opens : (number : ℕ) (config : SlotConfig) (now : ScannerTable) (o : pending.PendingOpen) → CanDraw old to now config → o.request ≡ now.next_request → o.requested ≡ next_requested now config → G number config (Opening o)
   pub establishes : (number : ℕ) (config : SlotConfig) (o : pending.PendingOpen) (success : made.Opened) (c : SlotConnection) → Waits old number config o → Replied old happens config.target o.request success → is_requested_id o.requested.t_o_id success.t_o_id ≡ true → c.opening ≡ o.request → c.link ≡ link_of o.requested success → G number config (Opening o) → G number config (Established c)
@@ -156,12 +159,26 @@ within_counts t indexed (Some session) =
     either (λ (e : Effect). Counts t e.table) (can_open t indexed.config) (open_requested t indexed session) (exhausted t indexed)
     (requested_counts t indexed (opening_slot t indexed)) (changed_counts t indexed (resigned indexed.slot))
 
+closing_counts : (t : ScannerTable) (indexed : IndexedSlot) (slot : Slot) → Counts t (with_slot (counted t) indexed.number slot)
+closing_counts t indexed slot = record { profile = refl; ids = omega arith; requests = omega arith }
+
+cleared_counts : (t : ScannerTable) (indexed : IndexedSlot) (link : Link) (session : Option Session) → Counts t (cleared_within t indexed link session).table
+cleared_counts t indexed link None = same_counts t
+cleared_counts t indexed link (Some session) =
+    either (λ (e : Effect). Counts t e.table) (has_request t) (close_requested t indexed link indexed.slot.desired_up session) (exhausted t indexed)
+    (closing_counts t indexed (closing_slot t link indexed.slot.desired_up indexed.slot)) (changed_counts t indexed (resigned indexed.slot))
+
+from_counts : (t : ScannerTable) (indexed : IndexedSlot) (session : Option Session) (state : SlotState) → Counts t (opened_from t indexed session state).table
+from_counts t indexed session (TimedOut link) =
+    either (λ (e : Effect). Counts t e.table) t.profile.tidy (cleared_within t indexed link session) (opened_within t indexed session) (cleared_counts t indexed link session) (within_counts t indexed session)
+from_counts t indexed session other = within_counts t indexed session
+
 opened_counts : (t : ScannerTable) (indexed : IndexedSlot) → Counts t (opened t indexed).table
 unfolding opened
-opened_counts t indexed = within_counts t indexed (session_with t indexed.config.target)
+opened_counts t indexed = from_counts t indexed (session_with t indexed.config.target) indexed.slot.state
 
 given_counts : (t : ScannerTable) (indexed : IndexedSlot) (state : SlotState) → Counts t (given_up_state t indexed state).table
-given_counts t indexed (Opening o) = changed_counts t indexed (failed_slot t Idle indexed.slot)
+given_counts t indexed (Opening o) = changed_counts t indexed (failed_slot t (left_state t (requested_link o.requested)) indexed.slot)
 given_counts t indexed (Closing c) = changed_counts t indexed (idle_slot indexed.slot)
 given_counts t indexed Idle = same_counts t
 given_counts t indexed (Established c) = same_counts t
@@ -188,7 +205,7 @@ abbrev pub AllKeep : OfSlots → (ℕ → Type 0) → ScannerTable → ℕ → (
 AllKeep G P old to effect =
     (now : ScannerTable) (indexed : IndexedSlot) → Counts old now → (effect now indexed).table.next_id ≤ to → SlotsHold G now → IsSlotOf G old.profile.slots indexed → EffectHolds G P (effect now indexed)
 
-both_hold : (G : OfSlots) (P : ℕ → Type 0) (first next : Effect) → EffectHolds G P first → EffectHolds G P next → EffectHolds G P (after first next)
+pub both_hold : (G : OfSlots) (P : ℕ → Type 0) (first next : Effect) → EffectHolds G P first → EffectHolds G P next → EffectHolds G P (after first next)
 both_hold G P first next one other = record { slots = other.slots; sent = all_both (SentId P) first.sent next.sent one.sent other.sent }
 
 each_holds : (G : OfSlots) (P : ℕ → Type 0) (old : ScannerTable) (to : ℕ) (effect : ScannerTable → IndexedSlot → Effect) → AllCount effect → AllKeep G P old to effect → (all : List IndexedSlot) (now : ScannerTable) → Counts old now → (on_each effect all now).table.next_id ≤ to → SlotsHold G now → AllByRecursion (IsSlotOf G old.profile.slots) all → EffectHolds G P (on_each effect all now)
@@ -217,10 +234,32 @@ within_holds G P old to happens kept requested_ids now indexed (Some session) co
     record { slots = slots; sent = (requested_ids now indexed.config can, tt) })
     (λ under. changed_holds G P old now indexed (resigned indexed.slot) (notice.NoIds indexed.number ∷ []) counts is_slot.there (kept.rests indexed.number indexed.config) holds) below
 
+-- the slot closes its connection
+pub closing_holds : (G : OfSlots) (P : ℕ → Type 0) (old : ScannerTable) (to : ℕ) (happens : Event) → Kept G old to happens → (now : ScannerTable) (indexed : IndexedSlot) (link : Link) (desired_up : Bool) (session : Session) (state : SlotState) → link_in state ≡ Some link → G indexed.number indexed.config state → Counts old now → slice_get old.profile.slots indexed.number ≡ Some indexed.config → SlotsHold G now → EffectHolds G P (cond (has_request now) (close_requested now indexed link desired_up session) (exhausted now indexed))
+closing_holds G P old to happens kept now indexed link desired_up session state from is counts there holds =
+    either (EffectHolds G P) (has_request now) (close_requested now indexed link desired_up session) (exhausted now indexed)
+    (record {
+      slots = with_slot_holds G old.profile.slots (counted now) indexed (closing_slot now link desired_up indexed.slot) (ap (λ (p : ScannerProfile). p.slots) counts.profile) there (kept.closes indexed.number indexed.config link state _ refl from is) holds;
+      sent = (tt, tt);
+    })
+    (changed_holds G P old now indexed (resigned indexed.slot) (notice.NoIds indexed.number ∷ []) counts there (kept.rests indexed.number indexed.config) holds)
+
+cleared_holds : (G : OfSlots) (P : ℕ → Type 0) (old : ScannerTable) (to : ℕ) (happens : Event) → Kept G old to happens → (now : ScannerTable) (indexed : IndexedSlot) (link : Link) (session : Option Session) → indexed.slot.state ≡ TimedOut link → Counts old now → SlotsHold G now → IsSlotOf G old.profile.slots indexed → EffectHolds G P (cleared_within now indexed link session)
+cleared_holds G P old to happens kept now indexed link None is counts holds is_slot = record { slots = holds; sent = tt }
+cleared_holds G P old to happens kept now indexed link (Some session) is counts holds is_slot =
+    closing_holds G P old to happens kept now indexed link indexed.slot.desired_up session indexed.slot.state (ap link_in is) is_slot.holds counts is_slot.there holds
+
+from_holds : (G : OfSlots) (P : ℕ → Type 0) (old : ScannerTable) (to : ℕ) (happens : Event) → Kept G old to happens → RequestIdsHold P old to → (now : ScannerTable) (indexed : IndexedSlot) (session : Option Session) (state : SlotState) → indexed.slot.state ≡ state → Counts old now → (opened_from now indexed session state).table.next_id ≤ to → SlotsHold G now → IsSlotOf G old.profile.slots indexed → EffectHolds G P (opened_from now indexed session state)
+from_holds G P old to happens kept requested_ids now indexed session (TimedOut link) is counts below holds is_slot =
+    either (λ (e : Effect). e.table.next_id ≤ to → EffectHolds G P e) now.profile.tidy (cleared_within now indexed link session) (opened_within now indexed session)
+    (λ under. cleared_holds G P old to happens kept now indexed link session is counts holds is_slot)
+    (λ under. within_holds G P old to happens kept requested_ids now indexed session counts under holds is_slot) below
+from_holds G P old to happens kept requested_ids now indexed session other is counts below holds is_slot = within_holds G P old to happens kept requested_ids now indexed session counts below holds is_slot
+
 pub opened_holds : (G : OfSlots) (P : ℕ → Type 0) (old : ScannerTable) (to : ℕ) (happens : Event) → Kept G old to happens → RequestIdsHold P old to → AllKeep G P old to opened
 unfolding opened
 opened_holds G P old to happens kept requested_ids now indexed counts below holds is_slot =
-    within_holds G P old to happens kept requested_ids now indexed (session_with now indexed.config.target) counts below holds is_slot
+    from_holds G P old to happens kept requested_ids now indexed (session_with now indexed.config.target) indexed.slot.state refl counts below holds is_slot
 
 slots_now : (G : OfSlots) (old now : ScannerTable) → Counts old now → SlotsHold G now → AllByRecursion (IsSlotOf G old.profile.slots) (indexed_slots now)
 slots_now G old now counts holds = subst (λ (p : ScannerProfile). AllByRecursion (IsSlotOf G p.slots) (indexed_slots now)) counts.profile (all_slots G now holds)
@@ -240,15 +279,22 @@ target_holds G P old to happens kept requested_ids target now counts below holds
 
 -- ---- endings
 
-given_holds : (G : OfSlots) (P : ℕ → Type 0) (old : ScannerTable) (to : ℕ) (happens : Event) → Kept G old to happens → (now : ScannerTable) (indexed : IndexedSlot) (state : SlotState) → Counts old now → SlotsHold G now → IsSlotOf G old.profile.slots indexed → EffectHolds G P (given_up_state now indexed state)
-given_holds G P old to happens kept now indexed (Opening o) counts holds is_slot = changed_holds G P old now indexed (failed_slot now Idle indexed.slot) [] counts is_slot.there (kept.rests indexed.number indexed.config) holds
-given_holds G P old to happens kept now indexed (Closing c) counts holds is_slot = changed_holds G P old now indexed (idle_slot indexed.slot) [] counts is_slot.there (kept.rests indexed.number indexed.config) holds
-given_holds G P old to happens kept now indexed Idle counts holds is_slot = record { slots = holds; sent = tt }
-given_holds G P old to happens kept now indexed (Established c) counts holds is_slot = record { slots = holds; sent = tt }
-given_holds G P old to happens kept now indexed (TimedOut link) counts holds is_slot = record { slots = holds; sent = tt }
+-- the state that an ended connection leaves
+pub left_holds : (G : OfSlots) (old : ScannerTable) (to : ℕ) (happens : Event) → Kept G old to happens → (now : ScannerTable) (indexed : IndexedSlot) (link : Link) (state : SlotState) → link_in state ≡ Some link → G indexed.number indexed.config state → G indexed.number indexed.config (left_state now link)
+left_holds G old to happens kept now indexed link state from is =
+    either (G indexed.number indexed.config) now.profile.tidy (TimedOut link) Idle (kept.times_out indexed.number indexed.config link state from is) (kept.rests indexed.number indexed.config)
+
+given_holds : (G : OfSlots) (P : ℕ → Type 0) (old : ScannerTable) (to : ℕ) (happens : Event) → Kept G old to happens → (now : ScannerTable) (indexed : IndexedSlot) (state : SlotState) → indexed.slot.state ≡ state → Counts old now → SlotsHold G now → IsSlotOf G old.profile.slots indexed → EffectHolds G P (given_up_state now indexed state)
+given_holds G P old to happens kept now indexed (Opening o) is counts holds is_slot =
+    changed_holds G P old now indexed (failed_slot now (left_state now (requested_link o.requested)) indexed.slot) [] counts is_slot.there
+    (left_holds G old to happens kept now indexed (requested_link o.requested) (Opening o) refl (subst (G indexed.number indexed.config) is is_slot.holds)) holds
+given_holds G P old to happens kept now indexed (Closing c) is counts holds is_slot = changed_holds G P old now indexed (idle_slot indexed.slot) [] counts is_slot.there (kept.rests indexed.number indexed.config) holds
+given_holds G P old to happens kept now indexed Idle is counts holds is_slot = record { slots = holds; sent = tt }
+given_holds G P old to happens kept now indexed (Established c) is counts holds is_slot = record { slots = holds; sent = tt }
+given_holds G P old to happens kept now indexed (TimedOut link) is counts holds is_slot = record { slots = holds; sent = tt }
 
 given_up_holds : (G : OfSlots) (P : ℕ → Type 0) (old : ScannerTable) (to : ℕ) (happens : Event) → Kept G old to happens → AllKeep G P old to given_up
-given_up_holds G P old to happens kept now indexed counts below holds is_slot = given_holds G P old to happens kept now indexed indexed.slot.state counts holds is_slot
+given_up_holds G P old to happens kept now indexed counts below holds is_slot = given_holds G P old to happens kept now indexed indexed.slot.state refl counts holds is_slot
 
 pub lost_holds : (G : OfSlots) (P : ℕ → Type 0) (old : ScannerTable) (to : ℕ) (happens : Event) → Kept G old to happens → (target : Node) (now : ScannerTable) → Counts old now → (target_lost target now).table.next_id ≤ to → SlotsHold G now → EffectHolds G P (target_lost target now)
 unfolding target_lost
@@ -257,7 +303,7 @@ lost_holds G P old to happens kept target now counts below holds =
     (all_filtered (IsSlotOf G old.profile.slots) (is_with target) (indexed_slots now) (slots_now G old now counts holds))
 
 expiry_holds : (G : OfSlots) (P : ℕ → Type 0) (old : ScannerTable) (to : ℕ) (happens : Event) → Kept G old to happens → (now : ScannerTable) (indexed : IndexedSlot) (state : SlotState) → Counts old now → SlotsHold G now → slice_get old.profile.slots indexed.number ≡ Some indexed.config → G indexed.number indexed.config state → EffectHolds G P (expired_state now indexed state)
-expiry_holds G P old to happens kept now indexed (Established c) counts holds there is = changed_holds G P old now indexed (failed_slot now (TimedOut c.link) indexed.slot) [] counts there (kept.times_out indexed.number indexed.config c is) holds
+expiry_holds G P old to happens kept now indexed (Established c) counts holds there is = changed_holds G P old now indexed (failed_slot now (TimedOut c.link) indexed.slot) [] counts there (kept.times_out indexed.number indexed.config c.link (Established c) refl is) holds
 expiry_holds G P old to happens kept now indexed Idle counts holds there is = record { slots = holds; sent = tt }
 expiry_holds G P old to happens kept now indexed (Opening o) counts holds there is = record { slots = holds; sent = tt }
 expiry_holds G P old to happens kept now indexed (TimedOut link) counts holds there is = record { slots = holds; sent = tt }
@@ -314,8 +360,20 @@ tests_pass true b rest one other is = absurd cc
 tests_pass false true rest one other is = refl
 tests_pass false false rest one other is = absurd cc
 
+disowned_holds : (G : OfSlots) (P : ℕ → Type 0) (now : ScannerTable) (config : SlotConfig) (triad : Triad) (session : Option Session) → SlotsHold G now → EffectHolds G P (disowned_within now config triad session)
+disowned_holds G P now config triad None holds = record { slots = holds; sent = tt }
+disowned_holds G P now config triad (Some session) holds =
+    either (EffectHolds G P) (has_request now) (disowned now config triad session) (nothing now) (record { slots = holds; sent = (tt, tt) }) (record { slots = holds; sent = tt })
+
+rejected_holds : (G : OfSlots) (P : ℕ → Type 0) (config : SlotConfig) (triad : Triad) (now : ScannerTable) → SlotsHold G now → EffectHolds G P (rejected config triad now)
+rejected_holds G P config triad now holds =
+    either (EffectHolds G P) now.profile.tidy (disowned_within now config triad (session_with now config.target)) (nothing now) (disowned_holds G P now config triad (session_with now config.target) holds) (record { slots = holds; sent = tt })
+
 success_holds : (G : OfSlots) (P : ℕ → Type 0) (old : ScannerTable) (to : ℕ) (happens : Event) → Kept G old to happens → (indexed : IndexedSlot) (o : pending.PendingOpen) (success : made.Opened) (said : Option Mismatch) → first_case (answer_tests o.requested success (is_id_free old indexed success.t_o_id)) ≡ said → Waits old indexed.number indexed.config o → Replied old happens indexed.config.target o.request success → SlotsHold G old → slice_get old.profile.slots indexed.number ≡ Some indexed.config → G indexed.number indexed.config (Opening o) → EffectHolds G P (judged_success old indexed o success said)
-success_holds G P old to happens kept indexed o success (Some why) is in_wait replied holds there waits = changed_holds G P old old indexed (failed_slot old Idle indexed.slot) (notice.Refused indexed.number (reason.Mismatch why) ∷ []) (same_counts old) there (kept.rests indexed.number indexed.config) holds
+success_holds G P old to happens kept indexed o success (Some why) is in_wait replied holds there waits =
+    let first = refused old indexed (reason.Mismatch why) in
+    let one = changed_holds G P old old indexed (failed_slot old Idle indexed.slot) (notice.Refused indexed.number (reason.Mismatch why) ∷ []) (same_counts old) there (kept.rests indexed.number indexed.config) holds in
+    both_hold G P first (rejected indexed.config o.requested.triad first.table) one (rejected_holds G P indexed.config o.requested.triad first.table one.slots)
 success_holds G P old to happens kept indexed o success None is in_wait replied holds there waits =
     let passes = tests_pass _ _ _ _ _ is in
     let requested = and_parts (is_requested_id o.requested.t_o_id success.t_o_id) (is_id_free old indexed success.t_o_id) passes in

@@ -5,4 +5,4 @@ use Rattle.device_laws.proofs.RunLemmas.{over_scanners}
 use Rattle.device_laws.proofs.scanner_runs.slots_close_as_desired.Goals as goal
 
 pub returns : goal.returns
-returns c = over_scanners (λ t. EachSlot ClosesAsDesired (indexed_slots t)) (λ t whole. each_closes_as_desired t whole.table) c.tables_are_whole.ensures
+returns c = over_scanners (λ t. EachSlot (ClosesAsDesired t.profile.tidy) (indexed_slots t)) (λ t whole. each_closes_as_desired t whole.table) c.tables_are_whole.ensures
