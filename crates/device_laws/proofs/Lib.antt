@@ -33,4 +33,3 @@ mod OwnerDataSteps
 mod OwnerDataRuns
 mod StatedLimits
 mod WindowSteps
-mod ExecutedSteps

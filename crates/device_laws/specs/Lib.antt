@@ -28,4 +28,3 @@ pub mod States
 pub mod OwnerData
 pub mod StatedLimits
 pub mod Windows
-pub mod Executions

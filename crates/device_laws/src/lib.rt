@@ -1,7 +1,6 @@
 //! Laws of one device, adapter or scanner: the owners of an output, the origin of connection ids, what
-//! requests and replies say of them, what a device produces and in which order, that what is due happens, that a message of a
-//! class 3 connection is executed once, and what the limits of an adapter's maker keep from its connections. A law call does
-//! nothing; its contract states the law.
+//! requests and replies say of them, what a device produces and in which order, that what is due happens, and what the limits of
+//! an adapter's maker keep from its connections. A law call does nothing; its contract states the law.
 //!
 //! The laws of a scanner at the root speak of its table: in each step, and over every list of events. `scanner_runs` has the
 //! laws of every run of a device that is a scanner. The laws by which a table stays whole are those of `scanner_table`, on which
@@ -10,7 +9,6 @@
 
 mod asking;
 mod due_ticks;
-mod executions;
 mod id_provenance;
 mod made_productions;
 mod owners;
@@ -28,7 +26,6 @@ mod windows;
 
 pub use asking::{new_connections_are_requested, scanners_ask_once};
 pub use due_ticks::due_ticks_act;
-pub use executions::messages_are_executed_once_in_turn;
 pub use id_provenance::{
     ids_are_carried, ids_are_drawn_with_openings, replies_establish_their_own_slot,
 };

@@ -33,7 +33,6 @@ mod GroupSamples
 mod OrderSamples
 mod CircleSamples
 mod OnceSamples
-mod ExecutionSamples
 mod Passing
 mod Testing
 mod NameTesting
