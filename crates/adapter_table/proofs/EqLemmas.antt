@@ -15,7 +15,6 @@ use Rattle.adapter_table.specs.declared.row.Mode.{Mode}
 use Rattle.adapter_table.specs.declared.maker_limits.Places.{Places}
 use Rattle.adapter_table.specs.declared.maker_limits.MakerLimits.{MakerLimits}
 use Rattle.adapter_table.specs.declared.maker_limits.NodeLimits.{NodeLimits}
-use Rattle.adapter_table.specs.declared.profile.Action.{Action}
 use Rattle.adapter_table.specs.declared.profile.OutputPoint.{OutputPoint}
 use Rattle.adapter_table.specs.declared.profile.InputPoint.{InputPoint}
 use Rattle.adapter_table.specs.declared.profile.Description.{Description}
@@ -36,7 +35,6 @@ use Rattle.cip_types.specs.contracts.names.IdentityPartialEq.TheImpl as identity
 use Rattle.adapter_table.specs.contracts.maker_limits.PlacesPartialEq.TheImpl as places
 use Rattle.adapter_table.specs.contracts.maker_limits.NodeLimitsPartialEq.TheImpl as node_limits
 use Rattle.adapter_table.specs.contracts.maker_limits.MakerLimitsPartialEq.TheImpl as limits
-use Rattle.adapter_table.specs.contracts.profile.ActionPartialEq.TheImpl as action
 use Rattle.adapter_table.specs.contracts.profile.OutputPointPartialEq.TheImpl as output
 use Rattle.adapter_table.specs.contracts.profile.InputPointPartialEq.TheImpl as input
 use Rattle.adapter_table.specs.contracts.profile.DescriptionPartialEq.TheImpl as description
@@ -58,9 +56,6 @@ identity_decides : (a b : Identity) → Decides ((identity.ghosts).eq a b) (a �
 identity_decides a b = search rules
 
 -- ---- points
-
-action_decides : (a b : Action) → Decides ((action.ghosts).eq a b) (a ≡ b)
-action_decides a b = search rules
 
 output_decides : (a b : OutputPoint) → Decides ((output.ghosts).eq a b) (a ≡ b)
 output_decides a b = search rules

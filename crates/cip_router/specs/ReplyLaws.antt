@@ -52,10 +52,6 @@ reply_is_short (object_reply service value) few = short_object_reply service val
 reply_is_short (refused service fault triad) few = short_refused service fault triad
 reply_is_short (own service status content) few = short_own service status content few
 
--- a reply has bytes for an item
-pub reply_some : (reply : ReplyFields) → GetsFew reply → 1 ≤ length (reply_text reply)
-reply_some reply few = (reply_is_short reply few).some
-
 -- and is within its length field
 pub reply_fits : (reply : ReplyFields) → GetsFew reply → length (reply_text reply) ≤ 65535
 reply_fits reply few = omega (arith, (reply_is_short reply few).few)
@@ -82,7 +78,3 @@ connected_length connection count message =
     let front = fields_text connected_widths (written_connected connection count (length message)) in
     let front_len : length front ≡ 22 = refl in
     omega (arith, length-append front message, front_len)
-
--- the items of a short reply are within the length field of their message
-pub connected_fits : (connection count : ℕ) (message : List ℕ) → length message ≤ 1404 → length (connected_text connection count message) ≤ 65535
-connected_fits connection count message few = omega (arith, connected_length connection count message, few)

@@ -1,5 +1,5 @@
 -- Each change of class 3 connections and of waiting requests leaves them as sound as they were.
-use Rattle.std.proofs.Common.{◌≡◌, ◌≤◌, ◌<◌, ℕ, ◌+◌, ◌==◌, nat_lt, nat_le, Bool, true, false, cond, not, ◌||◌, List, [], ◌∷◌, length, find, Option, Some, None, refl, arith, leb-true, le-leb}
+use Rattle.std.proofs.Common.{◌≡◌, ◌≤◌, ◌<◌, ℕ, ◌+◌, ◌==◌, nat_lt, nat_le, Bool, true, false, cond, not, ◌||◌, List, [], ◌∷◌, length, find, Option, Some, None, refl, arith, leb-true}
 use Rattle.std.specs.List.{list_any}
 use Rattle.std.proofs.lemmas.Bool.{and_parts, or_parts, not-false}
 use Rattle.std.proofs.lemmas.Bool.Decides.{nat_tests}
@@ -12,7 +12,7 @@ use Rattle.cip_netparams.specs.Timeouts.{timeout_fits}
 use Rattle.cip_fwdopen.specs.Open.{OpenFields}
 use Rattle.cip_router.specs.declared.refusal.Status.TheVariants as status
 use Rattle.cip_router.specs.Refusals.{status_fault}
-use Rattle.cip_router.specs.Replies.{ReplyFields, own as own_reply, refused, reply_text, own_reply_text}
+use Rattle.cip_router.specs.Replies.{ReplyFields, refused, reply_text}
 use Rattle.cip_router.specs.ReplyLaws.{reply_is_short}
 use Rattle.messaging.specs.declared.class3.Class3Connection as kept
 use Rattle.messaging.specs.declared.requests.Requester.{Requester}
@@ -67,19 +67,6 @@ fitted_by false size service reply fits = (reply_is_short (refused service (stat
 
 pub fitted_short : (d : kept.Class3Connection) (service : ℕ) (reply : ReplyFields) → length (fitted_text d service reply) ≤ 1404
 fitted_short d service reply = fitted_by (nat_le (length (reply_text reply)) (most_reply d.t_o_size)) d.t_o_size service reply refl
-
--- the device's own late reply, which has no data, fits always
-four_fits : (size : ℕ) → nat_le 4 (most_reply size) ≡ true
-four_fits size = le-leb 4 (most_reply size) (omega arith)
-
-late_by : (b : Bool) (service : ℕ) → b ≡ true → reply_text (cond b (own_reply service 0x1F []) (refused service (status_fault status.ReplyTooLarge) None)) ≡ late_text service
-unfolding own_reply_text
-late_by true service fits = refl
-late_by false service fits = absurd cc
-
-pub late_fits : (d : kept.Class3Connection) (service : ℕ) → fitted_text d service (own_reply service 0x1F []) ≡ late_text service
-unfolding own_reply_text
-late_fits d service = late_by (nat_le 4 (most_reply d.t_o_size)) service (four_fits d.t_o_size)
 
 -- ---- connections stay in place
 

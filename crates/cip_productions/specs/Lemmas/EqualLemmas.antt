@@ -20,9 +20,6 @@ trigger_decides a b = search rules
 pub kind_decides : (a b : Kind) → Decides ((kind.ghosts).eq a b) (a ≡ b)
 kind_decides a b = search rules
 
-pub accepted_decides : (a b : Accepted) → Decides ((accepted.ghosts).eq a b) (a ≡ b)
-accepted_decides a b = search rules
-
 pub last_decides : (a b : Option Accepted) → Decides (option_eq (accepted.ghosts).eq a b) (a ≡ b)
 last_decides a b = search rules
 

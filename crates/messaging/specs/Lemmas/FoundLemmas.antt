@@ -9,8 +9,8 @@ use Rattle.cip_types.specs.declared.names.ConnId.{ConnId}
 use Rattle.cip_types.specs.declared.names.Ms.{Ms}
 use Rattle.messaging.specs.declared.class3.Class3Connection.{Class3Connection}
 use Rattle.messaging.specs.declared.table.Messaging.{Messaging}
-use Rattle.messaging.specs.Changes.{executed, repeated, replied}
-use Rattle.messaging.specs.Class3Connections.{has_class3_id, is_on_stream, is_class3, repeats_last, is_last_message, first_changed, executed_class3, repeated_class3, replied_class3}
+use Rattle.messaging.specs.Changes.{executed, repeated}
+use Rattle.messaging.specs.Class3Connections.{has_class3_id, is_on_stream, is_class3, first_changed, executed_class3, repeated_class3}
 use Rattle.messaging.specs.Sound.{EachOf, EachTwoOf, IdsDiffer}
 
 -- ---- the one that is found is the one that is changed
@@ -61,13 +61,3 @@ pub repeated_found : (m : Messaging) (stream : ℕ) (id : ConnId) (deadline : Ms
 unfolding repeated
 repeated_found m stream id deadline d differ is =
     changed_found_by stream id (has_class3_id id) (repeated_class3 deadline) (λ x has. has) (λ x. refl) m.class3_connections d differ (has_its_id stream id m.class3_connections d is) is
-
--- the application's answer is the reply to the last message
-pub replied_found : (m : Messaging) (stream : ℕ) (id : ConnId) (count : ℕ) (reply : List ℕ) (d : Class3Connection) → EachTwoOf IdsDiffer m.class3_connections → find (is_class3 stream id) m.class3_connections ≡ Some d → repeats_last d count ≡ true → find (is_class3 stream id) (replied m id count reply).class3_connections ≡ Some (replied_class3 reply d)
-unfolding replied
-replied_found m stream id count reply d differ is last =
-    let own = has_its_id stream id m.class3_connections d is in
-    changed_found_by stream id (is_last_message id count) (replied_class3 reply) (λ x has. let parts = and_parts (has_class3_id id x) (repeats_last x count) has in parts.0) (λ x. refl) m.class3_connections d differ (rw own last) is
-
-pub executed_is_repeated : (count : ℕ) (reply : List ℕ) (deadline : Ms) (d : Class3Connection) → repeats_last (executed_class3 count reply deadline d) count ≡ true
-executed_is_repeated count reply deadline d = grind (arith, nat_tests)

@@ -1,5 +1,5 @@
 -- What holds of class 3 connections and of requests to the application at each table is kept by each change of them.
-use Rattle.std.proofs.Common.{◌≡◌, ◌≤◌, ◌<◌, ℕ, ◌+◌, ◌^◌, ◌*◌, ◌||◌, ◌&&◌, ◌-◌, nat_le, Bool, true, false, List, [], ◌∷◌, ◌++◌, length, length-append, cond, not, filter, find, Option, Some, refl, sym, ◌∙◌, ap, subst, arith}
+use Rattle.std.proofs.Common.{◌≡◌, ◌≤◌, ◌<◌, ℕ, ◌+◌, ◌^◌, ◌*◌, ◌||◌, ◌-◌, nat_le, Bool, true, false, List, [], ◌∷◌, ◌++◌, length, length-append, not, filter, refl, sym, ◌∙◌, ap, subst, arith}
 use Rattle.std.specs.List.{list_any}
 use Rattle.std.proofs.lemmas.List.Folds.{list_any-append}
 use Rattle.std.proofs.lemmas.Bool.{or_parts}
@@ -15,7 +15,7 @@ use Rattle.messaging.specs.declared.requests.Requester.TheVariants.{Peer, Stream
 use Rattle.messaging.specs.declared.requests.Waiting.{Waiting}
 use Rattle.messaging.specs.declared.table.Messaging.{Messaging}
 use Rattle.messaging.specs.Askers.{if_connected}
-use Rattle.messaging.specs.Class3Connections.{most_class3_connections, has_class3_triad, has_class3_id, is_class3, is_last_message, first_changed, executed_class3, repeated_class3, replied_class3}
+use Rattle.messaging.specs.Class3Connections.{most_class3_connections, has_class3_triad, has_class3_id, is_last_message, first_changed, executed_class3, repeated_class3, replied_class3}
 use Rattle.messaging.specs.Changes.{most_waiting, no_number, fresh_messaging, can_be_answered, with_class3_connections, with_class3, without_class3, without_stream, referred_elsewhere, executed, repeated, lacks_room, waiting_for, referred, referred_over, answered, replied}
 use Rattle.messaging.specs.Times.{late_text, late_reply, late_replies, late_waiting, is_late_class3, is_late_request, without_late_class3_connections, without_late_waiting, aged}
 use Rattle.messaging.specs.Sound.{EachOf, TriadsDiffer, IdsDiffer, IsDrawn, NumbersRise, IsNumberedBelow, CanBeAnswered, IsSoundMessaging}
@@ -274,23 +274,6 @@ referred_over_sound incarnation next_id m peer id count service deadline clock f
     (room_left (length m.waiting) (length next.waiting) m.next_number (few_left (can_be_answered next.class3_connections) m.waiting) room)
     (changed_found (is_last_message id count) (has_class3_id id) change (is_executed id count [] deadline) m.class3_connections found)
     (sound_changed incarnation next_id m (has_class3_id id) change (executed_names count [] deadline) sound)
-
-and_second : (a b : Bool) → (a && b) ≡ true → b ≡ true
-and_second true b is = is
-and_second false b is = absurd cc
-
-found_step : (b c : Bool) (p : kept.Class3Connection → Bool) (first d : kept.Class3Connection) (rest : Option kept.Class3Connection) → (b ≡ true → p first ≡ true) → cond b (Some first) rest ≡ Some d → (rest ≡ Some d → c ≡ true) → (p first || c) ≡ true
-found_step true c p first d rest here is later = rw (here refl) refl
-found_step false c p first d rest here is later = right (p first) c (later is) where
-  right : (a b : Bool) → b ≡ true → (a || b) ≡ true
-  right true b is = refl
-  right false b is = is
-
--- the connection of a message has its O->T id
-pub class3_is_open : (stream : ℕ) (id : ConnId) (class3_connections : List kept.Class3Connection) (d : kept.Class3Connection) → find (is_class3 stream id) class3_connections ≡ Some d → list_any (has_class3_id id) class3_connections ≡ true
-class3_is_open stream id [] d is = absurd cc
-class3_is_open stream id (first ∷ class3_connections) d is =
-    found_step (is_class3 stream id first) (list_any (has_class3_id id) class3_connections) (has_class3_id id) first d (find (is_class3 stream id) class3_connections) (and_second _ (has_class3_id id first)) is (class3_is_open stream id class3_connections d)
 
 -- ---- time
 

@@ -21,12 +21,6 @@ pub record Emptying (before now from : ℕ) (slots : LinkedLists) (timers timers
   pub count : len' + timer_count timers' ≡ len + timer_count timers
   pub capacity : cap' ≡ cap
 
--- the timer of a key in a slot
-pub timer_of_list : (R : Timer → ℕ → Type 0) (o : Option Timer) (p : Option ℕ) (list : ℕ) → Agree R o p → p ≡ Some list → list < 768 → (t : Timer) × (o ≡ Some t) × R t list
-timer_of_list R None p list agree is below = absurd (omega (arith, same_Some 768 list (sym agree ∙ is)))
-timer_of_list R (Some t) None list agree is below = absurd agree
-timer_of_list R (Some t) (Some other) list agree is below = (t, refl, subst (R t) (same_Some other list is) agree)
-
 -- the list of a key with a timer
 pub list_of_timer : (R : Timer → ℕ → Type 0) (o : Option Timer) (p : Option ℕ) (t : Timer) → Agree R o p → o ≡ Some t → (list : ℕ) × (p ≡ Some list) × R t list
 list_of_timer R None p t agree is = absurd (none-some t is)
