@@ -27,6 +27,11 @@ abbrev pub ended_at : {S : Type 0} → Option (PortStream S) → Option (PortStr
 ended_at None = None
 ended_at (Some port_stream) = Some (ended port_stream)
 
+-- the stream has ended, if there is one
+abbrev pub has_ended : {S : Type 0} → Option (PortStream S) → Bool
+has_ended None = false
+has_ended (Some port_stream) = port_stream.ended
+
 -- the slot after a piece of bytes was received
 abbrev pub ReceivesAt : {S : Type 0} → Option (PortStream S) → List ℕ → Option (PortStream S) → Type 0
 ReceivesAt None piece new = new ≡ None

@@ -77,6 +77,13 @@ impl<S: Drop> PortStream<S> {
         }
     }
 
+    /// Whether the stream has ended.
+    pub fn has_ended(&self) -> bool
+        ensures { result ≡ self.now.ended }
+    {
+        self.ended
+    }
+
     /// Marks the stream as ended. Takes no memory.
     pub fn end(&mut self)
         ensures { self.new ≡ ended self.old }

@@ -3,7 +3,7 @@
 ghost use Rattle.std.specs.Prelude.{◌≡◌, ◌<◌, replicate, position, slice_set, vec_len, Some, None, IfOk, IfErr, OnOk, OnErr};
 ghost use Rattle.std.specs.Option.{option_map};
 ghost use Rattle.port_streams.specs.StreamArrivals.{begun};
-ghost use Rattle.port_streams.specs.Slots.{Receives, SendsOver, ended_at, given_at, is_free, left_at, slot_at, socket_at, read_at};
+ghost use Rattle.port_streams.specs.Slots.{Receives, SendsOver, ended_at, given_at, has_ended, is_free, left_at, slot_at, socket_at, read_at};
 
 use crate::port_stream::PortStream;
 use cip_events::Arrival;
@@ -116,6 +116,16 @@ impl<S: Drop> PortStreams<S> {
         let received = port_stream.receive(piece);
         self.put(number, Some(port_stream));
         received
+    }
+
+    /// Whether the stream of this number has ended. Takes no memory.
+    pub fn has_ended(&self, number: u16) -> bool
+        ensures { result ≡ has_ended (slot_at self.now.slots.items number) }
+    {
+        match self.slots.get(usize::from(number)) {
+            Some(Some(port_stream)) => port_stream.has_ended(),
+            _ => false,
+        }
     }
 
     /// Marks the stream of this number as ended. Its messages can still be taken. Takes no memory.

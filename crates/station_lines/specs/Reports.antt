@@ -25,7 +25,9 @@ ending_text silent ended.Silent = codes "it was silent for " ++ (decimal silent 
 ending_text silent ended.Displaced = codes "a new one took its place"
 ending_text silent ended.NoSession = codes "no session in time"
 ending_text silent ended.SessionRefused = codes "its session was refused"
-ending_text silent ended.Renewed = codes "a request was not answered in time, or a slot timed out"
+ending_text silent ended.Renewed = codes "a request was not answered in time"
+ending_text silent ended.TooLong = codes "this station ended it, since a message of more than 2048 bytes came"
+ending_text silent ended.NoMemory = codes "this station ended it, since there was no memory for a message"
 
 -- when a target is tried again
 abbrev pub retry_text : ℕ → List ℕ

@@ -66,6 +66,14 @@ fn push_ending(out: &mut String, cause: EndCause, silent_s: u16) -> Result<(), O
 {
     match cause {
         EndCause::Cut => push_text(out, "its peer cut it"),
+        EndCause::TooLong => push_text(
+            out,
+            "this station ended it, since a message of more than 2048 bytes came",
+        ),
+        EndCause::NoMemory => push_text(
+            out,
+            "this station ended it, since there was no memory for a message",
+        ),
         EndCause::Silent => {
             write!(out, "it was silent for {silent_s} s")?;
             Ok(())
@@ -73,10 +81,7 @@ fn push_ending(out: &mut String, cause: EndCause, silent_s: u16) -> Result<(), O
         EndCause::Displaced => push_text(out, "a new one took its place"),
         EndCause::NoSession => push_text(out, "no session in time"),
         EndCause::SessionRefused => push_text(out, "its session was refused"),
-        EndCause::Renewed => push_text(
-            out,
-            "a request was not answered in time, or a slot timed out",
-        ),
+        EndCause::Renewed => push_text(out, "a request was not answered in time"),
     }
 }
 

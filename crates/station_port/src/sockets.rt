@@ -426,7 +426,7 @@ impl StationSockets {
             Ok(Some(shorter)) => Items::from_vec(shorter),
             Ok(None) => bytes,
             Err(OutOfMemory) => {
-                self.streams.end(stream, EndCause::Cut);
+                self.streams.end(stream, EndCause::NoMemory);
                 self.ready.streams = true;
                 return Err(PortFault::Memory);
             }
@@ -486,7 +486,7 @@ impl StationSockets {
         match self.items.leave(self.alloc, stream, peer, bytes) {
             Ok(Some(longer)) => self.streams.send(stream, longer.as_slice()),
             Ok(None) => self.streams.send(stream, bytes),
-            Err(OutOfMemory) => self.streams.end(stream, EndCause::Cut),
+            Err(OutOfMemory) => self.streams.end(stream, EndCause::NoMemory),
         }
     }
 

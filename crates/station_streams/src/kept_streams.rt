@@ -174,7 +174,9 @@ impl KeptStreams {
     pub fn receive(&mut self, number: u16, piece: &[u8]) -> Result<(), OutOfMemory> {
         let received = self.receive_seen(number, piece);
         if received.is_err() {
-            self.end(number, EndCause::Cut);
+            self.end(number, EndCause::NoMemory);
+        } else if self.streams.has_ended(number) {
+            self.causes.mark(number, EndCause::TooLong);
         }
         received
     }

@@ -15,8 +15,12 @@ pub enum EndCause {
     NoSession,
     /// Its target refused RegisterSession.
     SessionRefused,
-    /// The station asked for a new stream: a request was not answered in time, or a slot timed out.
+    /// The station asked for a new stream: a request was not answered in time.
     Renewed,
+    /// Its peer sent a message that is longer than a device takes.
+    TooLong,
+    /// There was no memory for a message.
+    NoMemory,
 }
 
 /// Why a stream did not open.

@@ -1,7 +1,7 @@
 """Targets of other makes, which tools/peers/target.py plays: they refuse, answer late or otherwise than was asked, forget sessions, name
 another port, send a long reply. A scanner leaves no connection behind at them, and keeps those that are well."""
 
-import random, struct, sys, threading, time
+import random, socket, struct, sys, threading, time
 from rim.host import PRESENT, TOP, Station, holds, need, run, sure, wait
 from rim.peers import Ending
 
@@ -143,7 +143,7 @@ def run_makes_streams(bench):
 # LONG MESSAGES
 
 def run_makes_long(bench):
-    """A legal reply of more than 2,048 bytes ends no stream of a scanner."""
+    """A legal reply of more than 2,048 bytes ends no stream of a scanner; at an adapter the line says who ended it and why."""
     made = Running(bench)
     scanner = begin(bench, "long")
     wait(lambda: are_established(scanner), "the scanner is established")
@@ -155,6 +155,14 @@ def run_makes_long(bench):
     need(are_established(scanner) and scanner.states() == [2, PRESENT], f"the slot stays established: {scanner.states()}")
     sure(made.counts["stream"] == made.counts["register"] == 1, f"{target.LONG_BYTES} bytes of a reply are skipped: its request is unreadable, and the stream stays")
     leaves_none(scanner, made, "a long reply")
+    bench.clear()
+    adapter = bench.adapter(log="long_message")
+    with bench.network.inside("peer"), socket.create_connection((bench.address["adapter"], 44818), 3, (bench.address["peer"], 0)) as tcp:
+        tcp.sendall(struct.pack("<HHII8sI", 0x6F, 3000, 0, 0, b"", 0))
+        wait(lambda: any(line.endswith("ended: this station ended it, since a message of more than 2048 bytes came") for line in adapter.said()),
+             lambda: f"a line says who ended the stream: {adapter.said()}")
+    sure(adapter.is_running(), "an adapter ends the stream of a message that is too long, and says that it did")
+    need(adapter.end() == 0, "the adapter ends with status 0")
     bench.clear()
 
 
