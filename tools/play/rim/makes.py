@@ -250,6 +250,24 @@ def run_makes_timeout(bench):
 
 
 @needs("tidy")
+def run_makes_sessions(bench):
+    """Status 0064 leads to a new session."""
+    made = Running(bench)
+    scanner = begin(bench, "sessions", tidy="tidy\n")
+    for _ in range(3):
+        wait(lambda: are_established(scanner), "the scanner is established")
+        time.sleep(0.5)
+        before = made.counts["register"]
+        made.forget_sessions()
+        made.forget_connections()
+        wait(lambda: made.counts["register"] > before, lambda: f"its sessions are forgotten: it registers a new one: {dict(made.counts)}", 20)
+    wait(lambda: are_established(scanner), "the scanner is established")
+    sure(made.counts["bad session"] <= 9, f"a target that forgets its sessions is asked for a new one: {made.counts['bad session']} requests of a dead one")
+    leaves_none(scanner, made, "forgotten sessions")
+    bench.clear()
+
+
+@needs("tidy")
 def run_makes_random(bench):
     """Random stops, starts, cuts, late and wrong replies leave nothing behind."""
     rand, made, slots = random.Random(74), Running(bench, places=32), 3
@@ -265,7 +283,7 @@ def run_makes_random(bench):
         elif act == 7:
             made.moods.closes.append(rand.choice(["serve", ("late", 0.3), "as_open"]))
         elif rand.random() < 0.3:
-            made.drop_streams()
+            made.drop_streams() if act == 8 else made.forget_sessions()
         time.sleep(rand.random() * 0.1)
     made.moods.opens.clear()
     made.moods.closes.clear()
