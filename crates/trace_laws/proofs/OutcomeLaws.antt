@@ -64,64 +64,33 @@ verdict_rest (verdict.Asked number service class instance attribute bytes) = dec
 
 verdict_joined : (given : Verdict) → verdict_words given ≡ join_with_byte 32 (verdict_first given ∷ verdict_rest given)
 verdict_joined verdict.Done = refl
-verdict_joined verdict.BadFrame = refl
-verdict_joined verdict.Ignored = refl
-verdict_joined (verdict.Value bytes) = refl
-verdict_joined (verdict.Delivered what) = refl
-verdict_joined (verdict.Replied number status additional bytes) = refl
-verdict_joined (verdict.Asked number service class instance attribute bytes) = refl
+verdict_joined given = refl
 
 verdict_read : (given : Verdict) → VerdictFits given → part_reader (verdict_first given ∷ verdict_rest given) ≡ Some (part.Verdict given, [])
 unfolding verdict_of
 verdict_read verdict.Done fits = refl
-verdict_read verdict.BadFrame fits = refl
-verdict_read verdict.Ignored fits = refl
 verdict_read (verdict.Value bytes) fits = rw (bytes_back bytes fits) refl
 verdict_read (verdict.Delivered delivery.Applied) fits = refl
-verdict_read (verdict.Delivered delivery.Idle) fits = refl
-verdict_read (verdict.Delivered delivery.Heartbeat) fits = refl
-verdict_read (verdict.Delivered delivery.Duplicate) fits = refl
-verdict_read (verdict.Delivered delivery.Old) fits = refl
-verdict_read (verdict.Delivered delivery.UnknownId) fits = refl
-verdict_read (verdict.Delivered delivery.WrongSize) fits = refl
-verdict_read (verdict.Delivered delivery.Malformed) fits = refl
 verdict_read (verdict.Replied number status additional bytes) fits = rw (n32 number fits.0, general_back status fits.1, bytes_back additional fits.2, bytes_back bytes fits.3) refl
 verdict_read (verdict.Asked number service class instance attribute bytes) fits = rw (n64 number fits.0, n8 service fits.1, n32 class fits.2, n32 instance fits.3, instance_back attribute fits.4, bytes_back bytes fits.5) refl
+verdict_read given fits = refl
 
 verdict_clean : (given : Verdict) → VerdictFits given → are_clean (verdict_first given ∷ verdict_rest given) ≡ true
 verdict_clean verdict.Done fits = refl
-verdict_clean verdict.BadFrame fits = refl
-verdict_clean verdict.Ignored fits = refl
 verdict_clean (verdict.Value bytes) fits = rw (bytes_clean bytes fits) refl
 verdict_clean (verdict.Delivered delivery.Applied) fits = refl
-verdict_clean (verdict.Delivered delivery.Idle) fits = refl
-verdict_clean (verdict.Delivered delivery.Heartbeat) fits = refl
-verdict_clean (verdict.Delivered delivery.Duplicate) fits = refl
-verdict_clean (verdict.Delivered delivery.Old) fits = refl
-verdict_clean (verdict.Delivered delivery.UnknownId) fits = refl
-verdict_clean (verdict.Delivered delivery.WrongSize) fits = refl
-verdict_clean (verdict.Delivered delivery.Malformed) fits = refl
 verdict_clean (verdict.Replied number status additional bytes) fits = rw (c32 number fits.0, general_clean status fits.1, bytes_clean additional fits.2, bytes_clean bytes fits.3) refl
 verdict_clean (verdict.Asked number service class instance attribute bytes) fits = rw (decimal_clean number fits.0, c8 service fits.1, c32 class fits.2, c32 instance fits.3, instance_clean attribute fits.4, bytes_clean bytes fits.5) refl
+verdict_clean given fits = refl
 
 fault_read : (why : StepFault) → part_reader (codes "fault" ∷ fault_word why ∷ []) ≡ Some (part.Fault why, [])
 unfolding fault_of
 fault_read fault.OutOfMemory = refl
-fault_read fault.TickTooLong = refl
-fault_read fault.ClockEnd = refl
-fault_read fault.NoSuchPoint = refl
-fault_read fault.WrongLength = refl
-fault_read fault.NoSuchSlot = refl
-fault_read fault.NotAllowedNow = refl
+fault_read why = refl
 
 fault_clean : (why : StepFault) → are_clean (codes "fault" ∷ fault_word why ∷ []) ≡ true
 fault_clean fault.OutOfMemory = refl
-fault_clean fault.TickTooLong = refl
-fault_clean fault.ClockEnd = refl
-fault_clean fault.NoSuchPoint = refl
-fault_clean fault.WrongLength = refl
-fault_clean fault.NoSuchSlot = refl
-fault_clean fault.NotAllowedNow = refl
+fault_clean why = refl
 
 abbrev frame_first : Recipient → List ℕ
 frame_first (recipient.Stream stream) = codes "frame"
@@ -187,25 +156,9 @@ triad_joined triad rest =
 
 notice_joined : (given : Notice) → NoticeFits given → notice_words given ≡ join_with_byte 32 (notice_list given)
 notice_joined (notice.Opened triad id) fits = ap (λ t. codes "opened " ++ t) (triad_joined triad (32 ∷ id_word id))
-notice_joined (notice.Closed triad) fits = refl
-notice_joined (notice.Expired triad) fits = refl
-notice_joined (notice.Dropped triad) fits = refl
-notice_joined (notice.Replaced triad) fits = refl
-notice_joined (notice.StreamClosed stream) fits = refl
-notice_joined (notice.Slot slot state) fits = refl
-notice_joined (notice.Refused slot (reason.Encap status)) fits = refl
-notice_joined (notice.Refused slot reason.Unreadable) fits = refl
-notice_joined (notice.Refused slot (reason.Cip why)) fits = refl
-notice_joined (notice.Refused slot (reason.Mismatch mismatch.Triad)) fits = refl
-notice_joined (notice.Refused slot (reason.Mismatch mismatch.Id)) fits = refl
-notice_joined (notice.Refused slot (reason.Mismatch mismatch.Api)) fits = refl
 notice_joined (notice.Refused slot (reason.Mismatch (mismatch.Refused why))) fits = absurd fits.1
-notice_joined (notice.NoIds slot) fits = refl
-notice_joined (notice.Reset type) fits = refl
 notice_joined (notice.Unanswered number unanswered.TimedOut) fits = refl
-notice_joined (notice.Unanswered number unanswered.Lost) fits = refl
-notice_joined (notice.Unanswered number (unanswered.Encap status)) fits = refl
-notice_joined (notice.Unanswered number unanswered.Unreadable) fits = refl
+notice_joined given fits = refl
 
 notice_read : (given : Notice) → NoticeFits given → part_reader (codes "note" ∷ notice_list given) ≡ Some (part.Notice given, [])
 unfolding mismatch_of
@@ -217,18 +170,13 @@ notice_read (notice.Replaced triad) fits = rw (n16 triad.serial fits.0, n16 tria
 notice_read (notice.StreamClosed stream) fits = rw (n16 stream fits) refl
 notice_read (notice.Slot slot state) fits = rw (n32 slot fits.0, n8 state fits.1) refl
 notice_read (notice.Refused slot (reason.Encap status)) fits = rw (n32 slot fits.0, n32 status fits.1) refl
-notice_read (notice.Refused slot reason.Unreadable) fits = rw (n32 slot fits.0) refl
 notice_read (notice.Refused slot (reason.Cip why)) fits = rw (n32 slot fits.0, general_back why.general fits.1.0, extended_back why.extended fits.1.1) refl
-notice_read (notice.Refused slot (reason.Mismatch mismatch.Triad)) fits = rw (n32 slot fits.0) refl
-notice_read (notice.Refused slot (reason.Mismatch mismatch.Id)) fits = rw (n32 slot fits.0) refl
-notice_read (notice.Refused slot (reason.Mismatch mismatch.Api)) fits = rw (n32 slot fits.0) refl
 notice_read (notice.Refused slot (reason.Mismatch (mismatch.Refused why))) fits = absurd fits.1
+notice_read (notice.Refused slot why) fits = rw (n32 slot fits.0) refl
 notice_read (notice.NoIds slot) fits = rw (n32 slot fits) refl
 notice_read (notice.Reset type) fits = rw (n8 type fits) refl
-notice_read (notice.Unanswered number unanswered.TimedOut) fits = rw (n32 number fits.0) refl
-notice_read (notice.Unanswered number unanswered.Lost) fits = rw (n32 number fits.0) refl
 notice_read (notice.Unanswered number (unanswered.Encap status)) fits = rw (n32 number fits.0, n32 status fits.1) refl
-notice_read (notice.Unanswered number unanswered.Unreadable) fits = rw (n32 number fits.0) refl
+notice_read (notice.Unanswered number why) fits = rw (n32 number fits.0) refl
 
 notice_clean : (given : Notice) → NoticeFits given → are_clean (codes "note" ∷ notice_list given) ≡ true
 notice_clean (notice.Opened triad id) fits = rw (c16 triad.serial fits.0.0, c16 triad.vendor fits.0.1, c32 triad.originator fits.0.2, id_clean id) refl
@@ -239,18 +187,13 @@ notice_clean (notice.Replaced triad) fits = rw (c16 triad.serial fits.0, c16 tri
 notice_clean (notice.StreamClosed stream) fits = rw (c16 stream fits) refl
 notice_clean (notice.Slot slot state) fits = rw (c32 slot fits.0, c8 state fits.1) refl
 notice_clean (notice.Refused slot (reason.Encap status)) fits = rw (c32 slot fits.0, c32 status fits.1) refl
-notice_clean (notice.Refused slot reason.Unreadable) fits = rw (c32 slot fits.0) refl
 notice_clean (notice.Refused slot (reason.Cip why)) fits = rw (c32 slot fits.0, general_clean why.general fits.1.0, extended_clean why.extended) refl
-notice_clean (notice.Refused slot (reason.Mismatch mismatch.Triad)) fits = rw (c32 slot fits.0) refl
-notice_clean (notice.Refused slot (reason.Mismatch mismatch.Id)) fits = rw (c32 slot fits.0) refl
-notice_clean (notice.Refused slot (reason.Mismatch mismatch.Api)) fits = rw (c32 slot fits.0) refl
 notice_clean (notice.Refused slot (reason.Mismatch (mismatch.Refused why))) fits = absurd fits.1
+notice_clean (notice.Refused slot why) fits = rw (c32 slot fits.0) refl
 notice_clean (notice.NoIds slot) fits = rw (c32 slot fits) refl
 notice_clean (notice.Reset type) fits = rw (c8 type fits) refl
-notice_clean (notice.Unanswered number unanswered.TimedOut) fits = rw (c32 number fits.0) refl
-notice_clean (notice.Unanswered number unanswered.Lost) fits = rw (c32 number fits.0) refl
 notice_clean (notice.Unanswered number (unanswered.Encap status)) fits = rw (c32 number fits.0, c32 status fits.1) refl
-notice_clean (notice.Unanswered number unanswered.Unreadable) fits = rw (c32 number fits.0) refl
+notice_clean (notice.Unanswered number why) fits = rw (c32 number fits.0) refl
 
 -- THE LINES AS THEY ARE PRINTED
 
@@ -276,16 +219,7 @@ outgoing_spelled n outgoing =
 
 noted : (given : Notice) → NoticeFits given → codes "note " ++ notice_words given ≡ join_with_byte 32 (codes "note" ∷ notice_list given)
 noted (notice.Opened triad id) fits = ap (λ t. codes "note " ++ t) (notice_joined (notice.Opened triad id) fits)
-noted (notice.Closed triad) fits = ap (λ t. codes "note " ++ t) (notice_joined (notice.Closed triad) fits)
-noted (notice.Expired triad) fits = ap (λ t. codes "note " ++ t) (notice_joined (notice.Expired triad) fits)
-noted (notice.Dropped triad) fits = ap (λ t. codes "note " ++ t) (notice_joined (notice.Dropped triad) fits)
-noted (notice.Replaced triad) fits = ap (λ t. codes "note " ++ t) (notice_joined (notice.Replaced triad) fits)
-noted (notice.StreamClosed stream) fits = ap (λ t. codes "note " ++ t) (notice_joined (notice.StreamClosed stream) fits)
-noted (notice.Slot slot state) fits = ap (λ t. codes "note " ++ t) (notice_joined (notice.Slot slot state) fits)
-noted (notice.Refused slot why) fits = ap (λ t. codes "note " ++ t) (notice_joined (notice.Refused slot why) fits)
-noted (notice.NoIds slot) fits = ap (λ t. codes "note " ++ t) (notice_joined (notice.NoIds slot) fits)
-noted (notice.Reset type) fits = ap (λ t. codes "note " ++ t) (notice_joined (notice.Reset type) fits)
-noted (notice.Unanswered number why) fits = ap (λ t. codes "note " ++ t) (notice_joined (notice.Unanswered number why) fits)
+noted given fits = ap (λ t. codes "note " ++ t) (notice_joined given fits)
 
 spelled : (n : ℕ) (body : List ℕ) (words : List (List ℕ)) → body ≡ join_with_byte 32 (codes "note" ∷ words) → decimal n ++ (32 ∷ (body ++ 10 ∷ [])) ≡ line_text (decimal n ∷ codes "note" ∷ words)
 spelled n body words is = numbered_line n body (codes "note") words is
