@@ -39,10 +39,6 @@ MISMATCHES = {NoticeKind.OTHER_TRIAD: "Triad", NoticeKind.OTHER_ID: "Id", Notice
 UNANSWERED = {
     NoticeKind.NO_REPLY_TIMED_OUT: "timed-out", NoticeKind.NO_REPLY_LOST: "lost", NoticeKind.NO_REPLY_UNREADABLE: "unreadable",
 }  # fmt: skip
-PROFILE_WORDS = {
-    "adapter", "output", "input", "config", "describe", "least-rpi", "places", "node-connections", "closers", "newer",
-    "object", "heartbeat", "scanner", "slot",
-}  # fmt: skip
 
 
 def hex_of(data: bytes) -> str:
@@ -150,7 +146,8 @@ def perform(device: Device, line: str) -> Outcome:
 def events_of(trace: str) -> list[str]:
     """The lines of events of a trace: not its profile, comments and recorded outcomes."""
     lines = [line for line in trace.split("\n") if line and not line[0].isdigit() and line[0] != "#"]
-    return [line for line in lines if line.split()[0] not in PROFILE_WORDS]
+    last = [place for place, line in enumerate(lines) if line.split()[0] in ("heartbeat", "slot")][-1]
+    return lines[last + 1 :]
 
 
 # RECORDS
