@@ -11,6 +11,8 @@ use Rattle.trace_words.specs.Words.{node_word}
 use Rattle.port_groups.specs.declared.group.DataGroup.{DataGroup}
 use Rattle.station_lines.specs.Reasons.{stream_words}
 use Rattle.station_watch.specs.declared.slots.Starved.{Starved}
+use Rattle.station_watch.specs.declared.slots.StarvedCause.{StarvedCause}
+use Rattle.station_watch.specs.declared.slots.StarvedCause.TheVariants as cause
 
 -- STREAMS
 
@@ -69,8 +71,24 @@ remedy_text (Some group) = codes " came to " ++ (node_word group.address ++ (cod
 remedy_text None = codes " came: if this host does not receive its group: ip address add GROUP/32 dev INTERFACE autojoin\n"
 
 -- the line of a slot whose data never came
+abbrev pub unfed_text : ℕ → Node → Option DataGroup → List ℕ
+unfed_text slot target group = codes "eip_station: slot " ++ (decimal slot ++ (codes ": no multicast datagram of " ++ (node_word target ++ remedy_text group)))
+
+-- the line of a slot whose datagrams have another size than it takes
+abbrev pub sizes_text : ℕ → ℕ → List ℕ
+sizes_text came takes = codes " have " ++ (decimal came ++ (codes " bytes of data, and the slot takes " ++ (decimal takes ++ codes ": none is applied\n")))
+
+abbrev pub missized_text : ℕ → Node → ℕ → ℕ → List ℕ
+missized_text slot target came takes = codes "eip_station: slot " ++ (decimal slot ++ (codes ": the datagrams of " ++ (node_word target ++ sizes_text came takes)))
+
+-- why a slot gets no data
+abbrev pub starved_by : ℕ → Node → StarvedCause → List ℕ
+starved_by slot target (cause.NoDatagram group) = unfed_text slot target group
+starved_by slot target (cause.WrongSize came takes) = missized_text slot target came takes
+
+-- the line of a slot that gets no data
 abbrev pub starved_text : Starved → List ℕ
-starved_text starved = codes "eip_station: slot " ++ (decimal starved.slot ++ (codes ": no multicast datagram of " ++ (node_word starved.target ++ remedy_text starved.group)))
+starved_text starved = starved_by starved.slot starved.target starved.cause
 
 -- why no datagram of a group comes
 abbrev pub unbound_port_text : ℕ → List ℕ

@@ -1,12 +1,12 @@
 //! What a station says of the streams of its port and of its slots.
 
 ghost use Rattle.std.specs.Prelude.{◌≡◌, ◌++◌, OnOk, string_bytes};
-ghost use Rattle.station_lines.specs.Reports.{ended_text, ending_text, full_text, not_opened_text, opened_text, refusal_text, remedy_text, report_text, retry_text, starved_text, stream_text, unbound_port_text, unbound_text};
+ghost use Rattle.station_lines.specs.Reports.{ended_text, ending_text, full_text, missized_text, not_opened_text, opened_text, refusal_text, remedy_text, report_text, retry_text, sizes_text, starved_text, stream_text, unbound_port_text, unbound_text, unfed_text};
 
 use crate::reasons::push_stream_words;
 use cip_types::{Node, OutOfMemory};
 use port_groups::DataGroup;
-use station_watch::Starved;
+use station_watch::{Starved, StarvedCause};
 use trace_words::{push_node, push_text};
 use udp_runner::{EndCause, PortReport, RefusalCause};
 
@@ -131,14 +131,56 @@ fn push_retry(out: &mut String, retry_ms: u64) -> Result<(), OutOfMemory>
     Ok(())
 }
 
-/// Appends the line of a slot whose data never came.
+/// Appends the line of a slot that gets no data.
 pub fn push_starved(out: &mut String, starved: &Starved) -> Result<(), OutOfMemory>
     ensures { OnOk result (string_bytes out.new ≡ string_bytes out.old ++ starved_text starved.now) }
 {
-    let slot = starved.slot;
+    let (slot, target) = (starved.slot, starved.target);
+    match starved.cause {
+        StarvedCause::NoDatagram(group) => push_unfed(out, slot, target, group),
+        StarvedCause::WrongSize { came, takes } => push_missized(out, slot, target, came, takes),
+    }
+}
+
+/// Appends the line of a slot whose data never came.
+fn push_unfed(
+    out: &mut String,
+    slot: u32,
+    target: Node,
+    group: Option<DataGroup>,
+) -> Result<(), OutOfMemory>
+    ensures { OnOk result (string_bytes out.new ≡ string_bytes out.old ++ unfed_text slot target group) }
+{
     write!(out, "eip_station: slot {slot}: no multicast datagram of ")?;
-    push_node(out, starved.target)?;
-    push_remedy(out, starved.group)?;
+    push_node(out, target)?;
+    push_remedy(out, group)?;
+    Ok(())
+}
+
+/// Appends the line of a slot whose datagrams have another size than it takes.
+fn push_missized(
+    out: &mut String,
+    slot: u32,
+    target: Node,
+    came: u64,
+    takes: u64,
+) -> Result<(), OutOfMemory>
+    ensures { OnOk result (string_bytes out.new ≡ string_bytes out.old ++ missized_text slot target came takes) }
+{
+    write!(out, "eip_station: slot {slot}: the datagrams of ")?;
+    push_node(out, target)?;
+    push_sizes(out, came, takes)?;
+    Ok(())
+}
+
+/// Appends how many bytes came, and how many a slot takes.
+fn push_sizes(out: &mut String, came: u64, takes: u64) -> Result<(), OutOfMemory>
+    ensures { OnOk result (string_bytes out.new ≡ string_bytes out.old ++ sizes_text came takes) }
+{
+    write!(
+        out,
+        " have {came} bytes of data, and the slot takes {takes}: none is applied\n"
+    )?;
     Ok(())
 }
 

@@ -1,5 +1,5 @@
 -- What a station tells its port of the targets of slots, and which slots get no data.
-use Rattle.std.specs.Prelude.{ℕ, ◌==◌, ◌&&◌, ◌||◌, if◌then◌else◌, Bool, true, false, List, [], ◌∷◌, Option, Some, None}
+use Rattle.std.specs.Prelude.{ℕ, ◌-◌, ◌==◌, ◌&&◌, ◌||◌, not, if◌then◌else◌, Bool, true, false, List, [], ◌∷◌, Option, Some, None}
 use Rattle.cip_types.specs.declared.names.Node.{Node}
 use Rattle.cip_events.specs.declared.event.Event.{Event}
 use Rattle.cip_events.specs.declared.event.Event.TheVariants as event
@@ -68,8 +68,8 @@ serves target watch = (watch.state == established) && (watch.target.0 == target.
 
 -- its connection was established, with this id of its datagrams, and the reply named this group
 abbrev pub opened : SlotWatch → Option ℕ → Option DataGroup → SlotWatch
-opened watch (Some id) group = record watch { unfed = true; id = Some id; group = group }
-opened watch None group = record watch { unfed = false; id = None; group = None }
+opened watch (Some id) group = record watch { unfed = true; missized = false; id = Some id; group = group }
+opened watch None group = record watch { unfed = false; missized = false; id = None; group = None }
 
 -- this is the id
 abbrev pub is_id : Option ℕ → ℕ → Bool
@@ -79,6 +79,14 @@ is_id (Some id) expected = id == expected
 -- a datagram of this target and this id was accepted
 abbrev pub fed : SlotWatch → Node → ℕ → SlotWatch
 fed watch target id = if (watch.target.0 == target.0) && is_id watch.id id then record watch { unfed = false } else watch
+
+-- the bytes of data of a datagram of so many bytes
+abbrev pub data_len : ℕ → ℕ
+data_len len = len - 20
+
+-- the slot is of this target and this id, and no datagram of another size was told of it
+abbrev pub awaits_size : Node → ℕ → SlotWatch → Bool
+awaits_size target id watch = (watch.target.0 == target.0) && (is_id watch.id id && not watch.missized)
 
 -- WHICH GROUPS ARE HEARD
 

@@ -13,6 +13,6 @@ mod waits;
 pub use closing::ClosingSlots;
 pub use notes::{StateNote, StreamRefusal};
 pub use peers::{changes_connections, owners_of, push_connected};
-pub use slots::{LinkReport, SlotWatches, Starved};
+pub use slots::{LinkReport, SlotWatches, Starved, StarvedCause};
 pub use traffic::{CountedConnection, SentAs, StationTraffic, TrafficTotals, counted_of};
 pub use waits::{SlotWait, wait_at};

@@ -1,8 +1,8 @@
 //! What a station knows of a scanner's slots: what it tells its port of their targets, and whether their data comes.
 
-ghost use Rattle.std.specs.Prelude.{◌≡◌, OnOk};
+ghost use Rattle.std.specs.Prelude.{◌≡◌, position, OnOk};
 ghost use Rattle.std.specs.List.{list_any};
-ghost use Rattle.station_watch.specs.Slots.{ended_slot, link_report_of, fed, idle_slot, is_id, is_starved, is_tick, opened, serves, waits, with_groups};
+ghost use Rattle.station_watch.specs.Slots.{awaits_size, data_len, ended_slot, link_report_of, fed, idle_slot, is_id, is_starved, is_tick, opened, serves, waits, with_groups};
 
 use crate::groups::{datagram_id, opened_group};
 use crate::traffic::slot_id;
@@ -11,6 +11,10 @@ use cip_tables::{Config, Device};
 use cip_types::{Node, OutOfMemory};
 use port_groups::{DataGroup, add_group};
 use std::alloc::Global;
+
+/// The bytes of a datagram before its data: the number of items, the sequenced address item, the head of the connected data item, and
+/// the sequence count.
+const BEFORE_DATA: usize = 20;
 
 /// What a station tells its port of the target of a slot.
 #[derive(Clone, Copy, PartialEq, Eq)]
@@ -29,20 +33,33 @@ pub struct SlotWatch {
     pub multicast: bool,
     /// The standard's number of its state.
     pub state: u8,
+    /// The bytes of data that its datagrams are to have.
+    pub takes: u64,
     /// Whether no datagram of the slot's connection was accepted since it was established.
     pub unfed: bool,
+    /// Whether a datagram of another size came since it was established.
+    pub missized: bool,
     /// The connection id of its datagrams.
     pub id: Option<u32>,
     /// The group that the reply named; none of a slot that is idle.
     pub group: Option<DataGroup>,
 }
 
-/// A slot whose data never came.
+/// Why a slot gets no data.
+#[derive(Clone, Copy, PartialEq, Eq)]
+pub enum StarvedCause {
+    /// No multicast datagram came. The reply named this group.
+    NoDatagram(Option<DataGroup>),
+    /// Its datagrams have so many bytes of data, and it takes so many.
+    WrongSize { came: u64, takes: u64 },
+}
+
+/// A slot that gets no data.
 #[derive(Clone, Copy, PartialEq, Eq)]
 pub struct Starved {
     pub slot: u32,
     pub target: Node,
-    pub group: Option<DataGroup>,
+    pub cause: StarvedCause,
 }
 
 /// What is known of a scanner's slots, and what is to be told.
@@ -65,7 +82,9 @@ impl SlotWatches {
                     target: slot.target,
                     multicast: slot.multicast,
                     state: SlotPhase::Idle.number(),
+                    takes: slot.in_len,
                     unfed: false,
+                    missized: false,
                     id: None,
                     group: None,
                 })?;
@@ -88,8 +107,12 @@ impl SlotWatches {
         answer: &Answer,
     ) -> Result<(), OutOfMemory> {
         if let Event::Datagram { peer, bytes } = event {
+            let id = datagram_id(bytes.as_slice());
             if is_accepted(&answer.verdict) {
-                self.feed(*peer, datagram_id(bytes.as_slice()));
+                self.feed(*peer, id);
+            }
+            if is_missized(&answer.verdict) {
+                self.missize(*peer, id, data_len(bytes.as_slice().len()))?;
             }
         }
         for notice in answer.notices.as_slice() {
@@ -136,6 +159,39 @@ impl SlotWatches {
         for slot in self.slots.iter_mut() {
             *slot = fed(*slot, target, id);
         }
+    }
+
+    /// A datagram of this target and id came with so many bytes of data, and its slot takes another number. It is told once for each
+    /// connection. The fault: an allocation was refused.
+    fn missize(&mut self, target: Node, id: Option<u32>, came: u64) -> Result<(), OutOfMemory> {
+        let Some(id) = id else {
+            return Ok(());
+        };
+        match missized_at(self.slots.as_slice(), target, id) {
+            Some(index) => self.tell_size(index, came),
+            None => Ok(()),
+        }
+    }
+
+    /// Tells of the slot at this place that a datagram came with so many bytes of data. The fault: an allocation was refused.
+    fn tell_size(&mut self, index: usize, came: u64) -> Result<(), OutOfMemory> {
+        let Some(place) = self.slots.get_mut(index) else {
+            return Ok(());
+        };
+        let watch = *place;
+        *place = SlotWatch {
+            missized: true,
+            ..watch
+        };
+        self.starved.push(Starved {
+            slot: index as u32,
+            target: watch.target,
+            cause: StarvedCause::WrongSize {
+                came,
+                takes: watch.takes,
+            },
+        })?;
+        Ok(())
     }
 
     /// Notes a report on the link of a slot, and what it says of the slot. That its stream is to be opened anew is told only if no
@@ -204,7 +260,7 @@ impl SlotWatches {
         Some(Starved {
             slot,
             target: watch.target,
-            group: watch.group,
+            cause: StarvedCause::NoDatagram(watch.group),
         })
     }
 
@@ -213,7 +269,7 @@ impl SlotWatches {
         self.link_reports.pop()
     }
 
-    /// Takes the next slot whose data never came, the last one first.
+    /// Takes the next slot that gets no data, the last one first.
     pub fn next_starved(&mut self) -> Option<Starved> {
         self.starved.pop()
     }
@@ -337,6 +393,39 @@ fn is_accepted(verdict: &Verdict) -> bool {
     }
 }
 
+/// Whether a datagram had another size than its connection.
+fn is_missized(verdict: &Verdict) -> bool {
+    match verdict {
+        Verdict::Delivered(delivery) => *delivery == Delivery::WrongSize,
+        _ => false,
+    }
+}
+
+/// The bytes of data of a datagram of so many bytes: the data follow the heads of its items and the sequence count.
+///
+/// Volume 2, chapter 2, sequenced address item, connected data item.
+fn data_len(len: usize) -> u64
+    ensures { result ≡ data_len len }
+{
+    len.saturating_sub(BEFORE_DATA) as u64
+}
+
+/// The place of the first slot of this target and this id of which no datagram of another size was told.
+fn missized_at(slots: &[SlotWatch], target: Node, id: u32) -> Option<usize>
+    ensures { result ≡ position (awaits_size target id) slots.now }
+{
+    slots
+        .iter()
+        .position(|watch| awaits_size(watch, target, id))
+}
+
+/// Whether a slot is of this target and this id, and no datagram of another size was told of it.
+fn awaits_size(watch: &SlotWatch, target: Node, id: u32) -> bool
+    ensures { result ≡ awaits_size target id watch.now }
+{
+    watch.target == target && is_id(watch.id, id) && !watch.missized
+}
+
 /// A slot after its connection was established, with the id of its datagrams and the group that the reply named. Without an id it
 /// is not watched.
 fn opened(watch: SlotWatch, id: Option<u32>, group: Option<DataGroup>) -> SlotWatch
@@ -345,12 +434,14 @@ fn opened(watch: SlotWatch, id: Option<u32>, group: Option<DataGroup>) -> SlotWa
     match id {
         Some(id) => SlotWatch {
             unfed: true,
+            missized: false,
             id: Some(id),
             group,
             ..watch
         },
         None => SlotWatch {
             unfed: false,
+            missized: false,
             id: None,
             group: None,
             ..watch

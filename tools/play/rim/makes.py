@@ -140,6 +140,30 @@ def run_makes_streams(bench):
     bench.clear()
 
 
+# SIZES
+
+def run_makes_sizes(bench):
+    """Data of another size are applied to nothing, and a line says so once for each connection, with both sizes."""
+    made = Running(bench)
+    made.moods.size = 8
+    scanner = begin(bench, "sizes")
+    wait(lambda: are_established(scanner), "the scanner is established")
+    line = f"eip_station: slot 0: the datagrams of {bench.address['peer']} have 8 bytes of data, and the slot takes 4: none is applied"
+    wait(lambda: line in scanner.said(), lambda: f"a line has both sizes: {scanner.said()}", 5)
+    time.sleep(1)
+    images = lambda: [it for it in scanner.lines() if " image 0 " in it][1:]
+    need(scanner.said().count(line) == 1 and not images(), f"once, and nothing is applied: {images()}")
+    scanner.call("stop 0")
+    wait(lambda: scanner.states()[-1] == 0, "the slot is closed")
+    scanner.call("start 0")
+    wait(lambda: scanner.said().count(line) == 2, "the next connection has its own line", 5)
+    made.moods.size = None
+    wait(lambda: images(), "data of the right size are applied", 5)
+    leaves_none(scanner, made, "another size")
+    sure(scanner.said().count(line) == 2, "data of another size are said once for each connection, with both sizes")
+    bench.clear()
+
+
 # LONG MESSAGES
 
 def run_makes_long(bench):

@@ -1,8 +1,0 @@
-use Rattle.std.specs.Prelude.{codes, decimal}
-use Rattle.trace_words.specs.Words.{node_word}
-use Rattle.station_lines.specs.Reports.{remedy_text}
-use Rattle.attribute_lines.specs.Lemmas.Appended.{behind_two}
-use Rattle.station_lines.proofs.reports.push_starved.Goals as goal
-
-pub returns : goal.returns
-returns c = behind_two _ _ _ _ (codes "eip_station: slot ") (decimal c.args.starved.now.slot) (codes ": no multicast datagram of ") (node_word c.args.starved.now.target) (remedy_text c.args.starved.now.group) c.in_ok-write.ensures.bytes c.in_ok-push_node.ensures c.in_ok-push_remedy.ensures
