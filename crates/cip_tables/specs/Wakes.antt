@@ -17,7 +17,7 @@ use Rattle.scanner_table.specs.declared.slot.SlotState.{SlotState}
 use Rattle.scanner_table.specs.declared.slot.SlotState.TheVariants as slot_state
 use Rattle.scanner_table.specs.declared.table.TargetStream.{TargetStream}
 use Rattle.scanner_table.specs.Sessions.{is_to, session_on}
-use Rattle.scanner_table.specs.Slots.{IndexedSlot, indexed_slots, is_wanted}
+use Rattle.scanner_table.specs.Slots.{IndexedSlot, indexed_slots, needs_request}
 use Rattle.scanner_table.specs.Ticks.{clocked_table as scanner_clocked_table}
 use Rattle.cip_tables.specs.declared.table.DeviceTable.{DeviceTable}
 use Rattle.cip_tables.specs.declared.table.DeviceTable.TheVariants.{Adapter, Scanner}
@@ -58,7 +58,7 @@ has_session streams target = is_some (option_and_then session_on (find (is_to ta
 -- when a slot without an open connection opens, or closes one that timed out: at its retry time, if its target has a session
 abbrev pub retry_due : List TargetStream → IndexedSlot → ℕ
 retry_due streams indexed =
-    if is_wanted indexed.slot && has_session streams indexed.config.target then indexed.slot.retry_at.0 else never
+    if needs_request indexed.slot && has_session streams indexed.config.target then indexed.slot.retry_at.0 else never
 
 -- when a slot in a state is due, if it opens at this time: its request is given up, its connection times out or
 -- produces, or it opens

@@ -21,9 +21,10 @@ use Rattle.scanner_table.specs.declared.table.Session.{Session}
 use Rattle.scanner_table.specs.declared.table.TargetStream.{TargetStream}
 use Rattle.scanner_table.specs.Requests.{sent_frame}
 use Rattle.scanner_table.specs.Sessions.{session_with}
-use Rattle.scanner_table.specs.Slots.{IndexedSlot, indexed_slots, is_closed, is_wanted}
+use Rattle.scanner_table.specs.Slots.{IndexedSlot, indexed_slots, is_closed, needs_request}
 use Rattle.cip_events.specs.declared.event.StepFault.{StepFault}
 use Rattle.cip_events.specs.declared.event.StepFault.TheVariants as fault
+use Rattle.scanner_table.specs.Lemmas.Moves.{from_none}
 use Rattle.scanner_table.specs.Effects.{Next, Effect, nothing, on_each, after, state_notices}
 use Rattle.scanner_table.specs.Closing.{requested_link, left_state, given_up, given_up_state}
 use Rattle.scanner_table.specs.Opening.{has_request, can_open, opened, opened_within, close_requested, cleared_within, opened_from, open_requested, exhausted, is_ready_slot, ready_slots, ready_opened}
@@ -80,7 +81,7 @@ slots_wait streams clock (indexed ∷ all) below unexpired pending resting close
     let waits = none_kept (is_overdue clock) indexed all pending in
     let rests = none_kept (is_due clock) indexed all resting in
     let parts = kept_parts streams (is_ready_slot clock) indexed all closed in
-    let here : clock.0 < slot_due streams indexed = state_waits clock indexed.slot.retry_at.0 (is_wanted indexed.slot) (has_session streams indexed.config.target) indexed.slot.state below lasts.0 waits.0 rests.0 parts.0 in
+    let here : clock.0 < slot_due streams indexed = state_waits clock indexed.slot.retry_at.0 (needs_request indexed.slot) (has_session streams indexed.config.target) indexed.slot.state below lasts.0 waits.0 rests.0 parts.0 in
     let rest = slots_wait streams clock all below lasts.1 waits.1 rests.1 parts.1 in
     omega (arith, here, rest)
 
@@ -161,15 +162,6 @@ unopened_from t indexed session (TimedOut link) is sends notes = split t.profile
     split true sends notes = uncleared t indexed link session sends notes
     split false sends notes = unopened t indexed session is sends notes
 unopened_from t indexed session other is sends notes = unopened t indexed session is sends notes
-
-either_none : (b : Bool) (t : ScannerTable) → cond b (nothing t) (nothing t) ≡ nothing t
-either_none true t = refl
-either_none false t = refl
-
--- without a session nothing happens to a slot
-from_none : (t : ScannerTable) (indexed : IndexedSlot) (state : SlotState) → opened_from t indexed None state ≡ nothing t
-from_none t indexed (TimedOut link) = either_none t.profile.tidy t
-from_none t indexed other = refl
 
 -- the slots have no session, and nothing happens to them
 pub record StayClosed (t : ScannerTable) (all : List IndexedSlot) : Type 0 where

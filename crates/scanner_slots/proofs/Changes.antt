@@ -15,7 +15,7 @@ use Rattle.scanner_table.specs.declared.slot.SlotState.{SlotState}
 use Rattle.scanner_table.specs.declared.slot.SlotState.TheVariants.{Idle, Opening, Established, TimedOut, Closing}
 use Rattle.scanner_table.specs.declared.table.ScannerTable.{ScannerTable}
 use Rattle.scanner_table.specs.declared.table.TargetStream.{TargetStream}
-use Rattle.scanner_table.specs.Slots.{IndexedSlot, indexed_from, is_with, is_closed, slot_at, is_timed_out, is_wanted}
+use Rattle.scanner_table.specs.Slots.{IndexedSlot, indexed_from, is_with, is_closed, slot_at, is_timed_out, needs_request}
 use Rattle.scanner_table.specs.Effects.{Next}
 use Rattle.scanner_table.specs.Datagrams.{is_for, accepted_connection, accepted_table}
 use Rattle.scanner_table.specs.Points.{output_slot, output_written, write, write_at, write_length, mode, moded_slot, moded_table, same_mode}
@@ -55,7 +55,7 @@ no_retry false session A can = absurd (let e : false ≡ true = can in cc)
 accepted_carries : (bounds : Bounds) (streams : List TargetStream) (slot : Slot) (clock : Ms) (d : DatagramFields) (c : SlotConnection) (bytes : List ℕ) → slot.state ≡ Established c → Carries bounds (with_deadline bounds (accepted_connection clock d c).deadline) streams slot (record slot { state = Established (accepted_connection clock d c); image = bytes })
 accepted_carries bounds streams slot clock d c bytes is number config one =
     let due : IsDueFrom bounds.dues.0 (Established c) = subst (IsDueFrom bounds.dues.0) is one.dues in
-    record { deadlines = omega arith; retries = λ can. no_retry (is_wanted (record slot { state = Established (accepted_connection clock d c); image = bytes })) (has_session streams config.target) _ can; dues = due }
+    record { deadlines = omega arith; retries = λ can. no_retry (needs_request (record slot { state = Established (accepted_connection clock d c); image = bytes })) (has_session streams config.target) _ can; dues = due }
 
 pub accepted_hints : (bounds : Bounds) (t : ScannerTable) (indexed : IndexedSlot) (d : DatagramFields) (c : SlotConnection) (bytes : List ℕ) → slice_get t.slots indexed.number ≡ Some indexed.slot → indexed.slot.state ≡ Established c → IsHinted bounds t → IsHinted (with_deadline bounds (accepted_connection t.clock d c).deadline) (accepted_table t indexed d c bytes)
 accepted_hints bounds t indexed d c bytes at is hinted = record {
@@ -96,7 +96,7 @@ written_timed_out (Closing c) = refl
 written_bounded : (bounds : Bounds) (streams : List TargetStream) (number : ℕ) (config : SlotConfig) (slot : Slot) (output : List ℕ) → IsBounded bounds streams (record { number = number; config = config; slot = slot }) → IsBounded bounds streams (record { number = number; config = config; slot = record slot { output = output; state = written_state slot.state } })
 written_bounded bounds streams number config slot output one = record {
   deadlines = written_ends bounds.deadlines.0 slot.state one.deadlines;
-  retries = λ can. one.retries (ap (λ (closed : Bool). is_wanted slot && (closed && has_session streams config.target)) (sym (written_closed slot.state)) ∙ ap (λ (timed_out : Bool). (slot.desired_up || timed_out) && (is_closed (written_state slot.state) && has_session streams config.target)) (sym (written_timed_out slot.state)) ∙ can);
+  retries = λ can. one.retries (ap (λ (closed : Bool). needs_request slot && (closed && has_session streams config.target)) (sym (written_closed slot.state)) ∙ ap (λ (timed_out : Bool). (slot.desired_up || timed_out) && (is_closed (written_state slot.state) && has_session streams config.target)) (sym (written_timed_out slot.state)) ∙ can);
   dues = written_due bounds.dues.0 slot.state one.dues;
 }
 

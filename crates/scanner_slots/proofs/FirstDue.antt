@@ -7,7 +7,7 @@ use Rattle.scanner_table.specs.declared.slot.SlotState.{SlotState}
 use Rattle.scanner_table.specs.declared.slot.SlotState.TheVariants.{Idle, Opening, Established, TimedOut, Closing}
 use Rattle.scanner_table.specs.declared.table.ScannerTable.{ScannerTable}
 use Rattle.scanner_table.specs.declared.table.TargetStream.{TargetStream}
-use Rattle.scanner_table.specs.Slots.{IndexedSlot, indexed_from, indexed_slots, is_closed, is_wanted}
+use Rattle.scanner_table.specs.Slots.{IndexedSlot, indexed_from, indexed_slots, is_closed, needs_request}
 use Rattle.cip_tables.specs.Wakes.{never, has_session, retry_due, state_due, slot_due, slots_due}
 use Rattle.scanner_slots.specs.Bounding.{EndsFrom, IsDueFrom, IsBounded, AreBounded, IsHinted, all_bounds}
 use Rattle.scanner_slots.proofs.Bounded.{ends_from}
@@ -76,7 +76,7 @@ retries_due bound at up session (Closing c) le can = never_closed up session _ c
 one_due : (bound : Ms) (streams : List TargetStream) (indexed : IndexedSlot) → bound.0 ≤ slot_due streams indexed → IsBounded (all_bounds bound) streams indexed
 one_due bound streams indexed le = record {
   deadlines = ends_due bound.0 (retry_due streams indexed) indexed.slot.state le;
-  retries = retries_due bound.0 indexed.slot.retry_at.0 (is_wanted indexed.slot) (has_session streams indexed.config.target) indexed.slot.state le;
+  retries = retries_due bound.0 indexed.slot.retry_at.0 (needs_request indexed.slot) (has_session streams indexed.config.target) indexed.slot.state le;
   dues = produces_due bound.0 (retry_due streams indexed) indexed.slot.state le;
 }
 

@@ -14,7 +14,8 @@ use Rattle.scanner_table.specs.declared.table.ScannerTable.{ScannerTable}
 use Rattle.scanner_table.specs.declared.table.Session.{Session}
 use Rattle.scanner_table.specs.declared.table.TargetStream.{TargetStream}
 use Rattle.scanner_table.specs.Sessions.{session_with}
-use Rattle.scanner_table.specs.Slots.{IndexedSlot, indexed_from, indexed_slots, is_closed, is_wanted}
+use Rattle.scanner_table.specs.Slots.{IndexedSlot, indexed_from, indexed_slots, is_closed, needs_request}
+use Rattle.scanner_table.specs.Lemmas.Moves.{from_none}
 use Rattle.scanner_table.specs.Effects.{Effect, nothing, on_each, and_then, after}
 use Rattle.scanner_table.specs.Closing.{given_up}
 use Rattle.scanner_table.specs.Opening.{opened, opened_from, is_ready_slot, ready_opened}
@@ -66,19 +67,10 @@ unopened true true false session ready rests = absurd (let e : false ≡ true = 
 unopened true false late session ready rests = absurd (let e : false ≡ true = ready in cc)
 unopened false closed late session ready rests = absurd (let e : false ≡ true = ready in cc)
 
-either_none : (b : Bool) (t : ScannerTable) → cond b (nothing t) (nothing t) ≡ nothing t
-either_none true t = refl
-either_none false t = refl
-
--- without a session nothing happens to a slot
-from_none : (t : ScannerTable) (indexed : IndexedSlot) (state : SlotState) → opened_from t indexed None state ≡ nothing t
-from_none t indexed (TimedOut link) = either_none t.profile.tidy t
-from_none t indexed other = refl
-
 opens_nothing : (bounds : Bounds) (t : ScannerTable) (clock : Ms) (indexed : IndexedSlot) → clock.0 < bounds.retries.0 → IsBounded bounds t.streams indexed → is_ready_slot clock indexed ≡ true → opened (at_time t clock) indexed ≡ nothing (at_time t clock)
 unfolding opened
 opens_nothing bounds t clock indexed early bounded ready =
-    let none : has_session t.streams indexed.config.target ≡ false = unopened (is_wanted indexed.slot) (is_closed indexed.slot.state) (nat_le indexed.slot.retry_at.0 clock.0) (has_session t.streams indexed.config.target) ready (λ can. let at = bounded.retries can in not_yet clock.0 indexed.slot.retry_at.0 (omega (arith, early, at))) in
+    let none : has_session t.streams indexed.config.target ≡ false = unopened (needs_request indexed.slot) (is_closed indexed.slot.state) (nat_le indexed.slot.retry_at.0 clock.0) (has_session t.streams indexed.config.target) ready (λ can. let at = bounded.retries can in not_yet clock.0 indexed.slot.retry_at.0 (omega (arith, early, at))) in
     ap (λ (s : Option Session). opened_from (at_time t clock) indexed s indexed.slot.state) (no_session (session_with t indexed.config.target) none)
     ∙ from_none (at_time t clock) indexed indexed.slot.state
 

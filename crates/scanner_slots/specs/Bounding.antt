@@ -5,7 +5,7 @@ use Rattle.scanner_table.specs.declared.slot.SlotState.{SlotState}
 use Rattle.scanner_table.specs.declared.slot.SlotState.TheVariants.{Idle, Opening, Established, TimedOut, Closing}
 use Rattle.scanner_table.specs.declared.table.ScannerTable.{ScannerTable}
 use Rattle.scanner_table.specs.declared.table.TargetStream.{TargetStream}
-use Rattle.scanner_table.specs.Slots.{IndexedSlot, indexed_slots, is_closed, is_wanted, slot_at}
+use Rattle.scanner_table.specs.Slots.{IndexedSlot, indexed_slots, is_closed, needs_request, slot_at}
 use Rattle.cip_tables.specs.Wakes.{has_session}
 use Rattle.scanner_slots.specs.declared.bounds.Bounds.{Bounds}
 
@@ -29,7 +29,7 @@ IsDueFrom bound (Closing c) = Unit {0}
 
 -- the connection is wanted and not open, and its target has a session: the slot opens or closes it at its retry time
 abbrev pub can_retry : List TargetStream → IndexedSlot → Bool
-can_retry streams indexed = is_wanted indexed.slot && (is_closed indexed.slot.state && has_session streams indexed.config.target)
+can_retry streams indexed = needs_request indexed.slot && (is_closed indexed.slot.state && has_session streams indexed.config.target)
 
 -- no time of the slot comes before its bound
 pub record IsBounded (bounds : Bounds) (streams : List TargetStream) (indexed : IndexedSlot) : Type 0 where

@@ -7,7 +7,7 @@ ghost use Rattle.scanner_slots.specs.Views.{view_slot, table_of};
 ghost use Rattle.scanner_slots.specs.Bounding.{can_retry, IsBounded, IsBoundedAt, AreBounded, IsHinted, IsNoLater};
 
 use crate::due::has_session;
-use crate::states::is_wanted;
+use crate::states::needs_request;
 use crate::{ScannerState, SlotView, slot_at};
 use cip_types::Ms;
 use scanner_table::{ScannerProfile, Slot, SlotConfig, SlotState, TargetStream};
@@ -38,7 +38,7 @@ fn retry_of(streams: &[TargetStream], indexed: SlotView<'_>) -> Ms
     requires { is_closed indexed.slot.now.state ≡ true }
     ensures { can_retry streams.now (view_slot indexed.entry) ≡ true → result.0 ≤ indexed.entry.slot.now.retry_at.0 }
 {
-    if is_wanted(indexed.slot) && has_session(streams, indexed.config.target) {
+    if needs_request(indexed.slot) && has_session(streams, indexed.config.target) {
         return indexed.slot.retry_at;
     }
     NEVER

@@ -7,7 +7,7 @@ ghost use Rattle.scanner_table.specs.Slots.{indexed_from, indexed_slots};
 ghost use Rattle.scanner_slots.specs.Views.{view_slot, table_of};
 ghost use Rattle.scanner_slots.specs.Bounding.{IsHinted, all_bounds};
 
-use crate::states::is_wanted;
+use crate::states::needs_request;
 use crate::{ScannerState, SlotView, session_with};
 use cip_types::{Ms, Node};
 use scanner_table::{ScannerProfile, Slot, SlotConfig, SlotState, TargetStream};
@@ -23,7 +23,7 @@ pub(crate) fn has_session(streams: &[TargetStream], target: Node) -> bool
 fn retry_due(streams: &[TargetStream], indexed: SlotView<'_>) -> u64
     ensures { result ≡ retry_due streams.now (view_slot indexed.entry) }
 {
-    if is_wanted(indexed.slot) && has_session(streams, indexed.config.target) {
+    if needs_request(indexed.slot) && has_session(streams, indexed.config.target) {
         return indexed.slot.retry_at.0;
     }
     u64::MAX

@@ -1,7 +1,7 @@
 //! How far the connection of a slot is.
 
 ghost use Rattle.std.specs.Prelude.{◌≡◌};
-ghost use Rattle.scanner_table.specs.Slots.{number_of, is_closed, is_timed_out, is_wanted, is_ready};
+ghost use Rattle.scanner_table.specs.Slots.{number_of, is_closed, is_timed_out, needs_request, is_ready};
 ghost use Rattle.scanner_table.specs.Ticks.{state_has_expired, state_is_overdue};
 ghost use Rattle.scanner_table.specs.Productions.{state_is_due};
 ghost use Rattle.scanner_table.specs.Replies.{state_consumes};
@@ -48,17 +48,17 @@ fn is_timed_out(state: &SlotState) -> bool
 }
 
 /// Whether the connection of a slot is desired, or has timed out and is not closed yet.
-pub(crate) fn is_wanted(slot: &Slot) -> bool
-    ensures { result ≡ is_wanted slot.now }
+pub(crate) fn needs_request(slot: &Slot) -> bool
+    ensures { result ≡ needs_request slot.now }
 {
     slot.desired_up || is_timed_out(&slot.state)
 }
 
-/// Whether the connection of a slot is wanted, is not open, and may be tried now.
+/// Whether a slot needs a request, its connection is not open, and it may be tried now.
 pub fn is_ready(slot: &Slot, clock: Ms) -> bool
     ensures { result ≡ is_ready clock slot.now }
 {
-    is_wanted(slot) && is_closed(&slot.state) && slot.retry_at.0 <= clock.0
+    needs_request(slot) && is_closed(&slot.state) && slot.retry_at.0 <= clock.0
 }
 
 /// Whether a slot's connection is established, and its deadline has come.

@@ -109,16 +109,16 @@ moded_drawn false t multicast slot drawn = drawn
 idle_drawn : (t : ScannerTable) (multicast : Bool) (state : SlotState) → state ≡ Idle → StateIsDrawn t.profile t.next_id t.next_request multicast state
 idle_drawn t multicast state is = rw is tt
 
--- a wanted id was allocated
-wanted_drawn : (profile : ScannerProfile) (next : ℕ) (id : Option ConnId) → WantsDrawn profile 0 next false id → IsDrawn profile 0 next (id_or_zero id)
-wanted_drawn profile next None wants = absurd wants
-wanted_drawn profile next (Some id) wants = wants
+-- a requested id was allocated
+requested_drawn : (profile : ScannerProfile) (next : ℕ) (id : Option ConnId) → WantsDrawn profile 0 next false id → IsDrawn profile 0 next (id_or_zero id)
+requested_drawn profile next None wants = absurd wants
+requested_drawn profile next (Some id) wants = wants
 
 -- so was the id of the connection that the slot has, or asked for
 link_drawn : (t : ScannerTable) (multicast : Bool) (state : SlotState) (link : Link) → link_in state ≡ Some link → StateIsDrawn t.profile t.next_id t.next_request multicast state → LinkIsDrawn t.profile t.next_id multicast link
 link_drawn t true state link is drawn = tt
 link_drawn t false Idle link is drawn = absurd cc
-link_drawn t false (Opening o) link is drawn = subst (LinkIsDrawn t.profile t.next_id false) (same_Some (requested_link o.requested) link is) (wanted_drawn t.profile t.next_id o.requested.t_o_id drawn.1)
+link_drawn t false (Opening o) link is drawn = subst (LinkIsDrawn t.profile t.next_id false) (same_Some (requested_link o.requested) link is) (requested_drawn t.profile t.next_id o.requested.t_o_id drawn.1)
 link_drawn t false (Established c) link is drawn = subst (LinkIsDrawn t.profile t.next_id false) (same_Some c.link link is) drawn.1
 link_drawn t false (TimedOut other) link is drawn = subst (LinkIsDrawn t.profile t.next_id false) (same_Some other link is) drawn
 link_drawn t false (Closing c) link is drawn = absurd cc
@@ -259,16 +259,16 @@ no_id false (Established c) id idle is = absurd cc
 no_id false (TimedOut link) id idle is = absurd cc
 no_id false (Closing c) id idle is = absurd cc
 
--- a wanted id is that of the opening
-wanted_id : (profile : ScannerProfile) (next : ℕ) (wanted : Option ConnId) (id : ConnId) → WantsDrawn profile 0 next false wanted → Some (id_or_zero wanted) ≡ Some id → wanted ≡ Some id
-wanted_id profile next None id wants is = absurd wants
-wanted_id profile next (Some other) id wants is = is
+-- a requested id is that of the opening
+requested_t_o : (profile : ScannerProfile) (next : ℕ) (requested : Option ConnId) (id : ConnId) → WantsDrawn profile 0 next false requested → Some (id_or_zero requested) ≡ Some id → requested ≡ Some id
+requested_t_o profile next None id wants is = absurd wants
+requested_t_o profile next (Some other) id wants is = is
 
 -- the id of the connection that the slot has, or asked for, is the slot's
 link_id : (t : ScannerTable) (multicast : Bool) (state : SlotState) (link : Link) (id : ConnId) → link_in state ≡ Some link → StateIsDrawn t.profile t.next_id t.next_request multicast state → cond multicast None (Some link.t_o_id) ≡ Some id → cond multicast None (drawn_id state) ≡ Some id
 link_id t true state link id is drawn same = absurd cc
 link_id t false Idle link id is drawn same = absurd cc
-link_id t false (Opening o) link id is drawn same = wanted_id t.profile t.next_id o.requested.t_o_id id drawn.1 (ap (λ (l : Link). Some l.t_o_id) (same_Some (requested_link o.requested) link is) ∙ same)
+link_id t false (Opening o) link id is drawn same = requested_t_o t.profile t.next_id o.requested.t_o_id id drawn.1 (ap (λ (l : Link). Some l.t_o_id) (same_Some (requested_link o.requested) link is) ∙ same)
 link_id t false (Established c) link id is drawn same = ap (λ (l : Link). Some l.t_o_id) (same_Some c.link link is) ∙ same
 link_id t false (TimedOut other) link id is drawn same = ap (λ (l : Link). Some l.t_o_id) (same_Some other link is) ∙ same
 link_id t false (Closing c) link id is drawn same = absurd cc

@@ -43,7 +43,7 @@ use Rattle.scanner_table.specs.declared.table.ScannerTable.{ScannerTable}
 use Rattle.scanner_table.specs.declared.table.Stage.{Stage}
 use Rattle.scanner_table.specs.declared.table.Stage.TheVariants.{Waiting, Up, Unused}
 use Rattle.scanner_table.specs.declared.table.TargetStream.{TargetStream}
-use Rattle.scanner_table.specs.Slots.{indexed_from, IndexedSlot, indexed_slots, slot_at, is_numbered, is_with, with_slot, is_timed_out, is_wanted}
+use Rattle.scanner_table.specs.Slots.{indexed_from, IndexedSlot, indexed_slots, slot_at, is_numbered, is_with, with_slot, is_timed_out, needs_request}
 use Rattle.scanner_table.specs.declared.table.Session.{Session}
 use Rattle.scanner_table.specs.Sessions.{session_with, is_stream, is_other_stream, is_to, is_taken, with_stream, without_stream, with_stage}
 use Rattle.scanner_table.specs.Requests.{is_large}
@@ -203,17 +203,17 @@ keeps_cleared t indexed link (Some session) tidy whole at =
     close_step (has_request t) t indexed link indexed.slot.desired_up session refl whole at (tidy_only t (closing_slot t link indexed.slot.desired_up indexed.slot) tidy)
 
 -- the slot is to be open, or to be closed
-abbrev pub IsWanted : IndexedSlot → Type 0
-IsWanted indexed = is_wanted indexed.slot ≡ true
+abbrev pub NeedsRequest : IndexedSlot → Type 0
+NeedsRequest indexed = needs_request indexed.slot ≡ true
 
-wanted_desired : (desired_up timed_out : Bool) → timed_out ≡ false → (desired_up || timed_out) ≡ true → desired_up ≡ true
-wanted_desired true timed_out is wanted = refl
-wanted_desired false true is wanted = absurd cc
-wanted_desired false false is wanted = absurd cc
+needed_desired : (desired_up timed_out : Bool) → timed_out ≡ false → (desired_up || timed_out) ≡ true → desired_up ≡ true
+needed_desired true timed_out is needed = refl
+needed_desired false true is needed = absurd cc
+needed_desired false false is needed = absurd cc
 
 -- a slot of this state is desired
-is_desired : (indexed : IndexedSlot) (state : SlotState) → indexed.slot.state ≡ state → is_timed_out state ≡ false → IsWanted indexed → indexed.slot.desired_up ≡ true
-is_desired indexed state is none wanted = wanted_desired indexed.slot.desired_up (is_timed_out indexed.slot.state) (ap is_timed_out is ∙ none) wanted
+is_desired : (indexed : IndexedSlot) (state : SlotState) → indexed.slot.state ≡ state → is_timed_out state ≡ false → NeedsRequest indexed → indexed.slot.desired_up ≡ true
+is_desired indexed state is none needed = needed_desired indexed.slot.desired_up (is_timed_out indexed.slot.state) (ap is_timed_out is ∙ none) needed
 
 timed_out_desired : (t : ScannerTable) (indexed : IndexedSlot) (link : Link) → indexed.slot.state ≡ TimedOut link → t.profile.tidy ≡ false → IsAt t indexed → indexed.slot.desired_up ≡ true
 timed_out_desired t indexed link is untidy at = subst (StateIsDesired indexed.slot.desired_up) is (at.desires untidy)
@@ -222,30 +222,30 @@ tidy_step : (b : Bool) (t : ScannerTable) (indexed : IndexedSlot) (link : Link) 
 tidy_step true t indexed link session tidy is whole at = keeps_cleared t indexed link session tidy whole at
 tidy_step false t indexed link session tidy is whole at = keeps_within t indexed session whole at (timed_out_desired t indexed link is tidy at)
 
-keeps_from : (t : ScannerTable) (indexed : IndexedSlot) (session : Option Session) (state : SlotState) → indexed.slot.state ≡ state → IsWellFormed t → IsAt t indexed → IsWanted indexed → Keeps t (opened_from t indexed session state)
-keeps_from t indexed session (TimedOut link) is whole at wanted = tidy_step t.profile.tidy t indexed link session refl is whole at
-keeps_from t indexed session other is whole at wanted = keeps_within t indexed session whole at (is_desired indexed other is refl wanted)
+keeps_from : (t : ScannerTable) (indexed : IndexedSlot) (session : Option Session) (state : SlotState) → indexed.slot.state ≡ state → IsWellFormed t → IsAt t indexed → NeedsRequest indexed → Keeps t (opened_from t indexed session state)
+keeps_from t indexed session (TimedOut link) is whole at needed = tidy_step t.profile.tidy t indexed link session refl is whole at
+keeps_from t indexed session other is whole at needed = keeps_within t indexed session whole at (is_desired indexed other is refl needed)
 
-pub keeps_opened : KeepsAt IsWanted opened
+pub keeps_opened : KeepsAt NeedsRequest opened
 unfolding opened
-keeps_opened t indexed whole at wanted = keeps_from t indexed (session_with t indexed.config.target) indexed.slot.state refl whole at wanted
+keeps_opened t indexed whole at needed = keeps_from t indexed (session_with t indexed.config.target) indexed.slot.state refl whole at needed
 
-wanted_of : (clock : _) (rest : List IndexedSlot) → Each (λ indexed. is_ready_slot clock indexed ≡ true) rest → Each IsWanted rest
-wanted_of clock [] ready = tt
-wanted_of clock (indexed ∷ rest) ready = ((and_parts (is_wanted indexed.slot) _ ready.0).0, wanted_of clock rest ready.1)
+needs_of : (clock : _) (rest : List IndexedSlot) → Each (λ indexed. is_ready_slot clock indexed ≡ true) rest → Each NeedsRequest rest
+needs_of clock [] ready = tt
+needs_of clock (indexed ∷ rest) ready = ((and_parts (needs_request indexed.slot) _ ready.0).0, needs_of clock rest ready.1)
 
 pub keeps_ready : (t : ScannerTable) → IsWellFormed t → Keeps t (ready_opened t)
 unfolding ready_opened
 keeps_ready t whole =
-    keeps_each IsWanted opened keeps_opened (ready_slots t) t whole (each_filter (IsAt t) (is_ready_slot t.clock) (indexed_slots t) (each_at t whole))
-    (wanted_of t.clock (ready_slots t) (each_passes (is_ready_slot t.clock) (indexed_slots t)))
+    keeps_each NeedsRequest opened keeps_opened (ready_slots t) t whole (each_filter (IsAt t) (is_ready_slot t.clock) (indexed_slots t) (each_at t whole))
+    (needs_of t.clock (ready_slots t) (each_passes (is_ready_slot t.clock) (indexed_slots t)))
 
 keeps_target : (target : Node) (t : ScannerTable) → IsWellFormed t → Keeps t (target_opened target t)
 unfolding target_opened
 keeps_target target t whole =
-    keeps_each IsWanted opened keeps_opened (filter (is_with target) (ready_slots t)) t whole
+    keeps_each NeedsRequest opened keeps_opened (filter (is_with target) (ready_slots t)) t whole
     (each_filter (IsAt t) (is_with target) (ready_slots t) (each_filter (IsAt t) (is_ready_slot t.clock) (indexed_slots t) (each_at t whole)))
-    (each_filter IsWanted (is_with target) (ready_slots t) (wanted_of t.clock (ready_slots t) (each_passes (is_ready_slot t.clock) (indexed_slots t))))
+    (each_filter NeedsRequest (is_with target) (ready_slots t) (needs_of t.clock (ready_slots t) (each_passes (is_ready_slot t.clock) (indexed_slots t))))
 
 -- ---- replies
 

@@ -68,9 +68,9 @@ is_timed_out (TimedOut link) = true
 is_timed_out (Closing c) = false
 
 -- the connection is desired, or it has timed out and is not closed yet
-abbrev pub is_wanted : Slot → Bool
-is_wanted slot = slot.desired_up || is_timed_out slot.state
+abbrev pub needs_request : Slot → Bool
+needs_request slot = slot.desired_up || is_timed_out slot.state
 
--- the connection is wanted, is not open, and its retry time has come
+-- the slot needs a request, its connection is not open, and its retry time has come
 abbrev pub is_ready : Ms → Slot → Bool
-is_ready clock slot = is_wanted slot && (is_closed slot.state && nat_le slot.retry_at.0 clock.0)
+is_ready clock slot = needs_request slot && (is_closed slot.state && nat_le slot.retry_at.0 clock.0)

@@ -47,7 +47,7 @@ use Rattle.scanner_table.specs.Points.{desired_slot, started, start_state, start
 use Rattle.scanner_table.specs.Productions.{state_is_due, produced_table}
 use Rattle.scanner_table.specs.Replies.{is_id_free, refused, disowned, disowned_within, rejected, judged_success, open_answer, answered}
 use Rattle.scanner_table.specs.Sessions.{is_stream, is_taken, without_stream, with_stage, session_with}
-use Rattle.scanner_table.specs.Slots.{IndexedSlot, indexed_slots, is_numbered, is_closed, is_wanted, is_with, slot_at, with_slot}
+use Rattle.scanner_table.specs.Slots.{IndexedSlot, indexed_slots, is_numbered, is_closed, needs_request, is_with, slot_at, with_slot}
 use Rattle.scanner_table.specs.Step.{scanner_step}
 use Rattle.scanner_table.specs.Ticks.{expired_slots, expired_state, expired, all_expired, is_overdue, all_given_up, clocked_table, advanced, moved_on, ticked, tick}
 use Rattle.device_laws.specs.Newest.{StateIsNumbered, OpeningsAreNumbered}
@@ -277,7 +277,7 @@ each_opens (place ∷ rest) t stand apart closed_before all =
     (each_opens rest next (stand_on t next place.number rest does.local apart.0 stand.1) apart.1 closed_before.1 (numbered_on t next does.leads all))
 
 ready_closed : (clock : Ms) (place : IndexedSlot) → is_ready_slot clock place ≡ true → IsClosedSlot place
-ready_closed clock place ready = (and_parts (is_closed place.slot.state) _ (and_parts (is_wanted place.slot) _ ready).1).0
+ready_closed clock place ready = (and_parts (is_closed place.slot.state) _ (and_parts (needs_request place.slot) _ ready).1).0
 
 all_closed : (t : ScannerTable) → Each IsClosedSlot (ready_slots t)
 all_closed t = each_more (λ place. is_ready_slot t.clock place ≡ true) IsClosedSlot (ready_closed t.clock) (ready_slots t) (each_passes (is_ready_slot t.clock) (indexed_slots t))

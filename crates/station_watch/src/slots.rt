@@ -168,13 +168,13 @@ impl SlotWatches {
             return Ok(());
         };
         match missized_at(self.slots.as_slice(), target, id) {
-            Some(index) => self.tell_size(index, came),
+            Some(index) => self.report_size(index, came),
             None => Ok(()),
         }
     }
 
     /// Tells of the slot at this place that a datagram came with so many bytes of data. The fault: an allocation was refused.
-    fn tell_size(&mut self, index: usize, came: u64) -> Result<(), OutOfMemory> {
+    fn report_size(&mut self, index: usize, came: u64) -> Result<(), OutOfMemory> {
         let Some(place) = self.slots.get_mut(index) else {
             return Ok(());
         };

@@ -46,7 +46,7 @@ use Rattle.scanner_table.specs.declared.table.Stage.{Stage}
 use Rattle.scanner_table.specs.declared.table.Stage.TheVariants.{Waiting, Up, Unused}
 use Rattle.scanner_table.specs.declared.table.TargetStream.{TargetStream}
 use Rattle.scanner_table.specs.declared.profile.SlotConfig.{SlotConfig}
-use Rattle.scanner_table.specs.Slots.{IndexedSlot, indexed_slots, slot_at, is_numbered, is_with, with_slot, is_closed, is_wanted}
+use Rattle.scanner_table.specs.Slots.{IndexedSlot, indexed_slots, slot_at, is_numbered, is_with, with_slot, is_closed, needs_request}
 use Rattle.scanner_table.specs.Sessions.{session_with, is_stream, is_taken, with_stream, without_stream, with_stage}
 use Rattle.scanner_table.specs.Requests.{is_large}
 use Rattle.scanner_table.specs.Effects.{Next, Effect, nothing, and_then, on_each, counted, changed, done}
@@ -231,8 +231,17 @@ each_does R kept Q effect does (indexed ∷ rest) t stand apart holds =
     kept.after t next (on_each effect rest next).table first.leads
     (each_does R kept Q effect does rest next (stand_on t next indexed.number rest first.local apart.0 stand.1) apart.1 holds.1)
 
+either_none : (b : Bool) (t : ScannerTable) → cond b (nothing t) (nothing t) ≡ nothing t
+either_none true t = refl
+either_none false t = refl
+
+-- without a session nothing happens to a slot
+pub from_none : (t : ScannerTable) (indexed : IndexedSlot) (state : SlotState) → opened_from t indexed None state ≡ nothing t
+from_none t indexed (TimedOut link) = either_none t.profile.tidy t
+from_none t indexed other = refl
+
 ready_rests : (clock : Ms) (indexed : IndexedSlot) → is_ready_slot clock indexed ≡ true → IsClosedSlot indexed
-ready_rests clock indexed ready = (and_parts (is_closed indexed.slot.state) _ (and_parts (is_wanted indexed.slot) _ ready).1).0
+ready_rests clock indexed ready = (and_parts (is_closed indexed.slot.state) _ (and_parts (needs_request indexed.slot) _ ready).1).0
 
 ready_stand : (t : ScannerTable) → Each (Stands t) (ready_slots t)
 ready_stand t = each_filter (Stands t) (is_ready_slot t.clock) (indexed_slots t) (each_stands t)
