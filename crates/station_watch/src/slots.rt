@@ -175,7 +175,7 @@ impl SlotWatches {
 
     /// Tells of the slot at this place that a datagram came with so many bytes of data. The fault: an allocation was refused.
     fn report_size(&mut self, index: usize, came: u64) -> Result<(), OutOfMemory> {
-        let Some(place) = self.slots.get_mut(index) else {
+        let (Some(place), Ok(slot)) = (self.slots.get_mut(index), u32::try_from(index)) else {
             return Ok(());
         };
         let watch = *place;
@@ -184,7 +184,7 @@ impl SlotWatches {
             ..watch
         };
         self.starved.push(Starved {
-            slot: index as u32,
+            slot,
             target: watch.target,
             cause: StarvedCause::WrongSize {
                 came,
