@@ -230,8 +230,8 @@ reopened_asks : (profile : ScannerProfile) (now : ScannerTable) (indexed : Index
 reopened_asks profile now indexed same short =
     either (Asks profile now.streams) indexed.slot.desired_up (opened now indexed) (nothing now) (opened_asks profile now indexed same short) (record { sent = tt; profile_is = same; streams_are = refl })
 
-ended_asks : (t : ScannerTable) (indexed : IndexedSlot) → IsShort indexed → Asks t.profile t.streams (closed t indexed)
-ended_asks t indexed short =
+close_ends_asks : (t : ScannerTable) (indexed : IndexedSlot) → IsShort indexed → Asks t.profile t.streams (closed t indexed)
+close_ends_asks t indexed short =
     let idle : Effect = changed t indexed (idle_slot indexed.slot) [] in
     let now : IndexedSlot = record indexed { slot = idle_slot indexed.slot } in
     asks_then t.profile t.streams idle (reopened now) (record { sent = tt; profile_is = refl; streams_are = refl }) (reopened_asks t.profile idle.table now refl short)
@@ -280,7 +280,7 @@ own_asks back t happens effect asks = done_asks back t happens t.streams effect 
 
 replied_asks : ItemsReadBack → (t : ScannerTable) (happens : Event) (indexed : IndexedSlot) (m : MessageFields) (state : SlotState) → IsShort indexed → NextAsks t happens (replied t indexed m state)
 replied_asks back t happens indexed m (Opening o) short = own_asks back t happens (answered t indexed o (open_answer (is_large indexed.config) m)) (answered_asks t indexed o (open_answer (is_large indexed.config) m))
-replied_asks back t happens indexed m (Closing c) short = own_asks back t happens (closed t indexed) (ended_asks t indexed short)
+replied_asks back t happens indexed m (Closing c) short = own_asks back t happens (closed t indexed) (close_ends_asks t indexed short)
 replied_asks back t happens indexed m Idle short = quiet_next t happens (ignored t) refl refl
 replied_asks back t happens indexed m (Established c) short = quiet_next t happens (ignored t) refl refl
 replied_asks back t happens indexed m (TimedOut link) short = quiet_next t happens (ignored t) refl refl

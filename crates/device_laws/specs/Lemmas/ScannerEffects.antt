@@ -1,7 +1,7 @@
 -- What an event of a scanner does: its answer has the frames of one effect, which opens slots, closes one, sends an explicit request
 -- or sends nothing. So a
 -- relation between a table and an effect holds of each step, if it holds of these and of one effect after another.
-use Rattle.std.proofs.Common.{◌≡◌, ◌⊎◌, inl, inr, ℕ, ◌+◌, ◌==◌, nat_lt, List, [], ◌∷◌, map, filter, find, Option, Some, None, Result, Ok, Err, IfOk, refl}
+use Rattle.std.proofs.Common.{◌≡◌, ◌⊎◌, inl, inr, ℕ, ◌+◌, ◌==◌, nat_lt, Bool, false, cond, List, [], ◌∷◌, map, filter, find, Option, Some, None, Result, Ok, Err, IfOk, refl}
 use Rattle.std.specs.List.{list_any, AllByRecursion}
 use Rattle.cip_types.specs.Cases.{first_case}
 use Rattle.cip_types.specs.declared.names.Mismatch.{Mismatch}
