@@ -33,3 +33,8 @@ mod OwnerDataSteps
 mod OwnerDataRuns
 mod StatedLimits
 mod WindowSteps
+mod TidyEffects
+mod TidyEvents
+mod TidyRuns
+mod TidySamples
+mod TimedOutSteps

@@ -22,6 +22,8 @@ pub mod ScannerDeadlines
 pub mod ScannerDeliveries
 pub mod Scratch
 pub mod Newest
+pub mod TidyScanners
+pub mod TimedOutSlots
 pub mod ScannerRuns
 pub mod Scanners
 pub mod States

@@ -14,12 +14,15 @@ ghost use Rattle.scanner_table.specs.Waiting.{SlotsWaitInTime};
 ghost use Rattle.scanner_table.specs.Drawn.{NumbersAreOwn};
 ghost use Rattle.device_laws.specs.ScannerOpenings.{OpeningsBegin};
 ghost use Rattle.device_laws.specs.Newest.{HasNewerNumber, IsAppliedNew, IsNotAgain};
+ghost use Rattle.device_laws.specs.TidyScanners.{TidyScannersLeaveNone};
 ghost use Rattle.scanner_table.specs.Producers.{SlotsProduceAsThemselves};
 ghost use Rattle.scanner_table.specs.Whole.{IsWholeScanner};
 
 use crate::{bytes_are_from_scratch, openings_are_numbered};
+use answer_sizes::answers_are_small;
+use cip_encap::reads_back;
 use cip_tables::laws;
-use scanner_table::fresh_tables_are_whole;
+use scanner_table::{fresh_tables_are_whole, steps_keep_tables_whole};
 
 /// Every table is whole. A whole table has all the properties that the laws of tables below name; besides, its clock
 /// and its numbers are within their limits.
@@ -220,4 +223,21 @@ pub fn ids_are_given_once()
     runs_fold_events();
     fresh_tables_are_whole();
     crate::ids_are_given_once();
+}
+
+/// A tidy scanner leaves no connection behind. A slot has each connection that the scanner requests, whoever reads the request: it
+/// opens it, has it open, or has to close it since it timed out. So it stays until the scanner sends a Forward_Close of the
+/// connection over its session with the slot's target, or the reply to its opening is no success: the target refuses it. The
+/// law holds as long as a request number is left.
+///
+/// Volume 1, chapter 3, Forward_Open and Forward_Close services.
+pub fn tidy_scanners_leave_no_connection()
+    ensures { OverScannerRuns TidyScannersLeaveNone }
+{
+    runs_fold_events();
+    fresh_tables_are_whole();
+    steps_keep_tables_whole();
+    scanner_table::counters_never_fall();
+    reads_back();
+    answers_are_small();
 }

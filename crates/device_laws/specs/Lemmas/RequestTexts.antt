@@ -27,6 +27,7 @@ use Rattle.scanner_table.specs.declared.profile.ScannerProfile.{ScannerProfile}
 use Rattle.cip_fwdopen.specs.Services.{open_service}
 use Rattle.cip_types.specs.Ids.{connection_id}
 use Rattle.scanner_table.specs.Requests.{Request, registering, opening, closing, requesting, Sent, manager_text, slot_params, sent_message, sent_frame}
+use Rattle.device_laws.specs.Frames.{OpeningsAre}
 use Rattle.device_laws.specs.Ids.{RequestIds}
 use Rattle.answer_sizes.specs.Sizes.{IsShortFrame}
 use Rattle.device_laws.specs.Lemmas.AdapterIds.{plain_protocol, few_bytes}
@@ -174,12 +175,15 @@ holds_requested profile byte (opening large fields) asks = asks_back profile lar
 holds_requested profile byte (closing fields) asks = tt
 holds_requested profile byte (requesting bytes) asks = asks
 
-frame_asks : ItemsReadBack → (profile : ScannerProfile) → profile.incarnation ≤ 255 → (sent : Sent) → SentAsks profile sent → length (message_text (sent_message sent)) ≤ 2048 → FrameAsks profile (sent_frame sent)
-frame_asks back profile byte sent asks few request is =
+-- what holds of the request as it is read, holds of each opening that the frame can be read as
+pub frame_opens : ItemsReadBack → (Q : OpenFields → Type 0) (sent : Sent) → HoldsAsRead Q sent.request → length (message_text (sent_message sent)) ≤ 2048 → OpeningsAre Q (sent_frame sent).bytes
+frame_opens back Q sent holds few request is =
     let same : MessageBack (sent_message sent) is.message = message_back (sent_message sent) is.message is.reads in
-    let packet : PacketOpens (AsksOwnId profile) (Ok is.packet) =
-    subst (PacketOpens (AsksOwnId profile)) (ap packet_reading (sym same.payload) ∙ is.packet_is) (packet_opens back (AsksOwnId profile) sent sent.request refl (holds_requested profile byte sent.request asks) few) in
-    subst (RequestOpens (AsksOwnId profile)) is.opens packet
+    let packet : PacketOpens Q (Ok is.packet) = subst (PacketOpens Q) (ap packet_reading (sym same.payload) ∙ is.packet_is) (packet_opens back Q sent sent.request refl holds few) in
+    subst (RequestOpens Q) is.opens packet
+
+frame_asks : ItemsReadBack → (profile : ScannerProfile) → profile.incarnation ≤ 255 → (sent : Sent) → SentAsks profile sent → length (message_text (sent_message sent)) ≤ 2048 → FrameAsks profile (sent_frame sent)
+frame_asks back profile byte sent asks few = frame_opens back (AsksOwnId profile) sent (holds_requested profile byte sent.request asks) few
 
 pub requests_ask : ItemsReadBack → (profile : ScannerProfile) → profile.incarnation ≤ 255 → (requests : List Sent) → AllByRecursion (SentAsks profile) requests → AllByRecursion IsShortFrame (map sent_frame requests) → AllByRecursion (FrameAsks profile) (map sent_frame requests)
 requests_ask back profile byte [] asks few = tt
