@@ -1,10 +1,13 @@
 -- What a station tells its port of the targets of slots, and which slots get no data.
 use Rattle.std.specs.Prelude.{ℕ, ◌-◌, ◌==◌, ◌&&◌, ◌||◌, not, if◌then◌else◌, Bool, true, false, List, [], ◌∷◌, Option, Some, None}
+use Rattle.std.specs.List.{list_any}
 use Rattle.cip_types.specs.declared.names.Node.{Node}
 use Rattle.cip_events.specs.declared.event.Event.{Event}
 use Rattle.cip_events.specs.declared.event.Event.TheVariants as event
 use Rattle.cip_events.specs.declared.event.Notice.{Notice}
 use Rattle.cip_events.specs.declared.event.Notice.TheVariants as notice
+use Rattle.scanner_table.specs.declared.report.SlotReport.{SlotReport}
+use Rattle.scanner_table.specs.declared.report.SlotReport.TheVariants as slot
 use Rattle.port_groups.specs.GroupUse.{with_group}
 use Rattle.port_groups.specs.declared.group.DataGroup.{DataGroup}
 use Rattle.station_watch.specs.declared.slots.LinkReport.{LinkReport}
@@ -44,9 +47,9 @@ waits (Some state) = (state == opening) || (state == closing)
 -- answered. (A connection that timed out says nothing of the stream of its target, nor does a request that was not answered while
 -- another slot of the target is established.)
 abbrev pub slot_link_report : Bool → Option ℕ → ℕ → ℕ → Option LinkReport
-slot_link_report ticks before slot state =
-    if state == established then Some (link_report.Succeed slot)
-    else (if ticks && waits before then Some (link_report.Renew slot) else None)
+slot_link_report ticks before number state =
+    if state == established then Some (link_report.Succeed number)
+    else (if ticks && waits before then Some (link_report.Renew number) else None)
 
 abbrev pub link_report_of : Event → Option ℕ → Notice → Option LinkReport
 link_report_of given before (notice.Slot slot state) = slot_link_report (is_tick given) before slot state
@@ -63,6 +66,16 @@ ended_slot given other = None
 -- the slot is established, and is of this target
 abbrev pub serves : Node → SlotWatch → Bool
 serves target watch = (watch.state == established) && (watch.target.0 == target.0)
+
+-- the slot waits for the reply to a Forward_Open
+abbrev pub is_opening : Option SlotReport → Bool
+is_opening (Some slot.Opening) = true
+is_opening other = false
+
+-- the stream of a slot in this state, whose request was not answered, is to be opened anew: no slot of its target is established, and
+-- it has not sent the next Forward_Open over it, as a tidy one does whose Forward_Close was not answered
+abbrev pub is_renewed : List SlotWatch → Node → Option SlotReport → Bool
+is_renewed slots target report = not (list_any (serves target) slots) && not (is_opening report)
 
 -- WHAT COMES
 

@@ -2,12 +2,12 @@
 
 ghost use Rattle.std.specs.Prelude.{◌≡◌, position, OnOk};
 ghost use Rattle.std.specs.List.{list_any};
-ghost use Rattle.station_watch.specs.Slots.{awaits_size, data_len, ended_slot, link_report_of, fed, idle_slot, is_id, is_starved, is_tick, opened, serves, waits, with_groups};
+ghost use Rattle.station_watch.specs.Slots.{awaits_size, data_len, ended_slot, link_report_of, fed, idle_slot, is_id, is_opening, is_renewed, is_starved, is_tick, opened, serves, waits, with_groups};
 
 use crate::groups::{datagram_id, opened_group};
 use crate::traffic::slot_id;
 use cip_events::{Answer, Delivery, Event, Notice, SlotPhase, Verdict};
-use cip_tables::{Config, Device};
+use cip_tables::{Config, Device, SlotReport};
 use cip_types::{Node, OutOfMemory};
 use port_groups::{DataGroup, add_group};
 use std::alloc::Global;
@@ -195,7 +195,7 @@ impl SlotWatches {
     }
 
     /// Notes a report on the link of a slot, and what it says of the slot. That its stream is to be opened anew is told only if no
-    /// slot of its target is established. The fault: an allocation was refused.
+    /// slot of its target is established and the slot does not open already. The fault: an allocation was refused.
     fn report<D: Device>(
         &mut self,
         device: &D,
@@ -213,7 +213,7 @@ impl SlotWatches {
                 Ok(())
             }
             LinkReport::Renew(slot) => match self.target(slot) {
-                Some(target) if !serves_any(self.slots.as_slice(), target) => {
+                Some(target) if is_renewed(self.slots.as_slice(), target, device.slot(slot)) => {
                     Ok(self.link_reports.push(link_report)?)
                 }
                 _ => Ok(()),
@@ -359,6 +359,24 @@ fn ended_slot(event: &Event, notice: &Notice) -> Option<u32>
         return Some(*slot);
     }
     None
+}
+
+/// Whether the stream of a slot in this state, whose request was not answered, is to be opened anew: no slot of its target is
+/// established, and it has not sent the next Forward_Open over it, as a tidy one does whose Forward_Close was not answered.
+fn is_renewed(slots: &[SlotWatch], target: Node, report: Option<SlotReport>) -> bool
+    ensures { result ≡ is_renewed slots.now target report }
+{
+    !serves_any(slots, target) && !is_opening(report)
+}
+
+/// Whether a slot in this state waits for the reply to a Forward_Open.
+fn is_opening(report: Option<SlotReport>) -> bool
+    ensures { result ≡ is_opening report }
+{
+    match report {
+        Some(SlotReport::Opening) => true,
+        _ => false,
+    }
 }
 
 /// Whether a slot of this target is established.
