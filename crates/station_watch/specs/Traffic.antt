@@ -236,11 +236,17 @@ sends_of_slot target other = None
 abbrev pub opened_slot : ℕ → Option SlotReport → CountedConnection → CountedConnection
 opened_slot ms report slot = begun slot.sender (id_of_slot report) (sends_of_slot slot.sender report) (opened_note ms slot.note)
 
+-- the note of a slot that changes to the state of this number: a connection that was established may have timed out, with this id of
+-- its datagrams; an opening that is not answered is no time-out of one
+abbrev pub ended_note : (ms state : ℕ) → Option ℕ → StateNote → StateNote
+ended_note ms state None note = record note { since_ms = ms }
+ended_note ms state (Some id) note = changed_note ms state note
+
 -- and they stay as it ends
 abbrev pub slot_changed : (ms state : ℕ) → Option SlotReport → CountedConnection → CountedConnection
 slot_changed ms state report slot =
     if state == phase_number phase.Established then opened_slot ms report slot
-    else record slot { id = None; sends = None; note = changed_note ms state slot.note }
+    else record slot { id = None; sends = None; note = ended_note ms state slot.id slot.note }
 
 abbrev pub changed_at : (ms : ℕ) → List CountedConnection → (slot state : ℕ) → Option SlotReport → Option CountedConnection → List CountedConnection
 changed_at ms connections slot state report None = connections

@@ -1,7 +1,7 @@
 //! What a station counts of its datagrams: those of each connection, and all.
 
 ghost use Rattle.std.specs.Prelude.{◌≡◌, ◌++◌, find, map, IfOk, OnOk};
-ghost use Rattle.station_watch.specs.Traffic.{accepted_at, after_datagram, after_event, after_notice, after_notices, applied_by, arrived, begun, counted_at_place, counted_in, counted_of, counted_one, current, entry_of, entry_or, fresh_slot, fresh_traffic, goes_to, has_id, id_of_slot, is_for, is_from, is_id, is_sent_as, lost_by, lost_of, marked, noted, opened_by, opened_slot, received_datagram, refused_slot, reported, sends_of, sends_of_slot, sent_each, sent_one, sent_through, sent_totals, slot_changed, slot_id, totals_after, with_refusal, with_slot};
+ghost use Rattle.station_watch.specs.Traffic.{accepted_at, after_datagram, after_event, after_notice, after_notices, applied_by, arrived, begun, counted_at_place, counted_in, counted_of, counted_one, current, ended_note, entry_of, entry_or, fresh_slot, fresh_traffic, goes_to, has_id, id_of_slot, is_for, is_from, is_id, is_sent_as, lost_by, lost_of, marked, noted, opened_by, opened_slot, received_datagram, refused_slot, reported, sends_of, sends_of_slot, sent_each, sent_one, sent_through, sent_totals, slot_changed, slot_id, totals_after, with_refusal, with_slot};
 
 use crate::groups::{datagram_id, datagram_sequence};
 use crate::notes::{StateNote, StreamRefusal, stream_after};
@@ -661,7 +661,7 @@ fn change_slot(
 }
 
 /// A slot after it changed to the state of this number: the counts of a connection begin as it is established, with the ids of its
-/// datagrams, and stay as it ends.
+/// datagrams, and stay as it ends. An opening that is not answered is no time-out of a connection.
 fn slot_changed(
     slot: CountedConnection,
     ms: u64,
@@ -676,8 +676,21 @@ fn slot_changed(
     CountedConnection {
         id: None,
         sends: None,
-        note: slot.note.changed(ms, state),
+        note: ended_note(slot.note, slot.id, ms, state),
         ..slot
+    }
+}
+
+/// The note of a slot that changes to the state of this number, and whose connection had this id, if it was established.
+fn ended_note(note: StateNote, id: Option<u32>, ms: u64, state: u8) -> StateNote
+    ensures { result ≡ ended_note ms state id note }
+{
+    match id {
+        Some(_) => note.changed(ms, state),
+        None => StateNote {
+            since_ms: ms,
+            ..note
+        },
     }
 }
 
