@@ -1,5 +1,5 @@
 -- When a station ends, and how long its turns wait.
-use Rattle.std.specs.Prelude.{ℕ, ◌+◌, ◌-◌, ◌^◌, ◌&&◌, min, nat_le, nat_lt, Bool, true, false, Option, Some, None}
+use Rattle.std.specs.Prelude.{ℕ, ◌-◌, min, nat_le, Bool, true, false, Option, Some, None}
 
 -- whether the time of a station is over
 abbrev pub is_over : ℕ → Option ℕ → Bool
@@ -10,14 +10,6 @@ is_over now (Some end) = nat_le end now
 abbrev pub pause_ms : ℕ → Option ℕ → ℕ
 pause_ms now None = 1000
 pause_ms now (Some end) = min 1000 (end - now)
-
--- when a station waits no longer for the replies to its Forward_Close requests: 2,000 ms later; time ends with the numbers
-abbrev pub close_end : ℕ → ℕ
-close_end now = min (now + 2000) (2 ^ 64 - 1)
-
--- whether it waits for them: while a slot is being closed, until that time
-abbrev pub waits_on : Bool → ℕ → ℕ → Bool
-waits_on closing now until = closing && nat_lt now until
 
 -- the milliseconds that a turn waits at most: while a line of state waits for room, 50
 abbrev pub patience_ms : Bool → ℕ → ℕ

@@ -3,8 +3,8 @@
 ghost use Rattle.std.specs.Prelude.{◌≡◌, false, OnOk};
 ghost use Rattle.std.specs.List.{list_any};
 ghost use Rattle.station.specs.Recorded.{Recorded};
-ghost use Rattle.station.specs.Times.{close_end, is_over, pause_ms, waits_on};
-ghost use Rattle.station_watch.specs.Closing.{is_marked};
+ghost use Rattle.station.specs.Times.{is_over, pause_ms};
+ghost use Rattle.station_watch.specs.Closing.{close_end, is_marked, waits_on};
 
 use crate::fault::EarlyEnd;
 use crate::serving::Station;
@@ -12,13 +12,11 @@ use cip_tables::Device;
 use port_groups::GroupPort;
 use station_lines::{CallLines, LineSink, NextLine};
 use station_record::RecordSink;
+use station_watch::{close_end, waits_on};
 use udp_runner::Clock;
 
 /// A station looks for lines at least so often, in milliseconds, and earlier if their source wakes the port.
 const LOOK_MS: u64 = 1_000;
-
-/// A scanner waits at most so long for the replies to its Forward_Close requests, in milliseconds.
-const CLOSE_MS: u64 = 2_000;
 
 /// When a station ends, and how many slots are to be opened and closed.
 #[derive(Clone, Copy)]
@@ -117,15 +115,15 @@ impl<P: GroupPort, C: Clock, D: Device, W: RecordSink + Drop, O: LineSink, E: Li
         self.unregister()
     }
 
-    /// Waits until no slot is being closed, for a bounded time.
+    /// Waits until no slot is being closed, at most for the open time-out of a scanner.
     fn wait_closed(&mut self) -> Result<(), EarlyEnd>
         ensures ran { Recorded W.contents P.is_scripted C.is_scripted C.coming P.tape P.failed D.table
             self.old self.new }
         ensures closed { OnOk result
             (waits_on (list_any is_marked self.new.observer.closing)
-            self.new.observer.now_ms (close_end self.old.observer.now_ms) ≡ false) }
+            self.new.observer.now_ms (close_end self.old.observer.now_ms self.old.closing_ms) ≡ false) }
     {
-        let until_ms = close_end(self.now_ms());
+        let until_ms = close_end(self.now_ms(), self.closing_ms);
         for _ in 0..u64::MAX {
             if !waits_on(self.is_closing(), self.now_ms(), until_ms) {
                 return Ok(());
@@ -135,20 +133,6 @@ impl<P: GroupPort, C: Clock, D: Device, W: RecordSink + Drop, O: LineSink, E: Li
         // (a clock of whole milliseconds does not make so many turns)
         Err(EarlyEnd::Clock)
     }
-}
-
-/// When a station waits no longer for the replies to its Forward_Close requests: 2,000 ms later.
-fn close_end(now_ms: u64) -> u64
-    ensures { result ≡ close_end now_ms }
-{
-    now_ms.saturating_add(CLOSE_MS)
-}
-
-/// Whether a station waits for the replies: while a slot is being closed, until this time.
-fn waits_on(closing: bool, now_ms: u64, until_ms: u64) -> bool
-    ensures { result ≡ waits_on closing now_ms until_ms }
-{
-    closing && now_ms < until_ms
 }
 
 /// Whether a station's time is over.

@@ -8,7 +8,7 @@ ghost use Rattle.station.specs.Recorded.{Recorded};
 ghost use Rattle.station.specs.Rests.{Rests, Unstepped};
 ghost use Rattle.station.specs.Sessions.{sessions_of};
 ghost use Rattle.station.specs.Turned.{Turned};
-ghost use Rattle.station_watch.specs.Closing.{is_marked};
+ghost use Rattle.station_watch.specs.Closing.{closing_ms, is_marked};
 
 use crate::fault::{EarlyEnd, failures_after_call, failures_after_turn};
 use crate::observer::StationObserver;
@@ -23,7 +23,7 @@ use station_lines::{
     InputLine, LineSink, Points, push_report, push_starved, push_unbound, read_line,
 };
 use station_record::{RecordFault, RecordSink};
-use station_watch::{LinkReport, StationTraffic, owners_of, push_connected};
+use station_watch::{LinkReport, StationTraffic, closing_ms, owners_of, push_connected};
 use std::alloc::Global;
 use udp_runner::{Clock, Output, RunFault, act, turn_in_time};
 
@@ -52,6 +52,8 @@ pub struct Station<P, C, D, W, O, E> {
     groups: Vec<DataGroup>,
     pub(crate) text: String,
     reporting: Reporting,
+    /// How long it waits at its end while slots are being closed, in milliseconds.
+    pub(crate) closing_ms: u64,
     failures: u32,
     lines: u64,
 }
@@ -82,6 +84,7 @@ impl<P: GroupPort, C: Clock, D: Device, W: RecordSink + Drop, O: LineSink, E: Li
         E: Drop,
         ensures recorder { IfOk result (λ station. station.observer.recorder ≡ observer.recorder) }
         ensures device { IfOk result (λ station. station.device ≡ device) }
+        ensures closing { IfOk result (λ station. station.closing_ms ≡ closing_ms config.now) }
     {
         Ok(Station {
             alloc,
@@ -94,6 +97,7 @@ impl<P: GroupPort, C: Clock, D: Device, W: RecordSink + Drop, O: LineSink, E: Li
             groups: Vec::new(alloc),
             text: String::new(alloc),
             reporting,
+            closing_ms: closing_ms(config),
             failures: 0,
             lines: 0,
         })

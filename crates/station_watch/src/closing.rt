@@ -1,10 +1,11 @@
-//! The slots of a scanner that are being closed.
+//! The slots of a scanner that are being closed, and how long a station that ends waits for them.
 
 ghost use Rattle.std.specs.Prelude.{◌≡◌, replicate, slice_set, false, IfOk};
 ghost use Rattle.std.specs.List.{list_any};
-ghost use Rattle.station_watch.specs.Closing.{closing_after, closing_through, is_marked};
+ghost use Rattle.station_watch.specs.Closing.{close_end, closing_after, closing_ms, closing_through, is_marked, waits_on};
 
 use cip_events::{Notice, SlotPhase};
+use cip_tables::Config;
 use cip_types::OutOfMemory;
 use cip_types::limits::MOST_SLOTS;
 use std::alloc::Global;
@@ -68,4 +69,30 @@ impl ClosingSlots {
     {
         self.closing.iter().any(|closing| *closing)
     }
+}
+
+/// How long a station of this configuration waits at its end while slots are being closed, in milliseconds: a scanner for its
+/// open time-out, which is as long as a slot waits for a reply. An adapter has no slots.
+pub fn closing_ms(config: &Config) -> u64
+    ensures { result ≡ closing_ms config.now }
+{
+    match config {
+        Config::Adapter(_) => 0,
+        Config::Scanner(profile) => profile.open_timeout,
+    }
+}
+
+/// When a station that ends waits no longer for its slots: so many milliseconds later.
+pub fn close_end(now_ms: u64, closing_ms: u64) -> u64
+    ensures { result ≡ close_end now_ms closing_ms }
+{
+    now_ms.saturating_add(closing_ms)
+}
+
+/// Whether a station that ends waits: while a slot is being closed, until this time. It does not wait for a slot that has timed
+/// out and whose target has no session.
+pub fn waits_on(closing: bool, now_ms: u64, until_ms: u64) -> bool
+    ensures { result ≡ waits_on closing now_ms until_ms }
+{
+    closing && now_ms < until_ms
 }

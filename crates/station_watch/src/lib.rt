@@ -10,7 +10,7 @@ mod slots;
 mod traffic;
 mod waits;
 
-pub use closing::ClosingSlots;
+pub use closing::{ClosingSlots, close_end, closing_ms, waits_on};
 pub use notes::{StateNote, StreamRefusal};
 pub use peers::{changes_connections, owners_of, push_connected};
 pub use slots::{LinkReport, SlotWatches, Starved, StarvedCause};
