@@ -15,9 +15,10 @@ abbrev pub incarnation_of : Config → ℕ
 incarnation_of (Adapter profile) = profile.incarnation
 incarnation_of (Scanner profile) = profile.incarnation
 
+-- the profile of a life: it has this incarnation, and that of a scanner is tidy
 abbrev pub with_incarnation : Config → ℕ → Config
 with_incarnation (Adapter profile) incarnation = Adapter (record profile { incarnation = incarnation })
-with_incarnation (Scanner profile) incarnation = Scanner (record profile { incarnation = incarnation })
+with_incarnation (Scanner profile) incarnation = Scanner (record profile { incarnation = incarnation; tidy = true })
 
 -- the slots of a scanner, within 32 bits; none of an adapter
 abbrev pub slots_of : Config → ℕ

@@ -37,7 +37,8 @@ pub(crate) fn slots_of(config: &Config) -> u32
     }
 }
 
-/// A profile with this incarnation in place of its own.
+/// A profile with this incarnation in place of its own. That of a scanner is tidy: the scanner closes what its targets may have
+/// opened for it, whether the profile says so or not.
 pub fn with_incarnation(config: Config, incarnation: u8) -> Config
     ensures { result ≡ with_incarnation config incarnation }
 {
@@ -48,6 +49,7 @@ pub fn with_incarnation(config: Config, incarnation: u8) -> Config
         }
         Config::Scanner(mut profile) => {
             profile.incarnation = incarnation;
+            profile.tidy = true;
             Config::Scanner(profile)
         }
     }
