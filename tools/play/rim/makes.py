@@ -154,7 +154,7 @@ def run_makes_sizes(bench):
     images = lambda: [it for it in scanner.lines() if " image 0 " in it][1:]
     need(scanner.said().count(line) == 1 and not images(), f"once, and nothing is applied: {images()}")
     scanner.call("stop 0")
-    wait(lambda: scanner.states()[-1] == 0, "the slot is closed")
+    wait(lambda: scanner.states()[-1:] == [0], "the slot is closed")
     scanner.call("start 0")
     wait(lambda: scanner.said().count(line) == 2, "the next connection has its own line", 5)
     made.moods.size = None
@@ -203,13 +203,30 @@ def needs(line):
     return needing
 
 
-@needs("tidy")
+def run_makes_tidy(bench):
+    """A scanner's station is tidy: its record has the line, once, whether its profile has it or not, and replays."""
+    made = Running(bench)
+    for own, tidy in (False, ""), (True, "tidy\n"):
+        record = bench.file(f"tidy_{own}.trace")
+        scanner = begin(bench, f"tidy_{own}", tidy=tidy, options=("--record", record))
+        wait(lambda: are_established(scanner), "the scanner is established")
+        leaves_none(scanner, made, "a station")
+        with open(record) as file:
+            lines = file.read().splitlines()
+        at = next(at for at, line in enumerate(lines) if line.startswith("scanner "))
+        need(lines[at + 1] == "tidy" and lines.count("tidy") == 1, f"a profile {'with' if own else 'without'} the line: {lines[at:at + 3]}")
+        done = run(bench.program, "replay", record)
+        need(done.returncode == 0, f"its record replays: {done.stderr.decode().strip()}")
+    holds("a scanner's station is tidy, whether its profile says so or not: its record has the line once, and replays")
+    bench.clear()
+
+
 def run_makes_mismatch(bench):
     """A success that does not suit is closed."""
     for mood in "triad", "id", "api":
         made = Running(bench)
         made.moods.every_open = mood
-        scanner = begin(bench, f"mismatch_{mood}", tidy="tidy\n")
+        scanner = begin(bench, f"mismatch_{mood}")
         wait(lambda: made.counts["open"] >= 8, f"a target that answers another {mood}: the slot is tried again")
         need(len(made.connections) <= 1, f"and leaves none behind: {len(made.connections)}")
         made.moods.every_open = "serve"
@@ -222,41 +239,78 @@ def run_makes_mismatch(bench):
     holds("a success with another triad, id or API is closed: the target has one connection then, and at the end none")
 
 
-@needs("tidy")
 def run_makes_late(bench):
     """A success that comes for an opening that is no longer wanted is closed."""
     made = Running(bench)
     made.moods.opens.append(("late", 0.3))
-    scanner = begin(bench, "late", tidy="tidy\n")
+    scanner = begin(bench, "late")
     wait(lambda: made.counts["open"] == 1, "the opening is under way")
     scanner.call("stop 0")
-    wait(lambda: scanner.states()[-1] == 0, "it is stopped")
+    wait(lambda: scanner.states()[-1:] == [0], "it is stopped")
     scanner.call("start 0")
     wait(lambda: are_established(scanner), "it is started again, and established")
     need(made.counts["refused 0106"] == 0 and len(made.connections) == 1, f"nothing of it is left: {dict(made.counts)}")
     made.moods.opens.extend([("late", 1.5), "never"])
+    before = made.counts["open"]
     made.forget_connections()
-    wait(lambda: made.counts["open"] >= 4, "two openings are not answered in time", 30)
+    wait(lambda: made.counts["open"] >= before + 3, "two openings are not answered in time", 30)
     wait(lambda: are_established(scanner), "the next one is", 30)
     time.sleep(2)
     need(len(made.connections) == 1, f"one connection is left: {[it.serial() for it in made.connections]}")
     scanner.call("stop 0")
-    wait(lambda: scanner.states()[-1] == 0 and not made.connections, "it is closed")
-    made.moods.opens.append(("late", 0.3))
-    opened = made.counts["open"]
-    scanner.call("start 0")
-    wait(lambda: made.counts["open"] == opened + 1, "an opening is under way")
-    leaves_none(scanner, made, "an end while an opening is under way", 2.0)
-    holds("a success that comes late is closed: after a stop, after its time, and at an end in order")
+    wait(lambda: scanner.states()[-1:] == [0] and not made.connections, "it is closed")
+    holds("a success that comes late, after a stop or after its time, is closed")
+    for mood in ("late", 0.3), "never":
+        made.moods.opens.append(mood)
+        opened = made.counts["open"]
+        scanner.call("start 0")
+        wait(lambda: made.counts["open"] == opened + 1, "an opening is under way")
+        leaves_none(scanner, made, f"an end while an opening is under way: {mood}", 2.0)
+        scanner = begin(bench, f"late_{opened}")
+        wait(lambda: are_established(scanner), "the next scanner is established")
+        scanner.call("stop 0")
+        wait(lambda: scanner.states()[-1:] == [0] and not made.connections, "it is closed")
+    leaves_none(scanner, made, "a stopped slot")
+    holds("a success that comes at an end in order is closed")
     bench.clear()
 
 
-@needs("tidy")
+def run_makes_end(bench):
+    """An end in order waits for an opening under way at most its time-out, and not for a slot whose target has no session."""
+    made = Running(bench)
+    made.moods.every_open, made.moods.every_close = "deaf", "deaf"
+    scanner = begin(bench, "deaf_end", open_ms=3000)
+    wait(lambda: made.counts["open"] == 1, "an opening is under way at a target that answers nothing")
+    seconds = ended_in(scanner)
+    need(2.5 < seconds < 4.0, f"the end waits for the open time-out of 3 s, and not {seconds:.1f} s")
+    made.moods.every_open, made.moods.every_close = ("late", 1.0), "serve"
+    scanner = begin(bench, "late_end", open_ms=3000)
+    wait(lambda: made.counts["open"] == 2, "an opening is under way")
+    seconds = ended_in(scanner)
+    need(seconds < 1.0, f"the end waits for the reply to its close alone, and not {seconds:.1f} s")
+    wait(lambda: not made.connections, "no connection is left", 2)
+    made.moods.every_open = "serve"
+    scanner = begin(bench, "gone_end", open_ms=3000)
+    wait(lambda: are_established(scanner), "the scanner is established")
+    made.end()
+    wait(lambda: scanner.states()[-1:] == [4], "its target is gone, and it times out")
+    seconds = ended_in(scanner)
+    sure(seconds < 1.0, f"an end waits for the replies to its closes at most for the open time-out, and not for a target that is gone ({seconds:.1f} s)")
+    bench.clear()
+
+
+def ended_in(scanner):
+    """The seconds that an end in order takes."""
+    begin_s = time.monotonic()
+    need(scanner.end() == 0, "the scanner ends with status 0")
+    return time.monotonic() - begin_s
+
+
 def run_makes_timeout(bench):
     """After a time-out the connection is closed before the next one is opened."""
     made = Running(bench)
-    scanner = begin(bench, "timeout", tidy="tidy\n")
-    for mood in "serve", "as_open", "never", "forgotten":
+    scanner = begin(bench, "timeout")
+    for mood in "serve", "as_open", "never", "refuse", "forgotten":
         wait(lambda: are_established(scanner), f"{mood}: the scanner is established", 20)
         time.sleep(0.5)
         if mood == "forgotten":
@@ -266,18 +320,42 @@ def run_makes_timeout(bench):
         made.moods.silent = True
         wait(lambda: not are_established(scanner), "its data stop, and it times out")
         made.moods.silent = False
+        if mood == "refuse":  # (so the target keeps it, which the next one replaces once it forgets)
+            wait(lambda: made.counts["refused 0106"] >= 1, "it refuses the close, and then the opening")
+            made.forget_connections()
+            made.counts["refused 0106"] = 0
     seconds = wait(lambda: are_established(scanner), "the scanner is established", 5)
     need(made.counts["refused 0106"] == 0 and len(made.connections) == 1, f"no refusal by its own connection: {dict(made.counts)}")
     leaves_none(scanner, made, "time-outs")
     holds(f"a connection that timed out is closed before the next one, whatever the reply: established {seconds:.1f} s after the last one")
     bench.clear()
+    run_never_closed(bench)
 
 
-@needs("tidy")
-def run_makes_sessions(bench):
-    """Status 0064 leads to a new session."""
+def run_never_closed(bench):
+    """A target that never answers the close of a connection that it does not have opens the next one all the same."""
     made = Running(bench)
-    scanner = begin(bench, "sessions", tidy="tidy\n")
+    made.moods.every_close = "never"
+    scanner = begin(bench, "never_closed")
+    for _ in range(3):
+        wait(lambda: are_established(scanner), "the scanner is established", 5)
+        time.sleep(0.5)
+        made.forget_connections()
+        wait(lambda: not are_established(scanner), "its connection is forgotten, and it times out")
+    wait(lambda: are_established(scanner), "the scanner is established", 5)
+    need(made.counts["stream"] == 1, f"and keeps its stream: {dict(made.counts)}")
+    sure(len(made.connections) == 1, "a target that answers no close opens the next connection all the same, over the same stream")
+    made.moods.every_close = "serve"
+    leaves_none(scanner, made, "closes that are not answered")
+    bench.clear()
+
+
+def run_makes_sessions(bench):
+    """Status 0064 leads to a new session. A scanner keeps the old one so far, so this part runs by its name alone."""
+    if not bench.args.only:
+        return holds("(run_makes_sessions: not tried: a scanner keeps a session that its target has forgotten)")
+    made = Running(bench)
+    scanner = begin(bench, "sessions")
     for _ in range(3):
         wait(lambda: are_established(scanner), "the scanner is established")
         time.sleep(0.5)
@@ -291,37 +369,58 @@ def run_makes_sessions(bench):
     bench.clear()
 
 
-@needs("tidy")
+MOODS = ["serve", "serve", "serve", "triad", "id", "api", ("late", 0.3), ("late", 0.9), "never", "deaf", ("refuse", 0x0110)]
+SLOTS, ACTS, LIVES, SHORT_S = 3, 50, 20, 60.0
+
+
 def run_makes_random(bench):
-    """Random stops, starts, cuts, late and wrong replies leave nothing behind."""
-    rand, made, slots = random.Random(74), Running(bench, places=32), 3
-    scanner = begin(bench, "random", slots=slots, tidy="tidy\n")
-    moods = ["serve", "serve", "serve", "triad", "id", "api", ("late", 0.3), ("late", 0.9), "never", "deaf", ("refuse", 0x0110)]
-    count = 200 if bench.args.short else 1000
-    for _ in range(count):
-        act = rand.randrange(10)
-        if act < 4:
-            scanner.call(f"{rand.choice(['stop', 'start'])} {rand.randrange(slots)}")
-        elif act < 7:
-            made.moods.opens.append(rand.choice(moods))
-        elif act == 7:
-            made.moods.closes.append(rand.choice(["serve", ("late", 0.3), "as_open"]))
-        elif rand.random() < 0.3:
-            made.drop_streams() if act == 8 else made.forget_sessions()
+    """Random stops, starts, cuts, late and wrong replies leave nothing behind: lives of fifty acts, each with a seed of its own."""
+    end, lives = time.monotonic() + SHORT_S, 0
+    while time.monotonic() < end if bench.args.short else lives < LIVES:
+        run_life(bench, random.SystemRandom().randrange(1 << 32) if bench.args.seed is None else bench.args.seed)
+        lives += 1
+    holds(f"{lives * ACTS} random stops, starts, cuts, late and wrong replies leave the target the connections of the slots, and none at an end")
+
+
+def run_life(bench, seed):
+    """Acts on a scanner of three slots and its target. One life of two ends as soon as there is a session, the others when all slots are
+    established. A seed makes the same acts, and the machine their times."""
+    rand, made, what = random.Random(seed), Running(bench, places=32), f"--seed {seed}"
+    scanner = begin(bench, "random", slots=SLOTS)
+    for _ in range(ACTS):
+        act_at_random(rand, scanner, made)
         time.sleep(rand.random() * 0.1)
     made.moods.opens.clear()
     made.moods.closes.clear()
-    for _ in range(30):
-        for slot in range(slots):
-            scanner.call(f"start {slot}")
-        time.sleep(1)
-        if are_established(scanner, slots):
-            break
-    need(are_established(scanner, slots), f"after {count} acts all slots are established: {[scanner.states(at)[-3:] for at in range(slots)]}")
-    wait(lambda: made.points() == [150 + at for at in range(slots)], lambda: f"and the target has theirs alone: {made.points()}", LEFT_S)
-    leaves_none(scanner, made, f"{count} random acts")
-    holds(f"{count} random stops, starts, cuts, late and wrong replies leave the target the connections of the slots, and none at the end")
+    if rand.random() < 0.5:
+        is_well(scanner, made, what)
+    wait(lambda: made.sessions, f"{what}: the scanner has a session")
+    leaves_none(scanner, made, what)
+    made.end()
     bench.clear()
+
+
+def act_at_random(rand, scanner, made):
+    act = rand.randrange(10)
+    if act < 4:
+        scanner.call(f"{rand.choice(['stop', 'start'])} {rand.randrange(SLOTS)}")
+    elif act < 7:
+        made.moods.opens.append(rand.choice(MOODS))
+    elif act == 7:
+        made.moods.closes.append(rand.choice(["serve", ("late", 0.3), "as_open", "never"]))
+    elif rand.random() < 0.3:
+        made.drop_streams() if act == 8 else made.forget_connections()
+
+
+def is_well(scanner, made, what):
+    """All slots are established within thirty seconds of their starts, and the target has their connections alone."""
+    for _ in range(30):
+        scanner.call(*(f"start {slot}" for slot in range(SLOTS)))
+        time.sleep(1)
+        if are_established(scanner, SLOTS):
+            break
+    need(are_established(scanner, SLOTS), f"{what}: all slots are established: {[scanner.states(at)[-3:] for at in range(SLOTS)]}")
+    wait(lambda: made.points() == [150 + at for at in range(SLOTS)], lambda: f"{what}: the target has theirs alone: {made.points()}", LEFT_S)
 
 
 # WHAT OTHER TARGETS TAKE
@@ -352,12 +451,11 @@ def run_makes_serials(bench):
     bench.clear()
 
 
-@needs("tidy")
 def run_makes_words(bench):
     """The data of a connection whose success has an extended status word are counted."""
     made = Running(bench)
     made.moods.every_open, made.moods.more_words = "words", (0x0001,)
-    scanner = begin(bench, "words", tidy="tidy\n")
+    scanner = begin(bench, "words")
     wait(lambda: are_established(scanner), "the scanner is established")
     time.sleep(0.5)
     scanner.call("status")

@@ -143,8 +143,9 @@ def run_plant_scripts(bench):
     time.sleep(0.5)
     until(lambda: all(plant.established(name) == 3 for name in ("scanner-0", "scanner-1")), "all slots are established again")
     time.sleep(0.5)
-    sure(noted(plant, 3, "closed") == 0, "a device that loses its power closes nothing")
     sure(plant.end() == 0, "the plant ends with status 0")
+    stops = [stopped(bench.file(f"scripts/scanner-1.{life}.trace")) for life in (1, 2)]
+    sure(stops == [0, 3], f"a device that loses its power closes nothing, and one that ends in order each slot: {stops}")
     lives = [line.split("incarnation ")[1] for line in plant.said() if "adapter-2: adapter at" in line]
     sure(int(lives[1]) == int(lives[0]) + 1 and lives[2] == lives[1], f"the incarnations of its lives: {', '.join(lives)}")
     begun_with = [line for line in plant.of("adapter-2") if line.startswith("0 at 0 output 150 ")]
@@ -160,6 +161,12 @@ def run_plant_scripts(bench):
     sure(len(paths) == 8, f"five devices have eight lives, and no record of an earlier run is left")
     status = paused.status(2 * STEPS_S)
     sure(time.monotonic() - begin < 2 * STEPS_S, f"a plant does not wait without end for a device that hangs: status {status}")
+
+
+def stopped(trace):
+    """How many slots were stopped in a record."""
+    with open(trace) as file:
+        return sum(line.startswith("stop ") for line in file)
 
 
 def streams_cut(trace):
