@@ -452,9 +452,11 @@ def run_makes_serials(bench):
 
 
 def run_makes_words(bench):
-    """The data of a connection whose success has an extended status word are counted."""
-    made = Running(bench)
-    made.moods.every_open, made.moods.more_words = "words", (0x0001,)
+    """The data of a connection whose success has an extended status word are counted, and an item behind it is obeyed."""
+    made, own = Running(bench), bench.address["peer"]
+    with bench.network.inside("peer"):
+        made.listen_at(own, 2300)
+    made.moods.every_open, made.moods.more_words, made.moods.item = "words", (0x0001,), (own, 2300)
     scanner = begin(bench, "words")
     wait(lambda: are_established(scanner), "the scanner is established")
     time.sleep(0.5)
@@ -463,6 +465,7 @@ def run_makes_words(bench):
     wait(counted, "its status is printed")
     words = counted()[-1]
     need(int(words[words.index("received") + 1]) > 10, f"its datagrams are counted: {' '.join(words)}")
+    need(set(made.connections[0].came_to) == {(own, 2300)}, f"its own go to the port of the item: {dict(made.connections[0].came_to)}")
     leaves_none(scanner, made, "a success with a word")
-    holds("the data of a connection whose success has an extended status word are counted")
+    holds("the data of a connection whose success has an extended status word are counted, and its own go where the item behind it says")
     bench.clear()
