@@ -1,1 +1,6 @@
+mod Ascii
+mod Found
+mod LabelSamples
+mod Parts
 mod Samples
+mod Walks

@@ -1,2 +1,4 @@
+pub mod Labels
 pub mod Lines
 pub mod Texts
+pub mod Things

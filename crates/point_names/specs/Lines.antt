@@ -1,7 +1,7 @@
 -- The lines of a profile that name a point, a slot or a bit: comments whose first words are `# name` or `# bit`.
 use Rattle.std.specs.Prelude.{ℕ, ◌+◌, ◌==◌, ◌^◌, nat_lt, if◌then◌else◌, bytes_eq, codes, Bool, List, [], take, drop, position, Option, Some, None}
-use Rattle.trace_text.specs.Forms.{is_ascii}
 use Rattle.trace_words.specs.Words.{number_of}
+use Rattle.point_names.specs.Texts.{is_ascii}
 use Rattle.point_names.specs.declared.line.Named.{Named}
 use Rattle.point_names.specs.declared.line.Named.TheVariants as named
 use Rattle.point_names.specs.declared.line.NameKind.{NameKind}

@@ -1,6 +1,6 @@
 -- The text of a name: UTF-8, 1 to 32 characters, none of them a control character (Unicode, general category Cc).
 use Rattle.std.specs.Prelude.{ℕ, ◌==◌, ◌≡◌, ◌&&◌, ◌||◌, not, nat_lt, Bool, true, false, List, [], ◌∷◌, filter, length, IsUtf8}
-use Rattle.std.specs.List.{list_any}
+use Rattle.std.specs.List.{list_all, list_any}
 
 -- C0 and DEL
 abbrev pub is_control : ℕ → Bool
@@ -29,3 +29,7 @@ is_plain bytes = not (list_any is_control bytes) && (not (has_c1 bytes) && (nat_
 
 abbrev pub IsNameText : List ℕ → Type 0
 IsNameText bytes = IsUtf8 bytes × (is_plain bytes ≡ true)
+
+-- each byte is a character of ASCII
+abbrev pub is_ascii : List ℕ → Bool
+is_ascii bytes = list_all (λ byte. nat_lt byte 128) bytes

@@ -4,7 +4,7 @@ ghost use Rattle.std.specs.Prelude.{◌≡◌, ◌<◌, length, position, IfSome
 ghost use Rattle.cip_types.specs.Fields.{Finds};
 ghost use Rattle.point_names.specs.Lines.{bit_by, bit_by_point, bit_with, byte_with, front_word, is_space, kind_with, name_kind, named_by, narrowed, number_in, point_with, rest_words, slot_with, whole_by};
 
-use trace_text::ascii_text;
+use crate::text::ascii_text;
 use trace_words::read_u64;
 
 /// The two kinds of name lines.
@@ -154,7 +154,7 @@ fn space_in(line: &[u8]) -> Option<usize>
 }
 
 /// A number of 32 bits in decimal digits.
-fn number_in(word: &[u8]) -> Option<u32>
+pub(crate) fn number_in(word: &[u8]) -> Option<u32>
     ensures { result ≡ number_in word.now }
 {
     match ascii_text(word) {

@@ -1,5 +1,8 @@
 //! The names of a profile.
 
+ghost use Rattle.std.specs.Prelude.{◌≡◌, [], option_map};
+ghost use Rattle.point_names.specs.Things.{found_name, is_same, name_of, names_in};
+
 use crate::line::{Named, name_kind, named_by};
 use crate::text::name_text;
 use cip_types::OutOfMemory;
@@ -60,15 +63,26 @@ pub struct ReadNames {
 
 impl Names {
     /// No name. Takes no memory.
-    pub fn none(alloc: Global) -> Names {
+    pub fn none(alloc: Global) -> Names
+        ensures { names_in result ≡ [] }
+    {
         Names {
             names: Vec::new(alloc),
         }
     }
 
     /// The name of a thing, if it has one.
-    pub fn of(&self, named: Named) -> Option<&str> {
-        let found = self.names.iter().find(|name| name.named == named)?;
+    pub fn of(&self, named: Named) -> Option<&str>
+        ensures { option_map (λ text. text.now) result ≡ name_of (names_in self.now) named }
+    {
+        self.found(named)
+    }
+
+    /// The text of the first name of a thing.
+    fn found(&self, named: Named) -> Option<&str>
+        ensures { option_map (λ text. text.now) result ≡ found_name self.now.names.items named }
+    {
+        let found = self.names.iter().find(|name| is_same(name.named, named))?;
         Some(found.text.as_str())
     }
 
@@ -155,4 +169,18 @@ pub fn read_names(alloc: Global, text: &[u8]) -> Result<ReadNames, OutOfMemory> 
         };
     }
     Ok(ReadNames { names, bad })
+}
+
+/// Whether the same thing is named.
+fn is_same(one: Named, other: Named) -> bool
+    ensures { result ≡ is_same one other }
+{
+    match (one, other) {
+        (Named::Point(one), Named::Point(other)) => one == other,
+        (Named::Slot(one), Named::Slot(other)) => one == other,
+        (Named::Bit(point, byte, bit), Named::Bit(own, of, at)) => {
+            point == own && (byte == of && bit == at)
+        }
+        _ => false,
+    }
 }

@@ -1,8 +1,8 @@
 //! The text of a name.
 
-ghost use Rattle.std.specs.Prelude.{◌≡◌, MatchOption};
+ghost use Rattle.std.specs.Prelude.{◌≡◌, MatchOption, None, Some, if◌then◌else◌, option_map};
 ghost use Rattle.std.specs.List.{list_any};
-ghost use Rattle.point_names.specs.Texts.{IsNameText, begins, characters, ends_c1, has_c1, is_control, is_plain};
+ghost use Rattle.point_names.specs.Texts.{IsNameText, begins, characters, ends_c1, has_c1, is_ascii, is_control, is_plain};
 
 use std::str;
 
@@ -79,4 +79,23 @@ fn ends_c1(bytes: &[u8]) -> bool
         Some(next) => *next < 0xA0,
         None => false,
     }
+}
+
+/// The text of bytes. None if one of them is no character of ASCII.
+pub(crate) fn ascii_text(bytes: &[u8]) -> Option<&str>
+    ensures { option_map (λ text. text.now) result ≡ (if is_ascii bytes.now then Some bytes.now else None) }
+{
+    if !is_ascii(bytes) {
+        return None;
+    }
+    match str::from_utf8(bytes) {
+        Ok(text) => Some(text),
+        Err(_) => None,
+    }
+}
+
+fn is_ascii(bytes: &[u8]) -> bool
+    ensures { result ≡ is_ascii bytes.now }
+{
+    bytes.iter().all(|byte| *byte < 0x80)
 }
