@@ -5,6 +5,7 @@ use crate::paging::{HostNet, PageSubject, begin_page, page_host};
 use crate::profiles::profile_of;
 use crate::program::{Surroundings, line_of};
 use cip_tables::{Config, Device};
+use cip_types::OutOfMemory;
 use command_lines::{Options, StationTask};
 use fast_device::FastDevice;
 use option_words::{file_of, word_from_end};
@@ -21,7 +22,10 @@ use station_opening::{
 };
 use station_port::{StationPlace, StationPort};
 use station_record::Recorder;
-use station_rim::{Entries, Rim, drain_lines, drain_record, report_line};
+use station_rim::{
+    Entries, LabelledLines, LineEntrance, Rim, SharedDevices, drain_lines, drain_record,
+    report_line,
+};
 use station_setup::{ending_of, rates_of, with_description};
 use station_state::StationState;
 use std::fs::File;
@@ -33,6 +37,9 @@ use std::sync::Wait;
 const UNCOUNTED: &str =
     ", and a start that is not counted may give the connection ids of an earlier one again: an old \
 datagram could then drive an output. --state FILE names another file; --incarnation N needs none, if no earlier start had N";
+
+/// Where the lines of an output of a station go.
+type StationLines<R> = LabelledLines<LineEntrance<R>>;
 
 /// The words of a station, its options, and what it shares with its threads.
 #[derive(Clone, Copy)]
@@ -268,7 +275,7 @@ where
     if !setting.options.quiet {
         report_line(rt, setting.rim, line.as_bytes());
     }
-    let (out, err) = (setting.rim.out.sink(rt)?, setting.rim.err.sink(rt)?);
+    let (out, err) = outputs_of(setting, &names)?;
     let mut observer = StationObserver::new(alloc, config, recorder, out, err)?;
     if let Some(port) = setting.options.page {
         observer.feed(page_of(setting, config, names, port)?);
@@ -293,6 +300,30 @@ where
         Some(_) => Err(Failure::RecordEnd),
         None => Ok(()),
     }
+}
+
+/// The two outputs of a station, whose lines have these names behind them.
+fn outputs_of<R>(
+    setting: &Stationed<'_, R>,
+    names: &Names,
+) -> Result<(StationLines<R>, StationLines<R>), OutOfMemory>
+where
+    R: AllocGlobal + Wait + Copy + Drop,
+{
+    let (rt, rim) = (setting.rt, setting.rim);
+    let out = labelled(rt, names, rim.out.sink(rt)?)?;
+    let err = labelled(rt, names, rim.err.sink(rt)?)?;
+    Ok((out, err))
+}
+
+/// The lines of an output with these names behind them.
+fn labelled<R>(rt: R, names: &Names, sink: LineEntrance<R>) -> Result<StationLines<R>, OutOfMemory>
+where
+    R: AllocGlobal + Wait + Copy + Drop,
+{
+    let alloc = rt.alloc();
+    let devices = SharedDevices::none(alloc)?;
+    Ok(LabelledLines::new(alloc, names.copy(alloc)?, devices, sink))
 }
 
 /// The names that the profile says. Reports each bad name line.

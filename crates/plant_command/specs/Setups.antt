@@ -1,5 +1,5 @@
 -- What a device of a plant has of its own.
-use Rattle.std.specs.Prelude.{ℕ, ◌==◌, ◌≢◌, ◌&&◌, AllPairs, Bool, List, nat_le, nat_lt, if◌then◌else◌, Option, Some, None}
+use Rattle.std.specs.Prelude.{ℕ, ◌==◌, ◌≢◌, ◌&&◌, AllPairs, Bool, List, nat_le, nat_lt, string_bytes, if◌then◌else◌, Option, Some, None}
 use Rattle.cip_tables.specs.declared.table.Config.{Config}
 use Rattle.cip_tables.specs.declared.table.Config.TheVariants.{Adapter, Scanner}
 use Rattle.cip_types.specs.declared.names.Node.{Node}
@@ -7,6 +7,7 @@ use Rattle.command_lines.specs.declared.station_options.Options.{Options}
 use Rattle.plant_script.specs.declared.incarnations.IncarnationSpan.{IncarnationSpan}
 use Rattle.plant_script.specs.Incarnations.{span_of}
 use Rattle.plant_file.specs.declared.plant.FaultOptions.{FaultOptions}
+use Rattle.trace_words.specs.Words.{node_word}
 use Rattle.plant_command.specs.declared.setups.MemberSetup.{MemberSetup}
 
 -- the number of the device's lines, or that of the plant
@@ -51,3 +52,7 @@ address_word None = 3
 -- no two of these devices have one address
 abbrev pub AreApart : List MemberSetup → Type 0
 AreApart setups = AllPairs (λ one other. one.member.address.0 ≢ other.member.address.0) setups
+
+-- the address of a device as a word, and its name
+abbrev pub device_entry : MemberSetup → List ℕ × List ℕ
+device_entry set_up = (node_word set_up.member.address, string_bytes set_up.member.name)

@@ -22,7 +22,7 @@ use station_lines::LineSink;
 use station_opening::{OpenedPort, open_port, recorder_in, with_incarnation};
 use station_port::{StationFault, StationPort};
 use station_record::Recorder;
-use station_rim::{Entries, LineEntrance, SharedRecord};
+use station_rim::{Entries, LabelledLines, LineEntrance, SharedRecord};
 use station_setup::{rates_of, with_description};
 use std::alloc::Global;
 use std::fs::{self, File};
@@ -42,6 +42,9 @@ const MOST_LIVES: u32 = 1_000_000;
 
 /// The port of a device of a plant.
 type PlantPort<R> = OrderPort<FaultyPort<StationPort<R>, SystemClock<R>>, R>;
+
+/// Where the lines of a device of a plant go.
+type DeviceSink<R> = LabelledLines<NamedLines<LineEntrance<R>>>;
 
 /// Takes one job of a plant after another, without end.
 pub fn work<R>(rt: R, plant: &SharedPlant)
@@ -260,17 +263,20 @@ impl Life<'_> {
         Ok(recorder_in(rt, record, self.config, &self.setup.names, path, most)?)
     }
 
-    /// What a device of the life says on an output.
+    /// What a device of the life says on an output: under its own name, with those of its points and of its peers behind.
     fn named<R>(
         &self,
         rt: R,
         form: NameForm,
         sink: LineEntrance<R>,
-    ) -> Result<NamedLines<LineEntrance<R>>, OutOfMemory>
+    ) -> Result<DeviceSink<R>, OutOfMemory>
     where
         R: AllocGlobal + Wait + Copy + Drop,
     {
-        NamedLines::new(rt.alloc(), form, self.setup.name.as_str(), sink)
+        let alloc = rt.alloc();
+        let named = NamedLines::new(alloc, form, self.setup.name.as_str(), sink)?;
+        let names = self.setup.names.copy(alloc)?;
+        Ok(LabelledLines::new(alloc, names, self.setup.devices.share()?, named))
     }
 
     /// Says which device begins to live, and where.

@@ -4,11 +4,11 @@ use crate::endings::{end_of, ends, is_late};
 use crate::failure::PlantFailure;
 use crate::opening::{NumberedPlant, PlantSetting, plant_of};
 use crate::paths::path_beside;
-use crate::setups::{Member, MemberSetup, setups_of};
+use crate::setups::{Member, MemberSetup, device_names, setups_of};
 use plant_file::PlantFile;
 use plant_rim::{PlantPhase, PlantView, SharedPlant, TypedLine, next_phase, read_typed};
 use station_lines::NextLine;
-use station_rim::{Rim, drain_lines, report_line};
+use station_rim::{Rim, SharedDevices, drain_lines, report_line};
 use std::rt::{Clock, Files};
 use std::sync::Wait;
 use std::time::{Duration, Instant};
@@ -54,7 +54,9 @@ where
         None => None,
     };
     let setups = setups_of(rt, rim, setting, said, lines.as_slice(), folder)?;
-    let members = begin_all(rt, plant, setups)?;
+    let names = device_names(rt.alloc(), setups.as_slice())?;
+    let devices = SharedDevices::new(rt.alloc(), names)?;
+    let members = begin_all(rt, plant, setups, &devices)?;
     let mut console = Console {
         rt,
         rim,
@@ -74,19 +76,21 @@ where
     }
 }
 
-/// Has all devices begin to live, the adapters first, so that scanners find their targets.
+/// Has all devices begin to live, the adapters first, so that scanners find their targets. Each knows these names of all.
 fn begin_all<R>(
     rt: R,
     plant: &SharedPlant,
     setups: Vec<MemberSetup>,
+    devices: &SharedDevices,
 ) -> Result<Vec<Member>, PlantFailure>
 where
     R: AllocGlobal + Wait + Copy + Drop,
 {
     let mut members = Vec::new(rt.alloc());
     let mut scanners = Vec::new(rt.alloc());
-    for MemberSetup { setup, member } in setups {
+    for MemberSetup { mut setup, member } in setups {
         members.push(member)?;
+        setup.devices = devices.share()?;
         if setup.scanner {
             scanners.push(setup)?;
         } else {

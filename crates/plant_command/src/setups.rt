@@ -1,7 +1,8 @@
 //! The devices of a plant, before they live.
 
-ghost use Rattle.std.specs.Prelude.{◌≡◌, ◌<◌, None, length, position, IfOk, IfSome};
-ghost use Rattle.plant_command.specs.Setups.{AreApart, address_word, is_at, node_of, options_of, span_at, with_node};
+ghost use Rattle.std.specs.Prelude.{◌≡◌, ◌<◌, None, length, map, position, IfOk, IfSome};
+ghost use Rattle.point_names.specs.Things.{devices_in};
+ghost use Rattle.plant_command.specs.Setups.{AreApart, address_word, device_entry, is_at, node_of, options_of, span_at, with_node};
 
 use crate::failure::PlantFailure;
 use crate::opening::PlantSetting;
@@ -13,9 +14,10 @@ use page_feed::FeedEnd;
 use plant_file::{FaultOptions, PlantDevice, PlantFile};
 use plant_rim::DeviceSetup;
 use plant_script::{IncarnationSpan, MOST_SPANS};
-use point_names::{Names, ReadNames};
+use point_names::{DeviceNames, Names, ReadNames};
 use station_opening::{UnusableProfile, is_scanner, names_in, profile_in};
-use station_rim::{Rim, SharedInput, report_line};
+use station_rim::{Rim, SharedDevices, SharedInput, report_line};
+use std::alloc::Global;
 use std::rt::Files;
 use std::sync::Wait;
 
@@ -100,6 +102,21 @@ where
     Ok(setups)
 }
 
+/// The names of devices at their addresses. OutOfMemory is the only fault.
+pub(crate) fn device_names(
+    alloc: Global,
+    setups: &[MemberSetup],
+) -> Result<DeviceNames, OutOfMemory>
+    ensures { IfOk result (λ names. devices_in names ≡ map device_entry setups.now) }
+{
+    let mut names = DeviceNames::none(alloc);
+    for set_up in setups {
+        let member = &set_up.member;
+        names.add(alloc, member.address, member.name.as_str())?;
+    }
+    Ok(names)
+}
+
 /// The incarnations of the device of this number of so many. A plant has at most 127; one of more has no spans.
 fn span_at(device: usize, devices: usize) -> IncarnationSpan
     ensures { result ≡ span_at device devices }
@@ -149,6 +166,7 @@ where
         name: format!(in alloc; "{name}")?,
         config: with_node(config, address),
         names,
+        devices: SharedDevices::none(alloc)?,
         options,
         script: device.script,
         span: span_at(rank.place, rank.devices),

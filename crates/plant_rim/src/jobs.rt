@@ -8,7 +8,7 @@ use command_lines::Options;
 use page_feed::FeedEnd;
 use plant_script::{IncarnationSpan, ScriptLine};
 use point_names::Names;
-use station_rim::{SharedInput, SharedLines, SharedRecord};
+use station_rim::{SharedDevices, SharedInput, SharedLines, SharedRecord};
 use std::alloc::Global;
 use std::sync::{Arc, Condvar, Mutex, Wait};
 
@@ -19,6 +19,8 @@ pub struct DeviceSetup {
     pub config: Config,
     /// The names of its points.
     pub names: Names,
+    /// The names of all devices of its plant.
+    pub devices: SharedDevices,
     pub options: Options,
     pub script: Items<ScriptLine>,
     pub span: IncarnationSpan,

@@ -4,6 +4,7 @@
 
 mod draining;
 mod inbox;
+mod labelled;
 mod outlets;
 mod record_queue;
 mod rim;
@@ -11,6 +12,7 @@ mod threads;
 
 pub use draining::{drain_lines, drain_record, report_line};
 pub use inbox::{InputLines, SharedInput};
+pub use labelled::{LabelledLines, SharedDevices};
 pub use outlets::{LineEntrance, SharedLines};
 pub use record_queue::{Entries, SharedRecord};
 pub use rim::Rim;

@@ -1,7 +1,7 @@
 """Plants: many devices in one process, whose records settle, whose scripts do what they say, and whose files are refused by
 their lines."""
 
-import errno, glob, os, resource, signal, socket, time
+import errno, glob, os, re, resource, signal, socket, time
 from rim.calls import CallFaults
 from rim.host import PRESENT, Station, Untried, need, run, sure, until, wait
 from rim.pages import HOST, PORT, connected, status_of, told, word_of
@@ -349,6 +349,28 @@ def run_plant_turns(bench):
     _, shown = devices_shown(bench, count)
     sure(shown == set(range(count)), f"each of {count} devices is shown, and {len(shown)} are")
     need(plant.end() == 0, "the plant ends with status 0")
+
+
+def run_plant_names(bench):
+    """Lines of a plant have the names of the devices at their addresses behind them."""
+    profiles(bench, 2, 0)
+    with open(bench.file("plant_adapter.profile"), "a") as file:
+        file.write("# name 150 Valves\n")
+    plant, nodes = Plant(bench, file_of(bench, 2, 0), log="plant_names"), [re.escape(it) for it in bench.network.extra]
+    until(lambda: plant.established("scanner-0") == 2, "a scanner of a plant opens two slots")
+    plant.call("scanner-0 mode run", "scanner-0 write 1 0a0b0c0d")
+    until(lambda: any(line.endswith(" output 150 0a0b0c0d # 150 (Valves)") for line in plant.of("adapter-1")), "an output has the name of its profile")
+    wanted = {"adapter-1": [rf"\d+ at \d+ owner 150 {nodes[2]} run age \d+ # 150 \(Valves\), {nodes[2]} \(scanner-0\)",
+                            rf"\d+ at \d+ connection .* {nodes[2]} exclusive 150 100 api .* # {nodes[2]} \(scanner-0\), 150 \(Valves\)"],
+              "scanner-0": [rf"\d+ at \d+ slot {at} {nodes[at]} exclusive 150 100 config - established .* # {nodes[at]} \(adapter-{at}\)" for at in (0, 1)]}
+    for name, forms in wanted.items():
+        plant.call(f"{name} status")
+        for form in forms:
+            until(lambda: any(re.fullmatch(form, line) for line in plant.of(name)), f"`status` of {name} has {form}")
+    opened = rf"eip_station: scanner-0: stream \d+ of {nodes[1]} is open # {nodes[1]} \(adapter-1\)"
+    until(lambda: any(re.fullmatch(opened, line) for line in plant.said()), f"standard error has {opened}")
+    sure(plant.end() == 0, "the plant ends with status 0")
+    bench.clear()
 
 
 def run_plant_page(bench):

@@ -2,13 +2,15 @@
 
 import contextlib, re, select, signal, socket, subprocess, time
 from bad_profiles import BAD_PROFILES, BAD_PROFILE_LINES
-from rim.host import Station, holds, listens, need, run, sure, until, wait
+from rim.host import ADAPTER, OWNER, Station, holds, listens, need, run, sure, until, wait
 from rim.peers import INPUT_ONLY, MULTICAST, POINT_TO_POINT, Originator, Silent, Target
 
 CALLS = ["write POINT HEX", "read POINT", "mode run", "mode idle", "start SLOT", "stop SLOT",
          "get NODE CLASS INSTANCE ATTRIBUTE", "set NODE CLASS INSTANCE ATTRIBUTE HEX", "explicit NODE NUMBER HEX", "answer NUMBER STATUS HEX", "status"]
 TRIES_S = 1.5  # seconds, in which there is another try: the first ones wait 1 s each (rule 24.4)
 MUTE = "scanner 32 {owner} 1 101 1000 1000\nslot {adapter} input - 152 100 0 4 10000 10000 2 multicast - -\n"
+NAMED = ADAPTER + "# name 150 Valves of tank 2\n# name 100 Levels\n# bit 150 0 4 Emergency stop\n"
+PRESS = OWNER.replace("{cast}", "p2p") + "# name slot 0 Press # 1\n# name 150 Nobody's\n"
 FED = "slot {adapter} input - 152 100 0 4 10000 10000 2 p2p - -\n"
 
 
@@ -87,6 +89,45 @@ def run_states(bench):
     sure(owners[-1].endswith("owner 150 none"), "an owner that timed out is none")
     need(station.end() == 0, "it ends with status 0")
     bench.clear()
+
+
+def run_names(bench):
+    """Names of points and of a slot stand behind the words of each line, and in a record in its comments alone."""
+    bench.write("named.profile", NAMED)
+    bench.write("press.profile", PRESS)
+    adapter = bench.adapter("--record", bench.file("named.trace"), profile="named")
+    owner, target, peer = bench.scanner("owner", profile="press"), re.escape(bench.address["adapter"]), re.escape(bench.address["owner"])
+    wait(owner.is_established, "the scanner is established")
+    sure(any(line.endswith(" note slot 0 3 # slot 0 (Press # 1)") for line in owner.lines()), "a notice of a slot has its name behind it")
+    owner.call("write 0 0a0b0c0d")
+    until(lambda: any(line.endswith(" output 150 0a0b0c0d # 150 (Valves of tank 2)") for line in adapter.lines()), "an output has its name behind its bytes")
+    words = [line.split(" # ")[0].split() for line in adapter.lines() if " at " in line]
+    sure(all(len(it) == 6 and it[3:5] == ["output", "150"] for it in words), f"the words of each line keep their places: {words[-1]}")
+    adapter.call("write 100 01020304")
+    until(lambda: any(line.endswith(" image 0 01020304 # slot 0 (Press # 1)") for line in owner.lines()), "an image has the name of its slot")
+    asked(adapter, rf"owner 150 {peer} run age \d+ # 150 \(Valves of tank 2\)", "an owner has the name of its output")
+    asked(adapter, rf"connection [0-9a-f]{{8}} {peer} exclusive 150 100 api 10 10 open run age \d+ received .* lost \d+ # 150 \(Valves of tank 2\), 100 \(Levels\)",
+          "a connection has the names of both points")
+    asked(adapter, r"gaps connection [0-9a-f]{8} since .* last -", "counts of a connection have no names")
+    asked(owner, rf"slot 0 {target} exclusive 150 100 config - established api 10 10 age \d+ received .* # slot 0 \(Press # 1\)", "a slot has its name, and its target's points have none")
+    asked(owner, r"gaps slot 0 since .* last - # slot 0 \(Press # 1\)", "and so have its counts")
+    owner.call("stop 0")
+    asked(owner, r"why slot 0 stopped by a call, or never started # slot 0 \(Press # 1\)", "and why it is not open")
+    need(adapter.end() == 0 == owner.end(), "both end with status 0")
+    with open(bench.file("named.trace")) as file:
+        named = [line for line in file if "Valves" in line or "Levels" in line]
+    sure(named == ["# name 150 Valves of tank 2\n", "# name 100 Levels\n"], f"a record has names in its comments alone: {named}")
+    need(run(bench.program, "replay", bench.file("named.trace")).returncode == 0, "the record replays")
+    run_named_reports(bench)
+    bench.clear()
+
+
+def run_named_reports(bench):
+    """What a scanner with names says on standard error."""
+    bench.write("named_mute.profile", MUTE + "# name slot 0 Press\n")
+    adapter, mute = bench.adapter("--multicast", log="named_mute_adapter"), bench.scanner("owner", profile="named_mute")
+    line_of(mute, r"eip_station: slot 0: no multicast datagram .*autojoin # slot 0 \(Press\)", 20)
+    need(mute.end() == 0 == adapter.end(), "both end with status 0")
 
 
 def run_scanner_lines(bench):
