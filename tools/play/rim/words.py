@@ -52,12 +52,11 @@ def run_lines(bench):
     line_of(station, r"eip_station: stream \d+ of [0-9.]+ ended: a new one took its place"
                      r"|eip_station: a connection of [0-9.]+ is refused: 16 streams are open")
     need(len(crowd) == 17, "17 addresses came")
-    count = len(station.said())
     station.call("reed 100")
-    wait(lambda: len(station.said()) > count, "a line that is no call is reported")
+    no_calls = lambda: [line for line in station.said() if "is no call" in line]
+    wait(no_calls, "a line that is no call is reported")
     time.sleep(0.2)
-    lines = station.said()[count:]
-    sure(len(lines) == 1 and all(call in lines[0] for call in CALLS), f"a line that is no call gets the list of calls: {lines}")
+    sure(len(no_calls()) == 1 and all(call in no_calls()[0] for call in CALLS), f"a line that is no call gets the list of calls: {no_calls()}")
     need(station.end() == 0, "it ends with status 0")
 
 
