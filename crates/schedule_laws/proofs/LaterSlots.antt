@@ -34,7 +34,7 @@ use Rattle.segment_world.specs.Story.{is_of}
 use Rattle.device_laws.specs.Carrying.{IsFrom, StateFrom, SlotFrom, SlotsFrom, StepsKeepFrom, RepliesEstablish}
 use Rattle.schedule_laws.specs.Stories.{led_by, led_to}
 use Rattle.schedule_laws.specs.Ids.{LaterSlotsTakeNoneOfIt, RepliesEstablishTheirOwn}
-use Rattle.schedule_laws.proofs.Reporting.{Answers, AnswersIf, Reports, led_both, reports_rest, reports_first, is_run, outcomes_of, story_leads}
+use Rattle.schedule_laws.specs.Lemmas.Reporting.{Answers, AnswersIf, Reports, led_both, reports_rest, reports_first, is_run, outcomes_of, story_leads}
 use Rattle.schedule_laws.specs.Lemmas.Drawing.{StepLaws, whole_in_range}
 use Rattle.schedule_laws.proofs.Later.{all_contains, unsent, StepsKeepIt, runs_kept, at_moment}
 

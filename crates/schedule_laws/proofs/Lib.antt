@@ -1,4 +1,3 @@
-pub mod Reporting
 pub mod Openings
 pub mod OwnersFollowing
 pub mod OpeningIds

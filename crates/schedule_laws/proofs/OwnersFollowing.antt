@@ -29,7 +29,7 @@ use Rattle.segment_world.specs.World.{ReportedEvent}
 use Rattle.segment_world.specs.Story.{is_of, events_of}
 use Rattle.schedule_laws.specs.Stories.{led_by, led_to}
 use Rattle.schedule_laws.specs.Owners.{Brings, Ends, EndsWithin, EndsBetween, OwnersFollow, OpenedOwnersFollow}
-use Rattle.schedule_laws.proofs.Reporting.{Answers, AnswersIf, Reports, led_both, reports_rest, reports_first, is_run, is_performed, outcomes_of, story_leads}
+use Rattle.schedule_laws.specs.Lemmas.Reporting.{Answers, AnswersIf, Reports, led_both, reports_rest, reports_first, is_run, is_performed, outcomes_of, story_leads}
 use Rattle.schedule_laws.proofs.Openings.{opens_whole}
 
 -- TURNS OF REPORTED EVENTS

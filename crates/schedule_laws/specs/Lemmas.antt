@@ -30,4 +30,5 @@ pub mod Numbers
 pub mod ApartIds
 pub mod Acts
 pub mod Stories
+pub mod Reporting
 pub mod Lives
