@@ -1,5 +1,5 @@
 -- What an answer of the application and a tick leave of a message of a class 3 connection.
-use Rattle.std.proofs.Common.{◌<◌, ◌≡◌, inl, ℕ, ◌+◌, ◌==◌, ◌&&◌, not, nat_lt, Bool, true, false, cond, List, [], ◌∷◌, ◌++◌, length, filter, flat_map, find, Option, Some, None, Result, Ok, Err, refl, sym, ◌∙◌, ap, subst, arith, eqb-true, eq-eqb}
+use Rattle.std.proofs.Common.{◌<◌, ◌≡◌, inl, ℕ, ◌+◌, ◌==◌, ◌&&◌, not, nat_lt, nat_le, Bool, true, false, cond, List, [], ◌∷◌, ◌++◌, length, filter, flat_map, find, Option, Some, None, Result, Ok, Err, refl, sym, ◌∙◌, ap, subst, arith, eqb-true, eq-eqb, le-leb}
 use Rattle.std.specs.List.{last_or}
 use Rattle.std.proofs.lemmas.Bool.{and_parts}
 use Rattle.std.proofs.lemmas.Option.{same_Some}
@@ -12,7 +12,9 @@ use Rattle.cip_events.specs.declared.event.StepFault.{StepFault}
 use Rattle.cip_events.specs.declared.event.StepFault.TheVariants.{NotAllowedNow, TickTooLong, ClockEnd, WrongLength}
 use Rattle.cip_events.specs.Clock.{longest_tick, clock_end}
 use Rattle.cip_router.specs.Frames.{connected}
-use Rattle.cip_router.specs.Replies.{ReplyFields, own}
+use Rattle.cip_router.specs.declared.refusal.Status.TheVariants as status
+use Rattle.cip_router.specs.Refusals.{status_fault}
+use Rattle.cip_router.specs.Replies.{ReplyFields, own, refused, reply_text, own_reply_text}
 use Rattle.messaging.specs.declared.class3.Class3Connection.{Class3Connection}
 use Rattle.messaging.specs.declared.requests.Requester.{Requester}
 use Rattle.messaging.specs.declared.requests.Requester.TheVariants as asker
@@ -23,9 +25,8 @@ use Rattle.messaging.specs.Changes.{longest_answer, has_request_number, answered
 use Rattle.messaging.specs.Times.{is_late_class3, without_late_class3_connections, is_late_request, late_waiting, late_text, late_reply, late_replies, without_late_waiting, aged}
 use Rattle.adapter_table.specs.declared.table.AdapterTable.{AdapterTable}
 use Rattle.adapter_table.specs.Answering.{unit_header, class3_frames, route_frames, class3_keeps, with_reply, responded, respond_of, respond}
-use Rattle.adapter_table.specs.Connected.{fitted, fitted_text}
+use Rattle.adapter_table.specs.Connected.{most_reply, fitted, fitted_text}
 use Rattle.adapter_table.specs.Encapsulation.{reply_frames}
-use Rattle.adapter_table.specs.Lemmas.MessageLemmas.{late_fits}
 use Rattle.adapter_table.specs.Messages.{messages_table}
 use Rattle.adapter_table.specs.Requests.{Next}
 use Rattle.adapter_table.specs.Ticks.{late_frames, clocked_table, expired_table, produced_table, advanced, aged_next, tick}
@@ -183,6 +184,19 @@ like_reply id left (asker.Stream number context) service m like = like
 like_reply id left (asker.Class3Connection other n) service m like = λ e found.
     let was = replied_leaves id other m n (late_text service) e found in
     like_changed (is_last_message other n was.old) id left.class3_connections (late_text service) was.old e was.is (like was.old was.found)
+
+-- the device's own late reply, which has no data, fits always
+four_fits : (size : ℕ) → nat_le 4 (most_reply size) ≡ true
+four_fits size = le-leb 4 (most_reply size) (omega arith)
+
+late_by : (b : Bool) (service : ℕ) → b ≡ true → reply_text (cond b (own service 0x1F []) (refused service (status_fault status.ReplyTooLarge) None)) ≡ late_text service
+unfolding own_reply_text
+late_by true service fits = refl
+late_by false service fits = absurd cc
+
+late_fits : (d : Class3Connection) (service : ℕ) → fitted_text d service (own service 0x1F []) ≡ late_text service
+unfolding own_reply_text
+late_fits d service = late_by (nat_le 4 (most_reply d.t_o_size)) service (four_fits d.t_o_size)
 
 -- the reply that goes out is the one that is kept
 late_frame : (d : Class3Connection) (count : ℕ) (sent : Option Frame) (left : Messaging) (other : ConnId) (n service : ℕ) (e : Class3Connection) → (other.0 == d.o_t_id.0 && n == count) ≡ true → Like d.o_t_id left.class3_connections e → Holds d count sent e → route_frames left (asker.Class3Connection other n) service (own service 0x1F []) ≡ reply_frames e.stream (unit_header e.stream) (Some (connected e.t_o_id.0 count (late_text service)))
