@@ -1,6 +1,6 @@
 -- The labels of a line word by word, and the lines of a text one after the other.
 use Rattle.std.proofs.Common.{◌≡◌, ◌≢◌, ℕ, Bool, List, [], ◌∷◌, ◌++◌, Option, refl, sym, ap, ◌∙◌}
-use Rattle.std.proofs.lemmas.List.{append-nil, append_assoc}
+use Rattle.std.proofs.lemmas.List.{append_assoc}
 use Rattle.point_names.specs.Labels.{expected_after, is_line_feed, is_still_first, label_text, labelled_line, labelled_lines, labels_from, lines_in, more_lines, name_behind, words_in}
 use Rattle.point_names.specs.declared.labels.Expected.{Expected}
 use Rattle.point_names.specs.Things.{DeviceEntry, PointName}
@@ -12,12 +12,6 @@ label_more names devices first first' expects expects' before word rest after ou
     let one : out ++ labels_from names devices first expects before (word ∷ words_in after) ≡ all = ap (λ words. out ++ labels_from names devices first expects before words) (sym parted) ∙ so_far in
     rw (out_is, first_is, expects_is, name_is) (append_assoc out (label_text first expects word (name_behind names devices expects before word)) _ ∙ one)
 
--- the last word
-pub label_last : (names : List PointName) (devices : List DeviceEntry) (first : Bool) (expects : Expected) (before rest out out' all : List ℕ) (name : Option (List ℕ)) → out ++ labels_from names devices first expects before (words_in rest) ≡ all → words_in rest ≡ rest ∷ [] → name ≡ name_behind names devices expects before rest → out' ≡ out ++ label_text first expects rest name → out' ≡ all
-label_last names devices first expects before rest out out' all name so_far parted name_is out_is =
-    let one : out ++ labels_from names devices first expects before (rest ∷ []) ≡ all = ap (λ words. out ++ labels_from names devices first expects before words) (sym parted) ∙ so_far in
-    out_is ∙ ap (λ n. out ++ label_text first expects rest n) name_is ∙ ap (λ more. out ++ more) (sym (append-nil (label_text first expects rest (name_behind names devices expects before rest)))) ∙ one
-
 more_are : (names : List PointName) (devices : List DeviceEntry) (lines : List (List ℕ)) → lines ≢ [] → more_lines names devices lines ≡ 10 ∷ labelled_lines names devices lines
 more_are names devices [] some = absurd (some refl)
 more_are names devices (line ∷ lines) some = refl
@@ -28,9 +22,3 @@ line_more names devices line rest after out mid out' all so_far parted mid_is ou
     let one : out ++ (labelled_line names devices line ++ more_lines names devices (lines_in after)) ≡ all = ap (λ lines. out ++ labelled_lines names devices lines) (sym parted) ∙ so_far in
     let more : more_lines names devices (lines_in after) ≡ 10 ∷ labelled_lines names devices (lines_in after) = more_are names devices (lines_in after) (some_part is_line_feed after) in
     rw (out_is, mid_is) (append_assoc (out ++ labelled_line names devices line) (10 ∷ []) (labelled_lines names devices (lines_in after)) ∙ append_assoc out (labelled_line names devices line) (10 ∷ labelled_lines names devices (lines_in after)) ∙ ap (λ m. out ++ (labelled_line names devices line ++ m)) (sym more) ∙ one)
-
--- the last line
-pub line_last : (names : List PointName) (devices : List DeviceEntry) (rest out out' all : List ℕ) → out ++ labelled_lines names devices (lines_in rest) ≡ all → lines_in rest ≡ rest ∷ [] → out' ≡ out ++ labelled_line names devices rest → out' ≡ all
-line_last names devices rest out out' all so_far parted out_is =
-    let one : out ++ labelled_lines names devices (rest ∷ []) ≡ all = ap (λ lines. out ++ labelled_lines names devices lines) (sym parted) ∙ so_far in
-    out_is ∙ ap (λ more. out ++ more) (sym (append-nil (labelled_line names devices rest))) ∙ one

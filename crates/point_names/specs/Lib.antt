@@ -1,4 +1,5 @@
 pub mod Labels
 pub mod Lines
+pub mod Reading
 pub mod Texts
 pub mod Things

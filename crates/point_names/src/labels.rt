@@ -1,6 +1,6 @@
 //! Names behind the lines that a station prints.
 
-ghost use Rattle.std.specs.Prelude.{◌≡◌, ◌<◌, ◌+◌, ◌∷◌, [], ◌++◌, IfNone, IfSome, OnOk, drop, length, option_map, position, take};
+ghost use Rattle.std.specs.Prelude.{ℕ, List, ◌≡◌, ◌<◌, ◌+◌, ◌∷◌, [], ◌++◌, IfNone, IfSome, OnOk, drop, length, option_map, position, take};
 ghost use Rattle.point_names.specs.Labels.{behind_kind, expected_after, found_name, is_gap, is_kind, is_line_feed, is_quoted, is_still_first, label_front, label_mark, label_text, labelled_line, labelled_text, labels_of, leads_point, leads_slot, led_by, lines_in, name_behind, words_in};
 ghost use Rattle.point_names.specs.Things.{devices_in, names_in};
 
@@ -46,6 +46,11 @@ pub fn push_labelled(
     push_line(out, names, devices, rest)
 }
 
+/// Does nothing. Its contract is a law: where nothing has a name, each byte of a text stays.
+pub fn nothing_named_changes_no_byte()
+    ensures { (text : List ℕ) → labelled_text [] [] text ≡ text }
+{}
+
 /// Appends a line with its labels.
 fn push_line(
     out: &mut Vec<u8>,
@@ -87,7 +92,7 @@ fn push_labels(
 }
 
 /// The first line, without the LF that ends it, and what is behind that. None if no LF is left.
-fn first_line(text: &[u8]) -> Option<(&[u8], &[u8])>
+pub(crate) fn first_line(text: &[u8]) -> Option<(&[u8], &[u8])>
     ensures line { IfSome result (λ got. lines_in text.now ≡ got.0.now ∷ lines_in got.1.now) }
     ensures shorter { IfSome result (λ got. length got.1.now < length text.now) }
     ensures last { IfNone result (lines_in text.now ≡ text.now ∷ []) }

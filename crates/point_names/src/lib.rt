@@ -9,7 +9,7 @@ mod names;
 mod text;
 
 pub use devices::DeviceNames;
-pub use labels::push_labelled;
+pub use labels::{nothing_named_changes_no_byte, push_labelled};
 pub use line::{NameKind, Named, name_kind, named_by};
 pub use names::{BadName, NameLineFault, Names, ReadNames, read_names};
 pub use text::name_text;

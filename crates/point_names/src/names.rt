@@ -1,9 +1,13 @@
 //! The names of a profile.
 
-ghost use Rattle.std.specs.Prelude.{◌≡◌, [], option_map};
+ghost use Rattle.std.specs.Prelude.{◌≡◌, [], ◌∷◌, ◌++◌, IfOk, OnOk, option_map};
+ghost use Rattle.point_names.specs.Labels.{lines_in};
+ghost use Rattle.point_names.specs.Lines.{named_by};
+ghost use Rattle.point_names.specs.Reading.{bad_line, bad_lines, line_taken, name_taken, names_behind, text_taken, thing_taken};
 ghost use Rattle.point_names.specs.Things.{found_name, is_same, name_of, names_in};
 
-use crate::line::{Named, name_kind, named_by};
+use crate::labels::first_line;
+use crate::line::{NameKind, Named, name_kind, named_by};
 use crate::text::name_text;
 use cip_types::OutOfMemory;
 use std::alloc::Global;
@@ -112,7 +116,9 @@ impl Names {
     }
 
     /// The same names. The fault: an allocation was refused.
-    pub fn copy(&self, alloc: Global) -> Result<Names, OutOfMemory> {
+    pub fn copy(&self, alloc: Global) -> Result<Names, OutOfMemory>
+        ensures { IfOk result (λ names. names_in names ≡ names_in self.now) }
+    {
         let mut names = Names::none(alloc);
         for name in self.names.iter() {
             names.add(alloc, name.named, name.text.as_str())?;
@@ -121,54 +127,124 @@ impl Names {
     }
 
     /// Adds a name.
-    fn add(&mut self, alloc: Global, named: Named, text: &str) -> Result<(), OutOfMemory> {
+    fn add(&mut self, alloc: Global, named: Named, text: &str) -> Result<(), OutOfMemory>
+        ensures { OnOk result (names_in self.new ≡ names_in self.old ++ (named, text.now) ∷ []) }
+    {
         let text = format!(in alloc; "{text}")?;
         self.names.push(Name { named, text })?;
         Ok(())
     }
 
     /// Adds the name of a line, if it is a name line. Its fault, if it names nothing.
-    fn take(&mut self, alloc: Global, line: &[u8]) -> Result<Option<NameLineFault>, OutOfMemory> {
-        let Some((kind, words)) = name_kind(line) else {
-            return Ok(None);
-        };
-        let Some((named, text)) = named_by(kind, words) else {
-            return Ok(Some(NameLineFault::Words));
-        };
-        let Some(text) = name_text(text) else {
-            return Ok(Some(NameLineFault::Text));
-        };
-        if self.of(named).is_some() {
-            return Ok(Some(NameLineFault::Repeated));
+    fn take(&mut self, alloc: Global, line: &[u8]) -> Result<Option<NameLineFault>, OutOfMemory>
+        ensures { IfOk result (λ fault. (names_in self.new, fault) ≡ line_taken (names_in self.old) line.now) }
+    {
+        match name_kind(line) {
+            Some((kind, words)) => self.take_thing(alloc, kind, words),
+            None => Ok(None),
         }
-        self.add(alloc, named, text)?;
-        Ok(None)
+    }
+
+    /// Adds the name of a name line of a kind, with these other words.
+    fn take_thing(
+        &mut self,
+        alloc: Global,
+        kind: NameKind,
+        words: &[u8],
+    ) -> Result<Option<NameLineFault>, OutOfMemory>
+        ensures { IfOk result
+            (λ fault. (names_in self.new, fault) ≡ thing_taken (names_in self.old) (named_by kind words.now)) }
+    {
+        match named_by(kind, words) {
+            Some((named, text)) => self.take_text(alloc, named, text),
+            None => Ok(Some(NameLineFault::Words)),
+        }
+    }
+
+    /// Adds the name of a thing, if these bytes are the text of a name.
+    fn take_text(
+        &mut self,
+        alloc: Global,
+        named: Named,
+        text: &[u8],
+    ) -> Result<Option<NameLineFault>, OutOfMemory>
+        ensures { IfOk result (λ fault. (names_in self.new, fault) ≡ text_taken (names_in self.old) named text.now) }
+    {
+        match name_text(text) {
+            Some(text) => self.take_name(alloc, named, text),
+            None => Ok(Some(NameLineFault::Text)),
+        }
+    }
+
+    /// Adds the name of a thing, unless it has one.
+    fn take_name(
+        &mut self,
+        alloc: Global,
+        named: Named,
+        text: &str,
+    ) -> Result<Option<NameLineFault>, OutOfMemory>
+        ensures { IfOk result (λ fault. (names_in self.new, fault)
+            ≡ name_taken (names_in self.old) named text.now (name_of (names_in self.old) named)) }
+    {
+        match self.of(named) {
+            Some(_) => Ok(Some(NameLineFault::Repeated)),
+            None => {
+                self.add(alloc, named, text)?;
+                Ok(None)
+            }
+        }
     }
 }
 
-/// The names that the lines of a profile's text say. A bad name line names nothing. The fault: an allocation was refused.
-pub fn read_names(alloc: Global, text: &[u8]) -> Result<ReadNames, OutOfMemory> {
+/// The names that the lines of a profile's text say, and the lines that name nothing. The fault: an allocation was refused.
+pub fn read_names(alloc: Global, text: &[u8]) -> Result<ReadNames, OutOfMemory>
+    ensures names { IfOk result (λ read. names_in read.names ≡ names_behind [] (lines_in text.now)) }
+    ensures bad { IfOk result (λ read. read.bad.items ≡ bad_lines 1 [] (lines_in text.now)) }
+{
     let mut names = Names::none(alloc);
     let mut bad = Vec::new(alloc);
+    let mut number = 1;
     let mut rest = text;
-    for line in 1..u64::MAX {
-        if rest.is_empty() {
-            break;
-        }
-        let end = match rest.iter().position(|byte| *byte == b'\n') {
-            Some(end) => end,
-            None => rest.len(),
-        };
-        let (one, behind) = rest.split_at(end);
-        if let Some(fault) = names.take(alloc, one)? {
-            bad.push(BadName { line, fault })?;
-        }
-        rest = match behind {
-            [_, more @ ..] => more,
-            [] => &[],
-        };
+    while let Some((line, after)) = first_line(rest) {
+        take_line(alloc, &mut names, &mut bad, number, line)?;
+        number += 1;
+        rest = after;
     }
+    take_line(alloc, &mut names, &mut bad, number, rest)?;
     Ok(ReadNames { names, bad })
+}
+
+/// Adds the name of the line of a number to the names, or the line to the bad ones, or neither.
+fn take_line(
+    alloc: Global,
+    names: &mut Names,
+    bad: &mut Vec<BadName>,
+    number: u64,
+    line: &[u8],
+) -> Result<(), OutOfMemory>
+    ensures names { OnOk result (names_in names.new ≡ (line_taken (names_in names.old) line.now).0) }
+    ensures bad { OnOk result
+        (bad.new.items ≡ bad.old.items ++ bad_line number (line_taken (names_in names.old) line.now).1) }
+{
+    let fault = names.take(alloc, line)?;
+    push_bad(bad, number, fault)
+}
+
+/// Adds the line of a number to the bad ones, if it has a fault.
+fn push_bad(
+    bad: &mut Vec<BadName>,
+    number: u64,
+    fault: Option<NameLineFault>,
+) -> Result<(), OutOfMemory>
+    ensures { OnOk result (bad.new.items ≡ bad.old.items ++ bad_line number fault) }
+{
+    if let Some(fault) = fault {
+        bad.push(BadName {
+            line: number,
+            fault,
+        })?;
+    }
+    Ok(())
 }
 
 /// Whether the same thing is named.
