@@ -77,6 +77,7 @@ form button { background: var(--blue); color: #fff; border: 0; cursor: pointer; 
   tr { border-bottom: 1px solid var(--line); padding: 4px 0; }
   tr:last-child { border-bottom: 0; }
   td { display: flex; gap: 8px; align-items: baseline; border: 0; padding: 1px 0; overflow-wrap: anywhere; }
+  .bits { display: block; }
   td:empty { display: none; }
   td::before { content: attr(data-head); flex: 0 0 84px; color: var(--dim); font-size: 12px; overflow-wrap: normal; }
   td > * { min-width: 0; }
