@@ -98,7 +98,7 @@ an_empty_name = refl
 
 -- no interval below 20 ms, no owner, four input-only and two listen-only connections, and numbers that are not far ahead
 abbrev slow : MakerLimits
-slow = record { least_rpi = Some 20000; places = Some (record { owners = 0; readers = 4; listeners = 2; class3_connections = None }); node_connections = None; own_closers = false; newer = Some 1000 }
+slow = record no_limits { least_rpi = Some 20000; places = Some (record { owners = 0; readers = 4; listeners = 2; class3_connections = None }); newer = Some 1000 }
 
 intervals_by_the_maker : map offered_intervals (no_limits ∷ slow ∷ record no_limits { least_rpi = Some 500 } ∷ record no_limits { least_rpi = Some 9000 } ∷ [])
     ≡ record { least = 1000; most = 10000000; first = 10000 }

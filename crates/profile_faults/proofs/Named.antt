@@ -8,7 +8,10 @@ use Rattle.scanner_table.specs.declared.profile.SlotConfig.{SlotConfig}
 use Rattle.scanner_table.specs.declared.profile.ScannerProfile.{ScannerProfile}
 use Rattle.scanner_table.specs.Profiles.{listens_to_group}
 use Rattle.trace_lines.specs.WrittenProfiles.{output_words, point_words, object_words}
+use Rattle.trace_lines.specs.declared.limit_lines.LimitName.{LimitName}
+use Rattle.trace_lines.specs.declared.limit_lines.LimitName.TheVariants as limit_name
 use Rattle.trace_lines.specs.declared.limit_lines.LimitLine.TheVariants as limit
+use Rattle.trace_lines.specs.Limits.{stated_line}
 use Rattle.trace_lines.specs.Kinds.{multicast_word}
 use Rattle.profile_faults.specs.declared.defects.LineName.TheVariants as name
 use Rattle.profile_faults.specs.declared.defects.ProfileReason.{ProfileReason}
@@ -27,19 +30,10 @@ named_config profile reason is = rw is.0 is.1
 pub named_described : (profile : Profile) (reason : ProfileReason) → NamesDescribedWord profile.description reason → NamesWord profile reason
 named_described profile reason is = rw is.0 is.1
 
-pub named_least_rpi : (profile : Profile) (reason : ProfileReason) → NamesLimitWord name.LeastRpi (option_map limit.LeastRpi profile.limits.least_rpi) reason → NamesWord profile reason
-named_least_rpi profile reason is = rw is.0 is.1
+pub named_limit : (profile : Profile) (row : LimitName) (reason : ProfileReason) → NamesLimitWord row (stated_line profile.limits row) reason → NamesWord profile reason
+named_limit profile row reason is = rw is.0 is.1
 
-pub named_places : (profile : Profile) (reason : ProfileReason) → NamesLimitWord name.Places (option_map limit.Places profile.limits.places) reason → NamesWord profile reason
-named_places profile reason is = rw is.0 is.1
-
-pub named_node_connections : (profile : Profile) (reason : ProfileReason) → NamesLimitWord name.NodeConnections (option_map limit.NodeConnections profile.limits.node_connections) reason → NamesWord profile reason
-named_node_connections profile reason is = rw is.0 is.1
-
-pub named_newer : (profile : Profile) (reason : ProfileReason) → NamesLimitWord name.Newer (option_map limit.Newer profile.limits.newer) reason → NamesWord profile reason
-named_newer profile reason is = rw is.0 is.1
-
-pub named_window : (profile : ScannerProfile) (reason : ProfileReason) → NamesLimitWord name.Newer (option_map limit.Newer profile.newer) reason → IsOfSlot reason.place.index reason.defect → NamesWordOfScanner profile reason
+pub named_window : (profile : ScannerProfile) (reason : ProfileReason) → NamesLimitWord limit_name.Newer (option_map limit.Newer profile.newer) reason → IsOfSlot reason.place.index reason.defect → NamesWordOfScanner profile reason
 named_window profile reason is slot = (rw is.0 is.1, slot)
 
 pub named_object : (profile : Profile) (reason : ProfileReason) → NamesItemWord name.Object object_words profile.objects reason → NamesWord profile reason

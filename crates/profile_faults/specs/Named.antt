@@ -10,9 +10,11 @@ use Rattle.cip_tables.specs.declared.table.Config.{Config}
 use Rattle.cip_tables.specs.declared.table.Config.TheVariants as config
 use Rattle.trace_words.specs.Words.{node_word, bytes_word}
 use Rattle.trace_lines.specs.WrittenProfiles.{adapter_words, output_words, point_words, description_words, object_words, heartbeat_words}
+use Rattle.trace_lines.specs.declared.limit_lines.LimitName.{LimitName}
+use Rattle.trace_lines.specs.declared.limit_lines.LimitName.TheVariants as limit_name
 use Rattle.trace_lines.specs.declared.limit_lines.LimitLine.{LimitLine}
 use Rattle.trace_lines.specs.declared.limit_lines.LimitLine.TheVariants as limit
-use Rattle.trace_lines.specs.Limits.{closers_line, limit_words}
+use Rattle.trace_lines.specs.Limits.{limit_words, number_word, stated_line}
 use Rattle.trace_lines.specs.Slots.{scanner_words, slot_words}
 use Rattle.profile_faults.specs.declared.defects.LineName.{LineName}
 use Rattle.profile_faults.specs.declared.defects.LineName.TheVariants as name
@@ -34,11 +36,7 @@ adapter_line profile name.Output index = line_of output_words (slice_get profile
 adapter_line profile name.Input index = line_of (point_words (codes "input")) (slice_get profile.inputs index)
 adapter_line profile name.Config index = line_of (point_words (codes "config")) profile.config
 adapter_line profile name.Describe index = line_of description_words profile.description
-adapter_line profile name.LeastRpi index = line_of limit_words (option_map limit.LeastRpi profile.limits.least_rpi)
-adapter_line profile name.Places index = line_of limit_words (option_map limit.Places profile.limits.places)
-adapter_line profile name.NodeConnections index = line_of limit_words (option_map limit.NodeConnections profile.limits.node_connections)
-adapter_line profile name.Closers index = line_of limit_words (closers_line profile.limits.own_closers)
-adapter_line profile name.Newer index = line_of limit_words (option_map limit.Newer profile.limits.newer)
+adapter_line profile (name.Limit row) index = line_of limit_words (stated_line profile.limits row)
 adapter_line profile name.Object index = line_of object_words (slice_get profile.objects index)
 adapter_line profile name.Heartbeat index = heartbeat_words profile
 adapter_line profile name.Scanner index = []
@@ -47,7 +45,7 @@ adapter_line profile name.Slot index = []
 
 abbrev pub scanner_line : ScannerProfile → LineName → ℕ → List (List ℕ)
 scanner_line profile name.Scanner index = scanner_words profile
-scanner_line profile name.Newer index = line_of limit_words (option_map limit.Newer profile.newer)
+scanner_line profile (name.Limit limit_name.Newer) index = line_of limit_words (option_map limit.Newer profile.newer)
 scanner_line profile name.Slot index = line_of slot_words (slice_get profile.slots index)
 scanner_line profile other index = []
 
@@ -95,12 +93,7 @@ IsWordOf (defect.Minor minor) word = word ≡ decimal minor
 IsWordOf (defect.NameLen len) word = AreBytes word len
 IsWordOf (defect.AddressLen len) word = AreBytes word len
 IsWordOf (defect.Inactivity seconds) word = word ≡ decimal seconds
-IsWordOf (defect.LeastRpi us) word = word ≡ decimal us
-IsWordOf (defect.AllPlaces places) word = word ≡ codes "places"
-IsWordOf (defect.Class3Places places) word = word ≡ decimal places
-IsWordOf (defect.NodeConnections most) word = word ≡ decimal most
-IsWordOf (defect.NodeOpenings most) word = word ≡ decimal most
-IsWordOf (defect.Newer within) word = word ≡ decimal within
+IsWordOf (defect.Limit said) word = word ≡ number_word said.number said.value
 IsWordOf (defect.ExtraClass class) word = word ≡ decimal class
 IsWordOf (defect.OtherClass class) word = word ≡ decimal class
 IsWordOf (defect.SameClass class) word = word ≡ decimal class
@@ -148,9 +141,9 @@ NamesDescribedWord described reason =
     (reason.place.line ≡ name.Describe) × IsWordOf reason.defect (word_at (line_of description_words described) reason.place.word)
 
 -- the reason names a word of this line of a limit
-abbrev pub NamesLimitWord : LineName → Option LimitLine → ProfileReason → Type 0
-NamesLimitWord line stated reason =
-    (reason.place.line ≡ line) × IsWordOf reason.defect (word_at (line_of limit_words stated) reason.place.word)
+abbrev pub NamesLimitWord : LimitName → Option LimitLine → ProfileReason → Type 0
+NamesLimitWord row stated reason =
+    (reason.place.line ≡ name.Limit row) × IsWordOf reason.defect (word_at (line_of limit_words stated) reason.place.word)
 
 -- the class of the defect is that of one of these lines, by its index
 abbrev pub NamesClass : List ℕ → ℕ → Defect → Type 0

@@ -6,6 +6,7 @@ ghost use Rattle.profile_faults.specs.Defects.{defect_fault, reason_at};
 use cip_events::ProfileFault;
 use cip_productions::Kind;
 use cip_types::Node;
+use trace_lines::{LimitName, StatedNumber};
 
 /// A line of a profile, by its first word.
 #[derive(Clone, Copy, PartialEq, Eq)]
@@ -15,11 +16,8 @@ pub enum LineName {
     Input,
     Config,
     Describe,
-    LeastRpi,
-    Places,
-    NodeConnections,
-    Closers,
-    Newer,
+    /// The line of a limit.
+    Limit(LimitName),
     Object,
     Heartbeat,
     Scanner,
@@ -120,18 +118,8 @@ pub enum Defect {
     AddressLen(usize),
     /// The inactivity time-out of a description, in seconds.
     Inactivity(u16),
-    /// The least packet interval that is admitted, in microseconds.
-    LeastRpi(u32),
-    /// The places of all application types.
-    AllPlaces(u16),
-    /// The places of class 3 connections.
-    Class3Places(u8),
-    /// The most connections of one node.
-    NodeConnections(u8),
-    /// The most openings of one node in a second.
-    NodeOpenings(u16),
-    /// The limit of how far ahead an accepted sequence number is.
-    Newer(u32),
+    /// A number of a limit that is out of its range.
+    Limit(StatedNumber),
     /// A class of the maker's own that is one too many.
     ExtraClass(u32),
     /// A class that no object of the maker's own can have.
@@ -191,13 +179,7 @@ impl Defect {
             Defect::NameLen(_) | Defect::AddressLen(_) | Defect::Inactivity(_) => {
                 ProfileFault::Description
             }
-            Defect::LeastRpi(_)
-            | Defect::AllPlaces(_)
-            | Defect::Class3Places(_)
-            | Defect::NodeConnections(_)
-            | Defect::NodeOpenings(_)
-            | Defect::Newer(_)
-            | Defect::NoPace(_) => ProfileFault::Limits,
+            Defect::Limit(_) | Defect::NoPace(_) => ProfileFault::Limits,
             Defect::ExtraClass(_) | Defect::OtherClass(_) | Defect::SameClass(_) => {
                 ProfileFault::Objects
             }

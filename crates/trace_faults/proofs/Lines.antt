@@ -2,7 +2,8 @@
 use Rattle.std.proofs.Common.{◌≡◌, refl, List, ◌∷◌, [], Option, Some, None, true, false, Bool, ℕ, Result, Ok, Err, ap, ◌∙◌, sym}
 use Rattle.std.specs.Prelude.{is_some, if◌then◌else◌, option_map, IfOk}
 use Rattle.cip_types.specs.declared.memory.OutOfMemory.{OutOfMemory}
-use Rattle.trace_lines.specs.Shapes.{Shape, is_shaped, shape_of}
+use Rattle.trace_lines.specs.LineShapes.{shape_of}
+use Rattle.trace_lines.specs.Shapes.{Shape, is_shaped}
 use Rattle.trace_text.specs.declared.forms.TraceLine.{TraceLine}
 use Rattle.trace_text.specs.Forms.{line_of, line_reader, is_ascii}
 use Rattle.trace_words.specs.Words.{words_of}

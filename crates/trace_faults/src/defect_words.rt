@@ -1,14 +1,14 @@
 //! The defects of profiles in words: what is wrong, its value, and what is allowed.
 
 use adapter_table::{LARGEST_CLASS, LONGEST_INACTIVITY, MOST_OWN_CLASSES, PHYSICAL_ADDRESS};
-use cip_productions::{FARTHEST_NUMBER, Kind};
+use cip_productions::Kind;
 use cip_types::limits::{
-    LONGEST_CONFIG, LONGEST_POINT, LONGEST_RPI_US, LONGEST_WAIT_MS, MOST_CONNECTIONS, MOST_POINTS,
-    MOST_SLOTS,
+    LONGEST_CONFIG, LONGEST_POINT, LONGEST_RPI_US, LONGEST_WAIT_MS, MOST_POINTS, MOST_SLOTS,
 };
 use cip_types::{Node, OutOfMemory};
 use list_identity::LONGEST_NAME;
 use profile_faults::{Defect, LineName, PacketDirection, WaitingTime, WordPlace};
+use trace_lines::StatedNumber;
 use trace_words::{push_node, push_text};
 
 /// A limit as it is printed, with a comma before each three digits behind the first ones.
@@ -61,7 +61,7 @@ pub fn push_defect(
         Defect::NameLen(_) | Defect::AddressLen(_) | Defect::Inactivity(_) => {
             push_described(out, defect)
         }
-        _ if is_stated(defect) => push_stated(out, defect),
+        Defect::Limit(stated) => push_stated(out, stated),
         Defect::ExtraClass(_) | Defect::OtherClass(_) | Defect::SameClass(_) => {
             push_class(out, defect)
         }
@@ -147,57 +147,17 @@ fn push_described(out: &mut String, defect: Defect) -> Result<(), OutOfMemory> {
     }
 }
 
-/// Whether the defect is one of a limit of the maker's.
-fn is_stated(defect: Defect) -> bool {
-    match defect {
-        Defect::LeastRpi(_)
-        | Defect::AllPlaces(_)
-        | Defect::Class3Places(_)
-        | Defect::NodeConnections(_)
-        | Defect::NodeOpenings(_)
-        | Defect::Newer(_) => true,
-        _ => false,
+/// A number of a limit of the maker's that is out of its range.
+fn push_stated(out: &mut String, stated: StatedNumber) -> Result<(), OutOfMemory> {
+    let (before, behind) = stated.number.phrases();
+    let value = stated.value;
+    write!(out, "{before}{value}{behind}")?;
+    let range = stated.number.range();
+    match range.least {
+        0 => push_text(out, "at most ")?,
+        least => write!(out, "{least} to ")?,
     }
-}
-
-/// A limit of the maker's that is none.
-fn push_stated(out: &mut String, defect: Defect) -> Result<(), OutOfMemory> {
-    match defect {
-        Defect::LeastRpi(us) => {
-            write!(
-                out,
-                "the least packet interval is {us} microseconds, and it is 1 to "
-            )?;
-            push_limit(out, u64::from(LONGEST_RPI_US))
-        }
-        Defect::AllPlaces(places) => Ok(write!(
-            out,
-            "the places are {places} in all, and they are 1 to {MOST_CONNECTIONS}"
-        )?),
-        Defect::Class3Places(places) => Ok(write!(
-            out,
-            "the places of class 3 connections are {places}, and they are at most {MOST_CONNECTIONS}"
-        )?),
-        Defect::NodeOpenings(most) => {
-            write!(
-                out,
-                "the openings of one node in a second are {most}, and they are 1 to "
-            )?;
-            push_limit(out, u64::from(u16::MAX))
-        }
-        Defect::NodeConnections(most) => Ok(write!(
-            out,
-            "the most connections of one node are {most}, and they are 1 to {MOST_CONNECTIONS}"
-        )?),
-        Defect::Newer(within) => {
-            write!(
-                out,
-                "numbers are accepted within {within} of the newest, and that is 2 to "
-            )?;
-            push_limit(out, u64::from(FARTHEST_NUMBER))
-        }
-        _ => Ok(()),
-    }
+    push_limit(out, u64::from(range.most))
 }
 
 /// A class that no object of the maker's own has.

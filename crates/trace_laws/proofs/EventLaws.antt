@@ -7,7 +7,7 @@ use Rattle.cip_events.specs.declared.event.Event.{Event}
 use Rattle.cip_events.specs.declared.event.Event.TheVariants as event
 use Rattle.cip_events.specs.Outcomes.{Outcome}
 use Rattle.cip_tables.specs.declared.table.Config.{Config}
-use Rattle.trace_words.specs.Words.{node_word, bytes_word, general_word, line_text, number_of}
+use Rattle.trace_words.specs.Words.{node_word, bytes_word, general_word, line_text}
 use Rattle.trace_words.specs.Reader.{Reader, gives}
 use Rattle.trace_outcomes.specs.declared.part.Part.{Part}
 use Rattle.trace_lines.specs.Kinds.{mode_of, mode_word}
@@ -17,7 +17,8 @@ use Rattle.trace_text.specs.declared.builder.TraceBuilder.{TraceBuilder}
 use Rattle.trace_text.specs.declared.builder.TraceBuilder.TheVariants.{Events}
 use Rattle.trace_text.specs.declared.forms.TraceLine.{TraceLine}
 use Rattle.trace_text.specs.declared.forms.TraceLine.TheVariants as line
-use Rattle.trace_text.specs.Forms.{line_reader, line_meanings, numbered, event_only, event_of}
+use Rattle.trace_text.specs.Forms.{line_reader, line_meanings, numbered, of_limit, limit_or_part, event_only, event_of}
+use Rattle.trace_lines.specs.Limits.{limit_meanings}
 use Rattle.trace_text.specs.Reading.{Entry, builder_with}
 use Rattle.trace_text.specs.Written.{event_words}
 use Rattle.trace_laws.specs.TraceBack.{EventFits}
@@ -70,7 +71,7 @@ event_read made_of entries last given fits = event_reads (Events made_of entries
 
 recorded_read : (n : ℕ) (words : List (List ℕ)) (part : Part) → n < 2 ^ 64 → part_reader words ≡ Some (part, []) → line_reader (decimal n ∷ words) ≡ Some (line.Recorded n part, [])
 recorded_read n words part fits read =
-    ap (λ (reader : Reader TraceLine). reader words) (none_meant line_meanings (numbered (number_of 64 (decimal n))) (decimal n) refl (decimal_low n fits))
+    ap (λ (reader : Reader TraceLine). reader words) (none_meant line_meanings (limit_or_part (decimal n)) (decimal n) refl (decimal_low n fits) ∙ ap (of_limit (decimal n)) (none_meant limit_meanings None (decimal n) refl (decimal_low n fits)))
     ∙ ap (λ (number : Option ℕ). numbered number words) (n64 n fits)
     ∙ ap (λ r. option_and_then {T = Part × List (List ℕ)} (λ got. gives (line.Recorded n got.0) got.1) r) read
 

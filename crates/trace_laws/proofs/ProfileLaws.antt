@@ -1,13 +1,11 @@
 -- A profile that is written is read as itself.
-use Rattle.std.proofs.Common.{◌≡◌, ℕ, ◌<◌, ◌^◌, Bool, true, false, List, [], ◌∷◌, ◌++◌, Option, Some, None, refl, sym, subst, arith, append_assoc}
-use Rattle.std.specs.Prelude.{decimal, codes, drop, flat_map, option_map, IfSome}
+use Rattle.std.proofs.Common.{◌≡◌, ℕ, ◌<◌, ◌^◌, true, List, [], ◌∷◌, ◌++◌, Option, Some, None, refl, sym, subst, ap, ◌∙◌, arith, append_assoc}
+use Rattle.std.specs.Prelude.{decimal, codes, drop, flat_map, option_map, option_to_list, IfSome}
 use Rattle.std.specs.List.{All}
 use Rattle.std.proofs.lemmas.List.{append-nil}
 use Rattle.adapter_table.specs.declared.profile.Action.{Action}
 use Rattle.adapter_table.specs.declared.profile.Action.TheVariants.{Zero, Hold}
 use Rattle.adapter_table.specs.declared.maker_limits.MakerLimits.{MakerLimits}
-use Rattle.adapter_table.specs.declared.maker_limits.NodeLimits.{NodeLimits}
-use Rattle.adapter_table.specs.declared.maker_limits.Places.{Places}
 use Rattle.adapter_table.specs.declared.profile.Description.{Description}
 use Rattle.adapter_table.specs.declared.profile.InputPoint.{InputPoint}
 use Rattle.adapter_table.specs.declared.profile.OutputPoint.{OutputPoint}
@@ -20,7 +18,10 @@ use Rattle.trace_lines.specs.declared.forms.HeartbeatLine.{HeartbeatLine}
 use Rattle.trace_lines.specs.declared.limit_lines.LimitLine.{LimitLine}
 use Rattle.trace_lines.specs.declared.limit_lines.LimitLine.TheVariants as limit
 use Rattle.trace_lines.specs.Kinds.{action_word, closers_of, openings_of}
-use Rattle.trace_lines.specs.Limits.{closers_line, limit_words, limit_text, limits_text}
+use Rattle.trace_lines.specs.declared.limit_lines.LimitName.{LimitName}
+use Rattle.trace_lines.specs.declared.limit_lines.TheConstants.{LIMITS}
+use Rattle.trace_lines.specs.LimitLemmas.{Steps, limit_steps}
+use Rattle.trace_lines.specs.Limits.{LimitFits, stated_line, lines_of, limit_lines, limit_words, limit_text, limits_text}
 use Rattle.trace_lines.specs.Profiles.{profile_with}
 use Rattle.trace_lines.specs.WrittenProfiles.{adapter_words, output_words, point_words, description_words, object_words, objects_text, heartbeat_words, config_text, description_text, profile_text}
 use Rattle.trace_text.specs.declared.builder.ProfileFront.{ProfileFront}
@@ -29,7 +30,7 @@ use Rattle.trace_text.specs.declared.builder.TraceBuilder.TheVariants.{Empty, Po
 use Rattle.trace_text.specs.declared.forms.TraceLine.TheVariants as line
 use Rattle.trace_text.specs.Forms.{line_reader}
 use Rattle.trace_text.specs.Reading.{front_of, with_stated, with_object, with_profile, builder_with}
-use Rattle.trace_laws.specs.TraceBack.{OutputFits, InputFits, DescriptionFits, PlacesFit, NodeFits, LimitsFit, ClassFits, ProfileFits}
+use Rattle.trace_laws.specs.TraceBack.{OutputFits, InputFits, DescriptionFits, ClassFits, ProfileFits}
 use Rattle.trace_laws.proofs.WordLaws.{number_back, node_back, bytes_back, action_back}
 use Rattle.trace_laws.proofs.CleanWords.{decimal_clean, node_clean, bytes_clean}
 use Rattle.trace_laws.proofs.LineLaws.{is_clean, are_clean}
@@ -170,29 +171,26 @@ module _ (profile : Profile) (fits : ProfileFits profile) (settings : Option Inp
 
 -- LIMITS
 
-abbrev places_with : (owners readers listeners : ℕ) → Option ℕ → Places
-places_with owners readers listeners class3_connections = record { owners = owners; readers = readers; listeners = listeners; class3_connections = class3_connections }
+abbrev places_with : (owners readers listeners : ℕ) → Option ℕ → LimitLine
+places_with owners readers listeners class3_connections = limit.Places (record { owners = owners; readers = readers; listeners = listeners; class3_connections = class3_connections })
 
-abbrev node_with : ℕ → Option ℕ → NodeLimits
-node_with connections openings = record { connections = connections; openings = openings }
+abbrev node_with : ℕ → Option ℕ → LimitLine
+node_with connections openings = limit.NodeConnections (record { connections = connections; openings = openings })
 
-abbrev pub LimitFits : LimitLine → Type 0
-LimitFits (limit.LeastRpi us) = us < 2 ^ 32
-LimitFits (limit.Places places) = PlacesFit places
-LimitFits (limit.NodeConnections node) = NodeFits node
-LimitFits limit.OwnClosers = Unit {0}
-LimitFits (limit.Newer within) = within < 2 ^ 32
+-- a line is read as itself where it is allowed
+abbrev IsReadBack : TraceBuilder → TraceBuilder → LimitLine → Type 0
+IsReadBack builder builder' given = LimitFits given → builder_with builder (line.Limit given) ≡ Some builder' → Reads builder (line_text (limit_words given)) builder'
 
-places_read : (builder builder' : TraceBuilder) (owners readers listeners : ℕ) (class3_connections : Option ℕ) → PlacesFit (places_with owners readers listeners class3_connections) → builder_with builder (line.Limit (limit.Places (places_with owners readers listeners class3_connections))) ≡ Some builder' → Reads builder (line_text (limit_words (limit.Places (places_with owners readers listeners class3_connections)))) builder'
-places_read builder builder' owners readers listeners None fits built = line_reads builder builder' (codes "places") (decimal owners ∷ decimal readers ∷ decimal listeners ∷ []) (line.Limit (limit.Places (places_with owners readers listeners None))) refl refl (rw (c8 owners fits.0, c8 readers fits.1, c8 listeners fits.2) refl) (rw (n8 owners fits.0, n8 readers fits.1, n8 listeners fits.2) refl) built
-places_read builder builder' owners readers listeners (Some number) fits built = line_reads builder builder' (codes "places") (decimal owners ∷ decimal readers ∷ decimal listeners ∷ decimal number ∷ []) (line.Limit (limit.Places (places_with owners readers listeners (Some number)))) refl refl (rw (c8 owners fits.0, c8 readers fits.1, c8 listeners fits.2, c8 number fits.3) refl) (rw (n8 owners fits.0, n8 readers fits.1, n8 listeners fits.2, n8 number fits.3) refl) built
+places_read : (builder builder' : TraceBuilder) (owners readers listeners : ℕ) (class3_connections : Option ℕ) → IsReadBack builder builder' (places_with owners readers listeners class3_connections)
+places_read builder builder' owners readers listeners None fits built = line_reads builder builder' (codes "places") (decimal owners ∷ decimal readers ∷ decimal listeners ∷ []) (line.Limit (places_with owners readers listeners None)) refl refl (rw (c8 owners fits.0, c8 readers fits.1, c8 listeners fits.2) refl) (rw (n8 owners fits.0, n8 readers fits.1, n8 listeners fits.2) refl) built
+places_read builder builder' owners readers listeners (Some number) fits built = line_reads builder builder' (codes "places") (decimal owners ∷ decimal readers ∷ decimal listeners ∷ decimal number ∷ []) (line.Limit (places_with owners readers listeners (Some number))) refl refl (rw (c8 owners fits.0, c8 readers fits.1, c8 listeners fits.2, c8 number fits.3) refl) (rw (n8 owners fits.0, n8 readers fits.1, n8 listeners fits.2, n8 number fits.3) refl) built
 
-node_read : (builder builder' : TraceBuilder) (connections : ℕ) (openings : Option ℕ) → NodeFits (node_with connections openings) → builder_with builder (line.Limit (limit.NodeConnections (node_with connections openings))) ≡ Some builder' → Reads builder (line_text (limit_words (limit.NodeConnections (node_with connections openings)))) builder'
+node_read : (builder builder' : TraceBuilder) (connections : ℕ) (openings : Option ℕ) → IsReadBack builder builder' (node_with connections openings)
 unfolding openings_of
-node_read builder builder' connections None fits built = line_reads builder builder' (codes "node-connections") (decimal connections ∷ []) (line.Limit (limit.NodeConnections (node_with connections None))) refl refl (rw (c8 connections fits.0) refl) (rw (n8 connections fits.0) refl) built
-node_read builder builder' connections (Some number) fits built = line_reads builder builder' (codes "node-connections") (decimal connections ∷ codes "openings" ∷ decimal number ∷ []) (line.Limit (limit.NodeConnections (node_with connections (Some number)))) refl refl (rw (c8 connections fits.0, c16 number fits.1) refl) (rw (n8 connections fits.0, n16 number fits.1) refl) built
+node_read builder builder' connections None fits built = line_reads builder builder' (codes "node-connections") (decimal connections ∷ []) (line.Limit (node_with connections None)) refl refl (rw (c8 connections fits.0) refl) (rw (n8 connections fits.0) refl) built
+node_read builder builder' connections (Some number) fits built = line_reads builder builder' (codes "node-connections") (decimal connections ∷ codes "openings" ∷ decimal number ∷ []) (line.Limit (node_with connections (Some number))) refl refl (rw (c8 connections fits.0, c16 number fits.1) refl) (rw (n8 connections fits.0, n16 number fits.1) refl) built
 
-pub limit_reads : (builder builder' : TraceBuilder) (given : LimitLine) → LimitFits given → builder_with builder (line.Limit given) ≡ Some builder' → Reads builder (line_text (limit_words given)) builder'
+pub limit_reads : (builder builder' : TraceBuilder) (given : LimitLine) → IsReadBack builder builder' given
 unfolding closers_of
 limit_reads builder builder' (limit.LeastRpi us) fits built = line_reads builder builder' (codes "least-rpi") (decimal us ∷ []) (line.Limit (limit.LeastRpi us)) refl refl (rw (c32 us fits) refl) (rw (n32 us fits) refl) built
 limit_reads builder builder' (limit.Places places) fits built = places_read builder builder' places.owners places.readers places.listeners places.class3_connections fits built
@@ -214,75 +212,37 @@ behind_limits profile fits builder settings described limits (class ∷ more) on
     one_class profile fits settings described limits builder (Objects (front_with profile settings described limits) (class ∷ [])) (with_ends profile settings described limits (class ∷ more)) class more (first_of ClassFits class more fit) (on.2 class)
     (objects_read profile fits settings described limits (class ∷ []) more (rest_of ClassFits class more fit))
 
-abbrev limits_of : Option ℕ → Option Places → Option NodeLimits → Bool → Option ℕ → MakerLimits
-limits_of rpi places node closers newer = record { least_rpi = rpi; places = places; node_connections = node; own_closers = closers; newer = newer }
+-- the text of these lines
+abbrev lines_text : List LimitLine → List ℕ
+lines_text lines = flat_map (λ line. line_text (limit_words line)) lines
+
+one_text : (line : Option LimitLine) (text : List ℕ) (lines : List LimitLine) → text ≡ lines_text lines → limit_text line ++ text ≡ lines_text (option_to_list line ++ lines)
+one_text None text lines is = is
+one_text (Some line) text lines is = ap (λ t. line_text (limit_words line) ++ t) is
+
+texts_are : (limits : MakerLimits) (rows : List LimitName) → flat_map (λ row. limit_text (stated_line limits row)) rows ≡ lines_text (lines_of limits rows)
+texts_are limits [] = refl
+texts_are limits (row ∷ rows) = one_text (stated_line limits row) _ (lines_of limits rows) (texts_are limits rows)
 
 module _ (profile : Profile) (fits : ProfileFits profile) (settings : Option InputPoint) (described : Option Description) (objects : List ℕ) (objects_fit : All ClassFits objects) where
-  abbrev stated : MakerLimits → TraceBuilder
-  stated limits = Stated (front_with profile settings described limits)
-
   abbrev last_lines : List ℕ
   last_lines = objects_text objects ++ line_text (heartbeat_words profile)
 
-  -- texts that lead to these limits, the own classes and the points without data
-  abbrev Ends : TraceBuilder → List ℕ → MakerLimits → Type 0
-  Ends builder text limits = Reads builder (text ++ last_lines) (with_ends profile settings described limits objects)
+  -- the lines of limits that lead to these limits, the own classes and the points without data
+  limits_read : (builder : TraceBuilder) (limits end : MakerLimits) (lines : List LimitLine) → GoesOn profile settings described limits builder → Steps limits lines end → All LimitFits lines → Reads builder (lines_text lines ++ last_lines) (with_ends profile settings described end objects)
+  limits_read builder limits end [] on is fit =
+      subst (λ to. Reads builder last_lines (with_ends profile settings described to objects)) is (behind_limits profile fits builder settings described limits objects on objects_fit)
+  limits_read builder limits end (given ∷ lines) on (next, (is, more)) fit =
+      let next_builder : TraceBuilder = Stated (front_with profile settings described next) in
+      let built : builder_with builder (line.Limit given) ≡ Some next_builder = on.0 given ∙ ap (option_map (λ to. Stated (front_with profile settings described to))) is in
+      reads_as builder (with_ends profile settings described end objects) (lines_text (given ∷ lines) ++ last_lines) (line_text (limit_words given) ++ (lines_text lines ++ last_lines)) (append_assoc (line_text (limit_words given)) (lines_text lines) last_lines)
+      (reads_both builder next_builder (with_ends profile settings described end objects) (line_text (limit_words given)) (lines_text lines ++ last_lines) (limit_reads builder next_builder given (first_of LimitFits given lines fit) built)
+      (limits_read next_builder next end lines (λ next_line. refl, λ points. refl, λ class. refl) more (rest_of LimitFits given lines fit)))
 
-  -- the line of one limit, and what is behind it
-  one_limit : (builder : TraceBuilder) (given : LimitLine) (next limits : MakerLimits) (text : List ℕ) → LimitFits given → builder_with builder (line.Limit given) ≡ Some (stated next) → Ends (stated next) text limits → Ends builder (line_text (limit_words given) ++ text) limits
-  one_limit builder given next limits text fit built more =
-      reads_as builder (with_ends profile settings described limits objects) ((line_text (limit_words given) ++ text) ++ last_lines) (line_text (limit_words given) ++ (text ++ last_lines)) (append_assoc (line_text (limit_words given)) text last_lines)
-      (reads_both builder (stated next) (with_ends profile settings described limits objects) (line_text (limit_words given)) (text ++ last_lines) (limit_reads builder (stated next) given fit built) more)
-
-  abbrev goes_on_stated : (limits : MakerLimits) → GoesOn profile settings described limits (stated limits)
-  goes_on_stated limits = (λ given. refl, λ points. refl, λ class. refl)
-
-  abbrev newer_text : Option ℕ → List ℕ
-  newer_text e = limit_text (option_map limit.Newer e)
-
-  newer_ends : (builder : TraceBuilder) (a : Option ℕ) (b : Option Places) (c : Option NodeLimits) (d : Bool) (e : Option ℕ) → GoesOn profile settings described (limits_of a b c d None) builder → IfSome e (λ within. within < 2 ^ 32) → Ends builder (newer_text e) (limits_of a b c d e)
-  newer_ends builder a b c d None on fit = behind_limits profile fits builder settings described (limits_of a b c d None) objects on objects_fit
-  newer_ends builder a b c d (Some within) on fit =
-      reads_both builder (stated (limits_of a b c d (Some within))) (with_ends profile settings described (limits_of a b c d (Some within)) objects) (line_text (limit_words (limit.Newer within))) last_lines
-      (limit_reads builder (stated (limits_of a b c d (Some within))) (limit.Newer within) fit (on.0 (limit.Newer within)))
-      (behind_limits profile fits (stated (limits_of a b c d (Some within))) settings described (limits_of a b c d (Some within)) objects (goes_on_stated (limits_of a b c d (Some within))) objects_fit)
-
-  abbrev closers_text : Bool → Option ℕ → List ℕ
-  closers_text d e = limit_text (closers_line d) ++ newer_text e
-
-  closers_ends : (builder : TraceBuilder) (a : Option ℕ) (b : Option Places) (c : Option NodeLimits) (d : Bool) (e : Option ℕ) → GoesOn profile settings described (limits_of a b c false None) builder → IfSome e (λ within. within < 2 ^ 32) → Ends builder (closers_text d e) (limits_of a b c d e)
-  closers_ends builder a b c false e on newer_fits = newer_ends builder a b c false e on newer_fits
-  closers_ends builder a b c true e on newer_fits =
-      one_limit builder limit.OwnClosers (limits_of a b c true None) (limits_of a b c true e) (newer_text e) tt (on.0 limit.OwnClosers)
-      (newer_ends (stated (limits_of a b c true None)) a b c true e (goes_on_stated (limits_of a b c true None)) newer_fits)
-
-  abbrev node_text : Option NodeLimits → Bool → Option ℕ → List ℕ
-  node_text c d e = limit_text (option_map limit.NodeConnections c) ++ closers_text d e
-
-  node_ends : (builder : TraceBuilder) (a : Option ℕ) (b : Option Places) (c : Option NodeLimits) (d : Bool) (e : Option ℕ) → GoesOn profile settings described (limits_of a b None false None) builder → IfSome c NodeFits → IfSome e (λ within. within < 2 ^ 32) → Ends builder (node_text c d e) (limits_of a b c d e)
-  node_ends builder a b None d e on node_fits newer_fits = closers_ends builder a b None d e on newer_fits
-  node_ends builder a b (Some most) d e on node_fits newer_fits =
-      one_limit builder (limit.NodeConnections most) (limits_of a b (Some most) false None) (limits_of a b (Some most) d e) (closers_text d e) node_fits (on.0 (limit.NodeConnections most))
-      (closers_ends (stated (limits_of a b (Some most) false None)) a b (Some most) d e (goes_on_stated (limits_of a b (Some most) false None)) newer_fits)
-
-  abbrev places_text : Option Places → Option NodeLimits → Bool → Option ℕ → List ℕ
-  places_text b c d e = limit_text (option_map limit.Places b) ++ node_text c d e
-
-  places_ends : (builder : TraceBuilder) (a : Option ℕ) (b : Option Places) (c : Option NodeLimits) (d : Bool) (e : Option ℕ) → GoesOn profile settings described (limits_of a None None false None) builder → IfSome b PlacesFit → IfSome c NodeFits → IfSome e (λ within. within < 2 ^ 32) → Ends builder (places_text b c d e) (limits_of a b c d e)
-  places_ends builder a None c d e on places_fit node_fits newer_fits = node_ends builder a None c d e on node_fits newer_fits
-  places_ends builder a (Some places) c d e on places_fit node_fits newer_fits =
-      one_limit builder (limit.Places places) (limits_of a (Some places) None false None) (limits_of a (Some places) c d e) (node_text c d e) places_fit (on.0 (limit.Places places))
-      (node_ends (stated (limits_of a (Some places) None false None)) a (Some places) c d e (goes_on_stated (limits_of a (Some places) None false None)) node_fits newer_fits)
-
-  rpi_ends : (builder : TraceBuilder) (a : Option ℕ) (b : Option Places) (c : Option NodeLimits) (d : Bool) (e : Option ℕ) → GoesOn profile settings described no_limits builder → LimitsFit (limits_of a b c d e) → Ends builder (limits_text (limits_of a b c d e)) (limits_of a b c d e)
-  rpi_ends builder None b c d e on fit = places_ends builder None b c d e on fit.places_fit fit.node_connections_fit fit.newer_fits
-  rpi_ends builder (Some us) b c d e on fit =
-      one_limit builder (limit.LeastRpi us) (limits_of (Some us) None None false None) (limits_of (Some us) b c d e) (places_text b c d e) fit.least_rpi_fits (on.0 (limit.LeastRpi us))
-      (places_ends (stated (limits_of (Some us) None None false None)) (Some us) b c d e (goes_on_stated (limits_of (Some us) None None false None)) fit.places_fit fit.node_connections_fit fit.newer_fits)
-
-  -- the limits that are stated, the own classes and the heartbeats
-  limits_end : (builder : TraceBuilder) (limits : MakerLimits) → GoesOn profile settings described no_limits builder → LimitsFit limits → Ends builder (limits_text limits) limits
-  limits_end builder limits on fit = rpi_ends builder limits.least_rpi limits.places limits.node_connections limits.own_closers limits.newer on fit
+  limits_end : (builder : TraceBuilder) (limits : MakerLimits) → GoesOn profile settings described no_limits builder → All LimitFits (limit_lines limits) → Reads builder (limits_text limits ++ last_lines) (with_ends profile settings described limits objects)
+  limits_end builder limits on fit =
+      reads_as builder (with_ends profile settings described limits objects) (limits_text limits ++ last_lines) (lines_text (limit_lines limits) ++ last_lines) (ap (λ t. t ++ last_lines) (texts_are limits LIMITS))
+      (limits_read builder no_limits limits (limit_lines limits) on (limit_steps limits) fit)
 
 described_lines : (builder builder' : TraceBuilder) (described : Description) → DescriptionFits described → builder_with builder (line.Description described) ≡ Some builder' → Reads builder (line_text (description_words described)) builder'
 described_lines builder builder' described fit built =
@@ -293,7 +253,7 @@ abbrev up_to : Profile → Option InputPoint → Description → TraceBuilder
 up_to profile settings described = Stated (front_of (adapter_line profile) profile.outputs profile.inputs settings (Some described))
 
 -- the description, where there is one, the limits, the own classes and the heartbeats
-ends_read : (profile : Profile) (settings : Option InputPoint) (described : Option Description) (limits : MakerLimits) (objects : List ℕ) → ProfileFits profile → IfSome described DescriptionFits → LimitsFit limits → All ClassFits objects → Reads (beside profile settings) (description_text described ++ (limits_text limits ++ (objects_text objects ++ line_text (heartbeat_words profile)))) (with_ends profile settings described limits objects)
+ends_read : (profile : Profile) (settings : Option InputPoint) (described : Option Description) (limits : MakerLimits) (objects : List ℕ) → ProfileFits profile → IfSome described DescriptionFits → All LimitFits (limit_lines limits) → All ClassFits objects → Reads (beside profile settings) (description_text described ++ (limits_text limits ++ (objects_text objects ++ line_text (heartbeat_words profile)))) (with_ends profile settings described limits objects)
 ends_read profile None None limits objects fits fit limits_fit objects_fit = limits_end profile fits None None objects objects_fit (beside profile None) limits (λ given. refl, λ points. refl, λ class. refl) limits_fit
 ends_read profile (Some point) None limits objects fits fit limits_fit objects_fit = limits_end profile fits (Some point) None objects objects_fit (beside profile (Some point)) limits (λ given. refl, λ points. refl, λ class. refl) limits_fit
 ends_read profile None (Some described) limits objects fits fit limits_fit objects_fit =

@@ -10,9 +10,6 @@ use Rattle.cip_types.specs.declared.names.Identity.{Identity}
 use Rattle.cip_types.specs.declared.names.Mismatch.{Mismatch}
 use Rattle.cip_types.specs.declared.names.Mismatch.TheVariants as mismatch
 use Rattle.cip_types.specs.declared.names.Triad.{Triad}
-use Rattle.adapter_table.specs.declared.maker_limits.MakerLimits.{MakerLimits}
-use Rattle.adapter_table.specs.declared.maker_limits.NodeLimits.{NodeLimits}
-use Rattle.adapter_table.specs.declared.maker_limits.Places.{Places}
 use Rattle.adapter_table.specs.declared.profile.Description.{Description}
 use Rattle.adapter_table.specs.declared.profile.InputPoint.{InputPoint}
 use Rattle.adapter_table.specs.declared.profile.OutputPoint.{OutputPoint}
@@ -38,6 +35,7 @@ use Rattle.cip_tables.specs.declared.table.Config.TheVariants as config
 use Rattle.scanner_table.specs.declared.profile.ScannerProfile.{ScannerProfile}
 use Rattle.scanner_table.specs.declared.profile.SlotConfig.{SlotConfig}
 use Rattle.scanner_table.specs.Profiles as scanner
+use Rattle.trace_lines.specs.Limits.{LimitFits, limit_lines}
 use Rattle.trace_text.specs.Reading.{Entry, trace_reading}
 use Rattle.trace_text.specs.Written.{trace_text}
 
@@ -61,18 +59,6 @@ pub record DescriptionFits (described : Description) : Type 0 where
   pub mac_fits : IsBytes described.mac
   pub inactivity_fits : described.inactivity < 2 ^ 16
 
-abbrev pub PlacesFit : Places → Type 0
-PlacesFit places = (places.owners < 2 ^ 8) × (places.readers < 2 ^ 8) × (places.listeners < 2 ^ 8) × IfSome places.class3_connections (λ number. number < 2 ^ 8)
-
-abbrev pub NodeFits : NodeLimits → Type 0
-NodeFits node = (node.connections < 2 ^ 8) × IfSome node.openings (λ number. number < 2 ^ 16)
-
-pub record LimitsFit (limits : MakerLimits) : Type 0 where
-  pub least_rpi_fits : IfSome limits.least_rpi (λ us. us < 2 ^ 32)
-  pub places_fit : IfSome limits.places PlacesFit
-  pub node_connections_fit : IfSome limits.node_connections NodeFits
-  pub newer_fits : IfSome limits.newer (λ within. within < 2 ^ 32)
-
 -- a class of the maker's own objects
 abbrev pub ClassFits : ℕ → Type 0
 ClassFits class = class < 2 ^ 32
@@ -88,7 +74,7 @@ pub record ProfileFits (profile : Profile) : Type 0 where
   pub input_only_fits : profile.input_only < 2 ^ 32
   pub listen_only_fits : profile.listen_only < 2 ^ 32
   pub description_fits : IfSome profile.description DescriptionFits
-  pub limits_fit : LimitsFit profile.limits
+  pub limits_fit : All LimitFits (limit_lines profile.limits)
   pub objects_fit : All ClassFits profile.objects
 
 -- PROFILES OF SCANNERS

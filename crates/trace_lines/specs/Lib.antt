@@ -1,6 +1,9 @@
 pub mod Kinds
+pub mod LimitLemmas
+pub mod LineShapes
 pub mod Limits
 pub mod Profiles
+pub mod ShapeLemmas
 pub mod Shapes
 pub mod Slots
 pub mod WrittenProfiles

@@ -1,11 +1,10 @@
 -- The shapes of lines: the kinds of the words behind the words that a line begins with. What a line means, how it is
--- written and why it is bad are made of these tables of the code.
-use Rattle.std.specs.Prelude.{ℕ, Bool, true, false, List, [], ◌∷◌, ◌++◌, codes, option_map, option_and_then, ◌≡◌, Option, Some, None, Result, Ok, Err}
+-- written and why it is bad are made of them.
+use Rattle.std.specs.Prelude.{ℕ, Bool, true, false, List, [], ◌∷◌, ◌++◌, option_map, option_and_then, ◌≡◌, Option, Some, None, Result, Ok, Err}
 use Rattle.trace_lines.specs.declared.shapes.WordKind.{WordKind}
-use Rattle.trace_lines.specs.declared.shapes.TheConstants.{ADAPTER, OUTPUT, POINT, DESCRIBE, PLACES, CLASS3_PLACES, NODE_CONNECTIONS, NODE_OPENINGS, CLOSERS, HEARTBEAT, SCANNER, SLOT, RATE, FROM_NODE, EXPLICIT, ANSWER, STREAM, FRAME, CUT, WRITE, NUMBER, MODE, SEND, VALUE, REPLIED, OWN_REQUEST}
 use Rattle.trace_words.specs.declared.words.TextFault.{TextFault}
 use Rattle.trace_words.specs.declared.words.TextFault.TheVariants.{Bad, OutOfMemory}
-use Rattle.trace_words.specs.Reader.{Reader, next_word, Meanings, meaning, ◌>>=◌}
+use Rattle.trace_words.specs.Reader.{Reader, next_word, ◌>>=◌}
 use Rattle.trace_lines.specs.Kinds.{ValueOf, value_of, word_of}
 
 -- WHAT IS MADE OF A SHAPE
@@ -65,61 +64,3 @@ abbrev pub Skips : Option (List (List ℕ)) → Result Unit TextFault → List (
 Skips said (Ok done) rest = said ≡ Some rest
 Skips said (Err Bad) rest = said ≡ None
 Skips said (Err OutOfMemory) rest = Unit {0}
-
--- THE LINES BY THEIR FIRST WORDS
-
-abbrev pub alone : List WordKind → Option Shape
-alone kinds = Some (kinds, [])
-
-abbrev pub line_shapes : Meanings (Option Shape)
-line_shapes =
-    (codes "adapter", alone ADAPTER)
-    ∷ (codes "output", alone OUTPUT)
-    ∷ (codes "input", alone POINT)
-    ∷ (codes "config", alone POINT)
-    ∷ (codes "describe", alone DESCRIBE)
-    ∷ (codes "least-rpi", alone NUMBER)
-    ∷ (codes "places", Some (PLACES, CLASS3_PLACES))
-    ∷ (codes "node-connections", Some (NODE_CONNECTIONS, NODE_OPENINGS))
-    ∷ (codes "closers", alone CLOSERS)
-    ∷ (codes "newer", alone NUMBER)
-    ∷ (codes "object", alone NUMBER)
-    ∷ (codes "heartbeat", alone HEARTBEAT)
-    ∷ (codes "scanner", alone SCANNER)
-    ∷ (codes "tidy", alone [])
-    ∷ (codes "slot", Some (SLOT, RATE))
-    ∷ (codes "request", alone FROM_NODE)
-    ∷ (codes "inquiry", alone FROM_NODE)
-    ∷ (codes "explicit", alone EXPLICIT)
-    ∷ (codes "answer", alone ANSWER)
-    ∷ (codes "stream", alone STREAM)
-    ∷ (codes "frame", alone FRAME)
-    ∷ (codes "cut", alone CUT)
-    ∷ (codes "datagram", alone FROM_NODE)
-    ∷ (codes "write", alone WRITE)
-    ∷ (codes "read", alone NUMBER)
-    ∷ (codes "tick", alone NUMBER)
-    ∷ (codes "mode", alone MODE)
-    ∷ (codes "start", alone NUMBER)
-    ∷ (codes "stop", alone NUMBER)
-    ∷ []
-
--- the shape of a line by its first word
-abbrev pub shape_of : List ℕ → Option Shape
-shape_of word = meaning line_shapes None word
-
--- the parts of an outcome by the word behind the number of an event; a fault and a notice have no shape
-abbrev pub part_shapes : Meanings (Option Shape)
-part_shapes =
-    (codes "value", alone VALUE)
-    ∷ (codes "replied", alone REPLIED)
-    ∷ (codes "asked", alone OWN_REQUEST)
-    ∷ (codes "fault", None)
-    ∷ (codes "reply", alone FROM_NODE)
-    ∷ (codes "frame", alone FRAME)
-    ∷ (codes "send", alone SEND)
-    ∷ (codes "note", None)
-    ∷ []
-
-abbrev pub part_shape_of : List ℕ → Option Shape
-part_shape_of word = meaning part_shapes None word

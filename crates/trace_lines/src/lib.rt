@@ -12,8 +12,8 @@ mod written_slots;
 
 pub use forms::{AdapterLine, HeartbeatLine, Rate, ScannerLine, profile_with, scanner_with};
 pub use limit_lines::{
-    LimitLine, read_least_rpi, read_newer, read_node_connections, read_own_closers, read_places,
-    with_limit,
+    LIMITS, LimitLine, LimitName, LimitNumber, NumberRange, StatedNumber, bad_number, limit_named,
+    read_limit, stated_line, with_limit,
 };
 pub use names::{kind_name, read_mode};
 pub use profile_lines::{

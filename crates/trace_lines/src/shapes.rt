@@ -3,8 +3,11 @@
 
 ghost use Rattle.std.specs.Prelude.{◌≡◌, option_map};
 ghost use Rattle.trace_words.specs.Reader.{unread_words};
-ghost use Rattle.trace_lines.specs.Shapes.{behind_word, shape_of, part_shape_of, skipped, Skips};
+ghost use Rattle.trace_lines.specs.Limits.{limit_named, limit_shape};
+ghost use Rattle.trace_lines.specs.LineShapes.{shape_of, part_shape_of};
+ghost use Rattle.trace_lines.specs.Shapes.{behind_word, skipped, Skips};
 
+use crate::limit_lines::{limit_named, limit_shape};
 use crate::names::{
     read_action, read_closers, read_kind, read_mode, read_multicast, read_openings, read_trigger,
 };
@@ -187,10 +190,7 @@ pub fn shape_of(first: &str) -> Option<Shape>
         "output" => Some((&OUTPUT, &[])),
         "input" | "config" => Some((&POINT, &[])),
         "describe" => Some((&DESCRIBE, &[])),
-        "least-rpi" | "newer" | "object" => Some((&NUMBER, &[])),
-        "places" => Some((&PLACES, &CLASS3_PLACES)),
-        "node-connections" => Some((&NODE_CONNECTIONS, &NODE_OPENINGS)),
-        "closers" => Some((&CLOSERS, &[])),
+        "object" => Some((&NUMBER, &[])),
         "heartbeat" => Some((&HEARTBEAT, &[])),
         "scanner" => Some((&SCANNER, &[])),
         "tidy" => Some((&[], &[])),
@@ -204,8 +204,16 @@ pub fn shape_of(first: &str) -> Option<Shape>
         "write" => Some((&WRITE, &[])),
         "read" | "tick" | "start" | "stop" => Some((&NUMBER, &[])),
         "mode" => Some((&MODE, &[])),
-        _ => None,
+        _ => limit_shape_of(first),
     }
+}
+
+/// The shape of the line of a limit by its first word. None if no such line begins so.
+fn limit_shape_of(first: &str) -> Option<Shape>
+    ensures { option_map (λ shape. (shape.0.now, shape.1.now)) result ≡ option_map limit_shape (limit_named first.now) }
+{
+    let limit = limit_named(first)?;
+    Some(limit_shape(limit))
 }
 
 /// The shape of a part of an outcome by the word behind the number of its event. None if no part begins so, or one that

@@ -1,7 +1,6 @@
 mod AsciiLines
 mod DescribedSamples
 mod EntryTexts
-mod LimitLines
 mod LimitSamples
 mod ObjectSamples
 mod Pieces

@@ -20,7 +20,7 @@ use Rattle.trace_text.proofs.DescribedSamples.{rack}
 -- a least interval of 1 ms, places for one owner, two readers, no listener and eight class 3 connections, four connections of one
 -- node and 20 openings in a second, own closers, and sequence numbers that are ahead by less than 1000
 abbrev limits : MakerLimits
-limits = record { least_rpi = Some 1000; places = Some (record { owners = 1; readers = 2; listeners = 0; class3_connections = Some 8 }); node_connections = Some (record { connections = 4; openings = Some 20 }); own_closers = true; newer = Some 1000 }
+limits = record no_limits { least_rpi = Some 1000; places = Some (record { owners = 1; readers = 2; listeners = 0; class3_connections = Some 8 }); node_connections = Some (record { connections = 4; openings = Some 20 }); own_closers = true; newer = Some 1000 }
 
 abbrev profile : Profile
 profile = record {

@@ -21,8 +21,7 @@ use Rattle.trace_text.specs.Forms.{line_of}
 use Rattle.trace_text.specs.Reading.{is_line_feed, is_skipped, parts_of, builder_with, builder_after, parsed_from, parsed, judged, judged_by, ended, trace_reading}
 use Rattle.trace_text.specs.Texts.{trace_values, IsOneLine, ended_lines, said_by, WriteTrace, BeginTrace, IsTraceText, IsBadNext, IsBadEnd, IsBadLine, IsTraceReading}
 use Rattle.trace_text.proofs.TextLines.{good_line, bad_line, open_line, text_ends}
-use Rattle.trace_text.proofs.LimitLines.{some_is}
-use Rattle.trace_text.proofs.TraceValues.{found_in, so_far, run, run_both, run_adds, completed, trace_run}
+use Rattle.trace_text.proofs.TraceValues.{some_is, found_in, so_far, run, run_both, run_adds, completed, trace_run}
 
 abbrev Lines : Type 0
 Lines = List (List ℕ)
@@ -127,7 +126,7 @@ whole_or_not (Points adapter outputs inputs) = inl (λ number. refl)
 whole_or_not (Configured adapter outputs inputs point) = inl (λ number. refl)
 whole_or_not (Stated front) = inl (λ number. refl)
 whole_or_not (Objects front objects) = inl (λ number. refl)
-whole_or_not (Slots scanner newer slots) = inr (record { config = config.Scanner (scanner_with scanner newer slots); events = [] }, (sym (append-nil _), λ number. refl))
+whole_or_not (Slots scanner newer tidy slots) = inr (record { config = config.Scanner (scanner_with scanner newer tidy slots); events = [] }, (sym (append-nil _), λ number. refl))
 whole_or_not (Events made_of entries None) = inr (record { config = made_of; events = entries ++ [] }, (refl, λ number. refl))
 whole_or_not (Events made_of entries (Some last)) = inr (record { config = made_of; events = entries ++ last ∷ [] }, (refl, λ number. refl))
 

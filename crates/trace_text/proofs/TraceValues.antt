@@ -3,11 +3,9 @@
 use Rattle.std.proofs.Common.{◌≡◌, ℕ, ◌+◌, Bool, true, false, cond, is_none, not, ◌&&◌, eqb, List, [], ◌∷◌, ◌++◌, length, map, Option, Some, None, Ok, Err, refl, sym, ap, ◌∙◌, arith, append_assoc}
 use Rattle.std.specs.Prelude.{option_to_list, option_map, option_and_then}
 use Rattle.std.proofs.lemmas.Bool.Decides.{nat_tests}
-use Rattle.std.proofs.lemmas.List.{append-nil, length-append}
+use Rattle.std.proofs.lemmas.List.{append-nil, length-append, map-append}
 use Rattle.adapter_table.specs.declared.profile.Description.{Description}
 use Rattle.adapter_table.specs.declared.maker_limits.MakerLimits.{MakerLimits}
-use Rattle.adapter_table.specs.declared.maker_limits.NodeLimits.{NodeLimits}
-use Rattle.adapter_table.specs.declared.maker_limits.Places.{Places}
 use Rattle.adapter_table.specs.Profiles.{no_limits}
 use Rattle.adapter_table.specs.declared.profile.Profile.{Profile}
 use Rattle.adapter_table.specs.declared.profile.InputPoint.{InputPoint}
@@ -28,7 +26,8 @@ use Rattle.trace_lines.specs.declared.forms.HeartbeatLine.{HeartbeatLine}
 use Rattle.trace_lines.specs.declared.forms.ScannerLine.{ScannerLine}
 use Rattle.trace_lines.specs.declared.limit_lines.LimitLine.{LimitLine}
 use Rattle.trace_lines.specs.declared.limit_lines.LimitLine.TheVariants as limit
-use Rattle.trace_lines.specs.Limits.{closers_line, with_limit, limit_lines}
+use Rattle.trace_lines.specs.LimitLemmas.{Steps, limit_added, limit_steps}
+use Rattle.trace_lines.specs.Limits.{with_limit, limit_lines}
 use Rattle.trace_lines.specs.Profiles.{profile_with}
 use Rattle.trace_lines.specs.Slots.{scanner_with}
 use Rattle.trace_outcomes.specs.declared.part.Part.{Part}
@@ -40,23 +39,17 @@ use Rattle.trace_text.specs.declared.builder.TraceBuilder.TheVariants.{Empty, Po
 use Rattle.trace_text.specs.declared.forms.TraceLine.{TraceLine}
 use Rattle.trace_text.specs.declared.forms.TraceLine.TheVariants as line
 use Rattle.trace_text.specs.declared.trace.Trace.{Trace}
-use Rattle.trace_text.proofs.LimitLines.{some_is, limit_added}
 use Rattle.trace_text.specs.Reading.{Entry, front_of, with_stated, with_newer, with_tidy, builder_with, parsed, judged_by}
 use Rattle.trace_text.specs.Texts.{adapter_line_of, heartbeat_line_of, scanner_line_of, tidy_lines, config_values, outcome_parts, recorded_parts, entry_values, entries_values, trace_values}
 
 -- LISTS AND OPTIONS
 
-map_last : {A B : Type 0} (f : A → B) (xs : List A) (x : A) → map f (xs ++ x ∷ []) ≡ map f xs ++ f x ∷ []
-map_last f [] x = refl
-map_last f (y ∷ xs) x = ap (λ t. f y ∷ t) (map_last f xs x)
-
-map_both : {A B : Type 0} (f : A → B) (xs ys : List A) → map f (xs ++ ys) ≡ map f xs ++ map f ys
-map_both f [] ys = refl
-map_both f (x ∷ xs) ys = ap (λ t. f x ∷ t) (map_both f xs ys)
-
 no_elements : {A : Type 0} (xs : List A) → length xs ≡ 0 → xs ≡ []
 no_elements [] none = refl
 no_elements (x ∷ xs) none = absurd (omega arith)
+
+pub some_is : {A : Type 0} (x y : A) → Some x ≡ Some y → x ≡ y
+some_is x y is = cc
 
 -- a test that was passed, and the value behind it
 passed : {A : Type 0} (test : Bool) (value : Option A) (got : A) → cond test value None ≡ Some got → (test ≡ true) × (value ≡ Some got)
@@ -114,7 +107,7 @@ output_added adapter outputs inputs output next is =
     let none : inputs ≡ [] = no_elements inputs (is_zero (length inputs) pair.0) in
     so_far_is _ _ pair.1
     ∙ ap (λ points. line.Adapter adapter ∷ (map line.Output (outputs ++ output ∷ []) ++ map line.Input points)) none
-    ∙ ap (λ t. line.Adapter adapter ∷ t) (append-nil (map line.Output (outputs ++ output ∷ [])) ∙ map_last line.Output outputs output)
+    ∙ ap (λ t. line.Adapter adapter ∷ t) (append-nil (map line.Output (outputs ++ output ∷ [])) ∙ map-append line.Output outputs (output ∷ []))
     ∙ ap (λ t. line.Adapter adapter ∷ (t ++ line.Output output ∷ [])) (sym (append-nil (map line.Output outputs)))
     ∙ ap (λ points. line.Adapter adapter ∷ ((map line.Output outputs ++ map line.Input points) ++ line.Output output ∷ [])) (sym none)
 
@@ -127,7 +120,7 @@ frame_last frames datagrams notices frame no_datagrams no_notices =
     ap (λ ds. parts_with (frames ++ frame ∷ []) ds notices) no_datagrams
     ∙ ap (λ ns. parts_with (frames ++ frame ∷ []) [] ns) no_notices
     ∙ append-nil (map part.Frame (frames ++ frame ∷ []))
-    ∙ map_last part.Frame frames frame
+    ∙ map-append part.Frame frames (frame ∷ [])
     ∙ ap (λ t. t ++ part.Frame frame ∷ []) (sym (append-nil (map part.Frame frames)))
     ∙ ap (λ ns. parts_with frames [] ns ++ part.Frame frame ∷ []) (sym no_notices)
     ∙ ap (λ ds. parts_with frames ds notices ++ part.Frame frame ∷ []) (sym no_datagrams)
@@ -135,14 +128,14 @@ frame_last frames datagrams notices frame no_datagrams no_notices =
 datagram_last : (frames : List Frame) (datagrams : List OutgoingDatagram) (notices : List Notice) (outgoing : OutgoingDatagram) → notices ≡ [] → parts_with frames (datagrams ++ outgoing ∷ []) notices ≡ parts_with frames datagrams notices ++ part.Datagram outgoing ∷ []
 datagram_last frames datagrams notices outgoing no_notices =
     ap (λ ns. parts_with frames (datagrams ++ outgoing ∷ []) ns) no_notices
-    ∙ ap (λ t. map part.Frame frames ++ t) (append-nil (map part.Datagram (datagrams ++ outgoing ∷ [])) ∙ map_last part.Datagram datagrams outgoing)
+    ∙ ap (λ t. map part.Frame frames ++ t) (append-nil (map part.Datagram (datagrams ++ outgoing ∷ [])) ∙ map-append part.Datagram datagrams (outgoing ∷ []))
     ∙ sym (append_assoc (map part.Frame frames) (map part.Datagram datagrams) (part.Datagram outgoing ∷ []))
     ∙ ap (λ t. (map part.Frame frames ++ t) ++ part.Datagram outgoing ∷ []) (sym (append-nil (map part.Datagram datagrams)))
     ∙ ap (λ ns. parts_with frames datagrams ns ++ part.Datagram outgoing ∷ []) (sym no_notices)
 
 notice_last : (frames : List Frame) (datagrams : List OutgoingDatagram) (notices : List Notice) (notice : Notice) → parts_with frames datagrams (notices ++ notice ∷ []) ≡ parts_with frames datagrams notices ++ part.Notice notice ∷ []
 notice_last frames datagrams notices notice =
-    ap (λ t. map part.Frame frames ++ (map part.Datagram datagrams ++ t)) (map_last part.Notice notices notice)
+    ap (λ t. map part.Frame frames ++ (map part.Datagram datagrams ++ t)) (map-append part.Notice notices (notice ∷ []))
     ∙ ap (λ t. map part.Frame frames ++ t) (sym (append_assoc (map part.Datagram datagrams) (map part.Notice notices) (part.Notice notice ∷ [])))
     ∙ sym (append_assoc (map part.Frame frames) (map part.Datagram datagrams ++ map part.Notice notices) (part.Notice notice ∷ []))
 
@@ -152,16 +145,6 @@ none_of_both a b none = (omega arith, omega arith)
 recorded_last : (recorded : Option Outcome) (more : Part) (outcome : Outcome) → recorded_with recorded more ≡ Some outcome → outcome_parts outcome ≡ recorded_parts recorded ++ more ∷ []
 recorded_last None (part.Verdict verdict) outcome is = ap outcome_parts (sym (some_is _ outcome is))
 recorded_last None (part.Fault why) outcome is = ap outcome_parts (sym (some_is _ outcome is))
-recorded_last None (part.Frame frame) outcome is = absurd (cc)
-recorded_last None (part.Datagram outgoing) outcome is = absurd (cc)
-recorded_last None (part.Notice notice) outcome is = absurd (cc)
-recorded_last (Some (Err why)) (part.Verdict verdict) outcome is = absurd (cc)
-recorded_last (Some (Err why)) (part.Fault other) outcome is = absurd (cc)
-recorded_last (Some (Err why)) (part.Frame frame) outcome is = absurd (cc)
-recorded_last (Some (Err why)) (part.Datagram outgoing) outcome is = absurd (cc)
-recorded_last (Some (Err why)) (part.Notice notice) outcome is = absurd (cc)
-recorded_last (Some (Ok answer)) (part.Verdict verdict) outcome is = absurd (cc)
-recorded_last (Some (Ok answer)) (part.Fault why) outcome is = absurd (cc)
 recorded_last (Some (Ok answer)) (part.Frame frame) outcome is =
     let (grown, (from, made)) = mapped_from Ok _ outcome is in
     let pair = passed (eqb (length answer.datagrams + length answer.notices) 0) (Some (record answer { frames = answer.frames ++ frame ∷ [] })) grown from in
@@ -176,6 +159,7 @@ recorded_last (Some (Ok answer)) (part.Datagram outgoing) outcome is =
 recorded_last (Some (Ok answer)) (part.Notice notice) outcome is =
     ap outcome_parts (sym (some_is _ outcome is))
     ∙ ap (λ t. part.Verdict answer.verdict ∷ t) (notice_last answer.frames answer.datagrams answer.notices notice)
+recorded_last recorded more outcome is = absurd (cc)
 
 part_added : (made_of : Config) (entries : List Entry) (event : Event) (recorded : Option Outcome) (number : ℕ) (more : Part) (next : TraceBuilder) → builder_with (Events made_of entries (Some (event, recorded))) (line.Recorded number more) ≡ Some next → so_far next ≡ so_far (Events made_of entries (Some (event, recorded))) ++ line.Recorded number more ∷ []
 part_added made_of entries event recorded number more next is =
@@ -185,7 +169,7 @@ part_added made_of entries event recorded number more next is =
     let parts : outcome_parts outcome ≡ recorded_parts recorded ++ more ∷ [] = recorded_last recorded more outcome from in
     let grown : entry_values (1 + length entries) (event, Some outcome) ≡ entry_values (1 + length entries) (event, recorded) ++ line.Recorded number more ∷ [] =
     ap (λ ps. line.Event event ∷ map (line.Recorded (1 + length entries)) ps) parts
-    ∙ ap (λ t. line.Event event ∷ t) (map_last (line.Recorded (1 + length entries)) (recorded_parts recorded) more)
+    ∙ ap (λ t. line.Event event ∷ t) (map-append (line.Recorded (1 + length entries)) (recorded_parts recorded) (more ∷ []))
     ∙ ap (λ n. (line.Event event ∷ map (line.Recorded (1 + length entries)) (recorded_parts recorded)) ++ line.Recorded n more ∷ []) place in
     ap so_far (sym made)
     ∙ ap (λ t. config_values made_of ++ t) (entries_last 1 entries (event, Some outcome) ∙ ap (λ t. entries_values 1 entries ++ t) grown
@@ -246,125 +230,47 @@ limit_added_to : (front : ProfileFront) (limit : LimitLine) (next : TraceBuilder
 limit_added_to front limit next is =
     let (more, (from, made)) = mapped_from (λ more. Stated (record front { limits = more })) (with_limit front.limits limit) next is in
     ap so_far (sym made)
-    ∙ ap (λ t. line.Adapter front.adapter ∷ (map line.Output front.outputs ++ (map line.Input front.inputs ++ (map line.Config (option_to_list front.config) ++ (map line.Description (option_to_list front.description) ++ t))))) (ap (map line.Limit) (limit_added front.limits limit more from) ∙ map_last line.Limit (limit_lines front.limits) limit)
+    ∙ ap (λ t. line.Adapter front.adapter ∷ (map line.Output front.outputs ++ (map line.Input front.inputs ++ (map line.Config (option_to_list front.config) ++ (map line.Description (option_to_list front.description) ++ t))))) (ap (map line.Limit) (limit_added front.limits limit more from) ∙ map-append line.Limit (limit_lines front.limits) (limit ∷ []))
     ∙ behind_stated front (line.Limit limit)
 
 object_added_to : (front : ProfileFront) (objects : List ℕ) (class : ℕ) → so_far (Objects front (objects ++ class ∷ [])) ≡ so_far (Objects front objects) ++ line.Object class ∷ []
 object_added_to front objects class =
-    ap (λ t. line.Adapter front.adapter ∷ (map line.Output front.outputs ++ (map line.Input front.inputs ++ (map line.Config (option_to_list front.config) ++ (map line.Description (option_to_list front.description) ++ (map line.Limit (limit_lines front.limits) ++ t)))))) (map_last line.Object objects class)
+    ap (λ t. line.Adapter front.adapter ∷ (map line.Output front.outputs ++ (map line.Input front.inputs ++ (map line.Config (option_to_list front.config) ++ (map line.Description (option_to_list front.description) ++ (map line.Limit (limit_lines front.limits) ++ t)))))) (map-append line.Object objects (class ∷ []))
     ∙ behind_objects front objects (line.Object class)
 
 -- a line that is allowed is one line more
 pub added : (builder : TraceBuilder) (parsed : TraceLine) (next : TraceBuilder) → builder_with builder parsed ≡ Some next → so_far next ≡ so_far builder ++ parsed ∷ []
 added Empty (line.Adapter value) next is = so_far_is _ _ is
-added Empty (line.Output value) next is = absurd (cc)
-added Empty (line.Input value) next is = absurd (cc)
-added Empty (line.Config value) next is = absurd (cc)
-added Empty (line.Description value) next is = absurd (cc)
-added Empty (line.Limit value) next is = absurd (cc)
-added Empty (line.Object value) next is = absurd (cc)
-added Empty (line.Heartbeat value) next is = absurd (cc)
 added Empty (line.Scanner value) next is = so_far_is _ _ is
-added Empty line.Tidy next is = absurd (cc)
-added Empty (line.Slot value) next is = absurd (cc)
-added Empty (line.Event value) next is = absurd (cc)
-added Empty (line.Recorded number value) next is = absurd (cc)
-added (Points adapter outputs inputs) (line.Adapter value) next is = absurd (cc)
 added (Points adapter outputs inputs) (line.Output value) next is = output_added adapter outputs inputs value next is
-added (Points adapter outputs inputs) (line.Input value) next is = so_far_is _ _ is ∙ ap (λ t. line.Adapter adapter ∷ (map line.Output outputs ++ t)) (map_last line.Input inputs value) ∙ ap (λ t. line.Adapter adapter ∷ t) (sym (append_assoc (map line.Output outputs) (map line.Input inputs) (line.Input value ∷ [])))
+added (Points adapter outputs inputs) (line.Input value) next is = so_far_is _ _ is ∙ ap (λ t. line.Adapter adapter ∷ (map line.Output outputs ++ t)) (map-append line.Input inputs (value ∷ [])) ∙ ap (λ t. line.Adapter adapter ∷ t) (sym (append_assoc (map line.Output outputs) (map line.Input inputs) (line.Input value ∷ [])))
 added (Points adapter outputs inputs) (line.Config value) next is = so_far_is _ _ is ∙ ap (λ t. line.Adapter adapter ∷ t) (sym (append_assoc (map line.Output outputs) (map line.Input inputs) (line.Config value ∷ [])))
 added (Points adapter outputs inputs) (line.Description value) next is = so_far_is _ _ is ∙ points_last adapter (map line.Output outputs) (map line.Input inputs) (line.Description value)
 added (Points adapter outputs inputs) (line.Limit value) next is = limit_added_to (front_of adapter outputs inputs None None) value next is ∙ ap (λ t. (line.Adapter adapter ∷ (map line.Output outputs ++ t)) ++ line.Limit value ∷ []) (append-nil (map line.Input inputs))
 added (Points adapter outputs inputs) (line.Object value) next is = so_far_is _ _ is ∙ points_last adapter (map line.Output outputs) (map line.Input inputs) (line.Object value)
 added (Points adapter outputs inputs) (line.Heartbeat value) next is = so_far_is _ _ is ∙ append-nil _ ∙ points_last adapter (map line.Output outputs) (map line.Input inputs) (line.Heartbeat value)
-added (Points adapter outputs inputs) (line.Scanner value) next is = absurd (cc)
-added (Points adapter outputs inputs) line.Tidy next is = absurd (cc)
-added (Points adapter outputs inputs) (line.Slot value) next is = absurd (cc)
-added (Points adapter outputs inputs) (line.Event value) next is = absurd (cc)
-added (Points adapter outputs inputs) (line.Recorded number value) next is = absurd (cc)
-added (Configured adapter outputs inputs point) (line.Adapter value) next is = absurd (cc)
-added (Configured adapter outputs inputs point) (line.Output value) next is = absurd (cc)
-added (Configured adapter outputs inputs point) (line.Input value) next is = absurd (cc)
-added (Configured adapter outputs inputs point) (line.Config value) next is = absurd (cc)
 added (Configured adapter outputs inputs point) (line.Description value) next is = so_far_is _ _ is ∙ ends_last adapter (map line.Output outputs) (map line.Input inputs) (line.Config point ∷ []) (line.Description value)
 added (Configured adapter outputs inputs point) (line.Limit value) next is = limit_added_to (front_of adapter outputs inputs (Some point) None) value next is
 added (Configured adapter outputs inputs point) (line.Object value) next is = so_far_is _ _ is ∙ ends_last adapter (map line.Output outputs) (map line.Input inputs) (line.Config point ∷ []) (line.Object value)
 added (Configured adapter outputs inputs point) (line.Heartbeat value) next is = so_far_is _ _ is ∙ append-nil _ ∙ ends_last adapter (map line.Output outputs) (map line.Input inputs) (line.Config point ∷ []) (line.Heartbeat value)
-added (Configured adapter outputs inputs point) (line.Scanner value) next is = absurd (cc)
-added (Configured adapter outputs inputs point) line.Tidy next is = absurd (cc)
-added (Configured adapter outputs inputs point) (line.Slot value) next is = absurd (cc)
-added (Configured adapter outputs inputs point) (line.Event value) next is = absurd (cc)
-added (Configured adapter outputs inputs point) (line.Recorded number value) next is = absurd (cc)
-added (Stated front) (line.Adapter value) next is = absurd (cc)
-added (Stated front) (line.Output value) next is = absurd (cc)
-added (Stated front) (line.Input value) next is = absurd (cc)
-added (Stated front) (line.Config value) next is = absurd (cc)
-added (Stated front) (line.Description value) next is = absurd (cc)
 added (Stated front) (line.Limit value) next is = limit_added_to front value next is
 added (Stated front) (line.Object value) next is = so_far_is _ _ is ∙ behind_stated front (line.Object value)
 added (Stated front) (line.Heartbeat value) next is = so_far_is _ _ is ∙ append-nil _ ∙ behind_stated front (line.Heartbeat value)
-added (Stated front) (line.Scanner value) next is = absurd (cc)
-added (Stated front) line.Tidy next is = absurd (cc)
-added (Stated front) (line.Slot value) next is = absurd (cc)
-added (Stated front) (line.Event value) next is = absurd (cc)
-added (Stated front) (line.Recorded number value) next is = absurd (cc)
-added (Objects front objects) (line.Adapter value) next is = absurd (cc)
-added (Objects front objects) (line.Output value) next is = absurd (cc)
-added (Objects front objects) (line.Input value) next is = absurd (cc)
-added (Objects front objects) (line.Config value) next is = absurd (cc)
-added (Objects front objects) (line.Description value) next is = absurd (cc)
-added (Objects front objects) (line.Limit value) next is = absurd (cc)
 added (Objects front objects) (line.Object value) next is = so_far_is _ _ is ∙ object_added_to front objects value
 added (Objects front objects) (line.Heartbeat value) next is = so_far_is _ _ is ∙ append-nil _ ∙ behind_objects front objects (line.Heartbeat value)
-added (Objects front objects) (line.Scanner value) next is = absurd (cc)
-added (Objects front objects) line.Tidy next is = absurd (cc)
-added (Objects front objects) (line.Slot value) next is = absurd (cc)
-added (Objects front objects) (line.Event value) next is = absurd (cc)
-added (Objects front objects) (line.Recorded number value) next is = absurd (cc)
-added (Slots scanner newer tidy slots) (line.Adapter value) next is = absurd (cc)
-added (Slots scanner newer tidy slots) (line.Output value) next is = absurd (cc)
-added (Slots scanner newer tidy slots) (line.Input value) next is = absurd (cc)
-added (Slots scanner newer tidy slots) (line.Config value) next is = absurd (cc)
-added (Slots scanner newer tidy slots) (line.Description value) next is = absurd (cc)
 added (Slots scanner newer tidy slots) (line.Limit value) next is = newer_added scanner newer tidy slots value next is
-added (Slots scanner newer tidy slots) (line.Object value) next is = absurd (cc)
-added (Slots scanner newer tidy slots) (line.Heartbeat value) next is = absurd (cc)
-added (Slots scanner newer tidy slots) (line.Scanner value) next is = absurd (cc)
 added (Slots scanner newer tidy slots) line.Tidy next is = tidy_added scanner newer tidy slots next is
 added (Slots scanner newer tidy slots) (line.Slot value) next is =
     let limits = map line.Limit (option_to_list (option_map limit.Newer newer)) in
     so_far_is _ _ is
-    ∙ ap (λ t. line.Scanner scanner ∷ (limits ++ (tidy_lines tidy ++ t))) (map_last line.Slot slots value)
+    ∙ ap (λ t. line.Scanner scanner ∷ (limits ++ (tidy_lines tidy ++ t))) (map-append line.Slot slots (value ∷ []))
     ∙ ap (λ t. line.Scanner scanner ∷ (limits ++ t)) (sym (append_assoc (tidy_lines tidy) (map line.Slot slots) (line.Slot value ∷ [])))
     ∙ ap (λ t. line.Scanner scanner ∷ t) (sym (append_assoc limits (tidy_lines tidy ++ map line.Slot slots) (line.Slot value ∷ [])))
 added (Slots scanner newer tidy slots) (line.Event value) next is = so_far_is _ _ is
-added (Slots scanner newer tidy slots) (line.Recorded number value) next is = absurd (cc)
-added (Events made_of entries None) (line.Adapter value) next is = absurd (cc)
-added (Events made_of entries None) (line.Output value) next is = absurd (cc)
-added (Events made_of entries None) (line.Input value) next is = absurd (cc)
-added (Events made_of entries None) (line.Config value) next is = absurd (cc)
-added (Events made_of entries None) (line.Description value) next is = absurd (cc)
-added (Events made_of entries None) (line.Limit value) next is = absurd (cc)
-added (Events made_of entries None) (line.Object value) next is = absurd (cc)
-added (Events made_of entries None) (line.Heartbeat value) next is = absurd (cc)
-added (Events made_of entries None) (line.Scanner value) next is = absurd (cc)
-added (Events made_of entries None) line.Tidy next is = absurd (cc)
-added (Events made_of entries None) (line.Slot value) next is = absurd (cc)
 added (Events made_of entries None) (line.Event value) next is = so_far_is _ _ is ∙ event_added made_of (entries ++ []) value
-added (Events made_of entries None) (line.Recorded number value) next is = absurd (cc)
-added (Events made_of entries (Some (event, recorded))) (line.Adapter value) next is = absurd (cc)
-added (Events made_of entries (Some (event, recorded))) (line.Output value) next is = absurd (cc)
-added (Events made_of entries (Some (event, recorded))) (line.Input value) next is = absurd (cc)
-added (Events made_of entries (Some (event, recorded))) (line.Config value) next is = absurd (cc)
-added (Events made_of entries (Some (event, recorded))) (line.Description value) next is = absurd (cc)
-added (Events made_of entries (Some (event, recorded))) (line.Limit value) next is = absurd (cc)
-added (Events made_of entries (Some (event, recorded))) (line.Object value) next is = absurd (cc)
-added (Events made_of entries (Some (event, recorded))) (line.Heartbeat value) next is = absurd (cc)
-added (Events made_of entries (Some (event, recorded))) (line.Scanner value) next is = absurd (cc)
-added (Events made_of entries (Some (event, recorded))) line.Tidy next is = absurd (cc)
-added (Events made_of entries (Some (event, recorded))) (line.Slot value) next is = absurd (cc)
 added (Events made_of entries (Some (event, recorded))) (line.Event value) next is = so_far_is _ _ is ∙ event_added made_of (entries ++ (event, recorded) ∷ []) value
 added (Events made_of entries (Some (event, recorded))) (line.Recorded number value) next is = part_added made_of entries event recorded number value next is
+added builder parsed next is = absurd (cc)
 
 -- LINES ONE AFTER THE OTHER
 
@@ -390,7 +296,7 @@ run_adds builder (None ∷ lines) end is = absurd (cc)
 run_adds builder (Some value ∷ lines) end is =
     let (next, (first, rest)) = found_in (λ next. run next lines) (builder_with builder value) end is in
     sym (append_assoc (map Some (so_far builder)) (Some value ∷ []) lines)
-    ∙ ap (λ t. t ++ lines) (sym (map_last Some (so_far builder) value) ∙ ap (map Some) (sym (added builder value next first)))
+    ∙ ap (λ t. t ++ lines) (sym (map-append Some (so_far builder) (value ∷ [])) ∙ ap (map Some) (sym (added builder value next first)))
     ∙ run_adds next lines end rest
 
 -- WHAT IS READ CAN BE COMPLETED
@@ -427,7 +333,7 @@ first_run builder next value lines said first rest = ap (option_and_then (λ b. 
 -- lines, and those behind them
 both_run : (builder next : TraceBuilder) (xs ys : List TraceLine) (said : Option TraceBuilder) → run builder (map Some xs) ≡ Some next → run next (map Some ys) ≡ said → run builder (map Some (xs ++ ys)) ≡ said
 both_run builder next xs ys said first rest =
-    ap (run builder) (map_both Some xs ys) ∙ run_both builder (map Some xs) (map Some ys) ∙ ap (option_and_then (λ b. run b (map Some ys))) first ∙ rest
+    ap (run builder) (map-append Some xs ys) ∙ run_both builder (map Some xs) (map Some ys) ∙ ap (option_and_then (λ b. run b (map Some ys))) first ∙ rest
 
 outputs_run : (adapter : AdapterLine) (before outputs : List OutputPoint) → run (Points adapter before []) (map Some (map line.Output outputs)) ≡ Some (Points adapter (before ++ outputs) [])
 outputs_run adapter before [] = ap (λ t. Some (Points adapter t [])) (sym (append-nil before))
@@ -455,12 +361,9 @@ stated_run : (front : ProfileFront) (points : HeartbeatLine) (more : List ℕ) �
 stated_run front points [] = refl
 stated_run front points (class ∷ more) = objects_run front points (class ∷ []) more
 
-abbrev limits_of : Option ℕ → Option Places → Option NodeLimits → Bool → Option ℕ → MakerLimits
-limits_of rpi places node closers newer = record { least_rpi = rpi; places = places; node_connections = node; own_closers = closers; newer = newer }
-
 module _ (adapter : AdapterLine) (outputs : List OutputPoint) (inputs : List InputPoint) (settings : Option InputPoint) (described : Option Description) (classes : List ℕ) (points : HeartbeatLine) where
-  abbrev stated : MakerLimits → TraceBuilder
-  stated limits = Stated (record (front_of adapter outputs inputs settings described) { limits = limits })
+  abbrev stated : MakerLimits → ProfileFront
+  stated limits = record (front_of adapter outputs inputs settings described) { limits = limits }
 
   abbrev whole : MakerLimits → Option TraceBuilder
   whole limits = Some (Events (config.Adapter (profile_with adapter outputs inputs settings described limits classes points)) [] None)
@@ -468,28 +371,13 @@ module _ (adapter : AdapterLine) (outputs : List OutputPoint) (inputs : List Inp
   abbrev behind : List TraceLine
   behind = objects_end points classes
 
-  newer_run : (a : Option ℕ) (b : Option Places) (c : Option NodeLimits) (d : Bool) (e : Option ℕ) → run (stated (limits_of a b c d None)) (limits_end behind (option_to_list (option_map limit.Newer e))) ≡ whole (limits_of a b c d e)
-  newer_run a b c d None = stated_run (record (front_of adapter outputs inputs settings described) { limits = limits_of a b c d None }) points classes
-  newer_run a b c d (Some within) = stated_run (record (front_of adapter outputs inputs settings described) { limits = limits_of a b c d (Some within) }) points classes
+  steps_run : (limits end : MakerLimits) (lines : List LimitLine) → Steps limits lines end → run (Stated (stated limits)) (limits_end behind lines) ≡ whole end
+  steps_run limits end [] is = stated_run (stated limits) points classes ∙ ap whole is
+  steps_run limits end (given ∷ lines) (next, (is, more)) =
+      first_run (Stated (stated limits)) (Stated (stated next)) (line.Limit given) (limits_end behind lines) _ (ap (option_map (λ to. Stated (stated to))) is) (steps_run next end lines more)
 
-  closers_run : (a : Option ℕ) (b : Option Places) (c : Option NodeLimits) (d : Bool) (e : Option ℕ) → run (stated (limits_of a b c false None)) (limits_end behind (option_to_list (closers_line d) ++ option_to_list (option_map limit.Newer e))) ≡ whole (limits_of a b c d e)
-  closers_run a b c false e = newer_run a b c false e
-  closers_run a b c true e = newer_run a b c true e
-
-  node_run : (a : Option ℕ) (b : Option Places) (c : Option NodeLimits) (d : Bool) (e : Option ℕ) → run (stated (limits_of a b None false None)) (limits_end behind (option_to_list (option_map limit.NodeConnections c) ++ (option_to_list (closers_line d) ++ option_to_list (option_map limit.Newer e)))) ≡ whole (limits_of a b c d e)
-  node_run a b None d e = closers_run a b None d e
-  node_run a b (Some most) d e = closers_run a b (Some most) d e
-
-  places_run : (a : Option ℕ) (b : Option Places) (c : Option NodeLimits) (d : Bool) (e : Option ℕ) → run (stated (limits_of a None None false None)) (limits_end behind (option_to_list (option_map limit.Places b) ++ (option_to_list (option_map limit.NodeConnections c) ++ (option_to_list (closers_line d) ++ option_to_list (option_map limit.Newer e))))) ≡ whole (limits_of a b c d e)
-  places_run a None c d e = node_run a None c d e
-  places_run a (Some places) c d e = node_run a (Some places) c d e
-
-  rpi_run : (a : Option ℕ) (b : Option Places) (c : Option NodeLimits) (d : Bool) (e : Option ℕ) → run (stated no_limits) (limits_end behind (limit_lines (limits_of a b c d e))) ≡ whole (limits_of a b c d e)
-  rpi_run None b c d e = places_run None b c d e
-  rpi_run (Some us) b c d e = places_run (Some us) b c d e
-
-  limits_run : (limits : MakerLimits) → run (stated no_limits) (limits_end behind (limit_lines limits)) ≡ whole limits
-  limits_run limits = rpi_run limits.least_rpi limits.places limits.node_connections limits.own_closers limits.newer
+  limits_run : (limits : MakerLimits) → run (Stated (stated no_limits)) (limits_end behind (limit_lines limits)) ≡ whole limits
+  limits_run limits = steps_run no_limits limits (limit_lines limits) (limit_steps limits)
 
 -- the limits, the own classes and the points without data, where no description is before them
 after_points : (adapter : AdapterLine) (outputs : List OutputPoint) (inputs : List InputPoint) (points : HeartbeatLine) (objects : List ℕ) (limits : List LimitLine) → run (Points adapter outputs inputs) (limits_end (objects_end points objects) limits) ≡ run (Stated (front_of adapter outputs inputs None None)) (limits_end (objects_end points objects) limits)
@@ -553,7 +441,7 @@ module _ (made_of : Config) (entries : List Entry) (event : Event) (n : ℕ) (nu
 
   parts_run : (builder next : TraceBuilder) (xs ys : List Part) (said : Option TraceBuilder) → run builder (numbered_parts xs) ≡ Some next → run next (numbered_parts ys) ≡ said → run builder (numbered_parts (xs ++ ys)) ≡ said
   parts_run builder next xs ys said first rest =
-      ap (λ t. run builder (map Some t)) (map_both (line.Recorded n) xs ys) ∙ both_run builder next (map (line.Recorded n) xs) (map (line.Recorded n) ys) said first rest
+      ap (λ t. run builder (map Some t)) (map-append (line.Recorded n) xs ys) ∙ both_run builder next (map (line.Recorded n) xs) (map (line.Recorded n) ys) said first rest
 
   frames_run : (verdict : Verdict) (before frames : List Frame) → run (answering verdict before [] []) (numbered_parts (map part.Frame frames)) ≡ Some (answering verdict (before ++ frames) [] [])
   frames_run verdict before [] = ap (λ t. Some (answering verdict t [] [])) (sym (append-nil before))

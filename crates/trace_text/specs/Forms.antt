@@ -1,6 +1,6 @@
 -- The lines of a trace: the profile of a device, the events at the device, and their recorded outcomes. A line is a
 -- keyword or the number of an event, and words behind it.
-use Rattle.std.specs.Prelude.{ℕ, nat_lt, Bool, List, [], ◌∷◌, codes, Option, Some, None, if◌then◌else◌, option_map, option_and_then}
+use Rattle.std.specs.Prelude.{ℕ, nat_lt, Bool, List, [], ◌∷◌, ◌++◌, codes, Option, Some, None, if◌then◌else◌, option_map, option_and_then}
 use Rattle.std.specs.List.{list_all}
 use Rattle.cip_events.specs.declared.event.Event.{Event}
 use Rattle.cip_events.specs.declared.event.Event.TheVariants as event
@@ -9,7 +9,8 @@ use Rattle.trace_text.specs.declared.forms.TraceLine.TheVariants as line
 use Rattle.trace_words.specs.Words.{words_of, number_of}
 use Rattle.trace_words.specs.Reader.{Reader, next_word, ends, refuses, Meanings, meaning, mapped, ◌>>=◌}
 use Rattle.trace_lines.specs.Profiles.{adapter_reader, output_reader, point_reader, description_reader, object_reader, heartbeat_reader}
-use Rattle.trace_lines.specs.Limits.{least_rpi_reader, places_reader, node_connections_reader, closers_reader, newer_reader}
+use Rattle.trace_lines.specs.declared.limit_lines.LimitName.{LimitName}
+use Rattle.trace_lines.specs.Limits.{limit_named, limit_reader}
 use Rattle.trace_lines.specs.Slots.{scanner_reader, slot_reader}
 use Rattle.trace_lines.specs.declared.shapes.TheConstants.{FROM_NODE, EXPLICIT, ANSWER, STREAM, FRAME, CUT, WRITE, NUMBER, MODE}
 use Rattle.trace_outcomes.specs.Parts.{part_reader}
@@ -25,32 +26,37 @@ explicit_reader = shaped EXPLICIT (λ target number bytes. ends (event.Explicit 
 abbrev pub answer_reader : Reader Event
 answer_reader = shaped ANSWER (λ number status bytes. ends (event.Respond number status bytes))
 
--- the lines that a keyword begins
-abbrev pub line_meanings : Meanings (Reader TraceLine)
-line_meanings =
+-- the lines of profiles that a word begins; those of limits have their rows
+abbrev pub profile_meanings : Meanings (Reader TraceLine)
+profile_meanings =
     (codes "adapter", mapped line.Adapter adapter_reader)
     ∷ (codes "output", mapped line.Output output_reader)
     ∷ (codes "input", mapped line.Input point_reader)
     ∷ (codes "config", mapped line.Config point_reader)
     ∷ (codes "describe", mapped line.Description description_reader)
-    ∷ (codes "least-rpi", mapped line.Limit least_rpi_reader)
-    ∷ (codes "places", mapped line.Limit places_reader)
-    ∷ (codes "node-connections", mapped line.Limit node_connections_reader)
-    ∷ (codes "closers", mapped line.Limit closers_reader)
-    ∷ (codes "newer", mapped line.Limit newer_reader)
     ∷ (codes "object", mapped line.Object object_reader)
     ∷ (codes "heartbeat", mapped line.Heartbeat heartbeat_reader)
     ∷ (codes "scanner", mapped line.Scanner scanner_reader)
     ∷ (codes "tidy", ends line.Tidy)
     ∷ (codes "slot", mapped line.Slot slot_reader)
-    ∷ (codes "request", mapped line.Event (shaped FROM_NODE (λ peer bytes. ends (event.Request peer bytes))))
+    ∷ []
+
+-- requests, inquiries, answers, and what happens to a stream
+abbrev pub stream_meanings : Meanings (Reader TraceLine)
+stream_meanings =
+    (codes "request", mapped line.Event (shaped FROM_NODE (λ peer bytes. ends (event.Request peer bytes))))
     ∷ (codes "inquiry", mapped line.Event (shaped FROM_NODE (λ peer bytes. ends (event.Inquiry peer bytes))))
     ∷ (codes "explicit", mapped line.Event explicit_reader)
     ∷ (codes "answer", mapped line.Event answer_reader)
     ∷ (codes "stream", mapped line.Event (shaped STREAM (λ stream peer. ends (event.StreamOpened stream peer))))
     ∷ (codes "frame", mapped line.Event (shaped FRAME (λ stream bytes. ends (event.Frame stream bytes))))
     ∷ (codes "cut", mapped line.Event (shaped CUT (λ stream. ends (event.StreamCut stream))))
-    ∷ (codes "datagram", mapped line.Event (shaped FROM_NODE (λ peer bytes. ends (event.Datagram peer bytes))))
+    ∷ []
+
+-- datagrams, time, and what an application does
+abbrev pub call_meanings : Meanings (Reader TraceLine)
+call_meanings =
+    (codes "datagram", mapped line.Event (shaped FROM_NODE (λ peer bytes. ends (event.Datagram peer bytes))))
     ∷ (codes "write", mapped line.Event (shaped WRITE (λ point bytes. ends (event.Write point bytes))))
     ∷ (codes "read", mapped line.Event (shaped NUMBER (λ point. ends (event.Read point))))
     ∷ (codes "tick", mapped line.Event (shaped NUMBER (λ ms. ends (event.Tick ms))))
@@ -59,15 +65,26 @@ line_meanings =
     ∷ (codes "stop", mapped line.Event (shaped NUMBER (λ slot. ends (event.Stop slot))))
     ∷ []
 
+abbrev pub line_meanings : Meanings (Reader TraceLine)
+line_meanings = profile_meanings ++ (stream_meanings ++ call_meanings)
+
 -- a part of the outcome of the event of this number
 abbrev pub numbered : Option ℕ → Reader TraceLine
 numbered None = refuses
 numbered (Some number) = mapped (line.Recorded number) part_reader
 
+-- the line of a limit, or a part of an outcome
+abbrev pub of_limit : List ℕ → Option LimitName → Reader TraceLine
+of_limit word None = numbered (number_of 64 word)
+of_limit word (Some row) = mapped line.Limit (limit_reader row)
+
+abbrev pub limit_or_part : List ℕ → Reader TraceLine
+limit_or_part word = of_limit word (limit_named word)
+
 abbrev pub line_reader : Reader TraceLine
 line_reader = do
   word ← next_word Some
-  meaning line_meanings (numbered (number_of 64 word)) word
+  meaning line_meanings (limit_or_part word) word
 
 abbrev pub is_ascii : List ℕ → Bool
 is_ascii line = list_all (λ byte. nat_lt byte 128) line

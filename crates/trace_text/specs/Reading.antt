@@ -143,6 +143,12 @@ judged trace (Some first) = Err (fault.BadProfile (fault_number first))
 abbrev pub judged_by : Config → List Entry → Result Trace TraceFault
 judged_by made_of entries = judged (record { config = made_of; events = entries }) (config_fault made_of)
 
+-- the configuration of the device whose lines were read; None if one is missing
+abbrev pub config_of : TraceBuilder → Option Config
+config_of (Slots scanner newer tidy slots) = Some (config.Scanner (scanner_with scanner newer tidy slots))
+config_of (Events made_of entries last) = Some made_of
+config_of builder = None
+
 -- the trace at the end of the text; the end is a bad line if the profile is not complete
 abbrev pub parsed : ℕ → TraceBuilder → Result Trace TraceFault
 parsed number (Slots scanner newer tidy slots) = judged_by (config.Scanner (scanner_with scanner newer tidy slots)) []

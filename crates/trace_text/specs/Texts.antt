@@ -1,6 +1,6 @@
 -- Which texts write a trace: the lines of its profile, and then for each event its line and the lines of its recorded
 -- outcome. LF ends each line. Empty lines and lines that begin with `#` are skipped, and counted.
-use Rattle.std.specs.Prelude.{ℕ, ◌+◌, ◌≡◌, ◌≢◌, ◌⊎◌, if◌then◌else◌, false, List, [], ◌∷◌, ◌++◌, length, map, flat_map, option_map, option_to_list, Option, Some, None, Result, Ok, Err}
+use Rattle.std.specs.Prelude.{ℕ, ◌+◌, ◌≡◌, ◌≢◌, ◌⊎◌, if◌then◌else◌, Bool, true, false, List, [], ◌∷◌, ◌++◌, length, map, flat_map, option_map, option_to_list, Option, Some, None, Result, Ok, Err}
 use Rattle.std.specs.List.{All}
 use Rattle.adapter_table.specs.declared.profile.Profile.{Profile}
 use Rattle.scanner_table.specs.declared.profile.ScannerProfile.{ScannerProfile}

@@ -10,11 +10,14 @@ mod recorded;
 mod trace;
 mod written;
 
+pub use builder::TraceBuilder;
 pub use clock::time_after;
 pub use kept::Recorded;
 pub use lines::{ascii_text, read_event_line};
 pub use recorded::recorded_with;
-pub use trace::{Trace, TraceFault, first_line, has_one_reading, is_skipped, read_trace};
+pub use trace::{
+    Trace, TraceFault, add_text, config_of, first_line, has_one_reading, is_skipped, read_trace,
+};
 pub use trace_outcomes::{push_outcome, write_outcome};
 pub use trace_words::TextFault;
 pub use written::{push_config, push_event, write_trace};

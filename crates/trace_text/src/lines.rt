@@ -1,18 +1,17 @@
 //! The lines of a trace, one by one.
 
-ghost use Rattle.std.specs.Prelude.{◌≡◌, take, option_map, if◌then◌else◌, Some, None};
+ghost use Rattle.std.specs.Prelude.{◌≡◌, ◌++◌, option_map, if◌then◌else◌, Some, None};
 ghost use Rattle.trace_words.specs.Reader.{unread_words, Takes, Finds, meaning};
 ghost use Rattle.trace_words.specs.Words.{number_of};
-ghost use Rattle.trace_text.specs.Forms.{event_of, answer_reader, explicit_reader, is_ascii, line_of, line_meanings, line_reader, numbered};
+ghost use Rattle.trace_text.specs.Forms.{event_of, answer_reader, explicit_reader, is_ascii, limit_or_part, line_of, line_reader, numbered, profile_meanings, stream_meanings};
 
 use crate::forms::TraceLine;
 use cip_tables::Event;
 use std::alloc::Global;
 use std::str;
 use trace_lines::{
-    read_adapter, read_description, read_heartbeat, read_least_rpi, read_mode, read_newer,
-    read_node_connections, read_object, read_output, read_own_closers, read_places, read_point,
-    read_scanner, read_slot,
+    limit_named, read_adapter, read_description, read_heartbeat, read_limit, read_mode,
+    read_object, read_output, read_point, read_scanner, read_slot,
 };
 use trace_outcomes::read_part;
 use trace_words::{TextFault, Words, read_u64};
@@ -104,7 +103,7 @@ fn read_words(alloc: Global, words: &mut Words<'_>) -> Result<TraceLine, TextFau
 /// What follows the word of a request, of an inquiry, of an answer, of a stream's event or of a profile's line, or the
 /// number of an event.
 fn read_other(alloc: Global, words: &mut Words<'_>, word: &str) -> Result<TraceLine, TextFault>
-    ensures { Takes (meaning (take 21 line_meanings) (numbered (number_of 64 word.now)) word.now
+    ensures { Takes (meaning (profile_meanings ++ stream_meanings) (limit_or_part word.now) word.now
         (unread_words words.old)) result (unread_words words.new) }
 {
     match word {
@@ -178,8 +177,8 @@ fn read_profile_line(
     words: &mut Words<'_>,
     word: &str,
 ) -> Result<TraceLine, TextFault>
-    ensures { Takes (meaning (take 15 line_meanings) (numbered (number_of 64 word.now)) word.now
-        (unread_words words.old)) result (unread_words words.new) }
+    ensures { Takes (meaning profile_meanings (limit_or_part word.now) word.now (unread_words words.old)) result
+        (unread_words words.new) }
 {
     match word {
         "adapter" => read_adapter(words).map(TraceLine::Adapter),
@@ -187,17 +186,26 @@ fn read_profile_line(
         "input" => read_point(words).map(TraceLine::Input),
         "config" => read_point(words).map(TraceLine::Config),
         "describe" => read_description(alloc, words).map(TraceLine::Description),
-        "least-rpi" => read_least_rpi(words).map(TraceLine::Limit),
-        "places" => read_places(words).map(TraceLine::Limit),
-        "node-connections" => read_node_connections(words).map(TraceLine::Limit),
-        "closers" => read_own_closers(words).map(TraceLine::Limit),
-        "newer" => read_newer(words).map(TraceLine::Limit),
         "object" => read_object(words).map(TraceLine::Object),
         "heartbeat" => read_heartbeat(words).map(TraceLine::Heartbeat),
         "scanner" => read_scanner(words).map(TraceLine::Scanner),
         "tidy" => words.last(TraceLine::Tidy),
         "slot" => read_slot(alloc, words).map(TraceLine::Slot),
-        _ => read_recorded(alloc, words, word),
+        _ => read_limit_or_part(alloc, words, word),
+    }
+}
+
+/// What follows the first word of a limit's line, or the number of an event.
+fn read_limit_or_part(
+    alloc: Global,
+    words: &mut Words<'_>,
+    word: &str,
+) -> Result<TraceLine, TextFault>
+    ensures { Takes (limit_or_part word.now (unread_words words.old)) result (unread_words words.new) }
+{
+    match limit_named(word) {
+        Some(limit) => read_limit(limit, words).map(TraceLine::Limit),
+        None => read_recorded(alloc, words, word),
     }
 }
 

@@ -3,7 +3,7 @@
 //! LF ends a line, and one space separates its words. Empty lines and lines that begin with `#` are skipped.
 
 ghost use Rattle.std.specs.Prelude.{◌≡◌, ℕ, ◌<◌, ◌+◌, List, ◌∷◌, position, length, IfSome, IfNone, IfErr, IsOk, ◌↔◌, Some, None, [], Result, Ok};
-ghost use Rattle.trace_text.specs.Reading.{is_line_feed, is_skipped, parts_of, builder_after, parsed, judged_by, trace_reading, Answers, Leaves};
+ghost use Rattle.trace_text.specs.Reading.{is_line_feed, is_skipped, parts_of, builder_after, config_of, parsed, judged_by, trace_reading, Answers, Leaves};
 ghost use Rattle.trace_text.specs.Texts.{IsTraceReading};
 ghost use Rattle.cip_tables.specs.Step.{config_fault};
 
@@ -117,9 +117,11 @@ fn line_len(text: &[u8]) -> Option<usize>
     memchr(b'\n', text)
 }
 
-/// Adds the text of a line to the part that was read so far.
+/// Adds the text of a line to the part that was read so far. After a fault the part is of no use.
+///
+/// The faults: `Bad` if the line is not allowed there, and `OutOfMemory`.
 #[tactic(auto, unfolding(crate::specs::Reading::builder_after))]
-fn add_text(alloc: Global, builder: &mut TraceBuilder, line: &[u8]) -> Result<(), TextFault>
+pub fn add_text(alloc: Global, builder: &mut TraceBuilder, line: &[u8]) -> Result<(), TextFault>
     ensures { Leaves (builder_after builder.old line.now) result builder.new }
 {
     if is_skipped(line) {
@@ -136,6 +138,22 @@ pub fn is_skipped(line: &[u8]) -> bool
     match line {
         [] => true,
         [first, ..] => *first == b'#',
+    }
+}
+
+/// The configuration of the device whose lines were read, whether its profile is valid or not. None if one is missing.
+pub fn config_of(builder: TraceBuilder) -> Option<Config>
+    ensures { result ≡ config_of builder }
+{
+    match builder {
+        TraceBuilder::Slots {
+            scanner,
+            newer,
+            tidy,
+            slots,
+        } => Some(Config::Scanner(scanner_with(scanner, newer, tidy, slots))),
+        TraceBuilder::Events { config, .. } => Some(config),
+        _ => None,
     }
 }
 
