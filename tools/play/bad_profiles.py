@@ -20,6 +20,8 @@ def scanner(*slots, first=SCANNER):
     return first + "".join(slots)
 
 
+NOT_HERE = ("it is not allowed at this place: the profile's lines come first, in their order, and an event's outcome behind the event, "
+            "with its number: verdict, frames, datagrams, notices, or a fault alone")
 LISTENER = slot(kind="listen", out_len=0, cast="multicast", produced=101)
 BAD_PROFILES = [
     # an adapter: incarnation, address and mask
@@ -162,6 +164,10 @@ BAD_PROFILES = [
      "bad profile 9: line 4: word 16: the inhibit time of slot 1 is 0 ms, and where numbers are limited it is at least 1"),
     (scanner("newer 1\n", slot(mult=8)),
      "bad profile 6: line 3: word 11: the time-out multiplier of slot 0 is 8, and it is 0 to 7"),
+    (scanner("newer 8\n", "tidy\n", slot(), slot(mult=8)),
+     "bad profile 6: line 5: word 11: the time-out multiplier of slot 1 is 8, and it is 0 to 7"),
+    (scanner("newer 1\n", "tidy\n", slot()),
+     "bad profile 9: line 2: word 2: numbers are accepted within 1 of the newest, and that is 2 to 2,147,483,648"),
     (scanner(slot(rate=" cyclic 5")),
      "bad profile 6: line 2: word 16: the inhibit time of slot 0 is 5 ms, and that of a cyclic slot is 0"),
     (scanner(slot(t_o=9001, rate=" change 11")),
@@ -190,4 +196,12 @@ BAD_PROFILE_LINES = [
      "bad line 2: word 4 is a number that is too large: 4294967296 is above 4294967295"),
     (scanner(slot(rate=" change 256")),
      "bad line 2: word 16 is a number that is too large: 256 is above 255"),
+    # a tidy scanner: once, without a word more, behind its limit on numbers and before its slots; no adapter is tidy
+    (scanner("tidy\n", "# twice\ntidy\n", slot()), f"bad line 4: {NOT_HERE}"),
+    (scanner("tidy 1\n", slot()), "bad line 2: words follow its last one"),
+    (scanner("tidy\n", "newer 8\n", slot()), f"bad line 3: {NOT_HERE}"),
+    (scanner(slot(), "tidy\n", slot()), f"bad line 3: {NOT_HERE}"),
+    ("tidy\n" + scanner(slot()), f"bad line 1: {NOT_HERE}"),
+    (adapter(points=POINTS + "tidy\n"), f"bad line 4: {NOT_HERE}"),
+    (adapter(points=POINTS + "newer 8\ntidy\n"), f"bad line 5: {NOT_HERE}"),
 ]
