@@ -201,6 +201,9 @@ function named(address) {
   return name === undefined ? address : `${address} (${name})`;
 }
 
+// the name of each slot behind its number, where the words do not have it
+function withSlots(view, words) { return words.replace(/slot ([0-9]+)(?![0-9]| [(])/g, (it, slot) => `slot ${slotName(view, slot)}`); }
+
 function withNames(words) { return station.devices.length ? words.replace(/[0-9]+[.][0-9]+[.][0-9]+[.][0-9]+/g, (it) => named(it)) : words; }
 
 // PARTS OF THE PAGE
@@ -326,7 +329,7 @@ function fillLines(place, lines, none) {
 }
 
 function renderTroubles(view) {
-  const lines = [...view.troubles].reverse().map(([key, it]) => [key, clockOf(it.wall), troubleWords(it)]);
+  const lines = [...view.troubles].reverse().map(([key, it]) => [key, clockOf(it.wall), withSlots(view, troubleWords(it))]);
   fillLines(byId('troubles'), lines, 'nothing that is known');
 }
 
@@ -380,7 +383,7 @@ function deviceRow(name, device) {
   const trouble = view.lastTrouble, mode = last.mode ? `, ${last.mode}` : '';
   return { key, kind, cells: [linked(name, device), last.slots ? `scanner${mode}` : 'adapter', said(summaryOf(last)),
     `${last.counts.received}, ${last.counts.sent}`, last.counts.lost, kind ? since(view) : 'live',
-    trouble ? `${clockOf(trouble.wall)} ${shortened(withNames(trouble.words))}` : ''] };
+    trouble ? `${clockOf(trouble.wall)} ${shortened(withNames(withSlots(view, trouble.words)))}` : ''] };
 }
 
 function shortened(words) { return words.length > 80 ? `${words.slice(0, 77)}..` : words; }
