@@ -347,7 +347,7 @@ static bool is_profile(const char *line)
 {
     static const char *const words[] = {"adapter ",   "output ", "input ",            "config ",  "describe ",
                                         "least-rpi ", "places ", "node-connections ", "closers ", "newer ",
-                                        "object ",    "heartbeat ", "scanner ",         "slot "};
+                                        "object ",    "heartbeat ", "scanner ",         "tidy",     "slot "};
     size_t i;
     for (i = 0; i < sizeof words / sizeof *words; i++)
         if (!strncmp(line, words[i], strlen(words[i])))
