@@ -343,25 +343,23 @@ static void event(char *line)
     plain_event(word, one, two ? two : "");
 }
 
-static bool is_profile(const char *line)
+static bool begins_with(const char *line, const char *word)
 {
-    static const char *const words[] = {"adapter ",   "output ", "input ",            "config ",  "describe ",
-                                        "least-rpi ", "places ", "node-connections ", "closers ", "newer ",
-                                        "object ",    "heartbeat ", "scanner ",         "tidy",     "slot "};
-    size_t i;
-    for (i = 0; i < sizeof words / sizeof *words; i++)
-        if (!strncmp(line, words[i], strlen(words[i])))
-            return true;
-    return *line == '#' || *line == '\n';
+    return !strncmp(line, word, strlen(word));
 }
 
-/* Reads the lines of the profile, and the first line behind them. */
+/* Reads the lines of the profile, and the first line behind them. The line of the heartbeats or the last slot ends a profile. */
 static char *profile(char **line, size_t *room_of_line)
 {
     char *text = (char *)calloc(1, 1);
     size_t length = 0;
     ssize_t len;
-    while (text && (len = getline(line, room_of_line, stdin)) > 0 && is_profile(*line)) {
+    bool may_end = false;
+    while (text && (len = getline(line, room_of_line, stdin)) > 0) {
+        bool is_last = begins_with(*line, "slot ") || begins_with(*line, "heartbeat ");
+        if (may_end && !is_last && **line != '#' && **line != '\n')
+            break;
+        may_end = may_end || is_last;
         text = (char *)realloc(text, length + (size_t)len + 1);
         if (text)
             memcpy(text + length, *line, (size_t)len + 1);
