@@ -9,6 +9,8 @@
 #include <arpa/inet.h>
 #include <errno.h>
 #include <fcntl.h>
+#include <netinet/in.h>
+#include <netinet/tcp.h>
 #include <poll.h>
 #include <stdarg.h>
 #include <stdio.h>
@@ -22,6 +24,10 @@ enum { STREAMS = 8, LISTENER = STREAMS, UDP, INQUIRIES, BROADCASTS, SOCKETS, OUT
 enum { REGISTER_SESSION = 0x65, SILENCE_MS = 120000, LONGEST_TICK_MS = 60000 };
 
 static eip_device device;
+static uint32_t node;
+static uint16_t tcp_port = 44818;
+static const char *starts = "remote_io.state"; /* the file that counts the starts */
+static bool is_reset; /* whether a peer has requested a reset: the life ends */
 static struct pollfd sockets[SOCKETS];
 static struct stream {
     bool session, stuck; /* whether it has a session; whether it did not take its bytes */
@@ -35,6 +41,7 @@ static uint16_t udp_port = 2222;
 static uint64_t now; /* the moment that the device has reached, in ms */
 static uint64_t last; /* the last reading of the clock, in ms */
 static struct sockaddr_in asker; /* where the last inquiry came from */
+static uint8_t shown[4]; /* what stands at the inputs */
 
 /* Writes a line on standard error, unless that would wait for its reader. */
 static void say(const char *text, ...)
@@ -133,9 +140,10 @@ static void carry_out(void)
             hang_up(item.a);
         if (item.kind == EIP_ITEM_REPLY)
             sendto(sockets[INQUIRIES].fd, item.bytes, item.size, MSG_DONTWAIT, (struct sockaddr *)&asker, sizeof asker);
-        /* (a device of a maker's begins anew here, with the next incarnation) */
-        if (item.kind == EIP_ITEM_RESET)
+        if (item.kind == EIP_ITEM_RESET) {
             say("reset %u\n", item.a);
+            is_reset = true;
+        }
         if (item.kind == EIP_ITEM_OPENED || item.kind == EIP_ITEM_EXPIRED)
             say("%s %u\n", item.kind == EIP_ITEM_OPENED ? "opened" : "expired", item.a);
     }
@@ -186,9 +194,11 @@ static void accept_stream(void)
 {
     struct sockaddr_in peer;
     socklen_t len = sizeof peer;
-    int fd = accept(sockets[LISTENER].fd, (struct sockaddr *)&peer, &len);
+    int fd = accept(sockets[LISTENER].fd, (struct sockaddr *)&peer, &len), on = 1;
     uint16_t number = fd < 0 ? STREAMS : place();
     if (number < STREAMS) {
+        /* (a reply leaves at once, and waits for no acknowledgement of the one before) */
+        setsockopt(fd, IPPROTO_TCP, TCP_NODELAY, &on, sizeof on);
         sockets[number].fd = fd;
         streams[number].session = streams[number].stuck = false;
         streams[number].heard = now;
@@ -250,7 +260,6 @@ static void read_inquiry(int fd)
 /* The outputs stand at the inputs. */
 static void copy_outputs(void)
 {
-    static uint8_t shown[4];
     uint8_t value[4];
     size_t len = 0;
     if (eip_read(&device, OUTPUT, value, sizeof value, &len) == EIP_DONE && memcmp(value, shown, sizeof value) &&
@@ -292,15 +301,54 @@ static int idle_ms(void)
     return (int)ms;
 }
 
+/* A life begins: a device of the next incarnation, whose points are zeros. */
+static void begin(void)
+{
+    /* The vendor number is nobody's: a maker gets its own from ODVA (odva.org), and gives each device its own serial number.
+     * The name is "Remote I/O example"; the inactivity time-out, 120 s, is SILENCE_MS. */
+    static const char points[] = "output 150 4 zero zero\ninput 100 4\nconfig 151 0\n";
+    static const char name[] = "52656d6f746520492f4f206578616d706c65";
+    char profile[320];
+    uint64_t wrong = 0;
+    uint32_t status;
+    int len = snprintf(profile, sizeof profile,
+                       "adapter %u %u.%u.%u.%u 255.255.255.0 0 12 7 2 3\n%s"
+                       "describe 1 %s %u 100 15 000000000000 120\nheartbeat 152 153\n",
+                       counted(starts), node >> 24, node >> 16 & 255, node >> 8 & 255, node & 255, points, name, tcp_port);
+    status = eip_new(&device, profile, (size_t)len, &wrong);
+    if (status != EIP_DONE) {
+        fprintf(stderr, "no device: status %u, number %lu\n", status, (unsigned long)wrong);
+        exit(1);
+    }
+    memset(shown, 0, sizeof shown);
+    now = last = now_ms();
+}
+
+/* A life ends after a reset as by a power cut: the streams end, and so do all connections. No output has an owner then, since the
+ * device refuses a reset that would take one away. A maker of settings forgets them here, if the reset's type is 1. */
+static void begin_again(void)
+{
+    uint16_t i;
+    for (i = 0; i < STREAMS; i++)
+        hang_up(i);
+    eip_free(&device);
+    is_reset = false;
+    begin();
+}
+
 static void turn(void)
 {
     uint16_t i;
     pass();
     if (sockets[UDP].revents)
         read_datagram();
-    for (i = 0; i < STREAMS; i++)
+    for (i = 0; i < STREAMS && !is_reset; i++)
         if (sockets[i].fd >= 0 && sockets[i].revents)
             read_stream(i);
+    if (is_reset) {
+        begin_again();
+        return;
+    }
     for (i = INQUIRIES; i <= BROADCASTS; i++)
         if (sockets[i].revents)
             read_inquiry(sockets[i].fd);
@@ -312,24 +360,12 @@ static void turn(void)
 
 int main(int count, char **words)
 {
-    /* The vendor number is nobody's: a maker gets its own from ODVA (odva.org), and gives each device its own serial number.
-     * The name is "Remote I/O example"; the inactivity time-out, 120 s, is SILENCE_MS. */
-    static const char points[] = "output 150 4 zero zero\ninput 100 4\nconfig 151 0\n";
-    static const char name[] = "52656d6f746520492f4f206578616d706c65";
-    char profile[320];
-    uint64_t wrong = 0;
-    uint32_t node = count > 1 ? ntohl(inet_addr(words[1])) : INADDR_LOOPBACK, status;
-    unsigned incarnation = counted(count > 4 ? words[4] : "remote_io.state");
-    uint16_t i, tcp_port = count > 3 ? (uint16_t)atoi(words[2]) : 44818;
-    int len = snprintf(profile, sizeof profile,
-                       "adapter %u %u.%u.%u.%u 255.255.255.0 0 12 7 2 3\n%s"
-                       "describe 1 %s %u 100 15 000000000000 120\nheartbeat 152 153\n",
-                       incarnation, node >> 24, node >> 16 & 255, node >> 8 & 255, node & 255, points, name, tcp_port);
-    status = eip_new(&device, profile, (size_t)len, &wrong);
-    if (status != EIP_DONE)
-        return fprintf(stderr, "no device: status %u, number %lu\n", status, (unsigned long)wrong), 1;
-    now = last = now_ms();
+    uint16_t i;
+    node = count > 1 ? ntohl(inet_addr(words[1])) : INADDR_LOOPBACK;
+    tcp_port = count > 3 ? (uint16_t)atoi(words[2]) : tcp_port;
     udp_port = count > 3 ? (uint16_t)atoi(words[3]) : udp_port;
+    starts = count > 4 ? words[4] : starts;
+    begin();
     for (i = 0; i < SOCKETS; i++)
         sockets[i].fd = -1, sockets[i].events = POLLIN;
     sockets[LISTENER].fd = bound(SOCK_STREAM, node, tcp_port);

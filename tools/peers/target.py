@@ -46,6 +46,7 @@ class Connection:
         self.rpi, self.time_out, self.size = t_o_rpi / 1e6, (4 << multiplier) * o_t_rpi / 1e6, size
         self.deadline, self.due, self.sequence = now + max(10.0, self.time_out), now, 0
         self.received, self.came_to = 0, collections.Counter()
+        self.granted_ms, self.o_t_us = 0, 0  # the time-out of its request, and the O->T interval that it asked for
 
     def serial(self):
         return struct.unpack("<H", self.triad[:2])[0]
@@ -199,7 +200,7 @@ class Target:
     def opened(self, stream, service, body, refusal):
         """The connection that a request opens, or the reply that refuses it."""
         large = service == LARGE_FORWARD_OPEN
-        _, _, _, t_o = struct.unpack("<BBII", body[:10])
+        tick, ticks, _, t_o = struct.unpack("<BBII", body[:10])
         triad, multiplier = body[10:18], body[18]
         form = "<IIIIBB" if large else "<IHIHBB"
         end = 22 + struct.calcsize(form)
@@ -216,6 +217,7 @@ class Target:
             return self.refusal(service, (FULL,), triad)
         made = Connection(stream.peer, stream, triad, points, self.next_id, t_o, o_t_rpi, t_o_rpi, multiplier, size)
         self.next_id += 1
+        made.granted_ms, made.o_t_us = (1 << (tick & 15)) * ticks, o_t_rpi
         self.connections.append(made)
         self.o_t_us, self.t_o_us = o_t_rpi, t_o_rpi
         return made

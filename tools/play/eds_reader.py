@@ -110,6 +110,11 @@ class Profile:
         self.places = dict(zip(("exclusive owner", "input only", "listen only"), counts[0] if counts else (64, 64, 64)))
         self.most = sum(counts[0]) if counts else 64
         self.triggers = {"cyclic"} if of("newer") else {"cyclic", "change of state"}
+        messages = [int(line[3]) for line in of("places") if len(line) == 4]
+        self.most_messages = messages[0] if messages else 64
+        # the classes of a described device, and the speed of its link
+        self.speeds = [int(line[3]) for line in of("describe")]
+        self.classes = [name for name in CLASSES if self.speeds and [str(CLASSES[name][1])] not in of("object")]
 
     def connections(self):
         """Each connection that it admits: kind, consumed point and bytes, produced point and bytes."""
@@ -128,6 +133,14 @@ def segment(first, value):
     """A logical segment in its shortest format."""
     size, more = (1, 0) if value < 1 << 8 else (2, 1) if value < 1 << 16 else (4, 2)
     return bytes([first + more] + [0] * (size > 1)) + value.to_bytes(size, "little")
+
+
+# the sections of classes: object, class, revision, attributes of the instance
+CLASSES = {
+    "TCP/IP Interface Class": ("TCP/IP Interface Object", 0xF5, 4, [1, 2, 3, 4, 5, 6, 8, 9, 10, 11, 13]),
+    "Ethernet Link Class": ("Ethernet Link Object", 0xF6, 4, [1, 2, 3, 7, 8, 9, 10, 11]),
+    "QoS Class": ("QoS Object", 0x48, 1, list(range(1, 9))),
+}
 
 
 # WHAT IS COMPARED
@@ -202,9 +215,25 @@ def check_manager(manager, profile):
     need(len(set(names)) == len(names), f"two connections have one name: {names}")
 
 
+def check_class(name, section, profile):
+    """A class with one instance, and its attributes."""
+    section = dict(section)
+    title, class_, revision, attributes = CLASSES[name]
+    same(text_of(section.pop("Object_Name")[0], name), title, f"{name}: its name")
+    numbers = {key: [number_of(field, name) for field in fields] for key, fields in section.items() if key != "InterfaceLabel1"}
+    wanted = {"Revision": [revision], "Object_Class_Code": [class_], "MaxInst": [1], "Number_Of_Static_Instances": [1],
+              "Max_Number_Of_Dynamic_Instances": [0], "Class_Attributes": list(range(1, 8)), "Instance_Attributes": attributes}
+    if name == "Ethernet Link Class":
+        wanted["InterfaceSpeed1"] = profile.speeds
+        same(text_of(section["InterfaceLabel1"][0], name), "Ethernet", f"{name}: its label")
+    same(numbers, wanted, name)
+
+
 def check(profile, sheet):
-    same(list(sheet), ["File", "Device", "Device Classification", "Params", "Assembly", "Connection Manager", "Port", "Capacity"],
+    same(list(sheet), ["File", "Device", "Device Classification", "Params", "Assembly", "Connection Manager", "Port"] + profile.classes + ["Capacity"],
          "the sections")
+    for name in profile.classes:
+        check_class(name, sheet[name], profile)
     check_device(sheet["Device"], profile)
     same(sheet["Device Classification"], {"Class1": [("word", "EtherNetIP")]}, "the class of the device")
     check_params(sheet["Params"], profile)
@@ -212,10 +241,12 @@ def check(profile, sheet):
     check_manager(sheet["Connection Manager"], profile)
     same([number_of(sheet["Port"]["Object_Class_Code"][0], "class"), sheet["Port"]["Port1"][0]], [0xF4, ("word", "TCP")], "the port")
     same(bytes.fromhex(text_of(sheet["Port"]["Port1"][2], "path")), segment(0x20, 0xF5) + segment(0x24, 1), "the path of the port")
+    same(number_of(sheet["Port"]["Port1"][3], "number"), 2, "the number of the port")
     capacity = {key: [field[1] for field in fields] for key, fields in sheet["Capacity"].items()}
     rate = -(-1_000_000 // profile.least)
     same(capacity, {"TSpec1": ["TxRx", "1406", str(rate)], "MaxIOConnections": [str(profile.most)],
-                    "MaxIOMcastProducers": [str(len(profile.inputs))], "MaxConsumersPerMcast": [str(profile.most)]}, "the capacity")
+                    "MaxIOMcastProducers": [str(len(profile.inputs))], "MaxConsumersPerMcast": [str(profile.most)],
+                    "MaxMsgConnections": [str(profile.most_messages)]}, "the capacity")
 
 
 def main():

@@ -89,6 +89,7 @@ class Opening:
         self.sizes = [word & (1 << size) - 1 for word in (o_word, t_word)]
         self.types = [word >> kind & 3 for word in (o_word, t_word)]
         self.redundant = (o_word | t_word) >> kind + 2
+        self.variable = [word >> kind - 4 & 1 for word in (o_word, t_word)]
         self.o_api, self.t_api = -(-self.o_rpi // 1000), -(-self.t_rpi // 1000)
         self.timeout = (4 << self.multiplier % 8) * self.o_api
 
@@ -272,14 +273,18 @@ class Adapter:
         if arranged and it.key and key_fault(it.key):
             return key_fault(it.key)
         points = [("class", 4), ("point", CONSUMED), ("point", INPUT)]
+        named = self.described  # (7.11)
+        sizes = [own if named and varies else size for own, size, varies in zip((0x011F, 0x0120), (0x0127, 0x0128), it.variable)]
         checks = [
-            (it.types[0] != 2, 0x0123), (it.types[1] != 2 if class_3 else it.types[1] in (0, 3), 0x0124),
-            (not class_3 and it.trigger & 0x7F != 1, 0x0103), (it.multiplier > 7 or it.redundant, 0x0108),
+            (it.types[0] != 2, 0x0132 if named and it.types == [0, 0] else 0x0123), (it.types[1] != 2 if class_3 else it.types[1] in (0, 3), 0x0124),
+            (not class_3 and it.trigger & 0x7F != 1, 0x0103),
+            (it.multiplier > 7 or it.redundant, 0x0108 if not named else 0x0133 if it.multiplier > 7 else 0x0125),
             (not all(max(1, self.least) <= rpi <= 10_000_000 for rpi in (it.o_rpi, it.t_rpi)), 0x0111),
             (not arranged if class_3 else it.rest != points, 0x0117),
-            (not it.sizes[0] if class_3 else it.sizes[0] != 2, 0x0127),
-            (not it.sizes[1] if class_3 else it.sizes[1] != len(self.points[INPUT]) + 2, 0x0128),
+            (not it.sizes[0] if class_3 else it.sizes[0] != 2, sizes[0]),
+            (not it.sizes[1] if class_3 else it.sizes[1] != len(self.points[INPUT]) + 2, sizes[1]),
             (len(self.class3_connections if class_3 else self.rows) >= MOST_CONNECTIONS, 0x0113),
+            *((named and not class_3 and it.variable[at], sizes[at]) for at in (0, 1)),  # (7.12)
             (self.readers and (class_3 and self.class_3 is not None and len(mine) >= self.class_3 or not class_3 and len(mine) >= self.readers), 0x0113),
             (self.most_of_node and sum(one.node == node for one in mine) >= self.most_of_node, 0x0113),
             (self.openings and self.opened_in_second(node)[1] >= self.openings, 0x0113),
@@ -371,7 +376,7 @@ class Adapter:
     def frame(self, stream, command, handle, context, data, served):
         """A frame: refused if the stream is not open, or has no session of this handle."""
         line = f"frame {stream} {message(command, handle, context, data).hex()}"
-        why = 0x01 if command == 0x70 else 0x64
+        why = 0x01 if command == 0x70 and not self.described else 0x64
         refused = [f"frame {stream} {message(command, handle, context, b'', why).hex()}"]
         if stream not in self.streams:
             self.record(line, "fault NotAllowedNow")

@@ -1,5 +1,5 @@
 -- What is answered by the parts of a table is what the table answers.
-use Rattle.std.proofs.Common.{◌≡◌, ℕ, ◌≤◌, ◌==◌, ◌&&◌, Bool, true, false, cond, nat_lt, List, drop, Option, Some, None, Ok, Err, is_some, length, refl, ap, ◌∙◌, arith, inl, inr, length-drop}
+use Rattle.std.proofs.Common.{◌≡◌, ℕ, ◌≤◌, ◌==◌, ◌&&◌, Bool, true, false, cond, nat_lt, List, [], drop, Option, Some, None, Ok, Err, is_some, length, refl, ap, ◌∙◌, arith, inl, inr, length-drop}
 use Rattle.std.proofs.lemmas.Bool.{cases_lt}
 use Rattle.std.proofs.lemmas.Bool.Decides.{nat_tests}
 use Rattle.std.specs.Int.{w16, w32, w64}
@@ -15,11 +15,12 @@ use Rattle.cip_router.specs.declared.refusal.Status.TheVariants as status
 use Rattle.list_identity.specs.declared.inquiry.Inquiry.{Inquiry}
 use Rattle.list_identity.specs.Inquiries.{inquiry_answer, inquiry_in, inquiry_of, InquiryMessage, inquiry_message, inquiry_read}
 use Rattle.adapter_table.specs.declared.profile.Description.{Description}
+use Rattle.adapter_table.specs.declared.profile.Profile.{Profile}
 use Rattle.adapter_table.specs.declared.table.PointValue.{PointValue}
 use Rattle.adapter_table.specs.declared.table.AdapterTable.{AdapterTable}
 use Rattle.adapter_table.specs.Points.{bytes_at}
 use Rattle.adapter_table.specs.Inquiries.{inquiry_reply, inquiry_reply_of}
-use Rattle.adapter_table.specs.Objects.{ObjectAnswer, Instance, denied, io_state_of, is_owning, status_word, assembly_found, assembly_class, assembly_instance, class_instance, in_two_bytes, largest_point, described_at, instance_at, object_answer, object_said, instance_answer, reset_by}
+use Rattle.adapter_table.specs.Objects.{ObjectAnswer, Instance, denied, io_state_of, is_owning, connection_count, status_word, assembly_found, assembly_beside, assembly_instance, class_instance, assembly_facts, assembly_count, is_heartbeat, in_two_bytes, largest_assembly, described_at, instance_at, object_answer, object_said, instance_answer, reset_by}
 use Rattle.assembly_set.specs.Assemblies.{Assemblies}
 use Rattle.adapter_objects.specs.Said.{described_said, assembly_said, station_in, address_in}
 
@@ -34,7 +35,7 @@ unfolding instance_at
 other_class t class instance other = rw other refl
 
 -- a described device answers to a service of another object than an assembly
-pub described_is : (t : AdapterTable) (d : Description) (service class instance : ℕ) (attribute : Option ℕ) (body : List ℕ) → t.profile.description ≡ Some d → (class == 0x04) ≡ false → object_answer t service class instance attribute body ≡ described_said (points_of t) (io_state_of t.rows) d service class instance attribute body
+pub described_is : (t : AdapterTable) (d : Description) (service class instance : ℕ) (attribute : Option ℕ) (body : List ℕ) → t.profile.description ≡ Some d → (class == 0x04) ≡ false → object_answer t service class instance attribute body ≡ described_said (points_of t) (io_state_of t.rows) (connection_count t.rows t.messaging) d service class instance attribute body
 unfolding object_answer described_said status_word
 described_is t d service class instance attribute body is other =
     ap (object_said (list_any is_owning t.rows) service attribute body) (other_class t class instance other ∙ ap (described_at t class instance) is)
@@ -56,25 +57,26 @@ unowned : (owned : Bool) (service : ℕ) (attribute : Option ℕ) (body : List �
 unowned owned service attribute body o none = rw none (rw (never_resets (service == 0x05) owned body (denied status.Service), never_resets (service == 0x05) false body (denied status.Service)) refl)
 
 -- the class of the assemblies
-abbrev class_of : List PointValue → Instance
-class_of values = class_instance 2 (in_two_bytes (largest_point values)) (length values)
+abbrev class_of : Profile → List PointValue → Instance
+class_of profile values = class_instance 2 (in_two_bytes (largest_assembly profile values)) (assembly_count values) assembly_facts
 
-class_said : (owned : Bool) (service instance : ℕ) (attribute : Option ℕ) (body : List ℕ) (values : List PointValue) (d : Option Description) → object_said owned service attribute body (assembly_class values instance d) ≡ object_said false service attribute body (assembly_class values instance d)
-class_said owned service instance attribute body values None = refl
-class_said owned service instance attribute body values (Some d) = split (instance == 0)
+beside_said : (owned : Bool) (service instance : ℕ) (attribute : Option ℕ) (body : List ℕ) (profile : Profile) (values : List PointValue) (d : Option Description) → object_said owned service attribute body (assembly_beside profile values instance d) ≡ object_said false service attribute body (assembly_beside profile values instance d)
+beside_said owned service instance attribute body profile values None = refl
+beside_said owned service instance attribute body profile values (Some d) = split (instance == 0) (is_heartbeat profile instance)
   where
-    split : (b : Bool) → object_said owned service attribute body (cond b (Some (class_of values)) None) ≡ object_said false service attribute body (cond b (Some (class_of values)) None)
-    split true = unowned owned service attribute body (class_of values) refl
-    split false = refl
+    split : (b c : Bool) → object_said owned service attribute body (cond b (Some (class_of profile values)) (cond c (Some (assembly_instance true [])) None)) ≡ object_said false service attribute body (cond b (Some (class_of profile values)) (cond c (Some (assembly_instance true [])) None))
+    split true c = unowned owned service attribute body (class_of profile values) refl
+    split false true = unowned owned service attribute body (assembly_instance true []) refl
+    split false false = refl
 
-found_said : (owned : Bool) (service instance : ℕ) (attribute : Option ℕ) (body : List ℕ) (values : List PointValue) (d : Option Description) (found : Option (List ℕ)) → object_said owned service attribute body (assembly_found values instance d found) ≡ object_said false service attribute body (assembly_found values instance d found)
-found_said owned service instance attribute body values d None = class_said owned service instance attribute body values d
-found_said owned service instance attribute body values d (Some value) = unowned owned service attribute body (assembly_instance (is_some d) value) refl
+found_said : (owned : Bool) (service instance : ℕ) (attribute : Option ℕ) (body : List ℕ) (profile : Profile) (values : List PointValue) (found : Option (List ℕ)) → object_said owned service attribute body (assembly_found profile values instance found) ≡ object_said false service attribute body (assembly_found profile values instance found)
+found_said owned service instance attribute body profile values None = beside_said owned service instance attribute body profile values profile.description
+found_said owned service instance attribute body profile values (Some value) = unowned owned service attribute body (assembly_instance (is_some profile.description) value) refl
 
 -- a device answers to a service of an assembly
 pub assembly_is : (t : AdapterTable) (service instance : ℕ) (attribute : Option ℕ) (body : List ℕ) → object_answer t service 0x04 instance attribute body ≡ assembly_said (points_of t) service instance attribute body
 unfolding object_answer instance_at assembly_said
-assembly_is t service instance attribute body = found_said (list_any is_owning t.rows) service instance attribute body t.values t.profile.description (bytes_at t.values instance)
+assembly_is t service instance attribute body = found_said (list_any is_owning t.rows) service instance attribute body t.profile t.values (bytes_at t.values instance)
 
 -- ---- inquiries
 

@@ -63,7 +63,7 @@ fn find_attribute<'a>(attributes: &[Attribute<'a>], number: u32) -> Option<Attri
     ensures { option_map view_attribute result ≡ find (is_numbered number) (map view_attribute attributes.now) }
 {
     for attribute in attributes {
-        if attribute.number() == number {
+        if attribute.is_numbered(number) {
             return Some(*attribute);
         }
     }

@@ -1,15 +1,15 @@
 //! The assemblies of an adapter.
 
 ghost use Rattle.std.specs.Prelude.{◌≡◌, ◌≤◌, IfOk, false, true, length};
-ghost use Rattle.adapter_table.specs.Objects.{assembly_instance, in_two_bytes, larger, largest_point, object_said, assembly_class};
-ghost use Rattle.adapter_objects.specs.Few.{FewSaid};
+ghost use Rattle.adapter_table.specs.Objects.{assembly_beside, assembly_count, assembly_facts, assembly_instance, class_instance, in_two_bytes, is_heartbeat, larger, largest_assembly, largest_point, object_said};
+ghost use Rattle.adapter_table.specs.Lemmas.ObjectSizes.{FewSaid};
 ghost use Rattle.adapter_objects.specs.Views.{requested, assembly_requested, view_answer};
 
 use crate::answer::{ObjectAnswer, ObjectRequest, instance_answer};
-use crate::described::class_answer;
+use crate::classes::{ClassSize, assembly_facts, class_answer};
 use crate::instance::Instance;
-use crate::value::{Attribute, Value};
-use adapter_table::PointValue;
+use crate::value::{Attribute, Value, in_two_bytes};
+use adapter_table::{PointValue, Profile};
 use assembly_set::AssemblySet;
 use cip_router::Status;
 use cip_types::OutOfMemory;
@@ -36,15 +36,19 @@ fn largest_point(values: &[PointValue]) -> u32
     }
 }
 
-/// A number, at most the largest of two bytes.
-fn in_two_bytes(number: u32) -> u16
-    ensures { result ≡ in_two_bytes number }
+/// The largest instance of the points, heartbeats among them.
+fn largest_assembly(profile: &Profile, values: &[PointValue]) -> u32
+    ensures { result ≡ largest_assembly profile.now values.now }
 {
-    if number <= 65535 {
-        number as u16
-    } else {
-        65535
-    }
+    let heartbeat = larger(profile.listen_only, largest_point(values));
+    larger(profile.input_only, heartbeat)
+}
+
+/// Whether the instance is that of a heartbeat.
+fn is_heartbeat(profile: &Profile, instance: u32) -> bool
+    ensures { result ≡ is_heartbeat profile.now instance }
+{
+    profile.input_only == instance || profile.listen_only == instance
 }
 
 /// A service of an assembly of a described device.
@@ -89,9 +93,29 @@ fn plain_assembly<'a>(
     instance_answer(alloc, &instance, false, request)
 }
 
-/// A service of the class of the assemblies, or of an instance that the device has not.
+/// A service of the class of the assemblies of a described device: two heartbeats are among them.
 #[tactic(auto, using(crate::proofs::Points::few_values))]
 fn class_of_assemblies<'a>(
+    alloc: Global,
+    assemblies: &AssemblySet,
+    request: ObjectRequest<'_>,
+) -> Result<ObjectAnswer<'a>, OutOfMemory>
+    ensures { IfOk result (λ answer. view_answer answer ≡ requested false request.entry
+        (class_instance 2 (in_two_bytes (largest_assembly assemblies.now.profile assemblies.now.values))
+        (assembly_count assemblies.now.values) assembly_facts)) }
+{
+    let profile = assemblies.profile();
+    let values = assemblies.values();
+    let size = ClassSize {
+        revision: REVISION,
+        largest: in_two_bytes(largest_assembly(profile, values)),
+        count: (values.len() + 2) as u16,
+    };
+    class_answer(alloc, size, assembly_facts(), false, request)
+}
+
+/// A service of the class of the assemblies, of a heartbeat, or of an instance that the device has not.
+fn answer_beside<'a>(
     alloc: Global,
     assemblies: &AssemblySet,
     instance: u32,
@@ -99,21 +123,19 @@ fn class_of_assemblies<'a>(
 ) -> Result<ObjectAnswer<'a>, OutOfMemory>
     ensures { IfOk result (λ answer. view_answer answer
         ≡ object_said false request.entry.service request.entry.attribute request.entry.body.now
-        (assembly_class assemblies.now.values instance assemblies.now.profile.description)) }
+        (assembly_beside assemblies.now.profile assemblies.now.values instance
+        assemblies.now.profile.description)) }
 {
-    if instance != 0 || assemblies.profile().description.is_none() {
+    if assemblies.profile().description.is_none() {
         return Ok(ObjectAnswer::Denied(Status::PathDestination));
     }
-    let values = assemblies.values();
-    let largest = in_two_bytes(largest_point(values));
-    class_answer(
-        alloc,
-        REVISION,
-        largest,
-        values.len() as u16,
-        false,
-        request,
-    )
+    if instance == 0 {
+        return class_of_assemblies(alloc, assemblies, request);
+    }
+    if is_heartbeat(assemblies.profile(), instance) {
+        return described_assembly(alloc, &[], request);
+    }
+    Ok(ObjectAnswer::Denied(Status::PathDestination))
 }
 
 /// The answer to a service of an assembly.
@@ -128,7 +150,7 @@ fn answer_of<'a>(
         ≡ assembly_requested assemblies.now instance request.entry) }
 {
     let Ok(value) = assemblies.read(instance) else {
-        return class_of_assemblies(alloc, assemblies, instance, request);
+        return answer_beside(alloc, assemblies, instance, request);
     };
     match assemblies.profile().description {
         Some(_) => described_assembly(alloc, value, request),

@@ -1,19 +1,25 @@
 //! The objects of a described device beside its assemblies.
 
-ghost use Rattle.std.specs.Prelude.{◌≡◌, IfOk, Some};
-ghost use Rattle.adapter_table.specs.Objects.{class_instance, identity_instance, bare_instance, interface_instance, link_instance};
-ghost use Rattle.adapter_objects.specs.Few.{FewSaid, IsLimited};
-ghost use Rattle.adapter_objects.specs.Said.{status_in};
+ghost use Rattle.std.specs.Prelude.{◌≡◌, ◌≤◌, IfOk, Some, length};
+ghost use Rattle.adapter_table.specs.Objects.{identity_instance};
+ghost use Rattle.adapter_table.specs.Lemmas.ObjectSizes.{FewSaid};
+ghost use Rattle.adapter_objects.specs.Said.{standing_in};
 ghost use Rattle.adapter_objects.specs.Views.{requested, described_requested, view_answer};
 
 use crate::answer::{ObjectAnswer, ObjectRequest, instance_answer};
+use crate::classes::{
+    identity_class_answer, interface_class_answer, link_class_answer, manager_class_answer,
+    router_class_answer,
+};
 use crate::instance::Instance;
-use crate::status::status_word;
+use crate::network::{interface_answer, link_answer};
+use crate::port::yielding_answer;
+use crate::router::router_answer;
+use crate::status::{consistency_value, status_word};
 use crate::value::{Attribute, Value};
 use adapter_table::{Description, IoState};
 use assembly_set::AssemblySet;
 use cip_epath::class::{CONNECTION_MANAGER, MESSAGE_ROUTER};
-use cip_router::Status;
 use cip_types::OutOfMemory;
 use std::alloc::Global;
 
@@ -37,30 +43,13 @@ const LINK: u32 = 0xF6;
 /// Volume 1, chapter 5, Identity object, attribute 8.
 pub(crate) const IN_OPERATION: u8 = 3;
 
-/// A service of a class.
-pub(crate) fn class_answer<'a>(
-    alloc: Global,
-    revision: u16,
-    largest: u16,
-    count: u16,
-    owned: bool,
-    request: ObjectRequest<'_>,
-) -> Result<ObjectAnswer<'a>, OutOfMemory>
-    ensures { IfOk result (λ answer. view_answer answer
-        ≡ requested owned request.entry (class_instance revision largest count)) }
-{
-    let attributes = [
-        Attribute::Single(1, Value::Word(revision)),
-        Attribute::Single(2, Value::Word(largest)),
-        Attribute::Single(3, Value::Word(count)),
-    ];
-    let instance = Instance {
-        attributes: &attributes,
-        gets_all: false,
-        sets: true,
-        resets: false,
-    };
-    instance_answer(alloc, &instance, owned, request)
+/// What the connections of a device tell of it, and how many there are: the established ones of class 1, and those of class 3.
+///
+/// Volume 1, chapter 5, Identity object, attribute 5, and Message Router object, attribute 3.
+#[derive(Clone, Copy)]
+pub struct ConnectionFacts {
+    pub io: IoState,
+    pub count: usize,
 }
 
 /// A service of the Identity object.
@@ -71,12 +60,13 @@ fn identity_answer<'a>(
     description: &'a Description,
     request: ObjectRequest<'_>,
 ) -> Result<ObjectAnswer<'a>, OutOfMemory>
-    requires { IsLimited description.now }
+    requires { length description.now.name ≤ 32 }
     ensures { IfOk result (λ answer. view_answer answer ≡ requested io.owned request.entry
-        (identity_instance assemblies.now.profile.identity description.now (status_in assemblies.now io))) }
+        (identity_instance assemblies.now.profile.identity description.now (standing_in assemblies.now io))) }
 {
     let identity = assemblies.profile().identity;
     let status = status_word(assemblies, io);
+    let consistency = consistency_value(assemblies);
     let name = description.name.as_slice();
     let attributes = [
         Attribute::Listed(1, Value::Word(identity.vendor)),
@@ -87,6 +77,7 @@ fn identity_answer<'a>(
         Attribute::Listed(6, Value::Long(description.serial)),
         Attribute::Listed(7, Value::Counted(name.len() as u8, name)),
         Attribute::Single(8, Value::Byte(IN_OPERATION)),
+        Attribute::Single(9, Value::Word(consistency)),
     ];
     let instance = Instance {
         attributes: &attributes,
@@ -97,78 +88,6 @@ fn identity_answer<'a>(
     instance_answer(alloc, &instance, io.owned, request)
 }
 
-/// A service of an instance without attributes.
-fn bare_answer<'a>(
-    alloc: Global,
-    owned: bool,
-    request: ObjectRequest<'_>,
-) -> Result<ObjectAnswer<'a>, OutOfMemory>
-    ensures { IfOk result (λ answer. view_answer answer
-        ≡ requested owned request.entry bare_instance) }
-{
-    let instance = Instance {
-        attributes: &[],
-        gets_all: false,
-        sets: true,
-        resets: false,
-    };
-    instance_answer(alloc, &instance, owned, request)
-}
-
-/// A service of the TCP/IP Interface object.
-fn interface_answer<'a>(
-    alloc: Global,
-    assemblies: &AssemblySet,
-    description: &Description,
-    owned: bool,
-    request: ObjectRequest<'_>,
-) -> Result<ObjectAnswer<'a>, OutOfMemory>
-    ensures { IfOk result (λ answer. view_answer answer
-        ≡ requested owned request.entry (interface_instance assemblies.now.profile description.now)) }
-{
-    let profile = assemblies.profile();
-    let attributes = [
-        Attribute::Listed(1, Value::Long(1)),
-        Attribute::Listed(2, Value::Long(0)),
-        Attribute::Listed(3, Value::Long(0)),
-        Attribute::Listed(4, Value::LinkPath),
-        Attribute::Listed(5, Value::Addresses(profile.node, profile.mask)),
-        Attribute::Listed(6, Value::Word(0)),
-        Attribute::Single(13, Value::Word(description.inactivity)),
-    ];
-    let instance = Instance {
-        attributes: &attributes,
-        gets_all: true,
-        sets: true,
-        resets: false,
-    };
-    instance_answer(alloc, &instance, owned, request)
-}
-
-/// A service of the Ethernet Link object.
-fn link_answer<'a>(
-    alloc: Global,
-    description: &'a Description,
-    owned: bool,
-    request: ObjectRequest<'_>,
-) -> Result<ObjectAnswer<'a>, OutOfMemory>
-    ensures { IfOk result (λ answer. view_answer answer
-        ≡ requested owned request.entry (link_instance description.now)) }
-{
-    let attributes = [
-        Attribute::Listed(1, Value::Long(description.speed)),
-        Attribute::Listed(2, Value::Long(description.flags)),
-        Attribute::Listed(3, Value::Lent(description.mac.as_slice())),
-    ];
-    let instance = Instance {
-        attributes: &attributes,
-        gets_all: true,
-        sets: true,
-        resets: false,
-    };
-    instance_answer(alloc, &instance, owned, request)
-}
-
 /// The answer of a described device to a service of another object than an assembly. An instance that it has not is
 /// refused first (0x05), then as `instance_answer` says. Out of memory is the only fault.
 ///
@@ -176,29 +95,40 @@ fn link_answer<'a>(
 #[tactic(auto, unfolding(crate::specs::Said::described_said))]
 fn answer_of<'a>(
     alloc: Global,
-    assemblies: &AssemblySet,
-    io: IoState,
+    assemblies: &'a AssemblySet,
+    connections: ConnectionFacts,
     description: &'a Description,
     class: u32,
     instance: u32,
     request: ObjectRequest<'_>,
 ) -> Result<ObjectAnswer<'a>, OutOfMemory>
-    requires { IsLimited description.now }
+    requires objects { length assemblies.now.profile.objects ≤ 16 }
+    requires name { length description.now.name ≤ 32 }
     ensures { IfOk result (λ answer. view_answer answer
-        ≡ described_requested assemblies.now io description.now class instance request.entry) }
+        ≡ described_requested assemblies.now connections.io connections.count description.now class instance
+        request.entry) }
 {
+    let io = connections.io;
     let owned = io.owned;
     match (class, instance) {
-        (IDENTITY, 0) => class_answer(alloc, 1, 1, 1, owned, request),
+        (IDENTITY, 0) => identity_class_answer(alloc, owned, request),
         (IDENTITY, 1) => identity_answer(alloc, assemblies, io, description, request),
-        (MESSAGE_ROUTER, 0) => class_answer(alloc, 1, 1, 1, owned, request),
-        (MESSAGE_ROUTER, 1) => bare_answer(alloc, owned, request),
-        (CONNECTION_MANAGER, 0) => class_answer(alloc, 1, 1, 1, owned, request),
-        (INTERFACE, 0) => class_answer(alloc, 4, 1, 1, owned, request),
+        (MESSAGE_ROUTER, 0) => router_class_answer(alloc, owned, request),
+        (MESSAGE_ROUTER, 1) => {
+            router_answer(
+                alloc,
+                assemblies.profile(),
+                connections.count,
+                owned,
+                request,
+            )
+        }
+        (CONNECTION_MANAGER, 0) => manager_class_answer(alloc, owned, request),
+        (INTERFACE, 0) => interface_class_answer(alloc, owned, request),
         (INTERFACE, 1) => interface_answer(alloc, assemblies, description, owned, request),
-        (LINK, 0) => class_answer(alloc, 4, 1, 1, owned, request),
+        (LINK, 0) => link_class_answer(alloc, owned, request),
         (LINK, 1) => link_answer(alloc, description, owned, request),
-        _ => Ok(ObjectAnswer::Denied(Status::PathDestination)),
+        _ => yielding_answer(alloc, assemblies, class, instance, owned, request),
     }
 }
 
@@ -208,11 +138,11 @@ fn answer_of<'a>(
 /// type than 0 and 1 (0x20), and one while an output is owned (0x10). Out of memory is the only fault.
 ///
 /// Volume 1, chapter 5, object library, and appendix B, general status codes.
-#[tactic(auto, using(crate::specs::Few::description_limited, crate::specs::Few::described_few))]
+#[tactic(auto, using(adapter_table::specs::Lemmas::ObjectSizes::objects_few, adapter_table::specs::Lemmas::ObjectSizes::name_few, crate::specs::Few::described_few))]
 pub fn described_answer<'a>(
     alloc: Global,
-    assemblies: &AssemblySet,
-    io: IoState,
+    assemblies: &'a AssemblySet,
+    connections: ConnectionFacts,
     description: &'a Description,
     class: u32,
     instance: u32,
@@ -220,10 +150,19 @@ pub fn described_answer<'a>(
 ) -> Result<ObjectAnswer<'a>, OutOfMemory>
     requires { assemblies.now.profile.description ≡ Some description.now }
     ensures value { IfOk result (λ answer. view_answer answer
-        ≡ described_requested assemblies.now io description.now class instance request.entry) }
+        ≡ described_requested assemblies.now connections.io connections.count description.now class instance
+        request.entry) }
     ensures few { IfOk result (λ answer. FewSaid (view_answer answer)) }
 {
     // Gives the prover that the profile is faultless.
     let _profile = assemblies.profile();
-    answer_of(alloc, assemblies, io, description, class, instance, request)
+    answer_of(
+        alloc,
+        assemblies,
+        connections,
+        description,
+        class,
+        instance,
+        request,
+    )
 }

@@ -1,10 +1,9 @@
 //! The replies of a described device to inquiries.
 
-ghost use Rattle.std.specs.Prelude.{◌≡◌, IfOk, Some, None, false};
+ghost use Rattle.std.specs.Prelude.{◌≡◌, ◌≤◌, IfOk, Some, None, false, length};
 ghost use Rattle.std.specs.Option.{option_map};
 ghost use Rattle.list_identity.specs.Inquiries.{inquiry_answer, inquiry_in};
 ghost use Rattle.adapter_objects.specs.Said.{station_in, address_in};
-ghost use Rattle.adapter_objects.specs.Few.{IsLimited};
 
 use crate::described::IN_OPERATION;
 use crate::status::status_word;
@@ -33,7 +32,7 @@ fn station_of(
     io: IoState,
     description: &Description,
 ) -> Result<StationIdentity, OutOfMemory>
-    requires { IsLimited description.now }
+    requires { length description.now.name ≤ 32 }
     ensures { IfOk result (λ station. station ≡ station_in assemblies.now io description.now) }
 {
     Ok(StationIdentity {
@@ -48,7 +47,7 @@ fn station_of(
 /// The reply of a described device to an inquiry, and none to other bytes. Out of memory is the only fault.
 ///
 /// Volume 2, chapter 2, ListIdentity, ListServices and ListInterfaces.
-#[tactic(auto, using(crate::specs::Few::description_limited))]
+#[tactic(auto, using(adapter_table::specs::Lemmas::ObjectSizes::name_few))]
 pub fn inquiry_reply(
     alloc: Global,
     assemblies: &AssemblySet,

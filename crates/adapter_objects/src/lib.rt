@@ -7,17 +7,22 @@
 
 mod answer;
 mod assembly;
+mod classes;
 mod described;
 mod identity;
 mod instance;
+mod network;
 mod own;
+mod port;
+mod router;
 mod status;
 mod value;
 
 pub use answer::{Bytes, ObjectAnswer, ObjectRequest};
 pub use assembly::assembly_answer;
-pub use described::described_answer;
+pub use classes::ClassFacts;
+pub use described::{ConnectionFacts, described_answer};
 pub use identity::{has_inquiry_length, inquiry_reply};
 pub use instance::Instance;
 pub use own::{OwnRequest, own_request};
-pub use value::{Attribute, Value};
+pub use value::{Attribute, Value, Zeros};

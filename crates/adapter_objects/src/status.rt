@@ -1,10 +1,10 @@
-//! The status word of the Identity object.
+//! The status word and the configuration consistency value of the Identity object.
 
 ghost use Rattle.std.specs.Prelude.{◌≡◌, ◌≤◌};
 ghost use Rattle.std.specs.List.{list_any};
 ghost use Rattle.std.specs.Option.{option_map};
 ghost use Rattle.adapter_table.specs.Checks.{config_bytes};
-ghost use Rattle.adapter_table.specs.Objects.{bit, connection_status, status_of, holds_bytes, is_set};
+ghost use Rattle.adapter_table.specs.Objects.{bit, connection_status, consistency, consistency_value, status_of, holds_bytes, is_set};
 ghost use Rattle.adapter_objects.specs.Said.{status_in};
 
 use adapter_table::IoState;
@@ -81,4 +81,28 @@ pub(crate) fn status_word(assemblies: &AssemblySet, io: IoState) -> u16
     ensures { result ≡ status_in assemblies.now io }
 {
     status_of(holds_bytes(config_bytes(assemblies)), io)
+}
+
+/// The value of some bytes of a configuration: each byte counts for its place.
+fn consistency(bytes: &[u8]) -> u16
+    ensures { result ≡ consistency bytes.now }
+{
+    match bytes {
+        [] => 0,
+        [byte, rest @ ..] => {
+            ((u32::from(*byte) + 31 * u32::from(consistency(rest))) % 65536) as u16
+        }
+    }
+}
+
+/// The configuration consistency value of a device with these points: 0 without a configuration.
+///
+/// Volume 1, chapter 5, Identity object, attribute 9.
+pub(crate) fn consistency_value(assemblies: &AssemblySet) -> u16
+    ensures { result ≡ consistency_value (config_bytes assemblies.now.values assemblies.now.profile.config) }
+{
+    match config_bytes(assemblies) {
+        Some(bytes) => consistency(bytes),
+        None => 0,
+    }
 }

@@ -2,12 +2,17 @@
 
 ghost use Rattle.std.specs.Prelude.{◌≡◌};
 ghost use Rattle.std.specs.Str.{bytes_eq};
-ghost use Rattle.cip_router.specs.Frames.{frame_reading, protocol_text};
+ghost use Rattle.cip_types.specs.Fields.{fields_at};
+ghost use Rattle.cip_encap.specs.Message.{header_widths, view_message};
+ghost use Rattle.cip_router.specs.Frames.{frame_reading, protocol_text, wrong_length_of};
+ghost use Rattle.adapter_table.specs.Encapsulation.{described_frame, described_message, discarded, frame_for, is_list};
 ghost use Rattle.adapter_replies.specs.Routes.{view_frame};
 
 use crate::replies::PROTOCOL;
 use crate::routes::RequestHeader;
-use cip_encap::{read_message, read_message_header};
+use adapter_table::Description;
+use cip_encap::command::{LIST_SERVICES, NOP};
+use cip_encap::{MessageView, read_message, read_message_header};
 
 /// The bytes of a frame, read.
 ///
@@ -22,16 +27,87 @@ pub enum FrameView<'a> {
     Whole(RequestHeader, &'a [u8]),
 }
 
+/// The commands of messages without data: ListServices, ListIdentity and ListInterfaces.
+///
+/// Volume 2, chapter 2, encapsulation commands.
+const LISTS: [u16; 3] = [LIST_SERVICES, 0x0063, 0x0064];
+
+/// The header of bytes that are no whole message.
+fn misfit_frame(bytes: &[u8]) -> FrameView<'_>
+    ensures { view_frame result ≡ wrong_length_of (fields_at header_widths bytes.now) }
+{
+    match read_message_header(bytes) {
+        Some((header, _rest)) => FrameView::BadLength(RequestHeader::of_header(&header)),
+        None => FrameView::NoHeader,
+    }
+}
+
 /// Reads the bytes of a frame. The status and options of a request are ignored.
-pub fn read_frame(bytes: &[u8]) -> FrameView<'_>
+#[tactic(auto, unfolding(cip_router::specs::Frames::frame_reading))]
+fn read_frame(bytes: &[u8]) -> FrameView<'_>
     ensures { view_frame result ≡ frame_reading bytes.now }
 {
     match read_message(bytes) {
         Ok(message) => FrameView::Whole(RequestHeader::of_message(&message), message.data),
-        Err(_) => match read_message_header(bytes) {
-            Some((header, _rest)) => FrameView::BadLength(RequestHeader::of_header(&header)),
-            None => FrameView::NoHeader,
-        },
+        Err(_) => misfit_frame(bytes),
+    }
+}
+
+/// Whether the messages of a command have no data.
+fn is_list(command: u16) -> bool
+    ensures { result ≡ is_list command }
+{
+    command == LISTS[0] || command == LISTS[1] || command == LISTS[2]
+}
+
+/// A message that is discarded, taken for a NOP, which has no reply.
+fn discarded(message: MessageView<'_>) -> FrameView<'_>
+    ensures { view_frame result ≡ discarded (view_message message.entry) }
+{
+    let header = RequestHeader {
+        command: NOP,
+        session: message.session,
+        context: message.context,
+    };
+    FrameView::Whole(header, message.data)
+}
+
+/// A whole message of these bytes, as a described device takes it.
+fn described_message<'a>(bytes: &'a [u8], message: MessageView<'a>) -> FrameView<'a>
+    ensures { view_frame result
+        ≡ described_message (fields_at header_widths bytes.now) (view_message message.entry) }
+{
+    if message.options != 0 {
+        return discarded(message);
+    }
+    if is_list(message.command) && !message.data.is_empty() {
+        return misfit_frame(bytes);
+    }
+    FrameView::Whole(RequestHeader::of_message(&message), message.data)
+}
+
+/// Reads the bytes of a frame as a described device does: a message with options is discarded, and data of a command
+/// that has none are of a wrong length.
+#[tactic(auto, unfolding(adapter_table::specs::Encapsulation::described_frame))]
+fn read_described_frame(bytes: &[u8]) -> FrameView<'_>
+    ensures { view_frame result ≡ described_frame bytes.now }
+{
+    match read_message(bytes) {
+        Ok(message) => described_message(bytes, message),
+        Err(_) => misfit_frame(bytes),
+    }
+}
+
+/// Reads the bytes of a frame, as a device takes them that is described or not. Only a described one judges the options
+/// of a message, and the length of a message of a command without data.
+///
+/// Volume 2, chapter 2, encapsulation messages and commands.
+pub fn read_frame_for<'a>(description: &Option<Description>, bytes: &'a [u8]) -> FrameView<'a>
+    ensures { view_frame result ≡ frame_for description.now bytes.now }
+{
+    match description {
+        Some(_) => read_described_frame(bytes),
+        None => read_frame(bytes),
     }
 }
 

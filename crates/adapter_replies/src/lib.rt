@@ -18,7 +18,7 @@ pub use answers::{
     late_answer, late_notices, notices_answer, one_notice, opened_address, opened_reply,
     opening_notices, reply_and_text, reply_answer, unserved_answer,
 };
-pub use frames::{FrameView, is_protocol, read_frame};
+pub use frames::{FrameView, is_protocol, read_frame_for};
 pub use messages::repeated_answer;
 pub use objects::{inquiry_answer, object_notices, object_reply};
 pub use own::{found_last, late_frames, referred_answer};

@@ -1,7 +1,7 @@
 //! Replies to services of objects, and answers to inquiries.
 
 ghost use Rattle.std.specs.Prelude.{◌≡◌, IfOk};
-ghost use Rattle.adapter_objects.specs.Few.{FewSaid};
+ghost use Rattle.adapter_table.specs.Lemmas.ObjectSizes.{FewSaid};
 ghost use Rattle.adapter_objects.specs.Views.{view_answer};
 ghost use Rattle.adapter_table.specs.Inquiries.{frame_alone};
 ghost use Rattle.cip_router.specs.Replies.{view_reply};

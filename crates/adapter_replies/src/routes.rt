@@ -9,12 +9,11 @@ ghost use Rattle.adapter_replies.specs.Routes.{is_connected, last_message_route,
 ghost use Rattle.cip_router.specs.Frames.{request_header_of, request_header_in};
 ghost use Rattle.cip_encap.specs.Message.{view_message, view_header};
 
-use adapter_table::Stream;
+use adapter_table::{Stream, session_of};
 use cip_encap::command::{SEND_RR_DATA, SEND_UNIT_DATA};
 use cip_encap::{ConnectedPacket, MessageHeader, MessageView};
 use cip_types::{ConnId, Ms, Node};
 use messaging::{Class3Connection, Requester, Waiting};
-use session_streams::session_of;
 
 /// The header fields that a reply returns from its request: the command, the session handle and the sender context.
 ///

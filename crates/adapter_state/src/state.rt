@@ -17,13 +17,14 @@ ghost use Rattle.adapter_table.specs.Rates.{counted_at, has_opened_enough_at};
 ghost use Rattle.adapter_table.specs.Step.{adapter_table};
 ghost use Rattle.adapter_table.specs.Whole.{IsWhole};
 
-use adapter_table::{AdapterTable, Profile, Stream};
+use adapter_table::{
+    AdapterTable, NodeOpenings, Profile, Stream, counted_openings, has_opened_enough,
+};
 use assembly_set::AssemblySet;
 use cip_types::{Items, Ms, Node, OutOfMemory};
 use connection_list::ConnectionTable;
 use messaging::MessagingState;
 use open_streams::copied_streams;
-use opening_rates::{NodeOpenings, counted_openings, has_opened_enough};
 use std::alloc::Global;
 use std::marker::Model;
 

@@ -19,7 +19,7 @@ use Rattle.adapter_table.specs.declared.profile.OutputPoint.{OutputPoint}
 use Rattle.adapter_table.specs.declared.profile.InputPoint.{InputPoint}
 use Rattle.adapter_table.specs.declared.profile.Description.{Description}
 use Rattle.adapter_table.specs.declared.profile.Profile.{Profile}
-use Rattle.opening_rates.specs.declared.rates.NodeOpenings.{NodeOpenings}
+use Rattle.adapter_table.specs.declared.opening_rates.rates.NodeOpenings.{NodeOpenings}
 use Rattle.adapter_table.specs.declared.table.PointValue.{PointValue}
 use Rattle.adapter_table.specs.declared.table.Stream.{Stream}
 use Rattle.adapter_table.specs.declared.table.AdapterTable.{AdapterTable}
@@ -39,7 +39,7 @@ use Rattle.adapter_table.specs.contracts.profile.OutputPointPartialEq.TheImpl as
 use Rattle.adapter_table.specs.contracts.profile.InputPointPartialEq.TheImpl as input
 use Rattle.adapter_table.specs.contracts.profile.DescriptionPartialEq.TheImpl as description
 use Rattle.adapter_table.specs.contracts.profile.ProfilePartialEq.TheImpl as profile
-use Rattle.opening_rates.specs.contracts.rates.NodeOpeningsPartialEq.TheImpl as openings
+use Rattle.adapter_table.specs.contracts.opening_rates.rates.NodeOpeningsPartialEq.TheImpl as openings
 use Rattle.adapter_table.specs.contracts.row.State.{the_row as state_row}
 use Rattle.adapter_table.specs.contracts.row.StatePartialEq.TheImpl as state
 use Rattle.adapter_table.specs.contracts.row.ModePartialEq.TheImpl as mode

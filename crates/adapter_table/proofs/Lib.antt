@@ -3,6 +3,8 @@ pub mod FadeLemmas
 pub mod ProducerLemmas
 pub mod StreamLemmas
 pub mod FrameSamples
+mod DescribedFrameSamples
+mod DescribedOpeningSamples
 pub mod OrderLemmas
 pub mod PlaceLemmas
 pub mod StepLemmas
@@ -20,3 +22,4 @@ pub mod OnceLemmas
 mod NewestSamples
 mod LimitSamples
 mod Class3Samples
+mod Samples

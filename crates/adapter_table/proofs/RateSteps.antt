@@ -15,7 +15,7 @@ use Rattle.messaging.specs.Sound.{EachOf}
 use Rattle.messaging.specs.Times.{aged}
 use Rattle.messaging.specs.Lemmas.EachOfLemmas.{each_left, each_more, few_left}
 use Rattle.adapter_table.specs.declared.profile.Profile.{Profile}
-use Rattle.opening_rates.specs.declared.rates.NodeOpenings.{NodeOpenings}
+use Rattle.adapter_table.specs.declared.opening_rates.rates.NodeOpenings.{NodeOpenings}
 use Rattle.adapter_table.specs.declared.table.AdapterTable.{AdapterTable}
 use Rattle.adapter_table.specs.declared.table.Stream.{Stream}
 use Rattle.adapter_table.specs.Connections.{Row}
@@ -25,7 +25,7 @@ use Rattle.adapter_table.specs.Datagrams.{row_delivery, is_for, accepted_table, 
 use Rattle.adapter_table.specs.Class3Opening.{class3_view, class3_refusal, opened_class3, class3_table}
 use Rattle.adapter_table.specs.Messages.{messages_table}
 use Rattle.adapter_table.specs.Opening.{opened_row, opened_table}
-use Rattle.opening_rates.specs.Rates.{runs_for, runs_for_another, count_in, has_opened_enough, one_more, with_room, counted_openings}
+use Rattle.adapter_table.specs.OpeningRates.Rates.{runs_for, runs_for_another, count_in, has_opened_enough, one_more, with_room, counted_openings}
 use Rattle.adapter_table.specs.Profiles.{most_openings}
 use Rattle.adapter_table.specs.Rates.{AreWithinSecond, OpensWithinLimits}
 use Rattle.adapter_table.specs.Requests.{Next}

@@ -9,7 +9,7 @@ use Rattle.cip_events.specs.declared.event.Event.{Event}
 use Rattle.adapter_table.specs.declared.profile.InputPoint.{InputPoint}
 use Rattle.adapter_table.specs.declared.profile.Profile.{Profile}
 use Rattle.adapter_table.specs.Connections.{Row}
-use Rattle.opening_rates.specs.declared.rates.NodeOpenings.{NodeOpenings}
+use Rattle.adapter_table.specs.declared.opening_rates.rates.NodeOpenings.{NodeOpenings}
 use Rattle.adapter_table.specs.declared.table.AdapterTable.{AdapterTable}
 use Rattle.adapter_table.specs.Rates.{with_openings}
 use Rattle.adapter_table.specs.Profiles.{is_at, profile_fault}

@@ -1,12 +1,16 @@
 -- Encapsulation messages that an adapter receives over a stream: the commands, the replies, and the table after
 -- each (Volume 2, chapter 2, encapsulation messages, commands and common packet format).
-use Rattle.std.specs.Prelude.{ℕ, ◌+◌, ◌==◌, not, nat_lt, if◌then◌else◌, List, [], ◌∷◌, length, Option, Some, None, Result, Ok, Err, find}
+use Rattle.std.specs.Prelude.{ℕ, ◌+◌, ◌==◌, ◌&&◌, ◌||◌, not, nat_lt, Bool, if◌then◌else◌, List, [], ◌∷◌, length, Option, Some, None, Result, Ok, Err, find}
 use Rattle.std.specs.Str.{bytes_eq}
 use Rattle.cip_types.specs.Cases.{first_case_or}
+use Rattle.cip_types.specs.Fields.{fields_at}
+use Rattle.cip_types.specs.Texts.{Tailed}
 use Rattle.cip_encap.specs.declared.packet.ItemFault.{ItemFault}
 use Rattle.cip_encap.specs.Connected.{ConnectedFields}
 use Rattle.cip_encap.specs.ConnectedReading.{connected_reading}
-use Rattle.cip_encap.specs.Message.{message_text}
+use Rattle.cip_encap.specs.declared.message.EncapFault.{EncapFault}
+use Rattle.cip_encap.specs.Message.{MessageFields, header_widths, message_text}
+use Rattle.cip_encap.specs.Reading.{message_reading}
 use Rattle.cip_encap.specs.Packet.{PacketFields}
 use Rattle.cip_encap.specs.PacketReading.{packet_reading}
 use Rattle.cip_router.specs.declared.command.Command.{Command}
@@ -27,6 +31,7 @@ use Rattle.cip_events.specs.declared.event.Verdict.TheVariants.{Done, BadFrame, 
 use Rattle.messaging.specs.declared.class3.Class3Connection.{Class3Connection}
 use Rattle.messaging.specs.declared.requests.Requester.TheVariants as asker
 use Rattle.messaging.specs.Class3Connections.{is_class3, repeats_last}
+use Rattle.adapter_table.specs.declared.profile.Description.{Description}
 use Rattle.adapter_table.specs.declared.table.Stream.{Stream}
 use Rattle.adapter_table.specs.declared.table.AdapterTable.{AdapterTable}
 use Rattle.cip_router.specs.Requests.{RouterRequestFields, router_request_reading}
@@ -38,7 +43,7 @@ use Rattle.adapter_table.specs.Requests.{Next, Served, router_refusal}
 use Rattle.cip_events.specs.Answers.{plain_answer}
 use Rattle.cip_router.specs.Commands.{command_of, is_silent}
 use Rattle.adapter_table.specs.Streams.{is_stream, session_of, has_session, without_stream, ended_notices, registered_table}
-use Rattle.cip_router.specs.Frames.{RequestHeader, FrameFields, without_header, wrong_length, whole, frame_reading, FrameReply, services, registered, other_version, router_reply, connected, refused, protocol_text, reply_message}
+use Rattle.cip_router.specs.Frames.{RequestHeader, FrameFields, without_header, wrong_length, whole, request_header_of, wrong_length_of, frame_reading, FrameReply, services, registered, other_version, router_reply, connected, refused, protocol_text, reply_message}
 
 -- THE REPLY TO A MESSAGE
 
@@ -178,10 +183,16 @@ unit_replied t stream (Err fault) = refusal t status.IncorrectData
 unit_replied t stream (Ok unit) =
     message_found t unit.count unit.message (find (is_class3 stream.number (record { 0 = unit.connection })) t.messaging.class3_connections)
 
--- SendUnitData: within its session, a connected message; outside it is refused as an unknown command is
+-- the status of a connected message outside its session: a described device names the session, any other refuses it as an unknown
+-- command
+abbrev pub outside_session : Option Description → EncapStatus
+outside_session None = status.InvalidCommand
+outside_session (Some d) = status.InvalidSession
+
+-- SendUnitData: within its session, a connected message
 abbrev pub send_unit_data : AdapterTable → Stream → (session : ℕ) → List ℕ → Handled
 send_unit_data t stream session body =
-    if has_session stream session then unit_replied t stream (connected_reading body) else refusal t status.InvalidCommand
+    if has_session stream session then unit_replied t stream (connected_reading body) else refusal t (outside_session t.profile.description)
 
 -- a message by its command
 unfoldable pub handled : AdapterTable → Stream → RequestHeader → List ℕ → Command → Handled
@@ -192,6 +203,36 @@ handled t stream request_header body command.UnregisterSession = unregister_sess
 handled t stream request_header body command.SendRrData = send_rr_data t stream request_header.session request_header.context body
 handled t stream request_header body command.SendUnitData = send_unit_data t stream request_header.session body
 handled t stream request_header body command.Other = refusal t status.InvalidCommand
+
+-- WHAT A DESCRIBED DEVICE TAKES A MESSAGE FOR
+
+-- A message that is discarded is taken for a NOP: it has no reply, and changes nothing.
+abbrev pub discarded : MessageFields → FrameFields
+discarded m = whole (record { command = 0x0000; session = m.session; context = m.context }) m.payload
+
+-- the commands without data: ListServices, ListIdentity, ListInterfaces
+abbrev pub is_list : ℕ → Bool
+is_list command = command == 0x0004 || (command == 0x0063 || command == 0x0064)
+
+-- A message with options is discarded. Data of a command that has none are of a wrong length.
+abbrev pub described_message : Option Tailed → MessageFields → FrameFields
+described_message header m = first_case_or (whole (request_header_of m) m.payload) (
+    (not (m.options == 0), discarded m)
+    ∷ (is_list m.command && not (length m.payload == 0), wrong_length_of header)
+    ∷ [])
+
+abbrev pub described_fields : Option Tailed → Result MessageFields EncapFault → FrameFields
+described_fields header (Ok m) = described_message header m
+described_fields header (Err fault) = wrong_length_of header
+
+-- the bytes of a frame, as a described device takes them
+unfoldable pub described_frame : List ℕ → FrameFields
+described_frame bytes = described_fields (fields_at header_widths bytes) (message_reading bytes)
+
+-- the bytes of a frame, as a device takes them
+abbrev pub frame_for : Option Description → List ℕ → FrameFields
+frame_for None bytes = frame_reading bytes
+frame_for (Some d) bytes = described_frame bytes
 
 -- THE ANSWER
 
@@ -226,7 +267,7 @@ frame_answer t stream (whole request_header body) = framed stream.number request
 
 -- an inquiry is answered first, then all other messages
 abbrev pub stream_answer : AdapterTable → Stream → List ℕ → Option (List ℕ) → Next
-stream_answer t stream bytes None = frame_answer t stream (frame_reading bytes)
+stream_answer t stream bytes None = frame_answer t stream (frame_for t.profile.description bytes)
 stream_answer t stream bytes (Some text) = (frame_alone (recipient.Stream stream.number) text, t)
 
 -- the same of the stream that is found, if one is

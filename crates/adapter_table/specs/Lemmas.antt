@@ -1,4 +1,5 @@
--- Lemmas that crates above cite: the checks of an opening, and what each effect does to rows, values, groups and numbers.
+-- Lemmas that crates above cite: the checks of an opening, what each effect does to rows, values, groups and numbers, and how long the
+-- answers of objects are.
 pub mod CheckLemmas
 pub mod SoundLemmas
 pub mod GroupLemmas
@@ -6,6 +7,7 @@ pub mod SupportLemmas
 pub mod LikeLemmas
 pub mod LimitLemmas
 pub mod MessageLemmas
+pub mod FrameLemmas
 pub mod RequestLemmas
 pub mod PassiveLemmas
 pub mod PlainLemmas
@@ -15,3 +17,4 @@ pub mod ValueLemmas
 pub mod DriverLemmas
 pub mod FedLemmas
 pub mod CounterSteps
+pub mod ObjectSizes

@@ -1,6 +1,7 @@
 pub mod Answering
 pub mod Checks
 pub mod Closing
+pub mod Describing
 pub mod Connected
 pub mod Connections
 pub mod Datagrams
@@ -37,3 +38,4 @@ pub mod Fitting
 pub mod Limits
 pub mod RowLimits
 pub mod Lemmas
+pub mod OpeningRates

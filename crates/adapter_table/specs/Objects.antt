@@ -1,36 +1,52 @@
 -- The objects of an adapter beside its Connection Manager: their attributes, and the answers to their services (Volume 1,
--- chapter 5, object library, and appendix A, common services; Volume 2, chapter 5, TCP/IP Interface and Ethernet Link).
+-- chapter 5, object library, and appendix A, common services; Volume 2, chapter 5, TCP/IP Interface, Ethernet Link and
+-- QoS; Volume 1, chapter 3, Port).
 --
---   class 01  Identity            1 vendor, 2 device type, 3 product, 4 revision, 5 status, 6 serial number, 7 name, 8 state
---   class 02  Message Router      none
+--   class 01  Identity            1 vendor, 2 device type, 3 product, 4 revision, 5 status, 6 serial number, 7 name, 8 state,
+--                               9 configuration consistency value
+--   class 02  Message Router      1 object list, 2 connections that there may be, 3 connections that there are
 --   class 04  Assembly            3 data, 4 size
 --   class 06  Connection Manager  none; the services of its instance 1 are those of connections
---   class F5  TCP/IP Interface    1 status, 2 capability, 3 control, 4 link object, 5 addresses, 6 host name, 13 inactivity
---   class F6  Ethernet Link       1 speed, 2 flags, 3 physical address
+--   class 48  QoS                 1 802.1Q tags, 2 to 8 code points
+--   class F4  Port                1 type, 2 number, 3 link object, 4 name, 7 node address
+--   class F5  TCP/IP Interface    1 status, 2 capability, 3 control, 4 link object, 5 addresses, 6 host name, 8 time to live,
+--                               9 multicast groups, 10 address conflict detection, 11 last conflict, 13 inactivity
+--   class F6  Ethernet Link       1 speed, 2 flags, 3 physical address, 7 type, 8 state, 9 administrative state, 10 label,
+--                               11 capability
 --
--- Instance 0 of a class has the attributes 1 revision, 2 largest instance, 3 number of instances. Each number is
+-- Instance 0 of a class has the attributes 1 revision, 2 largest instance, 3 number of instances, 4 optional attributes and 5
+-- optional services of its instances, 6 largest attribute of the class, 7 largest attribute of its instances. Each number is
 -- little-endian. A device without a description has its assemblies alone, with their data.
-use Rattle.std.specs.Prelude.{ℕ, ◌+◌, ◌*◌, ◌==◌, ◌&&◌, not, nat_lt, nat_le, Bool, true, false, if◌then◌else◌, List, [], ◌∷◌, ◌++◌, length, filter, find, Option, Some, None, is_some}
+use Rattle.std.specs.Prelude.{ℕ, ◌+◌, ◌*◌, ◌/◌, ◌%◌, ◌==◌, ◌&&◌, ◌||◌, not, nat_lt, nat_le, Bool, true, false, if◌then◌else◌, List, [], ◌∷◌, ◌++◌, length, filter, find, replicate, codes, Option, Some, None, is_some}
 use Rattle.std.specs.List.{list_any, flat_map}
-use Rattle.std.specs.Int.{w16, w32, to_le_bytes}
-use Rattle.cip_types.specs.Cases.{first_case, first_case_or}
+use Rattle.std.specs.Int.{w16, w32, byte_at, to_le_bytes}
+use Rattle.cip_types.specs.Cases.{Case, first_case, first_case_or}
 use Rattle.cip_types.specs.declared.names.Identity.{Identity}
 use Rattle.cip_router.specs.declared.object_service.ObjectService.{ObjectService}
 use Rattle.cip_router.specs.declared.object_service.ObjectService.TheVariants.{GetAll, GetSingle}
 use Rattle.cip_router.specs.declared.refusal.Status.{Status}
 use Rattle.cip_router.specs.declared.refusal.Status.TheVariants as status
 use Rattle.cip_productions.specs.Kinds.{is_owner}
+use Rattle.cip_productions.specs.declared.kind.Kind.TheVariants.{ExclusiveOwner, InputOnly, ListenOnly}
+use Rattle.messaging.specs.Class3Connections.{most_class3_connections}
+use Rattle.messaging.specs.declared.table.Messaging.{Messaging}
 use Rattle.adapter_table.specs.Connections.{Row}
 use Rattle.adapter_table.specs.declared.row.Mode.{Mode}
 use Rattle.adapter_table.specs.declared.row.Mode.TheVariants.{Idle, Run}
 use Rattle.adapter_table.specs.declared.profile.Description.{Description}
+use Rattle.adapter_table.specs.declared.maker_limits.MakerLimits.{MakerLimits}
+use Rattle.adapter_table.specs.declared.maker_limits.Places.{Places}
+use Rattle.adapter_table.specs.declared.profile.InputPoint.{InputPoint}
 use Rattle.adapter_table.specs.declared.profile.Profile.{Profile}
 use Rattle.adapter_table.specs.declared.objects.IoState.{IoState}
 use Rattle.adapter_table.specs.declared.table.PointValue.{PointValue}
 use Rattle.adapter_table.specs.declared.table.AdapterTable.{AdapterTable}
+use Rattle.adapter_table.specs.Own.{is_own_class}
 use Rattle.adapter_table.specs.Points.{bytes_at}
-use Rattle.adapter_table.specs.Rows.{is_established, is_timed_out}
+use Rattle.adapter_table.specs.Profiles.{all_places, class3_places, served_classes}
+use Rattle.adapter_table.specs.Rows.{is_established, is_timed_out, kind_count, most_rows}
 use Rattle.adapter_table.specs.Checks.{config_bytes}
+use Rattle.adapter_table.specs.Opening.{multicast_address}
 
 -- THE STATE OF THE CONNECTIONS
 
@@ -75,19 +91,44 @@ abbrev pub holds_bytes : Option (List ℕ) → Bool
 holds_bytes None = false
 holds_bytes (Some bytes) = list_any is_set bytes
 
+-- HOW MANY CONNECTIONS
+
+-- the established connections of class 1, of each application type, and those of class 3
+abbrev pub connection_count : List Row → Messaging → ℕ
+connection_count rows messaging =
+    kind_count rows ExclusiveOwner + (kind_count rows InputOnly + (kind_count rows ListenOnly + length messaging.class3_connections))
+
+-- how many connections of class 1 there may be
+abbrev pub most_class1 : Option Places → ℕ
+most_class1 None = most_rows
+most_class1 (Some places) = all_places places
+
+-- how many of class 3
+abbrev pub most_class3 : Option ℕ → ℕ
+most_class3 None = most_class3_connections
+most_class3 (Some places) = places
+
+-- how many of both
+abbrev pub most_connections : MakerLimits → ℕ
+most_connections limits = most_class1 limits.places + most_class3 (class3_places limits.places)
+
 -- ATTRIBUTES
 
--- an attribute: its number, its bytes, and whether Get_Attributes_All has it
+-- an attribute: its number, its bytes, and whether Get_Attributes_All has it. One without a number is none of the instance:
+-- Get_Attributes_All has these bytes in its place.
 pub record Attribute : Type 0 where
-  pub number : ℕ
+  pub number : Option ℕ
   pub value : List ℕ
   pub listed : Bool
 
 abbrev pub listed : ℕ → List ℕ → Attribute
-listed number value = record { number = number; value = value; listed = true }
+listed number value = record { number = Some number; value = value; listed = true }
 
 abbrev pub single : ℕ → List ℕ → Attribute
-single number value = record { number = number; value = value; listed = false }
+single number value = record { number = Some number; value = value; listed = false }
+
+abbrev pub absent : List ℕ → Attribute
+absent value = record { number = None; value = value; listed = true }
 
 -- an instance of an object: its attributes, and which services it has beside Get_Attribute_Single
 pub record Instance : Type 0 where
@@ -102,14 +143,62 @@ u16 number = to_le_bytes w16 number
 abbrev pub u32 : ℕ → List ℕ
 u32 number = to_le_bytes w32 number
 
+-- a number, at most the largest one of two bytes
+abbrev pub in_two_bytes : ℕ → ℕ
+in_two_bytes number = if nat_le number 65535 then number else 65535
+
 -- the bytes of a text behind the byte of its length
 abbrev pub short_string : List ℕ → List ℕ
 short_string text = length text ∷ text
 
--- the attributes of a class
-abbrev pub class_instance : (revision largest count : ℕ) → Instance
-class_instance revision largest count = record {
-  attributes = single 1 (u16 revision) ∷ single 2 (u16 largest) ∷ single 3 (u16 count) ∷ [];
+-- numbers of two bytes behind how many they are
+abbrev pub numbers : List ℕ → List ℕ
+numbers words = u16 (length words) ++ flat_map u16 words
+
+-- what a class says of its instances: which attributes and services they have that the standard leaves open, and their largest
+-- attribute
+pub record ClassFacts : Type 0 where
+  pub attributes : List ℕ
+  pub services : List ℕ
+  pub largest : ℕ
+
+abbrev pub identity_class : ClassFacts
+identity_class = record { attributes = 8 ∷ 9 ∷ []; services = []; largest = 9 }
+
+abbrev pub router_class : ClassFacts
+router_class = record { attributes = 1 ∷ 2 ∷ 3 ∷ []; services = []; largest = 3 }
+
+abbrev pub assembly_facts : ClassFacts
+assembly_facts = record { attributes = 4 ∷ []; services = []; largest = 4 }
+
+-- its service that may be left out is Large_Forward_Open
+abbrev pub manager_class : ClassFacts
+manager_class = record { attributes = []; services = 0x5B ∷ []; largest = 0 }
+
+-- the service of the interface and of the link that may be left out is Get_Attributes_All
+abbrev pub interface_class : ClassFacts
+interface_class = record { attributes = 8 ∷ 9 ∷ 10 ∷ 11 ∷ []; services = 0x01 ∷ []; largest = 13 }
+
+abbrev pub link_class : ClassFacts
+link_class = record { attributes = 7 ∷ 8 ∷ 9 ∷ 10 ∷ []; services = 0x01 ∷ []; largest = 11 }
+
+abbrev pub qos_class : ClassFacts
+qos_class = record { attributes = 1 ∷ 2 ∷ 3 ∷ []; services = []; largest = 8 }
+
+abbrev pub port_class : ClassFacts
+port_class = record { attributes = []; services = []; largest = 7 }
+
+-- the attributes of a class, of which the largest is given
+abbrev pub class_attributes : (revision largest count highest : ℕ) → ClassFacts → List Attribute
+class_attributes revision largest count highest facts =
+    single 1 (u16 revision) ∷ single 2 (u16 largest) ∷ single 3 (u16 count)
+    ∷ single 4 (numbers facts.attributes) ∷ single 5 (numbers facts.services)
+    ∷ single 6 (u16 highest) ∷ single 7 (u16 facts.largest) ∷ []
+
+-- a class
+abbrev pub class_instance : (revision largest count : ℕ) → ClassFacts → Instance
+class_instance revision largest count facts = record {
+  attributes = class_attributes revision largest count 7 facts;
   gets_all = false;
   sets = true;
   resets = false;
@@ -119,25 +208,57 @@ class_instance revision largest count = record {
 abbrev pub operational : ℕ
 operational = 3
 
--- the attributes 1 to 7 of the Identity object, and its state
-abbrev pub identity_attributes : Identity → Description → (state : ℕ) → List Attribute
-identity_attributes identity d state =
+-- the value by which a tool sees that the configuration is another: each byte counts for its place
+abbrev pub consistency : List ℕ → ℕ
+consistency [] = 0
+consistency (byte ∷ bytes) = (byte + 31 * consistency bytes) % 65536
+
+-- of a device without a configuration it is 0
+abbrev pub consistency_value : Option (List ℕ) → ℕ
+consistency_value None = 0
+consistency_value (Some bytes) = consistency bytes
+
+-- the status word, and the configuration consistency value
+pub record IdentityState : Type 0 where
+  pub status : ℕ
+  pub consistency : ℕ
+
+-- the attributes 1 to 7 of the Identity object, its state, and its configuration consistency value
+abbrev pub identity_attributes : Identity → Description → IdentityState → List Attribute
+identity_attributes identity d standing =
     listed 1 (u16 identity.vendor)
     ∷ listed 2 (u16 identity.device_type)
     ∷ listed 3 (u16 identity.product)
     ∷ listed 4 (identity.major ∷ identity.minor ∷ [])
-    ∷ listed 5 (u16 state)
+    ∷ listed 5 (u16 standing.status)
     ∷ listed 6 (u32 d.serial)
     ∷ listed 7 (short_string d.name)
     ∷ single 8 (operational ∷ [])
+    ∷ single 9 (u16 standing.consistency)
     ∷ []
 
-abbrev pub identity_instance : Identity → Description → (state : ℕ) → Instance
-identity_instance identity d state = record { attributes = identity_attributes identity d state; gets_all = true; sets = true; resets = true }
+abbrev pub identity_instance : Identity → Description → IdentityState → Instance
+identity_instance identity d standing = record { attributes = identity_attributes identity d standing; gets_all = true; sets = true; resets = true }
 
--- an instance without attributes
-abbrev pub bare_instance : Instance
-bare_instance = record { attributes = []; gets_all = false; sets = true; resets = false }
+-- the classes that an object of the maker's own may have in the device's place: QoS and Port
+abbrev pub yielding_classes : List ℕ
+yielding_classes = 0x48 ∷ 0xF4 ∷ []
+
+abbrev pub is_other_class : (own : List ℕ) → ℕ → Bool
+is_other_class own class = not (is_own_class own class)
+
+-- the classes of the objects that a device has: those of every described device, and the maker's own
+abbrev pub object_list : (own : List ℕ) → List ℕ
+object_list own = served_classes ++ (filter (is_other_class own) yielding_classes ++ own)
+
+-- the Message Router: which objects there are, how many connections there may be, and how many there are
+abbrev pub router_instance : Profile → (connections : ℕ) → Instance
+router_instance profile connections = record {
+  attributes = single 1 (numbers (object_list profile.objects)) ∷ single 2 (u16 (most_connections profile.limits)) ∷ single 3 (u16 connections) ∷ [];
+  gets_all = false;
+  sets = true;
+  resets = false;
+}
 
 -- the path of the Ethernet Link object behind the number of its words: class F6, instance 1
 abbrev pub link_path : List ℕ
@@ -147,19 +268,138 @@ link_path = u16 2 ++ (0x20 ∷ 0xF6 ∷ 0x24 ∷ 0x01 ∷ [])
 abbrev pub addresses : Profile → List ℕ
 addresses profile = u32 profile.node.0 ++ (u32 profile.mask ++ (u32 0 ++ (u32 0 ++ (u32 0 ++ u16 0))))
 
--- the TCP/IP Interface object: its configuration is valid, comes from outside, and cannot be set; it has no host name
+-- the multicast address of the first input
+abbrev pub first_group : Profile → List InputPoint → ℕ
+first_group profile [] = 0
+first_group profile (input ∷ inputs) = (multicast_address profile input.instance).0
+
+-- the multicast groups: allocated by the rule for all devices, how many they are, and the first
+abbrev pub groups : Profile → List ℕ
+groups profile = 0 ∷ 0 ∷ (u16 (length profile.inputs) ++ u32 (first_group profile profile.inputs))
+
+-- no conflict of addresses has been seen: its state, a physical address, and a packet
+abbrev pub no_conflict : List ℕ
+no_conflict = replicate 35 0
+
+-- a device of no safety network
+abbrev pub no_safety_number : List ℕ
+no_safety_number = replicate 6 0
+
+-- what a device does not do, as a BOOL
+abbrev pub is_not : List ℕ
+is_not = 0 ∷ []
+
+-- the TCP/IP Interface object: its configuration is valid, comes from outside, and cannot be set; it has no host name; multicast
+-- datagrams stay in the network; address conflicts are not looked for, and no quick connection is made
 abbrev pub interface_instance : Profile → Description → Instance
 interface_instance profile d = record {
   attributes =
       listed 1 (u32 1) ∷ listed 2 (u32 0) ∷ listed 3 (u32 0) ∷ listed 4 link_path ∷ listed 5 (addresses profile) ∷ listed 6 (u16 0)
-      ∷ single 13 (u16 d.inactivity) ∷ [];
+      ∷ absent no_safety_number ∷ listed 8 (1 ∷ []) ∷ listed 9 (groups profile) ∷ listed 10 is_not ∷ listed 11 no_conflict ∷ absent is_not
+      ∷ listed 13 (u16 d.inactivity) ∷ [];
   gets_all = true;
   sets = true;
   resets = false;
 }
 
+-- the speed was forced: bits 2 to 4 of the flags are 4
+abbrev pub is_forced : (flags : ℕ) → Bool
+is_forced flags = flags / 4 % 8 == 4
+
+-- bit 1: speed and duplex are negotiated
+abbrev pub capability_bits : (flags : ℕ) → ℕ
+capability_bits flags = if is_forced flags then 0 else 2
+
+-- the capability of the link: its bits, and the one speed that it has, full duplex or not
+abbrev pub link_capability : (speed flags : ℕ) → List ℕ
+link_capability speed flags = u32 (capability_bits flags) ++ (1 ∷ (u16 (in_two_bytes speed) ++ ((flags / 2 % 2) ∷ [])))
+
+-- the label of the link
+abbrev pub link_label : List ℕ
+link_label = codes "Ethernet"
+
+-- what the Ethernet Link object has behind its physical address: its counters and its control are none of its attributes; it is a
+-- twisted pair, enabled
+abbrev pub link_behind : Description → List Attribute
+link_behind d =
+    absent (replicate 44 0) ∷ absent (replicate 48 0) ∷ absent (replicate 4 0)
+    ∷ listed 7 (2 ∷ []) ∷ listed 8 (1 ∷ []) ∷ listed 9 (1 ∷ []) ∷ listed 10 (short_string link_label)
+    ∷ listed 11 (link_capability d.speed d.flags) ∷ []
+
+-- the Ethernet Link object
 abbrev pub link_instance : Description → Instance
-link_instance d = record { attributes = listed 1 (u32 d.speed) ∷ listed 2 (u32 d.flags) ∷ listed 3 d.mac ∷ []; gets_all = true; sets = true; resets = false }
+link_instance d = record {
+  attributes = listed 1 (u32 d.speed) ∷ listed 2 (u32 d.flags) ∷ listed 3 d.mac ∷ link_behind d;
+  gets_all = true;
+  sets = true;
+  resets = false;
+}
+
+-- the QoS object: frames have no 802.1Q tag; the code points of event and general PTP messages, of class 1 datagrams of priority
+-- urgent, scheduled, high and low, and of explicit messages
+abbrev pub qos_instance : Instance
+qos_instance = record {
+  attributes =
+      single 1 (0 ∷ []) ∷ single 2 (59 ∷ []) ∷ single 3 (47 ∷ []) ∷ single 4 (55 ∷ []) ∷ single 5 (47 ∷ []) ∷ single 6 (43 ∷ [])
+      ∷ single 7 (31 ∷ []) ∷ single 8 (27 ∷ []) ∷ [];
+  gets_all = false;
+  sets = true;
+  resets = false;
+}
+
+-- a byte in decimal digits
+abbrev pub decimal_byte : ℕ → List ℕ
+decimal_byte byte =
+    if nat_lt byte 10 then (48 + byte) ∷ []
+    else if nat_lt byte 100 then (48 + byte / 10) ∷ (48 + byte % 10) ∷ []
+    else (48 + byte / 100) ∷ (48 + byte / 10 % 10) ∷ (48 + byte % 10) ∷ []
+
+-- an address as four numbers with dots between them
+abbrev pub node_text : ℕ → List ℕ
+node_text node =
+    decimal_byte (byte_at 3 node) ++ (46 ∷ (decimal_byte (byte_at 2 node) ++ (46 ∷ (decimal_byte (byte_at 1 node) ++ (46 ∷ decimal_byte (byte_at 0 node))))))
+
+-- behind a text of this length: segments have an even number of bytes
+abbrev pub pad_of : ℕ → List ℕ
+pad_of len = if len % 2 == 1 then 0 ∷ [] else []
+
+-- a port segment of port 2 with the address of the device
+abbrev pub node_segment : ℕ → List ℕ
+node_segment node = 0x12 ∷ (length (node_text node) ∷ (node_text node ++ pad_of (length (node_text node))))
+
+-- the path of the TCP/IP Interface object behind the number of its words: class F5, instance 1
+abbrev pub interface_path : List ℕ
+interface_path = u16 2 ++ (0x20 ∷ 0xF5 ∷ 0x24 ∷ 0x01 ∷ [])
+
+abbrev pub port_name : List ℕ
+port_name = codes "EtherNet/IP port"
+
+-- the type of a port of EtherNet/IP, and its number: 1 is that of a backplane
+abbrev pub port_type : List ℕ
+port_type = u16 4
+
+abbrev pub port_number : List ℕ
+port_number = u16 2
+
+-- the Port object: the port of the device's one network
+abbrev pub port_instance : Profile → Instance
+port_instance profile = record {
+  attributes =
+      single 1 port_type ∷ single 2 port_number ∷ single 3 interface_path ∷ single 4 (short_string port_name)
+      ∷ single 7 (node_segment profile.node.0) ∷ [];
+  gets_all = false;
+  sets = true;
+  resets = false;
+}
+
+-- its class says also by which instance a request entered, and type and number of each instance from 0 on, of which 0 is none
+abbrev pub port_class_instance : Instance
+port_class_instance = record {
+  attributes = class_attributes 1 1 1 9 port_class ++ (single 8 (u16 1) ∷ single 9 (u32 0 ++ (port_type ++ port_number)) ∷ []);
+  gets_all = false;
+  sets = true;
+  resets = false;
+}
 
 -- an assembly: its data, and its size if the device is described
 abbrev pub assembly_attributes : (described : Bool) → List ℕ → List Attribute
@@ -170,7 +410,7 @@ assembly_instance described value = record { attributes = assembly_attributes de
 
 -- INSTANCES
 
--- the largest instance of some points, at most the largest number of two bytes
+-- the largest instance of some points
 abbrev pub larger : ℕ → ℕ → ℕ
 larger a b = if nat_lt a b then b else a
 
@@ -178,21 +418,32 @@ abbrev pub largest_point : List PointValue → ℕ
 largest_point [] = 0
 largest_point (value ∷ values) = larger value.point (largest_point values)
 
-abbrev pub in_two_bytes : ℕ → ℕ
-in_two_bytes number = if nat_le number 65535 then number else 65535
+-- the largest instance of the points, heartbeats among them
+abbrev pub largest_assembly : Profile → List PointValue → ℕ
+largest_assembly profile values = larger profile.input_only (larger profile.listen_only (largest_point values))
 
--- the class of the assemblies, if the device is described
-abbrev pub assembly_class : List PointValue → ℕ → Option Description → Option Instance
-assembly_class values instance None = None
-assembly_class values instance (Some d) = if instance == 0 then Some (class_instance 2 (in_two_bytes (largest_point values)) (length values)) else None
+-- how many points there are, two heartbeats among them
+abbrev pub assembly_count : List PointValue → ℕ
+assembly_count values = length values + 2
 
--- an assembly of this instance is looked for first
-abbrev pub assembly_found : List PointValue → ℕ → Option Description → Option (List ℕ) → Option Instance
-assembly_found values instance d None = assembly_class values instance d
-assembly_found values instance d (Some value) = Some (assembly_instance (is_some d) value)
+abbrev pub is_heartbeat : Profile → ℕ → Bool
+is_heartbeat profile instance = profile.input_only == instance || profile.listen_only == instance
+
+-- the class of the assemblies, and a heartbeat, which has no data, if the device is described
+abbrev pub assembly_beside : Profile → List PointValue → ℕ → Option Description → Option Instance
+assembly_beside profile values instance None = None
+assembly_beside profile values instance (Some d) = first_case (
+    (instance == 0, class_instance 2 (in_two_bytes (largest_assembly profile values)) (assembly_count values) assembly_facts)
+    ∷ (is_heartbeat profile instance, assembly_instance true [])
+    ∷ [])
+
+-- a point with data of this instance is looked for first
+abbrev pub assembly_found : Profile → List PointValue → ℕ → Option (List ℕ) → Option Instance
+assembly_found profile values instance None = assembly_beside profile values instance profile.description
+assembly_found profile values instance (Some value) = Some (assembly_instance (is_some profile.description) value)
 
 abbrev pub assembly_at : AdapterTable → ℕ → Option Instance
-assembly_at t instance = assembly_found t.values instance t.profile.description (bytes_at t.values instance)
+assembly_at t instance = assembly_found t.profile t.values instance (bytes_at t.values instance)
 
 -- the configuration holds a byte that is not 0
 abbrev pub is_configured : AdapterTable → Bool
@@ -202,20 +453,41 @@ is_configured t = holds_bytes (config_bytes t.values t.profile.config)
 unfoldable pub status_word : AdapterTable → ℕ
 status_word t = status_of (is_configured t) (io_state_of t.rows)
 
+-- how the device stands
+abbrev pub standing_of : AdapterTable → IdentityState
+standing_of t = record { status = status_word t; consistency = consistency_value (config_bytes t.values t.profile.config) }
+
+-- the class is this one, and no object of the maker's own has it
+abbrev pub is_left : (own : List ℕ) → (served class : ℕ) → Bool
+is_left own served class = class == served && is_other_class own served
+
+-- the instances of QoS and Port
+abbrev pub yielding_cases : Profile → (class instance : ℕ) → List (Case Instance)
+yielding_cases profile class instance =
+    (is_left profile.objects 0x48 class && instance == 0, class_instance 1 1 1 qos_class)
+    ∷ (is_left profile.objects 0x48 class && instance == 1, qos_instance)
+    ∷ (is_left profile.objects 0xF4 class && instance == 0, port_class_instance)
+    ∷ (is_left profile.objects 0xF4 class && instance == 1, port_instance profile)
+    ∷ []
+
+-- the instances of the other classes, by how the device stands and by how many connections there are
+abbrev pub described_cases : Profile → IdentityState → (connections : ℕ) → Description → (class instance : ℕ) → List (Case Instance)
+described_cases profile standing connections d class instance =
+    (class == 0x01 && instance == 0, class_instance 1 1 1 identity_class)
+    ∷ (class == 0x01 && instance == 1, identity_instance profile.identity d standing)
+    ∷ (class == 0x02 && instance == 0, class_instance 1 1 1 router_class)
+    ∷ (class == 0x02 && instance == 1, router_instance profile connections)
+    ∷ (class == 0x06 && instance == 0, class_instance 1 1 1 manager_class)
+    ∷ (class == 0xF5 && instance == 0, class_instance 4 1 1 interface_class)
+    ∷ (class == 0xF5 && instance == 1, interface_instance profile d)
+    ∷ (class == 0xF6 && instance == 0, class_instance 4 1 1 link_class)
+    ∷ (class == 0xF6 && instance == 1, link_instance d)
+    ∷ yielding_cases profile class instance
+
 -- the instance of another class
 abbrev pub described_at : AdapterTable → (class instance : ℕ) → Option Description → Option Instance
 described_at t class instance None = None
-described_at t class instance (Some d) = first_case (
-    (class == 0x01 && instance == 0, class_instance 1 1 1)
-    ∷ (class == 0x01 && instance == 1, identity_instance t.profile.identity d (status_word t))
-    ∷ (class == 0x02 && instance == 0, class_instance 1 1 1)
-    ∷ (class == 0x02 && instance == 1, bare_instance)
-    ∷ (class == 0x06 && instance == 0, class_instance 1 1 1)
-    ∷ (class == 0xF5 && instance == 0, class_instance 4 1 1)
-    ∷ (class == 0xF5 && instance == 1, interface_instance t.profile d)
-    ∷ (class == 0xF6 && instance == 0, class_instance 4 1 1)
-    ∷ (class == 0xF6 && instance == 1, link_instance d)
-    ∷ [])
+described_at t class instance (Some d) = first_case (described_cases t.profile (standing_of t) (connection_count t.rows t.messaging) d class instance)
 
 -- the instance of a class, if the device has it
 unfoldable pub instance_at : AdapterTable → (class instance : ℕ) → Option Instance
@@ -229,8 +501,12 @@ pub data ObjectAnswer : Type 0 where
   denied : Status → ObjectAnswer
   resetting : ℕ → ObjectAnswer
 
+abbrev pub is_number : ℕ → Option ℕ → Bool
+is_number number None = false
+is_number number (Some other) = other == number
+
 abbrev pub is_numbered : ℕ → Attribute → Bool
-is_numbered number attribute = attribute.number == number
+is_numbered number attribute = is_number number attribute.number
 
 -- the attribute of this number, if one is named
 abbrev pub attribute_of : List Attribute → Option ℕ → Option Attribute

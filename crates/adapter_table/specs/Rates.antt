@@ -3,8 +3,8 @@
 use Rattle.std.specs.Prelude.{ℕ, ◌≤◌, Bool, List, length, Option, Some, None}
 use Rattle.cip_types.specs.declared.names.Node.{Node}
 use Rattle.messaging.specs.Sound.{EachOf}
-use Rattle.opening_rates.specs.declared.rates.NodeOpenings.{NodeOpenings}
-use Rattle.opening_rates.specs.Rates.{most_nodes, has_opened_enough, counted_openings}
+use Rattle.adapter_table.specs.declared.opening_rates.rates.NodeOpenings.{NodeOpenings}
+use Rattle.adapter_table.specs.OpeningRates.Rates.{most_nodes, has_opened_enough, counted_openings}
 use Rattle.adapter_table.specs.declared.table.AdapterTable.{AdapterTable}
 use Rattle.adapter_table.specs.Profiles.{most_openings}
 

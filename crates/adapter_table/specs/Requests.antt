@@ -26,6 +26,7 @@ use Rattle.cip_router.specs.declared.refusal.Status.{Status}
 use Rattle.cip_router.specs.declared.refusal.Status.TheVariants as status
 use Rattle.cip_router.specs.Refusals.{refusal_fault, status_fault}
 use Rattle.adapter_table.specs.Checks.{Admitted}
+use Rattle.adapter_table.specs.Describing.{opening_fault}
 use Rattle.messaging.specs.declared.class3.Class3Connection.{Class3Connection}
 use Rattle.messaging.specs.declared.requests.Requester.TheVariants as asker
 use Rattle.messaging.specs.Class3Connections.{has_class3_triad}
@@ -52,7 +53,7 @@ open_service true = 0x5B
 -- a connection that is refused, with its triad
 abbrev pub refused_open : AdapterTable → Bool → OpenFields → Refusal → Served
 refused_open t large request why = record {
-  reply = replies.refused (open_service large) (refusal_fault why) (Some request.triad);
+  reply = replies.refused (open_service large) (opening_fault t.profile.description request why) (Some request.triad);
   address = None;
   notices = [];
   table = t;

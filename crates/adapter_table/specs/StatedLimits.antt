@@ -22,6 +22,7 @@ use Rattle.adapter_table.specs.Rows.{kind_count, node_count}
 use Rattle.adapter_table.specs.Rates.{has_opened_enough_at}
 use Rattle.adapter_table.specs.Profiles.{profile_fault}
 use Rattle.adapter_table.specs.Checks.{Admitted, view_of, lacks_capacity, admission}
+use Rattle.adapter_table.specs.Describing.{fixed}
 
 -- THE SIXTEENTH CHECK
 
@@ -56,9 +57,10 @@ abbrev pub paced : Bool → Result Admitted Refusal → Result Admitted Refusal
 paced enough (Err why) = Err why
 paced enough (Ok admitted) = if enough then Err refusal.OutOfConnections else Ok admitted
 
--- the same at a table
+-- the same at a table, where a described device refuses data of variable size first
 abbrev pub limited_admission : AdapterTable → Node → OpenFields → Result Admitted Refusal
-limited_admission t peer request = paced (has_opened_enough_at t peer) (limited t.profile.limits t.rows peer (admission t request))
+limited_admission t peer request =
+    paced (has_opened_enough_at t peer) (limited t.profile.limits t.rows peer (fixed t.profile.description request (admission t request)))
 
 -- CLOSES
 

@@ -1,4 +1,9 @@
-//! What the connections of a device tell of it.
+//! What the connections of a device tell of it, and the class of an object that its data sheet has too.
+
+/// The class of the QoS object.
+///
+/// Volume 2, chapter 5, QoS object.
+pub const QOS_CLASS: u32 = 0x48;
 
 /// What the status word of the Identity object says of the connections: an output has an established exclusive owner, a
 /// connection is established and its newest data are in run mode, one is established, one has timed out.

@@ -1,11 +1,11 @@
 //! The table of an adapter.
 
+use crate::opening_rates::NodeOpenings;
 use crate::profile::Profile;
 use crate::row::Row;
 use cip_types::{Items, Ms, Node};
 use messaging::Messaging;
 use open_streams::Numbered;
-use opening_rates::NodeOpenings;
 
 /// The bytes of a point.
 #[derive(PartialEq, Drop)]

@@ -22,7 +22,7 @@ use Rattle.cip_router.specs.declared.refusal.Refusal.{Refusal}
 use Rattle.cip_router.specs.declared.refusal.Status.TheVariants as status
 use Rattle.cip_router.specs.Requests.{RouterRequestFields, nothing, refused, closing, object, opening, router_request_reading}
 use Rattle.cip_router.specs.Commands.{command_of, is_silent}
-use Rattle.cip_router.specs.Frames.{RequestHeader, FrameFields, without_header, wrong_length, whole, FrameReply, router_reply, connected, socket_of, protocol_text, reply_message, frame_reading}
+use Rattle.cip_router.specs.Frames.{RequestHeader, FrameFields, without_header, wrong_length, whole, FrameReply, router_reply, connected, socket_of, protocol_text, reply_message}
 use Rattle.cip_router.specs.Replies.{ReplyFields, reply_text, GetsFew}
 use Rattle.cip_router.specs.ReplyLaws.{items_length, reply_is_short, connected_length}
 use Rattle.messaging.specs.declared.class3.Class3Connection as kept
@@ -39,10 +39,12 @@ use Rattle.adapter_table.specs.Checks.{Check, Admitted}
 use Rattle.adapter_table.specs.Connected.{service_in, fitted_text, connected_served}
 use Rattle.adapter_table.specs.Class3Opening.{class3_view, class3_refusal, judged_class3, served_class3, stream_served}
 use Rattle.adapter_table.specs.StatedLimits.{limited_admission, is_wrong_closer, is_wrong_ender}
-use Rattle.adapter_table.specs.Encapsulation.{Handled, refusal, session_begun, register_session, request_replied, request_handled, packet_replied, kept_reply, message_replied, message_served, message_executed, message_found, unit_replied, handled, framed, frame_answer, stream_answer, frame_of, frame}
+use Rattle.adapter_table.specs.Encapsulation.{Handled, refusal, session_begun, register_session, request_replied, request_handled, packet_replied, kept_reply, message_replied, message_served, message_executed, message_found, unit_replied, handled, framed, frame_answer, stream_answer, frame_of, frame, frame_for}
 use Rattle.adapter_table.specs.Inquiries.{inquiry_reply, inquired_by, inquired}
 use Rattle.adapter_table.specs.Objects.{ObjectAnswer, said, denied, resetting, object_answer}
 use Rattle.adapter_table.specs.Lemmas.MessageLemmas.{fitted_short}
+use Rattle.adapter_table.specs.Lemmas.ObjectSizes as sizes
+use Rattle.adapter_table.specs.Lemmas.ObjectSizes.{FewSaid}
 use Rattle.adapter_table.specs.MessagesSound.{IsInPlace}
 use Rattle.adapter_table.specs.Own.{OwnRequest, own_of, cannot_ask, referred_verdict}
 use Rattle.adapter_table.specs.Requests.{Next, Served, judged_open, admitted_open, served_open, close_of, served_close, end_of, served_end, router_refusal, object_served, served_object, served, replied, answered, requested_by, requested}
@@ -54,7 +56,6 @@ use Rattle.adapter_table.specs.Whole.{IsWhole}
 use Rattle.answer_sizes.proofs.Few.{Few, few_none, few_one, either}
 use Rattle.answer_sizes.specs.Lemmas.InquiryLengths.{RepliesBriefly, inquiry_reply_few}
 use Rattle.answer_sizes.proofs.Answers.{message_short, both_small, plain_small, noted_small, AnswersSmall}
-use Rattle.answer_sizes.proofs.ObjectAnswers.{SaysShort, object_short}
 
 -- ---- an answer of one frame
 
@@ -77,7 +78,7 @@ unfolding served_close
 ended_few t peer request None = closed_few t peer request (find (has_triad request.triad) t.rows)
 ended_few t peer request (Some d) = either (λ (s : Served). GetsFew s.reply) (is_wrong_ender t.profile.limits peer d) _ _ tt tt
 
-object_few : (t : AdapterTable) (service : ℕ) (answer : ObjectAnswer) → SaysShort answer → GetsFew (object_served t service answer).reply
+object_few : (t : AdapterTable) (service : ℕ) (answer : ObjectAnswer) → FewSaid answer → GetsFew (object_served t service answer).reply
 object_few t service (said by value) short = short
 object_few t service (denied why) short = tt
 object_few t service (resetting kind) short = omega arith
@@ -92,7 +93,7 @@ unfolding served_open served_end served_object
 serves_few t peer nothing shaped = tt
 serves_few t peer (refused service why) shaped = tt
 serves_few t peer (closing request) shaped = ended_few t peer request (find (has_class3_triad request.triad) t.messaging.class3_connections)
-serves_few t peer (object service class instance attribute body) shaped = object_few t service (object_answer t service class instance attribute body) (object_short t service class instance attribute body shaped)
+serves_few t peer (object service class instance attribute body) shaped = object_few t service (object_answer t service class instance attribute body) (sizes.object_few t service class instance attribute body shaped)
 serves_few t peer (opening large request) shaped = opened_few t peer large request (limited_admission t peer request)
 
 -- ---- what is served over a stream
@@ -230,7 +231,7 @@ fields_small t stream (whole request_header body) table =
     framed_small stream.number request_header (handled t stream request_header body (command_of request_header.command)) (handles_few t stream request_header body (command_of request_header.command) table)
 
 either_small : (t : AdapterTable) (stream : Stream) (bytes : List ℕ) (reply : Option (List ℕ)) → RepliesBriefly reply → IsWhole t → IsSmall (stream_answer t stream bytes reply).0
-either_small t stream bytes None brief table = fields_small t stream (frame_reading bytes) table
+either_small t stream bytes None brief table = fields_small t stream (frame_for t.profile.description bytes) table
 either_small t stream bytes (Some text) brief table = one_small _ Done [] (omega (arith, brief))
 
 found_small : (t : AdapterTable) (bytes : List ℕ) (found : Option Stream) → IsWhole t → AnswersSmall (frame_of t bytes found)

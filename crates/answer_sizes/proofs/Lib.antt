@@ -1,6 +1,5 @@
 mod Few
 mod Answers
-mod ObjectAnswers
 mod AdapterFrames
 mod AdapterReplies
 mod AdapterDatagrams

@@ -17,6 +17,7 @@ use Rattle.cip_router.specs.RouterReplies.{RouterReplyFields}
 use Rattle.cip_events.specs.declared.event.Verdict.TheVariants.{Done, BadFrame, Ignored}
 use Rattle.cip_events.specs.Clock.{longest_tick, clock_end}
 use Rattle.cip_productions.specs.Productions.{sent}
+use Rattle.cip_events.specs.declared.event.Reason.TheVariants as reason
 use Rattle.scanner_table.specs.declared.explicit.PendingExplicit.{PendingExplicit}
 use Rattle.scanner_table.specs.declared.slot.SlotState.{SlotState}
 use Rattle.scanner_table.specs.declared.slot.SlotState.TheVariants.{Idle, Opening, Established, TimedOut, Closing}
@@ -25,15 +26,15 @@ use Rattle.scanner_table.specs.declared.table.Session.{Session}
 use Rattle.scanner_table.specs.declared.table.Stage.{Stage}
 use Rattle.scanner_table.specs.declared.table.Stage.TheVariants.{Waiting, Up, Unused}
 use Rattle.scanner_table.specs.declared.table.TargetStream.{TargetStream}
-use Rattle.scanner_table.specs.Requests.{is_large, sent_frame}
+use Rattle.scanner_table.specs.Requests.{Sent, is_large, registration, sent_frame}
 use Rattle.scanner_table.specs.Closing.{requested_link, target_lost, closed, slot_resigned, closed_within, dropped, stopped_desire, stopped, stopped_at}
 use Rattle.scanner_table.specs.Effects.{Next, Effect, and_then, sent_answer, done}
 use Rattle.scanner_table.specs.Explicit.{awaits, connects_to, has_explicit_length, is_barred, explicit_sent, explicit_within, explicit_sized, explicit_request, explicit_reply, unanswered_notice, replied_verdict, without_explicit, explicit_answered, explicit_timed_out, explicit_lost}
-use Rattle.scanner_table.specs.Encapsulation.{registering_on, stream_opened, stream_lost, message_answer, cut_of, stream_cut, is_registered, session_begun, session_failed, registered, ignored, is_awaiting, replied, replied_to, reported, frame_answer, frame_of, frame}
+use Rattle.scanner_table.specs.Encapsulation.{registering_on, stream_opened, stream_lost, message_answer, cut_of, stream_cut, is_registered, session_begun, session_failed, registered, ends_session, registering_again, session_renewed, unserved_state, unserved, unserved_at, ignored, is_awaiting, replied, replied_to, reported, frame_answer, frame_of, frame}
 use Rattle.scanner_table.specs.Points.{desired_slot, started, start_state, start_at, start, stop_of, stop}
 use Rattle.scanner_table.specs.Productions.{due_productions}
 use Rattle.scanner_table.specs.Profiles.{profile_fault}
-use Rattle.scanner_table.specs.Replies.{open_answer, answered}
+use Rattle.scanner_table.specs.Replies.{open_answer, refused, answered}
 use Rattle.scanner_table.specs.Sessions.{is_stream, is_taken, without_stream, with_stage, session_with}
 use Rattle.scanner_table.specs.Slots.{IndexedSlot, indexed_slots, slot_at, is_numbered, with_slot}
 use Rattle.scanner_table.specs.Step.{scanner_step}
@@ -102,10 +103,26 @@ awaited_small : (t : ScannerTable) (m : MessageFields) (found : Option IndexedSl
 awaited_small t m None few = plain_small Ignored
 awaited_small t m (Some indexed) few = replied_small t indexed m indexed.slot.state few
 
+-- the session on a stream ends, and a new one is registered
+renewed_sends : (t : ScannerTable) (stream : TargetStream) → SendsRequests 64 (session_renewed stream t)
+renewed_sends t stream =
+    let quiet = lost_quiet stream.peer (with_stage t stream.number Waiting) in
+    lost_sends stream.number (and_then (registering_again t stream) (target_lost stream.peer)) (subst (λ (l : List Sent). Few 64 IsShortRequest (registration stream.number ∷ l)) (sym quiet.silent) (few_one 64 IsShortRequest _ (omega arith) (registration_short stream.number)))
+
+unserved_sends : (t : ScannerTable) (stream : TargetStream) (indexed : IndexedSlot) (status : ℕ) (state : SlotState) → SendsRequests 64 (and_then (unserved_state status t indexed state) (session_renewed stream))
+unserved_sends t stream indexed status (Opening o) = renewed_sends (refused t indexed (reason.Encap status)).table stream
+unserved_sends t stream indexed status other = renewed_sends t stream
+
+unserved_small : (t : ScannerTable) (stream : TargetStream) (m : MessageFields) (found : Option IndexedSlot) → IsSmall (unserved_at t stream m found).0
+unserved_small t stream m None = plain_small Ignored
+unserved_small t stream m (Some indexed) = done_small (and_then (unserved m.status t indexed) (session_renewed stream)) (unserved_sends t stream indexed m.status indexed.slot.state)
+
 reported_small : (t : ScannerTable) (stream : TargetStream) (m : MessageFields) (stage : Stage) → profile_fault t.profile ≡ None → IsSmall (reported t stream m stage).0
 reported_small t stream m Waiting none = either NextSmall (m.context == 0) (done (registered t stream m)) (ignored t) (done_small (registered t stream m) (registered_sends t stream m none)) (plain_small Ignored)
 reported_small t stream m (Up handle) none =
-    awaited_small t m (find (is_awaiting stream.peer m.context) (indexed_slots t)) (each_found HasShortRequests (is_awaiting stream.peer m.context) (indexed_slots t) (few_slots t none).each)
+    let found = find (is_awaiting stream.peer m.context) (indexed_slots t) in
+    either NextSmall (ends_session t m) (unserved_at t stream m found) (replied_to t m found) (unserved_small t stream m found)
+    (awaited_small t m found (each_found HasShortRequests (is_awaiting stream.peer m.context) (indexed_slots t) (few_slots t none).each))
 reported_small t stream m Unused none = plain_small Ignored
 
 explicit_answered_small : (t : ScannerTable) (pending : PendingExplicit) (reply : Result RouterReplyFields Unanswered) → IsSmall (explicit_answered t pending reply).0
@@ -115,7 +132,9 @@ explicit_answered_small t pending (Err why) =
 
 judged_small : (t : ScannerTable) (stream : TargetStream) (m : MessageFields) (found : Option PendingExplicit) → profile_fault t.profile ≡ None → IsSmall (message_answer t stream m found).0
 judged_small t stream m None none = reported_small t stream m stream.stage none
-judged_small t stream m (Some pending) none = explicit_answered_small t pending (explicit_reply pending.service m)
+judged_small t stream m (Some pending) none =
+    either NextSmall (ends_session t m) (done (session_renewed stream t)) (explicit_answered t pending (explicit_reply pending.service m)) (done_small (session_renewed stream t) (renewed_sends t stream))
+    (explicit_answered_small t pending (explicit_reply pending.service m))
 
 message_small : (t : ScannerTable) (stream : TargetStream) (reading : Result MessageFields EncapFault) → profile_fault t.profile ≡ None → IsSmall (frame_answer t stream reading).0
 message_small t stream (Err why) none = plain_small BadFrame

@@ -26,7 +26,7 @@ use Rattle.scanner_table.specs.declared.table.Session.{Session}
 use Rattle.scanner_table.specs.Requests.{is_large, next_requested}
 use Rattle.scanner_table.specs.Closing.{idle_slot, given_up_state, given_up, target_lost, reopened, closed, slot_resigned, closed_within, dropped}
 use Rattle.scanner_table.specs.Effects.{Effect, nothing, and_then, on_each}
-use Rattle.scanner_table.specs.Opening.{has_request, can_open, open_requested, exhausted, opened_within, close_requested, cleared_within, opened_from, opened, is_ready_slot, ready_slots, ready_opened, target_opened}
+use Rattle.scanner_table.specs.Opening.{has_request, can_open, open_requested, exhausted, opened_within, close_requested, cleared_within, opened_from, asking_session, opened, is_ready_slot, ready_slots, ready_opened, target_opened}
 use Rattle.scanner_table.specs.Profiles.{are_few, listens_to_group, is_config, has_lengths, profile_tests, profile_fault}
 use Rattle.scanner_table.specs.Replies.{is_id_free, refused, disowned, disowned_within, rejected, judged_success, answered}
 use Rattle.scanner_table.specs.Sessions.{session_with}
@@ -86,7 +86,7 @@ within_sends : (t : ScannerTable) (indexed : IndexedSlot) (session : Option Sess
 within_sends t indexed None few = few_none 1 IsShortRequest
 within_sends t indexed (Some session) few =
     either (SendsRequests 1) (can_open t indexed.config) (open_requested t indexed session) (exhausted t indexed)
-    (few_one 1 IsShortRequest _ (omega arith) (open_short session t.next_request (is_large indexed.config) indexed.config (next_requested t indexed.config) few)) (few_none 1 IsShortRequest)
+    (few_one 1 IsShortRequest _ (omega arith) (open_short session t.next_request (is_large indexed.config) t.profile indexed.config (next_requested t indexed.config) few)) (few_none 1 IsShortRequest)
 
 -- a Forward_Close of a slot
 close_sends : (t : ScannerTable) (indexed : IndexedSlot) (link : Link) (desired_up : Bool) (session : Session) → HasShortRequests indexed → SendsRequests 1 (cond (has_request t) (close_requested t indexed link desired_up session) (exhausted t indexed))
@@ -105,7 +105,7 @@ from_sends t indexed session other few = within_sends t indexed session few
 
 pub opened_sends : (t : ScannerTable) (indexed : IndexedSlot) → HasShortRequests indexed → SendsRequests 1 (opened t indexed)
 unfolding opened
-opened_sends t indexed few = from_sends t indexed (session_with t indexed.config.target) indexed.slot.state few
+opened_sends t indexed few = from_sends t indexed (asking_session t indexed) indexed.slot.state few
 
 each_sends : (all : List IndexedSlot) → AllByRecursion HasShortRequests all → (t : ScannerTable) → SendsRequests (length all) (on_each opened all t)
 each_sends [] few t = few_none 0 IsShortRequest

@@ -14,6 +14,7 @@ use Rattle.cip_fwdopen.specs.Open.{open_widths, open_numbers, open_text}
 use Rattle.cip_fwdopen.specs.Close.{close_widths, close_numbers, close_text}
 use Rattle.cip_router.specs.ReplyLaws.{items_length}
 use Rattle.conn_state.specs.declared.names.Requested.{Requested}
+use Rattle.scanner_table.specs.declared.profile.ScannerProfile.{ScannerProfile}
 use Rattle.scanner_table.specs.declared.profile.SlotConfig.{SlotConfig}
 use Rattle.scanner_table.specs.declared.table.Session.{Session}
 use Rattle.cip_fwdopen.specs.Services.{open_service}
@@ -79,15 +80,15 @@ path_few config few =
 -- ---- requests to the Connection Manager
 
 -- their data: a fixed part and the path
-open_few : (large : Bool) (config : SlotConfig) (requested : Requested) → HasFewData config → length (open_text large (open_fields config requested)) ≤ 600
+open_few : (large : Bool) (profile : ScannerProfile) (config : SlotConfig) (requested : Requested) → HasFewData config → length (open_text large (open_fields profile config requested)) ≤ 600
 unfolding open_text
-open_few true config requested few =
-    let fields = open_fields config requested in
-    let front : length (fields_text (open_widths true) (open_numbers true (open_fields config requested))) ≡ 40 = refl in
+open_few true profile config requested few =
+    let fields = open_fields profile config requested in
+    let front : length (fields_text (open_widths true) (open_numbers true (open_fields profile config requested))) ≡ 40 = refl in
     omega (arith, length-append (fields_text (open_widths true) (open_numbers true fields)) fields.path, front, path_few config few)
-open_few false config requested few =
-    let fields = open_fields config requested in
-    let front : length (fields_text (open_widths false) (open_numbers false (open_fields config requested))) ≡ 36 = refl in
+open_few false profile config requested few =
+    let fields = open_fields profile config requested in
+    let front : length (fields_text (open_widths false) (open_numbers false (open_fields profile config requested))) ≡ 36 = refl in
     omega (arith, length-append (fields_text (open_widths false) (open_numbers false fields)) fields.path, front, path_few config few)
 
 close_few : (config : SlotConfig) (triad : Triad) → HasFewData config → length (close_text (close_fields config triad)) ≤ 600
@@ -114,11 +115,11 @@ requested_short sent few = message_short (sent_message sent) few
 pub registration_short : (stream : ℕ) → IsShortRequest (registration stream)
 registration_short stream = requested_short (registration stream) (omega arith)
 
-pub open_short : (session : Session) (number : ℕ) (large : Bool) (config : SlotConfig) (requested : Requested) → HasFewData config → IsShortRequest (numbered session number (opening large (open_fields config requested)))
-open_short session number large config requested few =
-    let body = open_text large (open_fields config requested) in
-    requested_short (numbered session number (opening large (open_fields config requested)))
-    (omega (arith, items_length (manager_text (open_service large) body) None, manager_few (open_service large) body (open_few large config requested few)))
+pub open_short : (session : Session) (number : ℕ) (large : Bool) (profile : ScannerProfile) (config : SlotConfig) (requested : Requested) → HasFewData config → IsShortRequest (numbered session number (opening large (open_fields profile config requested)))
+open_short session number large profile config requested few =
+    let body = open_text large (open_fields profile config requested) in
+    requested_short (numbered session number (opening large (open_fields profile config requested)))
+    (omega (arith, items_length (manager_text (open_service large) body) None, manager_few (open_service large) body (open_few large profile config requested few)))
 
 pub close_short : (session : Session) (number : ℕ) (config : SlotConfig) (triad : Triad) → HasFewData config → IsShortRequest (numbered session number (closing (close_fields config triad)))
 close_short session number config triad few =

@@ -1,15 +1,17 @@
-//! The checks of a request, from the top: 2; 3 to 8; 9; 10 to 15; 16. `admit` lists them.
+//! The checks of a request, from the top: 2; 3 to 8; 9; 10 to 15; 17; 16. `admit` lists them.
 
 ghost use Rattle.std.specs.Prelude.{◌≡◌, IfOk};
 ghost use Rattle.std.specs.Option.{option_map};
 ghost use Rattle.cip_epath.specs.Path.{view_path};
 ghost use Rattle.cip_fwdopen.specs.Open.{view_open};
 ghost use Rattle.adapter_table.specs.Checks.{Gives, view_admission, verdict, points_of, admitted_at, drawn_ids, is_multicast};
+ghost use Rattle.adapter_table.specs.Describing.{fixed};
 ghost use Rattle.adapter_table.specs.StatedLimits.{limited, paced};
 ghost use Rattle.app_rules.specs.Views.{seen, view_named_points};
 ghost use Rattle.app_rules.specs.Stages.{request_check, points_check, transport_of, IsPassed};
 
 use crate::connections::ConnectionsView;
+use crate::describing::is_variable;
 use crate::questions::{
     NamedPoints, Transport, admission_at, changes_config, consumed_point_of, exceeds,
     has_other_o_t_size, has_other_t_o_size, is_below_least, is_known_config, is_owned, is_unserved,
@@ -52,6 +54,7 @@ use cip_types::Node;
 /// 16. Fewer connections of the application type are established than the maker states places for, and fewer of the
 ///     peer's than the maker states for one node, and the peer has opened fewer in its second than the maker states
 ///     (0x0113).
+/// 17. A device that is described is asked for data of a fixed size (0x0127, 0x0128). It comes before 16.
 ///
 /// Volume 1, chapter 3, Forward_Open service and Connection Manager extended status codes.
 pub fn admit<'a, C: ConnectionsView>(
@@ -61,16 +64,40 @@ pub fn admit<'a, C: ConnectionsView>(
 ) -> Result<Admission<'a>, Refusal>
     ensures limited { Gives view_admission result (paced view.now.opened_enough
         (limited view.now.profile.now.limits (C.rows view.now.connections.now) peer
-        (verdict (seen C.rows view.now request.now.triad) (view_open request.now)))) }
+        (fixed view.now.profile.now.description (view_open request.now)
+        (verdict (seen C.rows view.now request.now.triad) (view_open request.now))))) }
     ensures drawn { IfOk result (λ a. a.drawn ≡ drawn_ids a.multicast a.group) }
 {
-    let admission = judge(view, request)?;
+    let admission = judge_fixed(view, request)?;
     // 16
     refuse_if(
         exceeds(view, peer, admission.kind),
         Refusal::OutOfConnections,
     )?;
     refuse_if(view.opened_enough, Refusal::OutOfConnections)?;
+    Ok(admission)
+}
+
+/// The connection that a request is admitted as by the checks 2 to 15, or the refusal of the first that fails, or of 17.
+fn judge_fixed<'a, C: ConnectionsView>(
+    view: &View<'_, C>,
+    request: &OpenRequest<&'a [u8]>,
+) -> Result<Admission<'a>, Refusal>
+    ensures fixed { Gives view_admission result (fixed view.now.profile.now.description (view_open request.now)
+        (verdict (seen C.rows view.now request.now.triad) (view_open request.now))) }
+    ensures drawn { IfOk result (λ a. a.drawn ≡ drawn_ids a.multicast a.group) }
+{
+    let admission = judge(view, request)?;
+    // 17
+    let description = &view.profile.description;
+    refuse_if(
+        is_variable(description, &request.o_t_params),
+        Refusal::ConsumedSize,
+    )?;
+    refuse_if(
+        is_variable(description, &request.t_o_params),
+        Refusal::ProducedSize,
+    )?;
     Ok(admission)
 }
 

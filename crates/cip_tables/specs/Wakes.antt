@@ -15,9 +15,11 @@ use Rattle.adapter_table.specs.Ticks.{clocked_table}
 use Rattle.scanner_table.specs.declared.explicit.PendingExplicit.{PendingExplicit}
 use Rattle.scanner_table.specs.declared.slot.SlotState.{SlotState}
 use Rattle.scanner_table.specs.declared.slot.SlotState.TheVariants as slot_state
+use Rattle.scanner_table.specs.declared.table.ScannerTable.{ScannerTable}
 use Rattle.scanner_table.specs.declared.table.TargetStream.{TargetStream}
 use Rattle.scanner_table.specs.Sessions.{is_to, session_on}
 use Rattle.scanner_table.specs.Slots.{IndexedSlot, indexed_slots, needs_request}
+use Rattle.scanner_table.specs.Opening.{asking_session}
 use Rattle.scanner_table.specs.Ticks.{clocked_table as scanner_clocked_table}
 use Rattle.cip_tables.specs.declared.table.DeviceTable.{DeviceTable}
 use Rattle.cip_tables.specs.declared.table.DeviceTable.TheVariants.{Adapter, Scanner}
@@ -55,10 +57,13 @@ connections_due (row ∷ rows) = min (connection_due row.deadline.0 row.state) (
 abbrev pub has_session : List TargetStream → Node → Bool
 has_session streams target = is_some (option_and_then session_on (find (is_to target) streams))
 
--- when a slot without an open connection opens, or closes one that timed out: at its retry time, if its target has a session
-abbrev pub retry_due : List TargetStream → IndexedSlot → ℕ
-retry_due streams indexed =
-    if needs_request indexed.slot && has_session streams indexed.config.target then indexed.slot.retry_at.0 else never
+-- a slot can open, or close a connection that timed out: a session with its target is registered, and if it opens it is its turn
+abbrev pub can_ask : ScannerTable → IndexedSlot → Bool
+can_ask t indexed = is_some (asking_session t indexed)
+
+-- when a slot without an open connection opens, or closes one that timed out: at its retry time, if it can ask its target
+abbrev pub retry_due : (IndexedSlot → Bool) → IndexedSlot → ℕ
+retry_due asks indexed = if needs_request indexed.slot && asks indexed then indexed.slot.retry_at.0 else never
 
 -- when a slot in a state is due, if it opens at this time: its request is given up, its connection times out or
 -- produces, or it opens
@@ -69,13 +74,13 @@ state_due retry (slot_state.Established c) = min c.deadline.0 c.production.due.0
 state_due retry (slot_state.TimedOut link) = retry
 state_due retry (slot_state.Closing c) = c.deadline.0
 
-abbrev pub slot_due : List TargetStream → IndexedSlot → ℕ
-slot_due streams indexed = state_due (retry_due streams indexed) indexed.slot.state
+abbrev pub slot_due : (IndexedSlot → Bool) → IndexedSlot → ℕ
+slot_due asks indexed = state_due (retry_due asks indexed) indexed.slot.state
 
 -- when the first of a scanner's slots is due
-abbrev pub slots_due : List TargetStream → List IndexedSlot → ℕ
-slots_due streams [] = never
-slots_due streams (indexed ∷ rest) = min (slot_due streams indexed) (slots_due streams rest)
+abbrev pub slots_due : (IndexedSlot → Bool) → List IndexedSlot → ℕ
+slots_due asks [] = never
+slots_due asks (indexed ∷ rest) = min (slot_due asks indexed) (slots_due asks rest)
 
 -- when the first of a scanner's explicit requests is given up
 abbrev pub explicit_due : List PendingExplicit → ℕ
@@ -85,7 +90,7 @@ explicit_due (pending ∷ rest) = min pending.deadline.0 (explicit_due rest)
 -- the time at which something is due at a device, if only time passes
 abbrev pub due_at : DeviceTable → ℕ
 due_at (Adapter t) = min (connections_due t.rows) (first_moment t.messaging)
-due_at (Scanner t) = min (slots_due t.streams (indexed_slots t)) (explicit_due t.explicit)
+due_at (Scanner t) = min (slots_due (can_ask t) (indexed_slots t)) (explicit_due t.explicit)
 
 -- in how many milliseconds something is due at a device, at most the longest tick; 0 if it is due now
 abbrev pub due_in : DeviceTable → ℕ

@@ -3,3 +3,4 @@ mod LineNumbers
 mod Samples
 mod AddressWords
 mod OptionWords
+mod WordsSamples

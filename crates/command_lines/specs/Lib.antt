@@ -4,3 +4,4 @@ pub mod StationOptions
 pub mod Questions
 pub mod StationTasks
 pub mod Version
+pub mod Words

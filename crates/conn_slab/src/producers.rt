@@ -9,12 +9,11 @@ ghost use Rattle.conn_slab.specs.Layout.{IsLive, MayEnter};
 ghost use Rattle.conn_slab.specs.Producing.{group_changes};
 
 use crate::record::Record;
-use adapter_table::{Row, State};
+use adapter_table::{Row, State, producer_in};
 use cip_netparams::Trigger;
 use cip_productions::{is_produced_on_change, is_production_due};
 use cip_types::Ms;
 use mcast_pool::{Group, Pool};
-use row_productions::producer_in;
 
 /// The state of a connection whose producer has this number. The search tries one index first.
 #[inline(always)]

@@ -3,9 +3,8 @@
 ghost use Rattle.std.specs.Prelude.{◌≡◌};
 ghost use Rattle.conn_slab.specs.Records.{record_of, key_for, source_of};
 
-use adapter_table::{Connection, Row};
+use adapter_table::{Connection, Row, producer_number};
 use cip_types::Triad;
-use row_productions::producer_number;
 
 /// The key of the index of triads.
 #[derive(Clone, Copy, PartialEq, Eq, Hash)]

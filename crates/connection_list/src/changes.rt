@@ -11,11 +11,10 @@ ghost use Rattle.connection_list.specs.Orders.{picked};
 use crate::order::ProducerOrder;
 use crate::producers::{datagram, each_producer};
 use crate::rows::{copied, write_rows};
-use adapter_table::Row;
+use adapter_table::{Row, changed_row, producer_in, produces_on_change};
 use cip_events::OutgoingDatagram;
 use cip_productions::Producer;
 use cip_types::{Ms, OutOfMemory, sorted};
-use row_productions::{changed_row, producer_in, produces_on_change};
 use std::alloc::Global;
 
 /// Whether a write of the input makes a producer produce at once. Takes no memory.

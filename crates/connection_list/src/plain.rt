@@ -9,14 +9,13 @@ use crate::productions::{produce_rows, sent_when_due};
 use crate::rows::{append_row, copied, find_row, remove_triad, replaced};
 use crate::support::{dropped_with, remove_each};
 use crate::table::{ConnectionTable, ReceivedDatagram, TickPlan};
-use adapter_table::{IoState, Profile, Row, consumes, drives, has_expired, judge};
+use adapter_table::{IoState, Profile, Row, consumes, drives, has_expired, is_due, judge};
 use app_rules::{ConnectionsView, ListView};
 use assembly_set::AssemblySet;
 use cip_datagram::Datagram;
 use cip_events::OutgoingDatagram;
 use cip_productions::Kind;
 use cip_types::{Ms, Node, OutOfMemory, Triad};
-use row_productions::is_due;
 use std::alloc::Global;
 
 /// Connections in a list, in opening order, which each call searches.

@@ -6,11 +6,10 @@ ghost use Rattle.cip_types.specs.Order.{first_of_each, unless};
 ghost use Rattle.cip_productions.specs.Productions.{same_producer, sent};
 ghost use Rattle.adapter_table.specs.Productions.{group, same_node, peer_of, consumers, production_of};
 
-use adapter_table::Row;
+use adapter_table::{Row, has_node, is_produced_by};
 use cip_events::{Consumers, OutgoingDatagram};
 use cip_productions::{Producer, same_producer, sent_by};
 use cip_types::{Node, OutOfMemory};
-use row_productions::{has_node, is_produced_by};
 use std::alloc::Global;
 
 fn has_producer(producers: &[Producer], producer: &Producer) -> bool

@@ -9,12 +9,11 @@ ghost use Rattle.connection_list.specs.Orders.{picked};
 
 use crate::order::ProducerOrder;
 use crate::producers::{datagram, each_producer};
-use adapter_table::Row;
+use adapter_table::{Row, is_due, produced_row, producer_in};
 use assembly_set::AssemblySet;
 use cip_events::OutgoingDatagram;
 use cip_productions::Producer;
 use cip_types::{Ms, OutOfMemory, sorted};
-use row_productions::{is_due, produced_row, producer_in};
 use std::alloc::Global;
 
 /// The producer of a connection, if it is due.

@@ -6,10 +6,9 @@ ghost use Rattle.adapter_table.specs.Closing.{without_triad};
 ghost use Rattle.adapter_table.specs.Opening.{is_replaced, replaced_triad};
 ghost use Rattle.connection_list.specs.Replacing.{is_opened_at, left_by};
 
-use adapter_table::{Row, has_triad, is_timed_out};
+use adapter_table::{Row, has_triad, is_timed_out, written_row};
 use cip_types::limits::MOST_CONNECTIONS;
 use cip_types::{OutOfMemory, Triad};
-use row_productions::written_row;
 use std::alloc::Global;
 
 /// The connection of a triad, in any state.

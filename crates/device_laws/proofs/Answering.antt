@@ -4,7 +4,7 @@ use Rattle.std.specs.List.{AllByRecursion, list_any, flat_map}
 use Rattle.std.specs.Option.{IfSome}
 use Rattle.cip_types.specs.Texts.{Tailed}
 use Rattle.cip_encap.specs.declared.message.EncapFault.{EncapFault}
-use Rattle.cip_encap.specs.Message.{MessageFields, message_text}
+use Rattle.cip_encap.specs.Message.{MessageFields, message_text, header_widths}
 use Rattle.cip_encap.specs.Reading.{message_reading}
 use Rattle.cip_encap.specs.PacketReading.{packet_reading}
 use Rattle.cip_encap.specs.ReadsBack.{ItemsReadBack}
@@ -55,6 +55,7 @@ use Rattle.cip_events.specs.Clock.{longest_tick, clock_end}
 use Rattle.cip_events.specs.declared.event.StepFault.TheVariants.{TickTooLong, ClockEnd, WrongLength}
 use Rattle.cip_router.specs.Requests.{RouterRequestFields, router_request_reading}
 use Rattle.cip_types.specs.declared.names.Node.{Node}
+use Rattle.cip_types.specs.Fields.{fields_at}
 use Rattle.std.proofs.Common.{nat_lt}
 use Rattle.device_laws.specs.Lemmas.AdapterIds.{few_bytes, plain_none, some_bytes}
 use Rattle.device_laws.specs.Lemmas.ConnectedTexts.{connected_bad}
@@ -74,6 +75,7 @@ use Rattle.device_laws.specs.Lemmas.ReplyTexts.{MessageBack, message_back, conte
 use Rattle.device_laws.proofs.Framing.{ReplyHas, handled_has, reply_frame_says, frame_says, PacketSays, none_packet, written_packet, plain_says, plain_context}
 use Rattle.device_laws.specs.Lemmas.InquiryTexts.{IsPlainText, inquiry_plain}
 use Rattle.adapter_table.specs.Lemmas.PlainLemmas.{plain_holds}
+use Rattle.adapter_table.specs.Lemmas.FrameLemmas.{answer_has}
 
 abbrev NextReplies : AdapterTable → ℕ → List ℕ → Next → Type 0
 NextReplies t number bytes next = IsSmall next.0 → AllByRecursion (IsReplyTo t next.1 number bytes) next.0.frames
@@ -110,9 +112,13 @@ found_number number (x ∷ streams) s is = step (is_stream number x) refl is (fo
   step true passes found more = ap (λ (y : Stream). y.number) (sym (same_stream x s found)) ∙ eqb-true x.number number passes
   step false passes found more = more found
 
-stream_replies : ItemsReadBack → (t : AdapterTable) (stream : Stream) (bytes : List ℕ) (reply : Option (List ℕ)) → IfSome reply IsPlainText → IdsAreDrawn t.profile t.next_id t.rows → NextReplies t stream.number bytes (stream_answer t stream bytes reply)
+read_replies : ItemsReadBack → (t : AdapterTable) (stream : Stream) (bytes : List ℕ) → IdsAreDrawn t.profile t.next_id t.rows → NextReplies t stream.number bytes (frame_answer t stream (frame_reading bytes))
 unfolding frame_reading
-stream_replies back t stream bytes None plain drawn = message_answer back t stream bytes _ (message_reading bytes) refl drawn
+read_replies back t stream bytes drawn = message_answer back t stream bytes _ (message_reading bytes) refl drawn
+
+stream_replies : ItemsReadBack → (t : AdapterTable) (stream : Stream) (bytes : List ℕ) (reply : Option (List ℕ)) → IfSome reply IsPlainText → IdsAreDrawn t.profile t.next_id t.rows → NextReplies t stream.number bytes (stream_answer t stream bytes reply)
+stream_replies back t stream bytes None plain drawn =
+    answer_has (NextReplies t stream.number bytes) t stream bytes (read_replies back t stream bytes drawn) (wrong_length_replies t stream bytes (fields_at header_widths bytes)) (λ small. tt)
 stream_replies back t stream bytes (Some text) plain drawn = λ small.
     let says = plain_says (IsSuccessOf t t bytes) text plain in
     (record { to = refl; successes = says.0; opens_nothing = says.1; context = plain_context text plain }, tt)

@@ -108,7 +108,7 @@ link_ids P zero_passes Idle link from is = absurd cc
 link_ids P zero_passes (Opening o) link from is = subst (LinkIds P) (same_Some (requested_link o.requested) link from) (zero_passes, zero_or P o.requested.t_o_id zero_passes is)
 link_ids P zero_passes (Established c) link from is = subst (LinkIds P) (same_Some c.link link from) is
 link_ids P zero_passes (TimedOut other) link from is = subst (LinkIds P) (same_Some other link from) is
-link_ids P zero_passes (Closing c) link from is = absurd cc
+link_ids P zero_passes (Closing c) link from is = subst (LinkIds P) (same_Some c.link link from) is
 
 ids_kept : (P : ℕ → Type 0) → P 0 → (t : ScannerTable) (to : ℕ) (happens : Event) → IdsFromTo P t.profile.incarnation t.next_id to → EventIds P happens → Kept (ById P) t to happens
 ids_kept P zero_passes t to happens drawn ids = record {

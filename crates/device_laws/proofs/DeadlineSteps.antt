@@ -21,12 +21,12 @@ use Rattle.scanner_table.specs.declared.slot.Slot.{Slot}
 use Rattle.scanner_table.specs.declared.slot.SlotState.{SlotState}
 use Rattle.scanner_table.specs.declared.slot.SlotState.TheVariants.{Idle, Opening, Established, TimedOut, Closing}
 use Rattle.scanner_table.specs.declared.table.ScannerTable.{ScannerTable}
-use Rattle.scanner_table.specs.Profiles.{is_wait, has_times, keeps_time, profile_fault}
+use Rattle.scanner_table.specs.Profiles.{are_openings, are_paced, are_serials, is_wait, has_times, keeps_time, profile_fault}
 use Rattle.scanner_table.specs.Slots.{IndexedSlot, indexed_slots, is_numbered, with_slot}
 use Rattle.scanner_table.specs.Effects.{Next, Effect, on_each}
 use Rattle.scanner_table.specs.Opening.{ready_opened}
 use Rattle.scanner_table.specs.Replies.{failed_slot}
-use Rattle.scanner_table.specs.Closing.{requested_link, left_state, idle_slot, given_up_state, given_up}
+use Rattle.scanner_table.specs.Closing.{requested_link, left_state, idle_slot, is_close_in_time, unclosed_slot, given_up_state, given_up}
 use Rattle.scanner_table.specs.Productions.{written_state, state_is_due, produced_state, produced_table}
 use Rattle.scanner_table.specs.Ticks.{state_has_expired, has_expired, by_deadline, expired_slots, expired_state, expired, all_expired, state_is_overdue, is_overdue, all_given_up, clocked_table, advanced, moved_on, ticked, tick}
 use Rattle.scanner_table.specs.Explicit.{explicit_timed_out}
@@ -170,12 +170,16 @@ left_rests : (b : Bool) (k : Ms) (link : Link) → state_is_overdue k (cond b (T
 left_rests true k link = refl
 left_rests false k link = refl
 
+unclosed_rests : (b : Bool) (k : Ms) (t : ScannerTable) (link : Link) (slot : Slot) → state_is_overdue k (cond b (failed_slot t (TimedOut link) slot) (idle_slot slot)).state ≡ false
+unclosed_rests true k t link slot = refl
+unclosed_rests false k t link slot = refl
+
 given_clears : (k : Ms) (t : ScannerTable) (indexed : IndexedSlot) (state : SlotState) → indexed.slot.state ≡ state → Stands t indexed → state_is_overdue k state ≡ true → Local indexed.number t (given_up_state t indexed state).table → Clears (state_is_overdue k) indexed t (given_up_state t indexed state).table
 given_clears k t indexed Idle is stands late local = absurd cc
 given_clears k t indexed (Opening o) is stands late local = set_clears (state_is_overdue k) t indexed (failed_slot t (left_state t (requested_link o.requested)) indexed.slot) stands local (left_rests t.profile.tidy k (requested_link o.requested))
 given_clears k t indexed (Established c) is stands late local = absurd cc
 given_clears k t indexed (TimedOut link) is stands late local = absurd cc
-given_clears k t indexed (Closing c) is stands late local = set_clears (state_is_overdue k) t indexed (idle_slot indexed.slot) stands local refl
+given_clears k t indexed (Closing c) is stands late local = set_clears (state_is_overdue k) t indexed (unclosed_slot t c indexed.slot) stands local (unclosed_rests (t.profile.tidy && is_close_in_time t c) k t c.link indexed.slot)
 
 none_expired : (t : ScannerTable) → NoneIs (state_has_expired t.clock) (all_expired t).table
 unfolding all_expired
@@ -343,18 +347,18 @@ tick_step false false t ms next wait is =
 
 -- ---- the time that a target has, in a profile without fault
 
-is_timed : (a b c d e f : Bool) → cond a (Some wrong.Incarnation) (cond b (Some wrong.Points) (cond c (Some wrong.SameInstance) (cond d (Some wrong.Length) (cond (not e) (Some wrong.Timing) (cond f (Some wrong.Limits) None))))) ≡ None → e ≡ true
-is_timed true b c d e f is = absurd cc
-is_timed false true c d e f is = absurd cc
-is_timed false false true d e f is = absurd cc
-is_timed false false false true e f is = absurd cc
-is_timed false false false false true f is = refl
-is_timed false false false false false f is = absurd cc
+is_timed : (a b c d e f g h : Bool) → cond a (Some wrong.Incarnation) (cond b (Some wrong.Points) (cond c (Some wrong.SameInstance) (cond d (Some wrong.Length) (cond (not e) (Some wrong.Timing) (cond f (Some wrong.Limits) (cond g (Some wrong.Limits) (cond h (Some wrong.Limits) None))))))) ≡ None → e ≡ true
+is_timed true b c d e f g h is = absurd cc
+is_timed false true c d e f g h is = absurd cc
+is_timed false false true d e f g h is = absurd cc
+is_timed false false false true e f g h is = absurd cc
+is_timed false false false false true f g h is = refl
+is_timed false false false false false f g h is = absurd cc
 
 has_wait : (profile : ScannerProfile) → profile_fault profile ≡ None → 1 ≤ profile.open_timeout
 unfolding profile_fault
 has_wait profile is =
-    let times = is_timed _ _ _ _ (keeps_time profile) _ is in
+    let times = is_timed _ _ _ _ (keeps_time profile) (not (are_paced profile.newer profile.slots)) (not (are_openings profile.openings)) (not (are_serials profile.serials)) is in
     let waits = and_parts (list_all has_times profile.slots) (is_wait profile.open_timeout && is_wait profile.retry) times in
     let wait = and_parts (is_wait profile.open_timeout) (is_wait profile.retry) waits.1 in
     at_least profile.open_timeout (and_parts (nat_le 1 profile.open_timeout) (nat_le profile.open_timeout 60000) wait.0).0 where

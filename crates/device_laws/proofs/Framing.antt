@@ -35,7 +35,7 @@ use Rattle.adapter_table.specs.Own.{OwnRequest, own_of, cannot_ask}
 use Rattle.adapter_table.specs.declared.table.Stream.{Stream}
 use Rattle.adapter_table.specs.Requests.{Served, router_refusal, served}
 use Rattle.adapter_table.specs.Streams.{has_session}
-use Rattle.adapter_table.specs.Encapsulation.{Handled, refusal, unanswered, session_begun, session_ended, register_session, request_replied, request_handled, packet_replied, unit_replied, handled}
+use Rattle.adapter_table.specs.Encapsulation.{Handled, refusal, unanswered, session_begun, session_ended, register_session, request_replied, request_handled, packet_replied, unit_replied, handled, outside_session}
 use Rattle.adapter_table.specs.Sound.{IdsAreDrawn}
 use Rattle.scanner_table.specs.Replies.{packet_answer, open_answer}
 use Rattle.device_laws.specs.Lemmas.AdapterIds.{few_bytes, plain_protocol, plain_none, some_bytes}
@@ -160,7 +160,7 @@ handled_has t stream echo body command.UnregisterSession drawn = either (Handled
 handled_has t stream echo body command.SendRrData drawn =
     either (HandledHas t body) (has_session stream echo.session) _ _ (packet_has t stream echo.context body (packet_reading body) refl drawn) tt
 handled_has t stream echo body command.SendUnitData drawn =
-    either (HandledHas t body) (has_session stream echo.session) (unit_replied t stream (connected_reading body)) (refusal t encap.InvalidCommand)
+    either (HandledHas t body) (has_session stream echo.session) (unit_replied t stream (connected_reading body)) (refusal t (outside_session t.profile.description))
     (unit_has t stream body (unit_replied t stream (connected_reading body)) (unit_of t stream (connected_reading body))) tt
 handled_has t stream echo body command.Other drawn = tt
 

@@ -38,3 +38,4 @@ mod TidyEvents
 mod TidyRuns
 mod TidySamples
 mod TimedOutSteps
+mod CutCloses

@@ -39,8 +39,8 @@ use Rattle.scanner_table.specs.Requests.{o_t_size, t_o_size, is_large, next_requ
 use Rattle.scanner_table.specs.Closing.{idle_slot, requested_link, given_up_state, given_up, target_lost, reopened, closed, closed_within, dropped, stopped, stopped_at, slot_resigned}
 use Rattle.scanner_table.specs.Effects.{Next, Effect, nothing, and_then, on_each, changed, done}
 use Rattle.scanner_table.specs.Explicit.{awaits, without_explicit, explicit_sent, explicit_request, explicit_timed_out, explicit_lost}
-use Rattle.scanner_table.specs.Encapsulation.{registering_on, stream_opened, stream_lost, cut_of, stream_cut, is_registered, session_begun, session_failed, registered, ignored, is_awaiting, replied, replied_to, reported, frame_answer, frame_of, frame}
-use Rattle.scanner_table.specs.Opening.{has_request, has_id, can_open, open_requested, exhausted, opened_within, close_requested, cleared_within, opened_from, opened, is_ready_slot, ready_slots, ready_opened, target_opened}
+use Rattle.scanner_table.specs.Encapsulation.{registering_on, stream_opened, stream_lost, cut_of, stream_cut, is_registered, session_begun, session_failed, registered, ends_session, registering_again, session_renewed, unserved_state, unserved, unserved_at, ignored, is_awaiting, replied, replied_to, reported, frame_answer, frame_of, frame}
+use Rattle.scanner_table.specs.Opening.{has_request, has_id, can_open, open_requested, exhausted, opened_within, close_requested, cleared_within, opened_from, opened, is_ready_slot, ready_slots, ready_opened, target_opened, asking_session}
 use Rattle.scanner_table.specs.Points.{desired_slot, started, start_state, start_at, start, stop_of, stop}
 use Rattle.scanner_table.specs.Productions.{produced_table}
 use Rattle.scanner_table.specs.Profiles.{is_point_len, is_out_len, is_config, has_lengths, profile_fault}
@@ -120,7 +120,7 @@ size_fits false config is short = small_size (t_o_size config) (or_parts (nat_lt
 id_left : (n : ℕ) → nat_le n 16777215 ≡ true → n < 16777216
 id_left n is = grind (arith, nat_tests)
 
-asks_of : (multicast : Bool) (profile : ScannerProfile) (now : ScannerTable) (config : SlotConfig) → config.multicast ≡ multicast → now.profile ≡ profile → config.in_len ≤ 1400 → (multicast || nat_le now.next_id 16777215) ≡ true → IsMulticast (is_large config) (open_fields config (next_requested now config)) ⊎ IsDrawnId profile (open_fields config (next_requested now config)).t_o_id.0
+asks_of : (multicast : Bool) (profile : ScannerProfile) (now : ScannerTable) (config : SlotConfig) → config.multicast ≡ multicast → now.profile ≡ profile → config.in_len ≤ 1400 → (multicast || nat_le now.next_id 16777215) ≡ true → IsMulticast (is_large config) (open_fields now.profile config (next_requested now config)) ⊎ IsDrawnId profile (open_fields now.profile config (next_requested now config)).t_o_id.0
 asks_of true profile now config is same short left = inl (record { size = t_o_size config; fits = size_fits (is_large config) config refl short; params = rw is refl })
 asks_of false profile now config is same short left = inr (record { counter = now.next_id; is = rw (is, same) refl; ends = id_left now.next_id left })
 
@@ -150,7 +150,7 @@ from_asks profile now indexed session other same short = within_asks profile now
 
 opened_asks : (profile : ScannerProfile) (now : ScannerTable) (indexed : IndexedSlot) → now.profile ≡ profile → IsShort indexed → Asks profile now.streams (opened now indexed)
 unfolding opened
-opened_asks profile now indexed same short = from_asks profile now indexed (session_with now indexed.config.target) indexed.slot.state same short
+opened_asks profile now indexed same short = from_asks profile now indexed (asking_session now indexed) indexed.slot.state same short
 
 none_wrong : (profile : ScannerProfile) (now : ScannerTable) → now.profile ≡ profile → profile_fault profile ≡ None → profile_fault now.profile ≡ None
 none_wrong profile now same none = ap profile_fault same ∙ none
@@ -296,26 +296,51 @@ registered_asks back t happens stream m none =
     (target_asks t.profile stream.peer (with_stage t stream.number (Up m.session)) none refl) (were_staged t happens stream.number (Up m.session)))
     (done_asks back t happens (with_stage t stream.number Unused).streams (session_failed t stream) (record { sent = tt; profile_is = refl; streams_are = refl }) (were_staged t happens stream.number Unused))
 
+ended_asks : (profile : ScannerProfile) (stream : ℕ) (now : ScannerTable) → now.profile ≡ profile → Asks profile now.streams (explicit_lost stream now)
+unfolding explicit_lost
+ended_asks profile stream now same = record { sent = tt; profile_is = same; streams_are = refl }
+
+-- the session on a stream ends, and a new one is registered
+renewed_asks : (profile : ScannerProfile) (now : ScannerTable) (stream : TargetStream) → now.profile ≡ profile → Asks profile (with_stage now stream.number Waiting).streams (session_renewed stream now)
+renewed_asks profile now stream same =
+    let staged = with_stage now stream.number Waiting in
+    let first = registering_again now stream in
+    let lost = lost_asks profile stream.peer staged same in
+    asks_then profile staged.streams (and_then first (target_lost stream.peer)) (explicit_lost stream.number) (asks_then profile staged.streams first (target_lost stream.peer) (record { sent = (tt, tt); profile_is = same; streams_are = refl }) lost)
+    (ended_asks profile stream.number (target_lost stream.peer staged).table lost.profile_is)
+
+-- behind a slot that is not served
+unserved_asks : (t : ScannerTable) (stream : TargetStream) (indexed : IndexedSlot) (status : ℕ) (state : SlotState) → Asks t.profile (with_stage t stream.number Waiting).streams (and_then (unserved_state status t indexed state) (session_renewed stream))
+unserved_asks t stream indexed status (Opening o) = let is = renewed_asks t.profile (refused t indexed (reason.Encap status)).table stream refl in record { sent = is.sent; profile_is = is.profile_is; streams_are = is.streams_are }
+unserved_asks t stream indexed status Idle = let is = renewed_asks t.profile t stream refl in record { sent = is.sent; profile_is = is.profile_is; streams_are = is.streams_are }
+unserved_asks t stream indexed status (Established c) = let is = renewed_asks t.profile t stream refl in record { sent = is.sent; profile_is = is.profile_is; streams_are = is.streams_are }
+unserved_asks t stream indexed status (TimedOut link) = let is = renewed_asks t.profile t stream refl in record { sent = is.sent; profile_is = is.profile_is; streams_are = is.streams_are }
+unserved_asks t stream indexed status (Closing c) = let is = renewed_asks t.profile t stream refl in record { sent = is.sent; profile_is = is.profile_is; streams_are = is.streams_are }
+
+unserved_at_asks : ItemsReadBack → (t : ScannerTable) (happens : Event) (stream : TargetStream) (m : MessageFields) (found : Option IndexedSlot) → NextAsks t happens (unserved_at t stream m found)
+unserved_at_asks back t happens stream m None = quiet_next t happens (ignored t) refl refl
+unserved_at_asks back t happens stream m (Some indexed) =
+    done_asks back t happens (with_stage t stream.number Waiting).streams (and_then (unserved m.status t indexed) (session_renewed stream)) (unserved_asks t stream indexed m.status indexed.slot.state) (were_staged t happens stream.number Waiting)
+
 message_asks : ItemsReadBack → (t : ScannerTable) (happens : Event) (stream : TargetStream) (m : MessageFields) (stage : Stage) → profile_fault t.profile ≡ None → NextAsks t happens (reported t stream m stage)
 message_asks back t happens stream m Waiting none =
     either (NextAsks t happens) (m.context == 0) (done (registered t stream m)) (ignored t) (registered_asks back t happens stream m none) (quiet_next t happens (ignored t) refl refl)
 message_asks back t happens stream m (Up handle) none =
-    awaited_asks back t happens m (find (is_awaiting stream.peer m.context) (indexed_slots t)) (all_found IsShort (is_awaiting stream.peer m.context) (indexed_slots t) (slots_short t none))
+    let found = find (is_awaiting stream.peer m.context) (indexed_slots t) in
+    either (NextAsks t happens) (ends_session t m) (unserved_at t stream m found) (replied_to t m found) (unserved_at_asks back t happens stream m found)
+    (awaited_asks back t happens m found (all_found IsShort (is_awaiting stream.peer m.context) (indexed_slots t) (slots_short t none)))
 message_asks back t happens stream m Unused none = quiet_next t happens (ignored t) refl refl
 
 answer_asks : ItemsReadBack → (t : ScannerTable) (happens : Event) (stream : TargetStream) (reading : Result MessageFields EncapFault) → profile_fault t.profile ≡ None → NextAsks t happens (frame_answer t stream reading)
 answer_asks back t happens stream (Err why) none = quiet_next t happens (frame_answer t stream (Err why)) refl refl
 answer_asks back t happens stream (Ok m) none =
     message_ends (NextAsks t happens) t stream m (message_asks back t happens stream m stream.stage none)
+    (done_asks back t happens (with_stage t stream.number Waiting).streams (session_renewed stream t) (renewed_asks t.profile t stream refl) (were_staged t happens stream.number Waiting))
     (λ pending answer silent quiet. quiet_next t happens (answer, without_explicit t pending) silent refl) (find (awaits stream.number m.context) t.explicit)
 
 frame_of_asks : ItemsReadBack → (t : ScannerTable) (happens : Event) (bytes : List ℕ) (found : Option TargetStream) → profile_fault t.profile ≡ None → OkAsks t happens (frame_of t bytes found)
 frame_of_asks back t happens bytes None none = tt
 frame_of_asks back t happens bytes (Some stream) none = answer_asks back t happens stream (message_reading bytes) none
-
-ended_asks : (profile : ScannerProfile) (stream : ℕ) (now : ScannerTable) → now.profile ≡ profile → Asks profile now.streams (explicit_lost stream now)
-unfolding explicit_lost
-ended_asks profile stream now same = record { sent = tt; profile_is = same; streams_are = refl }
 
 cut_asks : ItemsReadBack → (t : ScannerTable) (happens : Event) (found : Option TargetStream) → OkAsks t happens (cut_of t found)
 cut_asks back t happens None = tt

@@ -33,7 +33,7 @@ use Rattle.cip_router.specs.declared.refusal.Status.TheVariants as status
 use Rattle.cip_router.specs.declared.refusal.Refusal.TheVariants.{InUse}
 use Rattle.cip_router.specs.Requests.{RouterRequestFields, nothing, refused, closing, object, opening, router_request_reading}
 use Rattle.cip_router.specs.Commands.{command_of, is_silent}
-use Rattle.cip_router.specs.Frames.{RequestHeader, FrameFields, without_header, wrong_length, whole, frame_reading, protocol_text}
+use Rattle.cip_router.specs.Frames.{RequestHeader, FrameFields, without_header, wrong_length, whole, protocol_text}
 use Rattle.messaging.specs.declared.class3.Class3Connection.{Class3Connection}
 use Rattle.messaging.specs.declared.table.Messaging.{Messaging}
 use Rattle.messaging.specs.Times.{late_class3_connections, aged}
@@ -54,7 +54,7 @@ use Rattle.adapter_table.specs.StatedLimits.{limited_admission, is_wrong_closer,
 use Rattle.adapter_table.specs.Opening.{opened_row, opened_table, opened_notices}
 use Rattle.adapter_table.specs.Requests.{Next, Served, judged_open, admitted_open, served_open, close_of, served_close, end_of, served_end, router_refusal, object_served, served_object, served, replied, answered, requested_by, requested}
 use Rattle.adapter_table.specs.Streams.{is_stream, is_taken, with_stream, without_stream, has_session, registered_table, ended_notices, stream_opened, cut_of, stream_cut}
-use Rattle.adapter_table.specs.Encapsulation.{Handled, refusal, unanswered, session_begun, session_ended, register_session, request_replied, request_handled, packet_replied, unit_replied, handled, frame_answer, stream_answer, frame_of, frame}
+use Rattle.adapter_table.specs.Encapsulation.{Handled, refusal, unanswered, session_begun, session_ended, register_session, request_replied, request_handled, packet_replied, unit_replied, handled, frame_answer, stream_answer, frame_of, frame, outside_session, frame_for}
 use Rattle.adapter_table.specs.Datagrams.{is_for, row_delivery, accepted_table, delivered, found_datagram, datagram_of, received}
 use Rattle.adapter_table.specs.Ticks.{clocked_table, expiry_notices, advanced, late_notice, aged_next, tick}
 use Rattle.adapter_table.specs.Step.{adapter_step, write, write_of, written, written_table}
@@ -206,7 +206,7 @@ keeps_handled point t opens stream request_header body command.UnregisterSession
 keeps_handled point t opens stream request_header body command.SendRrData =
     either (HandledKeeps point t) (has_session stream request_header.session) _ _ (keeps_packet point t opens stream request_header.context (packet_reading body)) (unchanged point t [])
 keeps_handled point t opens stream request_header body command.SendUnitData =
-    either (HandledKeeps point t) (has_session stream request_header.session) (unit_replied t stream (connected_reading body)) (refusal t encap.InvalidCommand)
+    either (HandledKeeps point t) (has_session stream request_header.session) (unit_replied t stream (connected_reading body)) (refusal t (outside_session t.profile.description))
     (keeps_unit point t (unit_replied t stream (connected_reading body)) (unit_of t stream (connected_reading body))) (unchanged point t [])
 keeps_handled point t opens stream request_header body _ = unchanged point t []
 
@@ -236,7 +236,7 @@ OkKeeps point t (Ok next) = NextKeeps point t next
 OkKeeps point t (Err fault) = Unit {0}
 
 keeps_stream : (point : ℕ) (t : AdapterTable) → OpeningsKeep point t → (stream : Stream) (bytes : List ℕ) (reply : Option (List ℕ)) → NextKeeps point t (stream_answer t stream bytes reply)
-keeps_stream point t opens stream bytes None = keeps_frame point t opens stream (frame_reading bytes)
+keeps_stream point t opens stream bytes None = keeps_frame point t opens stream (frame_for t.profile.description bytes)
 keeps_stream point t opens stream bytes (Some text) = unchanged point t []
 
 keeps_inquired : (point : ℕ) (t : AdapterTable) (peer : Node) (reply : Option (List ℕ)) → NextKeeps point t (inquired_by t peer reply)

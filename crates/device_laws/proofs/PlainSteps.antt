@@ -7,6 +7,7 @@ use Rattle.cip_types.specs.declared.names.ConnId.{ConnId}
 use Rattle.cip_types.specs.declared.names.Ms.{Ms}
 use Rattle.cip_types.specs.declared.names.Node.{Node}
 use Rattle.cip_types.specs.Texts.{Tailed}
+use Rattle.cip_types.specs.Fields.{fields_at}
 use Rattle.cip_datagram.specs.declared.datagram.DatagramFault.{DatagramFault}
 use Rattle.cip_datagram.specs.Datagram.{DatagramFields}
 use Rattle.cip_datagram.specs.Reading.{datagram_reading}
@@ -14,7 +15,7 @@ use Rattle.cip_encap.specs.declared.message.EncapFault.{EncapFault}
 use Rattle.cip_encap.specs.declared.packet.ItemFault.{ItemFault}
 use Rattle.cip_encap.specs.Connected.{ConnectedFields}
 use Rattle.cip_encap.specs.ConnectedReading.{connected_reading}
-use Rattle.cip_encap.specs.Message.{MessageFields}
+use Rattle.cip_encap.specs.Message.{MessageFields, header_widths}
 use Rattle.cip_encap.specs.Packet.{PacketFields}
 use Rattle.cip_encap.specs.PacketReading.{packet_reading}
 use Rattle.cip_encap.specs.Reading.{message_reading}
@@ -76,6 +77,7 @@ use Rattle.adapter_table.specs.Step.{written_table, changed_table, written, writ
 use Rattle.adapter_table.specs.Streams.{is_stream, is_taken, with_stream, without_stream, has_session, registered_table, stream_opened, cut_of, stream_cut}
 use Rattle.adapter_table.specs.Ticks.{clocked_table, expired_table, produced_table, advanced, late_frames, aged_next, tick}
 use Rattle.adapter_table.specs.Lemmas.PassiveLemmas.{passive_holds}
+use Rattle.adapter_table.specs.Lemmas.FrameLemmas.{answer_has}
 use Rattle.answer_sizes.specs.Sizes.{IsShortFrame, IsSmall, AnswersAreSmall}
 use Rattle.cip_tables.specs.declared.table.DeviceTable.{DeviceTable}
 use Rattle.cip_tables.specs.declared.table.DeviceTable.TheVariants.{Adapter, Scanner}
@@ -308,9 +310,13 @@ read_goes back t stream header (Ok m) serves plain =
 text_plain : (text : List ℕ) → IsPlainText text → IsPlainFrame text
 text_plain text plain = subst IsPlainFrame (sym plain.is) (message_plain plain.message (bad_plain plain.message.payload plain.bad))
 
-stream_goes : ItemsReadBack → (t : AdapterTable) (stream : Stream) (bytes : List ℕ) (reply : Option (List ℕ)) → IfSome reply IsPlainText → IsPlainFrame bytes → IsPlainTable t → GoesPlainly (stream_answer t stream bytes reply)
+bytes_go : ItemsReadBack → (t : AdapterTable) (stream : Stream) (bytes : List ℕ) → IsPlainFrame bytes → IsPlainTable t → GoesPlainly (frame_answer t stream (frame_reading bytes))
 unfolding frame_reading
-stream_goes back t stream bytes None text serves plain = read_goes back t stream _ (message_reading bytes) serves plain
+bytes_go back t stream bytes serves plain = read_goes back t stream _ (message_reading bytes) serves plain
+
+stream_goes : ItemsReadBack → (t : AdapterTable) (stream : Stream) (bytes : List ℕ) (reply : Option (List ℕ)) → IfSome reply IsPlainText → IsPlainFrame bytes → IsPlainTable t → GoesPlainly (stream_answer t stream bytes reply)
+stream_goes back t stream bytes None text serves plain =
+    answer_has GoesPlainly t stream bytes (bytes_go back t stream bytes serves plain) (misfit_plain back t stream (fields_at header_widths bytes) plain) (none_sent t (plain_answer Done) plain refl)
 stream_goes back t stream bytes (Some reply) text serves plain = record { table = plain; frames = λ small. (text_plain reply text, tt) }
 
 frame_goes : ItemsReadBack → (t : AdapterTable) (bytes : List ℕ) (found : Option Stream) → IsPlainFrame bytes → IsPlainTable t → OkPlainly (frame_of t bytes found)

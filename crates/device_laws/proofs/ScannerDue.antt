@@ -13,21 +13,22 @@ use Rattle.cip_events.specs.Answers.{plain_answer}
 use Rattle.cip_events.specs.Clock.{longest_tick, clock_end}
 use Rattle.cip_productions.specs.Productions.{sent}
 use Rattle.conn_state.specs.declared.names.Link.{Link}
+use Rattle.scanner_table.specs.declared.slot.PendingClose.{PendingClose}
+use Rattle.scanner_table.specs.declared.slot.Slot.{Slot}
 use Rattle.scanner_table.specs.declared.slot.PendingOpen.{PendingOpen}
 use Rattle.scanner_table.specs.declared.slot.SlotState.{SlotState}
 use Rattle.scanner_table.specs.declared.slot.SlotState.TheVariants.{Idle, Opening, Established, TimedOut, Closing}
 use Rattle.scanner_table.specs.declared.table.ScannerTable.{ScannerTable}
 use Rattle.scanner_table.specs.declared.table.Session.{Session}
-use Rattle.scanner_table.specs.declared.table.TargetStream.{TargetStream}
 use Rattle.scanner_table.specs.Requests.{sent_frame}
-use Rattle.scanner_table.specs.Sessions.{session_with}
 use Rattle.scanner_table.specs.Slots.{IndexedSlot, indexed_slots, is_closed, needs_request}
 use Rattle.cip_events.specs.declared.event.StepFault.{StepFault}
 use Rattle.cip_events.specs.declared.event.StepFault.TheVariants as fault
 use Rattle.scanner_table.specs.Lemmas.Moves.{from_none}
 use Rattle.scanner_table.specs.Effects.{Next, Effect, nothing, on_each, after, state_notices}
-use Rattle.scanner_table.specs.Closing.{requested_link, left_state, given_up, given_up_state}
-use Rattle.scanner_table.specs.Opening.{has_request, can_open, opened, opened_within, close_requested, cleared_within, opened_from, open_requested, exhausted, is_ready_slot, ready_slots, ready_opened}
+use Rattle.scanner_table.specs.Replies.{failed_slot}
+use Rattle.scanner_table.specs.Closing.{requested_link, left_state, idle_slot, is_close_in_time, unclosed_slot, given_up, given_up_state}
+use Rattle.scanner_table.specs.Opening.{has_request, can_open, opened, opened_within, close_requested, cleared_within, opened_from, open_requested, exhausted, is_ready_slot, ready_slots, ready_opened, asking_session}
 use Rattle.scanner_table.specs.Productions.{is_due, state_is_due, by_due, slot_production, state_production, due_productions}
 use Rattle.cip_events.specs.declared.event.Unanswered.TheVariants as unanswered
 use Rattle.scanner_table.specs.declared.explicit.PendingExplicit.{PendingExplicit}
@@ -35,7 +36,7 @@ use Rattle.scanner_table.specs.Explicit.{is_late, unanswered_notice, explicit_ti
 use Rattle.scanner_table.specs.Ticks.{has_expired, state_has_expired, by_deadline, expired, expired_state, expired_slots, all_expired, is_overdue, state_is_overdue, all_given_up, clocked_table, advanced, moved_on, ticked, tick}
 use Rattle.cip_tables.specs.declared.table.DeviceTable.TheVariants.{Scanner}
 use Rattle.cip_tables.specs.Step.{step, as_scanner}
-use Rattle.cip_tables.specs.Wakes.{never, has_session, state_due, slot_due, slots_due, explicit_due, clocked}
+use Rattle.cip_tables.specs.Wakes.{never, can_ask, state_due, slot_due, slots_due, explicit_due, clocked}
 use Rattle.device_laws.specs.Lemmas.Lists.{all_more, all_ordered, all_kept}
 use Rattle.device_laws.proofs.AdapterDue.{later, answer_of}
 use Rattle.device_laws.proofs.Emptied.{none_ordered, none_mapped, none_joined, none_kept, none_made}
@@ -62,27 +63,27 @@ state_waits clock at up session (Established c) below lasts pending rests closed
 state_waits clock at up session (TimedOut link) below lasts pending rests closed = retry_waits clock.0 at up session below closed
 state_waits clock at up session (Closing c) below lasts pending rests closed = later clock.0 c.deadline.0 pending
 
--- the target of the slot has no session
-abbrev HasNone : List TargetStream → IndexedSlot → Type 0
-HasNone streams indexed = has_session streams indexed.config.target ≡ false
+-- the slot cannot ask its target
+abbrev HasNone : (IndexedSlot → Bool) → IndexedSlot → Type 0
+HasNone asks indexed = asks indexed ≡ false
 
 -- what holds of what a test keeps holds of an element that passes it, and of what it keeps of the others
-kept_parts : (streams : List TargetStream) (p : IndexedSlot → Bool) (indexed : IndexedSlot) (rest : List IndexedSlot) → AllByRecursion (HasNone streams) (filter p (indexed ∷ rest)) → (p indexed ≡ true → HasNone streams indexed) × AllByRecursion (HasNone streams) (filter p rest)
-kept_parts streams p indexed rest all = split (p indexed) all
+kept_parts : (asks : IndexedSlot → Bool) (p : IndexedSlot → Bool) (indexed : IndexedSlot) (rest : List IndexedSlot) → AllByRecursion (HasNone asks) (filter p (indexed ∷ rest)) → (p indexed ≡ true → HasNone asks indexed) × AllByRecursion (HasNone asks) (filter p rest)
+kept_parts asks p indexed rest all = split (p indexed) all
   where
-    split : (b : Bool) → AllByRecursion (HasNone streams) (cond b (indexed ∷ filter p rest) (filter p rest)) → (b ≡ true → HasNone streams indexed) × AllByRecursion (HasNone streams) (filter p rest)
+    split : (b : Bool) → AllByRecursion (HasNone asks) (cond b (indexed ∷ filter p rest) (filter p rest)) → (b ≡ true → HasNone asks indexed) × AllByRecursion (HasNone asks) (filter p rest)
     split true all = (λ is. all.0, all.1)
     split false all = (λ is. absurd (let e : false ≡ true = is in cc), all)
 
-slots_wait : (streams : List TargetStream) (clock : Ms) (all : List IndexedSlot) → clock.0 < never → filter (has_expired clock) all ≡ [] → filter (is_overdue clock) all ≡ [] → filter (is_due clock) all ≡ [] → AllByRecursion (HasNone streams) (filter (is_ready_slot clock) all) → clock.0 < slots_due streams all
-slots_wait streams clock [] below unexpired pending resting closed = below
-slots_wait streams clock (indexed ∷ all) below unexpired pending resting closed =
+slots_wait : (asks : IndexedSlot → Bool) (clock : Ms) (all : List IndexedSlot) → clock.0 < never → filter (has_expired clock) all ≡ [] → filter (is_overdue clock) all ≡ [] → filter (is_due clock) all ≡ [] → AllByRecursion (HasNone asks) (filter (is_ready_slot clock) all) → clock.0 < slots_due asks all
+slots_wait asks clock [] below unexpired pending resting closed = below
+slots_wait asks clock (indexed ∷ all) below unexpired pending resting closed =
     let lasts = none_kept (has_expired clock) indexed all unexpired in
     let waits = none_kept (is_overdue clock) indexed all pending in
     let rests = none_kept (is_due clock) indexed all resting in
-    let parts = kept_parts streams (is_ready_slot clock) indexed all closed in
-    let here : clock.0 < slot_due streams indexed = state_waits clock indexed.slot.retry_at.0 (needs_request indexed.slot) (has_session streams indexed.config.target) indexed.slot.state below lasts.0 waits.0 rests.0 parts.0 in
-    let rest = slots_wait streams clock all below lasts.1 waits.1 rests.1 parts.1 in
+    let parts = kept_parts asks (is_ready_slot clock) indexed all closed in
+    let here : clock.0 < slot_due asks indexed = state_waits clock indexed.slot.retry_at.0 (needs_request indexed.slot) (asks indexed) indexed.slot.state below lasts.0 waits.0 rests.0 parts.0 in
+    let rest = slots_wait asks clock all below lasts.1 waits.1 rests.1 parts.1 in
     omega (arith, here, rest)
 
 -- ---- effects without notices
@@ -102,13 +103,18 @@ left_noted : (b : Bool) (n : ℕ) (o : PendingOpen) (link : Link) → state_noti
 left_noted true n o link none = absurd cc
 left_noted false n o link none = absurd cc
 
+unclosed_noted : (b : Bool) (t : ScannerTable) (n : ℕ) (c : PendingClose) (slot : Slot) → state_notices n (Closing c) (cond b (failed_slot t (TimedOut c.link) slot) (idle_slot slot)).state ≡ [] → true ≡ false
+unclosed_noted true t n c slot none = absurd cc
+unclosed_noted false t n c slot none = absurd cc
+
 given_up_noted : (t : ScannerTable) (indexed : IndexedSlot) (clock : Ms) (state : SlotState) → indexed.slot.state ≡ state → state_is_overdue clock state ≡ true → (given_up_state t indexed state).notices ≡ [] → true ≡ false
 given_up_noted t indexed clock Idle is late none = sym late
 given_up_noted t indexed clock (Opening o) is late none =
     left_noted t.profile.tidy indexed.number o (requested_link o.requested) (state_noted indexed.number indexed.slot.state (Opening o) (left_state t (requested_link o.requested)) is none)
 given_up_noted t indexed clock (Established c) is late none = sym late
 given_up_noted t indexed clock (TimedOut link) is late none = sym late
-given_up_noted t indexed clock (Closing c) is late none = absurd (let e = state_noted indexed.number indexed.slot.state (Closing c) Idle is none in cc)
+given_up_noted t indexed clock (Closing c) is late none =
+    unclosed_noted (t.profile.tidy && is_close_in_time t c) t indexed.number c indexed.slot (state_noted indexed.number indexed.slot.state (Closing c) (unclosed_slot t c indexed.slot).state is none)
 
 -- an effect with a notice at each slot leaves none out
 none_changed : (effect : ScannerTable → IndexedSlot → Effect) (P : IndexedSlot → Type 0) (t : ScannerTable) (all : List IndexedSlot) → ((indexed : IndexedSlot) → P indexed → (effect t indexed).notices ≡ [] → true ≡ false) → AllByRecursion P all → (on_each effect all t).notices ≡ [] → all ≡ []
@@ -138,9 +144,9 @@ nothing_given_up t is = ap (λ l. on_each given_up l t) is
 -- ---- openings
 
 -- an opening that sends nothing and has no notice is none
-unopened : (t : ScannerTable) (indexed : IndexedSlot) (session : Option Session) → session_with t indexed.config.target ≡ session → (opened_within t indexed session).sent ≡ [] → (opened_within t indexed session).notices ≡ [] → session ≡ None
-unopened t indexed None is sends notes = refl
-unopened t indexed (Some session) is sends notes = split (can_open t indexed.config) sends notes
+unopened : (t : ScannerTable) (indexed : IndexedSlot) (session : Option Session) → (opened_within t indexed session).sent ≡ [] → (opened_within t indexed session).notices ≡ [] → session ≡ None
+unopened t indexed None sends notes = refl
+unopened t indexed (Some session) sends notes = split (can_open t indexed.config) sends notes
   where
     split : (b : Bool) → (cond b (open_requested t indexed session) (exhausted t indexed)).sent ≡ [] → (cond b (open_requested t indexed session) (exhausted t indexed)).notices ≡ [] → Some session ≡ None
     split true sends notes = absurd cc
@@ -155,26 +161,26 @@ uncleared t indexed link (Some session) sends notes = split (has_request t) send
     split false sends notes = absurd cc
 
 -- neither does one that first closes a connection
-unopened_from : (t : ScannerTable) (indexed : IndexedSlot) (session : Option Session) (state : SlotState) → session_with t indexed.config.target ≡ session → (opened_from t indexed session state).sent ≡ [] → (opened_from t indexed session state).notices ≡ [] → session ≡ None
-unopened_from t indexed session (TimedOut link) is sends notes = split t.profile.tidy sends notes
+unopened_from : (t : ScannerTable) (indexed : IndexedSlot) (session : Option Session) (state : SlotState) → (opened_from t indexed session state).sent ≡ [] → (opened_from t indexed session state).notices ≡ [] → session ≡ None
+unopened_from t indexed session (TimedOut link) sends notes = split t.profile.tidy sends notes
   where
     split : (b : Bool) → (cond b (cleared_within t indexed link session) (opened_within t indexed session)).sent ≡ [] → (cond b (cleared_within t indexed link session) (opened_within t indexed session)).notices ≡ [] → session ≡ None
     split true sends notes = uncleared t indexed link session sends notes
-    split false sends notes = unopened t indexed session is sends notes
-unopened_from t indexed session other is sends notes = unopened t indexed session is sends notes
+    split false sends notes = unopened t indexed session sends notes
+unopened_from t indexed session other sends notes = unopened t indexed session sends notes
 
--- the slots have no session, and nothing happens to them
+-- the slots cannot ask their targets, and nothing happens to them
 pub record StayClosed (t : ScannerTable) (all : List IndexedSlot) : Type 0 where
-  pub none : AllByRecursion (HasNone t.streams) all
+  pub none : AllByRecursion (HasNone (can_ask t)) all
   pub rests : on_each opened all t ≡ nothing t
 
-closed_one : (t : ScannerTable) (indexed : IndexedSlot) (rest : List IndexedSlot) (first : Effect) → opened t indexed ≡ first → session_with t indexed.config.target ≡ None → first ≡ nothing t → StayClosed t rest → StayClosed t (indexed ∷ rest)
+closed_one : (t : ScannerTable) (indexed : IndexedSlot) (rest : List IndexedSlot) (first : Effect) → opened t indexed ≡ first → asking_session t indexed ≡ None → first ≡ nothing t → StayClosed t rest → StayClosed t (indexed ∷ rest)
 closed_one t indexed rest first is none quiet more = record {
   none = (ap (λ (o : Option Session). is_some o) none, more.none);
   rests = ap (λ (e : Effect). after e (on_each opened rest e.table)) (is ∙ quiet) ∙ ap (after (nothing t)) more.rests;
 }
 
-opened_is : (t : ScannerTable) (indexed : IndexedSlot) → opened t indexed ≡ opened_from t indexed (session_with t indexed.config.target) indexed.slot.state
+opened_is : (t : ScannerTable) (indexed : IndexedSlot) → opened t indexed ≡ opened_from t indexed (asking_session t indexed) indexed.slot.state
 unfolding opened
 opened_is t indexed = refl
 
@@ -185,7 +191,7 @@ stay_closed t (indexed ∷ rest) sends notes =
     let sent_parts = none_joined first.sent (on_each opened rest first.table).sent sends in
     let note_parts = none_joined first.notices (on_each opened rest first.table).notices notes in
     let is = opened_is t indexed in
-    let none : session_with t indexed.config.target ≡ None = unopened_from t indexed (session_with t indexed.config.target) indexed.slot.state refl (ap (λ (e : Effect). e.sent) (sym is) ∙ sent_parts.0) (ap (λ (e : Effect). e.notices) (sym is) ∙ note_parts.0) in
+    let none : asking_session t indexed ≡ None = unopened_from t indexed (asking_session t indexed) indexed.slot.state (ap (λ (e : Effect). e.sent) (sym is) ∙ sent_parts.0) (ap (λ (e : Effect). e.notices) (sym is) ∙ note_parts.0) in
     let quiet : first ≡ nothing t = is ∙ ap (λ (s : Option Session). opened_from t indexed s indexed.slot.state) none ∙ from_none t indexed indexed.slot.state in
     closed_one t indexed rest first refl none quiet (stay_closed t rest (subst (λ (e : Effect). (on_each opened rest e.table).sent ≡ []) quiet sent_parts.1) (subst (λ (e : Effect). (on_each opened rest e.table).notices ≡ []) quiet note_parts.1))
 
@@ -238,10 +244,10 @@ stays_quiet t sends notes =
     record { unexpired = unexpired; waiting = waiting; closed = closed; same = ap (λ (e : Effect). e.table) no_open }
 
 -- a table at which a tick without an answer ends
-quiet_table : (t : ScannerTable) → t.clock.0 < never → StaysQuiet t → due_productions (advanced t).table ≡ [] → t.clock.0 < slots_due t.streams (indexed_slots t)
+quiet_table : (t : ScannerTable) → t.clock.0 < never → StaysQuiet t → due_productions (advanced t).table ≡ [] → t.clock.0 < slots_due (can_ask t) (indexed_slots t)
 quiet_table t below quiet none =
     let resting = none_due t (subst (λ (u : ScannerTable). due_productions u ≡ []) quiet.same none) in
-    slots_wait t.streams t.clock (indexed_slots t) below (none_ordered by_deadline (filter (has_expired t.clock) (indexed_slots t)) quiet.unexpired) quiet.waiting resting quiet.closed.none
+    slots_wait (can_ask t) t.clock (indexed_slots t) below (none_ordered by_deadline (filter (has_expired t.clock) (indexed_slots t)) quiet.unexpired) quiet.waiting resting quiet.closed.none
 
 -- ---- explicit requests
 
@@ -276,7 +282,7 @@ same_due : (t : ScannerTable) → due_productions (explicit_timed_out t).table �
 unfolding explicit_timed_out
 same_due t = refl
 
-quiet_answer : (t : ScannerTable) → t.clock.0 < never → (ticked (moved_on t)).0 ≡ plain_answer Done → t.clock.0 < min (slots_due t.streams (indexed_slots t)) (explicit_due t.explicit)
+quiet_answer : (t : ScannerTable) → t.clock.0 < never → (ticked (moved_on t)).0 ≡ plain_answer Done → t.clock.0 < min (slots_due (can_ask t) (indexed_slots t)) (explicit_due t.explicit)
 quiet_answer t below is =
     let moved = advanced t in
     let ends = explicit_timed_out moved.table in
@@ -289,7 +295,7 @@ quiet_answer t below is =
     let explicit = explicit_waits t.clock t.explicit below late in
     omega (arith, slots, explicit)
 
-pub scanner_waits : (t : ScannerTable) (ms : ℕ) → ms ≤ longest_tick → t.clock.0 + ms ≤ clock_end → step (Scanner t) (Tick ms) ≡ Ok (plain_answer Done, clocked (Scanner t) ms) → t.clock.0 + ms < min (slots_due t.streams (indexed_slots t)) (explicit_due t.explicit)
+pub scanner_waits : (t : ScannerTable) (ms : ℕ) → ms ≤ longest_tick → t.clock.0 + ms ≤ clock_end → step (Scanner t) (Tick ms) ≡ Ok (plain_answer Done, clocked (Scanner t) ms) → t.clock.0 + ms < min (slots_due (can_ask t) (indexed_slots t)) (explicit_due t.explicit)
 unfolding step
 scanner_waits t ms short inside is =
     let next = ticked (moved_on (clocked_table t ms)) in

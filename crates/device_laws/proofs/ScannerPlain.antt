@@ -91,6 +91,7 @@ plain_effects = record {
   opens = λ t place session is. (trigger_plain place.config.trigger, tt);
   closes = λ t place link desired_up session is. (tt, tt);
   disowns = λ t config triad session is. (tt, tt);
+  registers = λ t stream is_open. (tt, tt);
   requests = λ t target session number bytes goes. (goes.explicit, tt);
 }
 

@@ -22,7 +22,7 @@ use Rattle.scanner_table.specs.Slots.{IndexedSlot, indexed_slots, slot_at}
 use Rattle.scanner_table.specs.Sessions.{is_stream, is_taken}
 use Rattle.scanner_table.specs.Effects.{Next, Effect, done}
 use Rattle.scanner_table.specs.Closing.{stopped_at}
-use Rattle.scanner_table.specs.Encapsulation.{registering_on, ignored, stream_opened, cut_of, stream_cut, registered, is_awaiting, replied, replied_to, reported, frame_answer, frame_of, frame}
+use Rattle.scanner_table.specs.Encapsulation.{registering_on, ignored, stream_opened, cut_of, stream_cut, registered, ends_session, unserved_at, is_awaiting, replied, replied_to, reported, frame_answer, frame_of, frame}
 use Rattle.scanner_table.specs.Explicit.{awaits, explicit_request, explicit_timed_out}
 use Rattle.scanner_table.specs.Points.{desired_slot, started, start_state, start_at, start, stop_of, stop}
 use Rattle.scanner_table.specs.Productions.{slot_production, due_slots}
@@ -80,18 +80,23 @@ replied_to_quiet : (t : ScannerTable) (m : MessageFields) (found : Option Indexe
 replied_to_quiet t m None = refl
 replied_to_quiet t m (Some place) = replied_quiet t place m place.slot.state
 
+answered_at_quiet : (b : Bool) (t : ScannerTable) (stream : TargetStream) (m : MessageFields) (found : Option IndexedSlot) → QuietNext (cond b (unserved_at t stream m found) (replied_to t m found))
+answered_at_quiet true t stream m None = refl
+answered_at_quiet true t stream m (Some place) = refl
+answered_at_quiet false t stream m found = replied_to_quiet t m found
+
 first_quiet : (b : Bool) (t : ScannerTable) (effect : Effect) → QuietNext (cond b (done effect) (ignored t))
 first_quiet true t effect = refl
 first_quiet false t effect = refl
 
 reported_quiet : (t : ScannerTable) (stream : TargetStream) (m : MessageFields) (stage : Stage) → QuietNext (reported t stream m stage)
 reported_quiet t stream m Waiting = first_quiet (m.context == 0) t (registered t stream m)
-reported_quiet t stream m (Up handle) = replied_to_quiet t m (find (is_awaiting stream.peer m.context) (indexed_slots t))
+reported_quiet t stream m (Up handle) = answered_at_quiet (ends_session t m) t stream m (find (is_awaiting stream.peer m.context) (indexed_slots t))
 reported_quiet t stream m Unused = refl
 
 frame_answer_quiet : (t : ScannerTable) (stream : TargetStream) (reading : Result MessageFields EncapFault) → QuietNext (frame_answer t stream reading)
 frame_answer_quiet t stream (Err why) = refl
-frame_answer_quiet t stream (Ok m) = message_ends QuietNext t stream m (reported_quiet t stream m stream.stage) (λ pending answer none quiet. quiet) (find (awaits stream.number m.context) t.explicit)
+frame_answer_quiet t stream (Ok m) = message_ends QuietNext t stream m (reported_quiet t stream m stream.stage) refl (λ pending answer none quiet. quiet) (find (awaits stream.number m.context) t.explicit)
 
 frame_of_quiet : (t : ScannerTable) (bytes : List ℕ) (found : Option TargetStream) → AllQuiet (frame_of t bytes found)
 frame_of_quiet t bytes None = tt

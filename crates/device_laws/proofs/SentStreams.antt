@@ -37,7 +37,7 @@ use Rattle.device_laws.specs.Lemmas.Lists.{all_both, all_more}
 use Rattle.device_laws.specs.Lemmas.Texts.{either}
 use Rattle.device_laws.specs.Replies.{IsLateReply, IsAnswerTo, RepliesCarryOpenedIds}
 use Rattle.device_laws.specs.OwnStreams.{GoesOverItsOwn, DevicesSendOverTheirStreams}
-use Rattle.device_laws.specs.Lemmas.ScannerEffects.{SameStreams, EffectsDo, NextDoes, OkDoes, event_does}
+use Rattle.device_laws.specs.Lemmas.ScannerEffects.{SameStreams, staged_same, EffectsDo, NextDoes, OkDoes, event_does}
 
 -- ---- a scanner
 
@@ -83,6 +83,7 @@ effects_send = record {
   opens = λ t place session is. record { streams = λ n. refl; sent = (session_over t place.config.target session is, tt) };
   closes = λ t place link desired_up session is. record { streams = λ n. refl; sent = (session_over t place.config.target session is, tt) };
   disowns = λ t config triad session is. record { streams = λ n. refl; sent = (session_over t config.target session is, tt) };
+  registers = λ t stream is_open. record { streams = λ n. staged_same stream.number Waiting n t.streams; sent = (is_open, tt) };
   requests = λ t target session number bytes goes. record { streams = λ n. refl; sent = (session_over t target session goes.session_is, tt) };
 }
 

@@ -18,11 +18,11 @@ use Rattle.adapter_table.specs.Own.{OwnRequest, own_of, cannot_ask}
 use Rattle.device_laws.specs.Lemmas.MessageSteps.{respond_holds}
 use Rattle.device_laws.specs.Lemmas.Texts.{either}
 use Rattle.cip_router.specs.Commands.{command_of, is_silent}
-use Rattle.cip_router.specs.Frames.{RequestHeader, FrameFields, without_header, wrong_length, whole, frame_reading}
+use Rattle.cip_router.specs.Frames.{RequestHeader, FrameFields, without_header, wrong_length, whole}
 use Rattle.cip_router.specs.declared.command.EncapStatus.TheVariants as status
 use Rattle.adapter_table.specs.Connections.{Row}
 use Rattle.adapter_table.specs.declared.table.Stream.{Stream}
-use Rattle.adapter_table.specs.Encapsulation.{Handled, refusal, framed, frame_answer, stream_answer, frame_of, frame}
+use Rattle.adapter_table.specs.Encapsulation.{Handled, refusal, framed, frame_answer, stream_answer, frame_of, frame, frame_for}
 use Rattle.adapter_table.specs.Inquiries.{inquiry_reply, inquired_by, inquired}
 use Rattle.adapter_table.specs.Profiles.{is_at}
 use Rattle.adapter_table.specs.Requests.{Next, Served, router_refusal, served, replied, answered, requested_by, requested}
@@ -91,7 +91,7 @@ frame_answer_quiet t stream (wrong_length echo) = wrong_length_quiet (is_silent 
 frame_answer_quiet t stream (whole echo body) = refl
 
 stream_answer_quiet : (t : AdapterTable) (stream : Stream) (bytes : List ℕ) (reply : Option (List ℕ)) → QuietNext (stream_answer t stream bytes reply)
-stream_answer_quiet t stream bytes None = frame_answer_quiet t stream (frame_reading bytes)
+stream_answer_quiet t stream bytes None = frame_answer_quiet t stream (frame_for t.profile.description bytes)
 stream_answer_quiet t stream bytes (Some text) = refl
 
 inquired_by_quiet : (t : AdapterTable) (peer : Node) (reply : Option (List ℕ)) → QuietNext (inquired_by t peer reply)

@@ -9,6 +9,7 @@ use Rattle.cip_types.specs.declared.names.Node.{Node}
 use Rattle.cip_types.specs.declared.names.Triad.{Triad}
 use Rattle.cip_types.specs.Circle.{distance}
 use Rattle.cip_types.specs.Fields.{fields_at}
+use Rattle.cip_types.specs.Texts.{Tailed}
 use Rattle.cip_datagram.specs.declared.datagram.DatagramFault.{DatagramFault}
 use Rattle.cip_datagram.specs.Datagram.{DatagramFields}
 use Rattle.cip_encap.specs.declared.message.EncapFault.{EncapFault}
@@ -25,8 +26,8 @@ use Rattle.cip_productions.specs.declared.acceptance.Accepted.{Accepted}
 use Rattle.cip_productions.specs.Acceptance.{accepts_sequence}
 use Rattle.cip_productions.specs.Window.{intervals_in, since_accepted, accepts_number}
 use Rattle.cip_router.specs.declared.refusal.Status.TheVariants as status
-use Rattle.cip_router.specs.Commands.{command_of}
-use Rattle.cip_router.specs.Frames.{request_header_of, frame_fields, frame_reading}
+use Rattle.cip_router.specs.Commands.{command_of, is_silent}
+use Rattle.cip_router.specs.Frames.{request_header_of, frame_fields, frame_reading, request_header_in, wrong_length_of}
 use Rattle.cip_router.specs.Refusals.{status_fault}
 use Rattle.cip_router.specs.Requests.{RouterRequestFields, closing, router_request_reading}
 use Rattle.messaging.specs.declared.class3.Class3Connection.{Class3Connection}
@@ -49,6 +50,7 @@ use Rattle.adapter_table.specs.Rows.{has_triad}
 use Rattle.adapter_table.specs.StatedLimits.{is_wrong_closer, accepts_at}
 use Rattle.adapter_table.specs.Step.{adapter_step}
 use Rattle.adapter_table.specs.Streams.{has_session}
+use Rattle.adapter_table.specs.Lemmas.FrameLemmas.{answer_has}
 use Rattle.device_laws.specs.StatedLimits.{IsCloseFrame, IsStreamOf, BringsClose, AnotherNodeClosesNothing, IsFarAhead, IsNotAccepted, FarNumbersChangeNothing}
 
 -- ---- a close that is refused
@@ -121,8 +123,13 @@ unfolding frame_reading
 message_stays t request stream refused bytes is =
     subst (λ (r : Result MessageFields EncapFault). NextStays t (frame_answer t stream (frame_fields (fields_at header_widths bytes) r))) (sym is.reads) (sent_stays t request stream refused bytes is)
 
+misfit_stays : (t : AdapterTable) (stream : Stream) (header : Option Tailed) → NextStays t (frame_answer t stream (wrong_length_of header))
+misfit_stays t stream None = (refl, refl)
+misfit_stays t stream (Some h) = either (NextStays t) (is_silent (command_of (request_header_in h.0).command)) _ _ (refl, refl) (refl, refl)
+
 stream_stays : (t : AdapterTable) (request : CloseFields) (stream : Stream) → IsRefused t stream.peer request → (bytes : List ℕ) (reply : Option (List ℕ)) → IsCloseFrame bytes request → NextStays t (stream_answer t stream bytes reply)
-stream_stays t request stream refused bytes None is = message_stays t request stream refused bytes is
+stream_stays t request stream refused bytes None is =
+    answer_has (NextStays t) t stream bytes (message_stays t request stream refused bytes is) (misfit_stays t stream (fields_at header_widths bytes)) (refl, refl)
 stream_stays t request stream refused bytes (Some text) is = (refl, refl)
 
 frame_stays : (t : AdapterTable) (peer : Node) (request : CloseFields) → IsRefused t peer request → (number : ℕ) (bytes : List ℕ) (next : Next) → frame t number bytes ≡ Ok next → IsStreamOf t number peer → IsCloseFrame bytes request → NextStays t next

@@ -20,9 +20,9 @@ use Rattle.scanner_table.specs.declared.slot.SlotState.{SlotState}
 use Rattle.scanner_table.specs.declared.slot.SlotState.TheVariants.{Idle, Opening, Established, TimedOut, Closing}
 use Rattle.scanner_table.specs.declared.table.ScannerTable.{ScannerTable}
 use Rattle.scanner_table.specs.declared.table.Session.{Session}
-use Rattle.scanner_table.specs.Closing.{requested_link, left_state, idle_slot, given_up_state, given_up, target_lost}
+use Rattle.scanner_table.specs.Closing.{requested_link, left_state, unclosed_slot, given_up_state, given_up, target_lost}
 use Rattle.scanner_table.specs.Effects.{Effect, nothing, after, on_each, changed}
-use Rattle.scanner_table.specs.Opening.{has_request, can_open, open_requested, opening_slot, resigned, exhausted, opened_within, closing_slot, close_requested, cleared_within, opened_from, opened, is_ready_slot, ready_slots, ready_opened, target_opened}
+use Rattle.scanner_table.specs.Opening.{has_request, can_open, open_requested, opening_slot, resigned, exhausted, opened_within, closing_slot, close_requested, cleared_within, opened_from, asking_session, opened, is_ready_slot, ready_slots, ready_opened, target_opened}
 use Rattle.scanner_table.specs.Replies.{failed_slot}
 use Rattle.scanner_table.specs.Requests.{Request, registering, opening, closing, requesting, Sent, close_fields, numbered}
 use Rattle.scanner_table.specs.Sessions.{session_with}
@@ -32,6 +32,7 @@ use Rattle.scanner_table.specs.Lemmas.Moves.{link_in, Local, stand_on, IsClosedS
 use Rattle.scanner_table.specs.Lemmas.SlotLookups.{Stands, Each, EachTwo, Any, Apart, each_any, each_more, each_filter, two_filter, each_passes, each_in_order, two_in_order, each_stands, slots_apart, get_same, get_other}
 use Rattle.device_laws.specs.Lemmas.ExplicitRequests.{IsExplicit}
 use Rattle.device_laws.specs.Lemmas.Lists.{all_both, all_more}
+use Rattle.device_laws.specs.Lemmas.ScannerEffects.{IsOfTarget, asks_in}
 use Rattle.device_laws.specs.TidyScanners.{triad_in}
 
 -- ---- what stays, and what is closed
@@ -342,18 +343,18 @@ at_open true t place session stands none registered = record {
 at_open false t place session stands none registered =
     at_changed t place (resigned place.slot) (notice.NoIds place.number ∷ []) stands (λ tidy left triad has. absurd (none tidy triad has))
 
-at_within : (t : ScannerTable) (place : IndexedSlot) (session : Option Session) → session_with t place.config.target ≡ session → Stands t place → (IsTidy t → (triad : Triad) → triad_in place.slot.state ≡ Some triad → ⊥) → CaresAt t place (opened_within t place session)
+at_within : (t : ScannerTable) (place : IndexedSlot) (session : Option Session) → IsOfTarget t place.config.target session → Stands t place → (IsTidy t → (triad : Triad) → triad_in place.slot.state ≡ Some triad → ⊥) → CaresAt t place (opened_within t place session)
 at_within t place None is stands none = at_nothing t place stands
-at_within t place (Some session) is stands none = at_open (can_open t place.config) t place session stands none is
+at_within t place (Some session) is stands none = at_open (can_open t place.config) t place session stands none (is session refl)
 
-at_cleared : (t : ScannerTable) (place : IndexedSlot) (link : Link) (session : Option Session) → session_with t place.config.target ≡ session → Stands t place → link_in place.slot.state ≡ Some link → CaresAt t place (cleared_within t place link session)
+at_cleared : (t : ScannerTable) (place : IndexedSlot) (link : Link) (session : Option Session) → IsOfTarget t place.config.target session → Stands t place → link_in place.slot.state ≡ Some link → CaresAt t place (cleared_within t place link session)
 at_cleared t place link None is stands from = at_nothing t place stands
-at_cleared t place link (Some session) is stands from = at_close (has_request t) t place link place.slot.desired_up session refl stands from is
+at_cleared t place link (Some session) is stands from = at_close (has_request t) t place link place.slot.desired_up session refl stands from (is session refl)
 
 tidy_not : (t : ScannerTable) → t.profile.tidy ≡ false → IsTidy t → ⊥
 tidy_not t untidy tidy = absurd (let e : true ≡ false = sym tidy ∙ untidy in cc)
 
-timed_out_step : (b : Bool) (t : ScannerTable) (place : IndexedSlot) (link : Link) (session : Option Session) → t.profile.tidy ≡ b → session_with t place.config.target ≡ session → Stands t place → link_in place.slot.state ≡ Some link → CaresAt t place (cond b (cleared_within t place link session) (opened_within t place session))
+timed_out_step : (b : Bool) (t : ScannerTable) (place : IndexedSlot) (link : Link) (session : Option Session) → t.profile.tidy ≡ b → IsOfTarget t place.config.target session → Stands t place → link_in place.slot.state ≡ Some link → CaresAt t place (cond b (cleared_within t place link session) (opened_within t place session))
 timed_out_step true t place link session tidies is stands from = at_cleared t place link session is stands from
 timed_out_step false t place link session tidies is stands from = at_within t place session is stands (λ tidy triad has. tidy_not t tidies tidy)
 
@@ -363,7 +364,7 @@ idle_none state triad is has = absurd (let e : triad_in Idle ≡ Some triad = su
 closing_none : (state : SlotState) (triad : Triad) → triad_in state ≡ None → triad_in state ≡ Some triad → ⊥
 closing_none state triad is has = absurd (let e : None ≡ Some triad = sym is ∙ has in cc)
 
-at_from : (t : ScannerTable) (place : IndexedSlot) (session : Option Session) (state : SlotState) → place.slot.state ≡ state → session_with t place.config.target ≡ session → Stands t place → is_closed state ≡ true → CaresAt t place (opened_from t place session state)
+at_from : (t : ScannerTable) (place : IndexedSlot) (session : Option Session) (state : SlotState) → place.slot.state ≡ state → IsOfTarget t place.config.target session → Stands t place → is_closed state ≡ true → CaresAt t place (opened_from t place session state)
 at_from t place session Idle state is stands closed_before = at_within t place session is stands (λ tidy triad has. idle_none place.slot.state triad state has)
 at_from t place session (TimedOut link) state is stands closed_before = timed_out_step t.profile.tidy t place link session refl is stands (ap link_in state)
 at_from t place session (Opening o) state is stands closed_before = absurd cc
@@ -372,7 +373,7 @@ at_from t place session (Closing c) state is stands closed_before = absurd cc
 
 pub at_opened : (t : ScannerTable) (place : IndexedSlot) → Stands t place → IsClosedSlot place → CaresAt t place (opened t place)
 unfolding opened
-at_opened t place stands closed_before = at_from t place (session_with t place.config.target) place.slot.state refl refl stands closed_before
+at_opened t place stands closed_before = at_from t place (asking_session t place) place.slot.state refl (asks_in t place.config.target place.slot.state) stands closed_before
 
 -- ---- connections that are given up
 
@@ -393,7 +394,7 @@ at_given t place (Opening o) is stands =
     at_changed t place (failed_slot t (left_state t (requested_link o.requested)) place.slot) [] stands (λ tidy left triad has. left_keeps t place (requested_link o.requested) (ap link_in is) tidy triad has)
 at_given t place (Established c) is stands = at_nothing t place stands
 at_given t place (TimedOut link) is stands = at_nothing t place stands
-at_given t place (Closing c) is stands = at_changed t place (idle_slot place.slot) [] stands (λ tidy left triad has. absurd (closing_none place.slot.state triad (ap triad_in is) has))
+at_given t place (Closing c) is stands = at_changed t place (unclosed_slot t c place.slot) [] stands (λ tidy left triad has. absurd (closing_none place.slot.state triad (ap triad_in is) has))
 
 at_expired : (t : ScannerTable) (place : IndexedSlot) (state : SlotState) → place.slot.state ≡ state → Stands t place → CaresAt t place (expired_state t place state)
 at_expired t place Idle is stands = at_nothing t place stands
@@ -426,7 +427,7 @@ target_cares target t =
     (each_cares IsClosedSlot opened at_opened (filter (is_with target) (ready_slots t)) t
     (each_filter (Stands t) (is_with target) (ready_slots t) (ready_stand t)) (two_filter Apart (is_with target) (ready_slots t) (ready_apart t)) (each_filter IsClosedSlot (is_with target) (ready_slots t) (ready_rest t))).cares
 
-given_at : (t : ScannerTable) (place : IndexedSlot) → Stands t place → Any place → CaresAt t place (given_up t place)
+pub given_at : (t : ScannerTable) (place : IndexedSlot) → Stands t place → Any place → CaresAt t place (given_up t place)
 given_at t place stands any = at_given t place place.slot.state refl stands
 
 pub lost_cares : (target : Node) (t : ScannerTable) → Cares t (target_lost target t)

@@ -22,6 +22,7 @@ use Rattle.cip_encap.specs.Reading.{message_reading}
 use Rattle.cip_events.specs.Clock.{longest_tick, clock_end}
 use Rattle.cip_events.specs.declared.event.Event.{Event}
 use Rattle.cip_events.specs.declared.event.Event.TheVariants as event
+use Rattle.cip_events.specs.declared.event.Notice.{Notice}
 use Rattle.cip_events.specs.declared.event.Notice.TheVariants as notice
 use Rattle.cip_events.specs.declared.event.Reason.{Reason}
 use Rattle.cip_events.specs.declared.event.Reason.TheVariants as reason
@@ -53,8 +54,8 @@ use Rattle.scanner_table.specs.declared.table.Stage.TheVariants.{Waiting, Up, Un
 use Rattle.scanner_table.specs.declared.table.TargetStream.{TargetStream}
 use Rattle.scanner_table.specs.Closing.{idle_slot, requested_link, target_lost, reopened, closed, left_slot, closed_within, dropped, slot_resigned, stopped, stopped_at}
 use Rattle.scanner_table.specs.Datagrams.{accepted_connection, accepted_table}
-use Rattle.scanner_table.specs.Effects.{Next, Effect, nothing, after, counted, changed, done}
-use Rattle.scanner_table.specs.Encapsulation.{registering_on, stream_opened, cut_of, stream_cut, is_registered, session_begun, session_failed, registered, ignored, is_awaiting, waits_for, replied, replied_to, reported, frame_answer, frame_of, frame}
+use Rattle.scanner_table.specs.Effects.{Next, Effect, nothing, after, and_then, counted, changed, done}
+use Rattle.scanner_table.specs.Encapsulation.{registering_on, stream_opened, cut_of, stream_cut, is_registered, session_begun, session_failed, registered, ends_session, session_renewed, unserved_state, unserved_at, ignored, is_awaiting, waits_for, replied, replied_to, reported, frame_answer, frame_of, frame}
 use Rattle.scanner_table.specs.Explicit.{is_late, is_over, awaits, explicit_sent, explicit_ended, without_explicit, explicit_request, explicit_timed_out, explicit_lost}
 use Rattle.scanner_table.specs.Opening.{has_request, opened, resigned}
 use Rattle.scanner_table.specs.Points.{desired_slot, started, start_state, start_at, start, stop_of, stop, output_slot, moded_table, same_mode, mode}
@@ -333,24 +334,6 @@ replied_to_cares t number stream handle m (Some place) differ is stage found =
     let stands = each_found (Stands t) (is_awaiting stream.peer m.context) (indexed_slots t) place found (each_stands t) in
     replied_cares t place m place.slot.state (record { stream = stream.number; handle = handle }) (session_is t number stream handle place.config.target differ is stage to) refl stands
 
-reported_cares : (t : ScannerTable) (number : ℕ) (stream : TargetStream) (m : MessageFields) (stage : Stage) → StreamsDiffer t.streams → find (is_stream number) t.streams ≡ Some stream → stream.stage ≡ stage → NextCares t (reported t stream m stage)
-reported_cares t number stream m Waiting differ is stage =
-    either (NextCares t) (m.context == 0) (done (registered t stream m)) (ignored t) (registered_cares t stream m) (ignored_cares t)
-reported_cares t number stream m (Up handle) differ is stage = replied_to_cares t number stream handle m (find (is_awaiting stream.peer m.context) (indexed_slots t)) differ is stage refl
-reported_cares t number stream m Unused differ is stage = ignored_cares t
-
-answer_cares : (t : ScannerTable) (number : ℕ) (stream : TargetStream) (reading : Result MessageFields EncapFault) → StreamsDiffer t.streams → find (is_stream number) t.streams ≡ Some stream → NextCares t (frame_answer t stream reading)
-answer_cares t number stream (Err why) differ is = quiet_cares t (frame_answer t stream (Err why)) refl refl refl (keeps_itself t t refl)
-answer_cares t number stream (Ok m) differ is =
-    message_ends (NextCares t) t stream m (reported_cares t number stream m stream.stage differ is refl)
-    (λ pending said silent quiet. quiet_cares t (said, without_explicit t pending) silent refl refl (keeps_itself t (without_explicit t pending) refl)) (find (awaits stream.number m.context) t.explicit)
-
-frame_of_cares : (t : ScannerTable) (number : ℕ) (bytes : List ℕ) (found : Option TargetStream) → StreamsDiffer t.streams → find (is_stream number) t.streams ≡ found → OkCares t (frame_of t bytes found)
-frame_of_cares t number bytes None differ is = tt
-frame_of_cares t number bytes (Some stream) differ is = answer_cares t number stream (message_reading bytes) differ is
-
--- ---- streams
-
 ended_cares : (test : PendingExplicit → Bool) (why : Unanswered) (t : ScannerTable) → Cares t (explicit_ended test why t)
 ended_cares test why t = record {
   profile = refl;
@@ -364,6 +347,100 @@ ended_cares test why t = record {
 explicit_lost_cares : (stream : ℕ) (t : ScannerTable) → Cares t (explicit_lost stream t)
 unfolding explicit_lost
 explicit_lost_cares stream t = ended_cares (is_over stream) unanswered.Lost t
+
+lost_same : (stream : ℕ) (t : ScannerTable) (number : ℕ) → SameAt number t (explicit_lost stream t).table
+unfolding explicit_lost
+lost_same stream t number = record { profile = refl; streams = refl; keeps = λ triad keeps. record { slot = keeps.slot; there = keeps.there; has = keeps.has } }
+
+-- the scanner registers a session again
+again_cares : (u : ScannerTable) (stream : ℕ) → Cares u (record { sent = registration stream ∷ []; notices = []; table = u })
+again_cares u stream = record {
+  profile = refl;
+  streams = refl;
+  requests = omega arith;
+  serial = λ below. below;
+  slots = λ tidy left number config slot triad at there has. inl (record { slot = slot; there = there; has = has });
+  opens = λ below. (record { number = 0; is = tt }, tt);
+}
+
+-- the session on a stream ends, and a new one is registered: from the table on in which the registration waits
+renewed_cares : (u : ScannerTable) (stream : TargetStream) → Cares u (after (after (record { sent = registration stream.number ∷ []; notices = []; table = u }) (target_lost stream.peer u)) (explicit_lost stream.number (target_lost stream.peer u).table))
+renewed_cares u stream =
+    let first : Effect = record { sent = registration stream.number ∷ []; notices = []; table = u } in
+    let second = target_lost stream.peer u in
+    let third = explicit_lost stream.number second.table in
+    let both = then_cares u first second (again_cares u stream.number) (λ below. (record { number = 0; is = tt }, tt)) (lost_cares stream.peer u) in
+    then_cares u (after first second) third both (λ below. still_have second.table third.table (lost_same stream.number second.table) (after first second).sent (both.opens below)) (explicit_lost_cares stream.number second.table)
+
+renews_cares : (t : ScannerTable) (stream : TargetStream) → NextCares t (done (session_renewed stream t))
+renews_cares t stream =
+    let u = with_stage t stream.number Waiting in
+    done_cares t u (session_renewed stream t) refl refl (keeps_itself t u refl) (renewed_cares u stream)
+
+-- a refusal, with more notices behind it
+refused_still : (t : ScannerTable) (number : ℕ) (triad : Triad) (first next : Next) → ((n : Notice) → Contains first.0.notices n → Contains next.0.notices n) → IsRefused t number triad first → IsRefused t number triad next
+refused_still t number triad first next more is = record {
+  place = is.place;
+  at = is.at;
+  opening = is.opening;
+  waits = is.waits;
+  triad_is = is.triad_is;
+  why = is.why;
+  refuses = is.refuses;
+  said = more (notice.Refused number is.why) is.said;
+}
+
+-- a slot that is not served is refused, and the session ends
+unserved_step : (t : ScannerTable) (stream : TargetStream) (place : IndexedSlot) (status number : ℕ) (config : SlotConfig) (triad : Triad) → IsTidy t → IsLeft (done (and_then (refused t place (reason.Encap status)) (session_renewed stream))).1 → slice_get t.profile.slots number ≡ Some config → KeepsOrCloses (refused t place (reason.Encap status)).table [] number config triad ⊎ IsRefused t number triad (done (refused t place (reason.Encap status))) → KeepsOrCloses (done (and_then (refused t place (reason.Encap status)) (session_renewed stream))).1 (and_then (refused t place (reason.Encap status)) (session_renewed stream)).sent number config triad ⊎ IsRefused t number triad (done (and_then (refused t place (reason.Encap status)) (session_renewed stream)))
+unserved_step t stream place status number config triad tidy left at (inl (inl keeps)) =
+    inl ((renewed_cares (with_stage (refused t place (reason.Encap status)).table stream.number Waiting) stream).slots tidy left number config keeps.slot triad at keeps.there keeps.has)
+unserved_step t stream place status number config triad tidy left at (inl (inr closes)) = absurd (omega (arith, closes.sent.1))
+unserved_step t stream place status number config triad tidy left at (inr is) =
+    let first = refused t place (reason.Encap status) in
+    inr (refused_still t number triad (done first) (done (and_then first (session_renewed stream))) (λ n there. Contains-append_left first.notices (session_renewed stream first.table).notices n there) is)
+
+unserved_cares : (t : ScannerTable) (stream : TargetStream) (place : IndexedSlot) (status : ℕ) (state : SlotState) → place.slot.state ≡ state → Stands t place → NextCares t (done (and_then (unserved_state status t place state) (session_renewed stream)))
+unserved_cares t stream place status (Opening o) is stands =
+    let why = reason.Encap status in
+    let u = with_stage (refused t place (reason.Encap status)).table stream.number Waiting in
+    let cares = renewed_cares u stream in
+    record {
+      requests = (session_renewed stream (refused t place why).table).sent;
+      frames = refl;
+      profile = cares.profile;
+      serial = cares.serial;
+      slots = λ tidy left number config slot triad at there has. unserved_step t stream place status number config triad tidy left at (refuse_step (number == place.number) t place o why refl is stands number config slot triad refl there has);
+      opens = cares.opens;
+    }
+unserved_cares t stream place status Idle is stands = renews_cares t stream
+unserved_cares t stream place status (Established c) is stands = renews_cares t stream
+unserved_cares t stream place status (TimedOut link) is stands = renews_cares t stream
+unserved_cares t stream place status (Closing c) is stands = renews_cares t stream
+
+unserved_at_cares : (t : ScannerTable) (stream : TargetStream) (m : MessageFields) (found : Option IndexedSlot) → find (is_awaiting stream.peer m.context) (indexed_slots t) ≡ found → NextCares t (unserved_at t stream m found)
+unserved_at_cares t stream m None found = ignored_cares t
+unserved_at_cares t stream m (Some place) found =
+    unserved_cares t stream place m.status place.slot.state refl (each_found (Stands t) (is_awaiting stream.peer m.context) (indexed_slots t) place found (each_stands t))
+
+reported_cares : (t : ScannerTable) (number : ℕ) (stream : TargetStream) (m : MessageFields) (stage : Stage) → StreamsDiffer t.streams → find (is_stream number) t.streams ≡ Some stream → stream.stage ≡ stage → NextCares t (reported t stream m stage)
+reported_cares t number stream m Waiting differ is stage =
+    either (NextCares t) (m.context == 0) (done (registered t stream m)) (ignored t) (registered_cares t stream m) (ignored_cares t)
+reported_cares t number stream m (Up handle) differ is stage =
+    let found = find (is_awaiting stream.peer m.context) (indexed_slots t) in
+    either (NextCares t) (ends_session t m) (unserved_at t stream m found) (replied_to t m found) (unserved_at_cares t stream m found refl) (replied_to_cares t number stream handle m found differ is stage refl)
+reported_cares t number stream m Unused differ is stage = ignored_cares t
+
+answer_cares : (t : ScannerTable) (number : ℕ) (stream : TargetStream) (reading : Result MessageFields EncapFault) → StreamsDiffer t.streams → find (is_stream number) t.streams ≡ Some stream → NextCares t (frame_answer t stream reading)
+answer_cares t number stream (Err why) differ is = quiet_cares t (frame_answer t stream (Err why)) refl refl refl (keeps_itself t t refl)
+answer_cares t number stream (Ok m) differ is =
+    message_ends (NextCares t) t stream m (reported_cares t number stream m stream.stage differ is refl) (renews_cares t stream)
+    (λ pending said silent quiet. quiet_cares t (said, without_explicit t pending) silent refl refl (keeps_itself t (without_explicit t pending) refl)) (find (awaits stream.number m.context) t.explicit)
+
+frame_of_cares : (t : ScannerTable) (number : ℕ) (bytes : List ℕ) (found : Option TargetStream) → StreamsDiffer t.streams → find (is_stream number) t.streams ≡ found → OkCares t (frame_of t bytes found)
+frame_of_cares t number bytes None differ is = tt
+frame_of_cares t number bytes (Some stream) differ is = answer_cares t number stream (message_reading bytes) differ is
+
+-- ---- streams
 
 cut_cares : (t : ScannerTable) (found : Option TargetStream) → OkCares t (cut_of t found)
 cut_cares t None = tt

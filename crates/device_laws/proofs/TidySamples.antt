@@ -1,25 +1,32 @@
 -- Samples of what a tidy scanner owes its targets: which connection a slot has, until when, and what ends it.
-use Rattle.std.proofs.Common.{◌≡◌, ◌⊎◌, inl, inr, ℕ, true, false, [], ◌∷◌, Some, None, refl, subst, arith}
+use Rattle.std.proofs.Common.{◌≡◌, ◌⊎◌, inl, inr, ℕ, true, false, [], ◌∷◌, Option, Some, None, refl, subst, arith}
+use Rattle.std.specs.Option.{option_map}
 use Rattle.std.specs.List.{Contains}
 use Rattle.std.proofs.lemmas.List.Elements.{Contains-push, Contains-push_cases}
 use Rattle.std.proofs.lemmas.Option.{same_Some}
 use Rattle.cip_types.specs.declared.names.Mismatch.TheVariants as mismatch
-use Rattle.cip_events.specs.declared.event.Event.TheVariants.{Tick, Start, Stop}
+use Rattle.cip_events.specs.declared.event.Event.TheVariants.{StreamCut, Tick, Start, Stop}
 use Rattle.cip_events.specs.declared.event.Notice.TheVariants as notice
 use Rattle.cip_events.specs.declared.event.Reason.{Reason}
 use Rattle.cip_events.specs.declared.event.Reason.TheVariants as reason
+use Rattle.scanner_table.specs.declared.slot.PendingClose.{PendingClose}
 use Rattle.scanner_table.specs.declared.slot.SlotState.{SlotState}
 use Rattle.scanner_table.specs.declared.slot.SlotState.TheVariants.{Idle, Opening, Established, TimedOut, Closing}
 use Rattle.scanner_table.specs.declared.table.ScannerTable.{ScannerTable}
+use Rattle.scanner_table.specs.declared.table.Stage.TheVariants.{Up}
+use Rattle.scanner_table.specs.Closing.{target_lost}
+use Rattle.scanner_table.specs.Encapsulation.{stream_cut}
 use Rattle.scanner_table.specs.Opening.{opened, ready_opened}
-use Rattle.scanner_table.specs.Explicit.{explicit_timed_out}
+use Rattle.scanner_table.specs.Explicit.{explicit_timed_out, explicit_lost}
 use Rattle.scanner_table.specs.Points.{start, stop}
 use Rattle.scanner_table.specs.Productions.{produced_table}
+use Rattle.scanner_table.specs.Runs.{left_by}
 use Rattle.scanner_table.specs.Slots.{IndexedSlot, slot_at}
 use Rattle.scanner_table.specs.Step.{scanner_step}
 use Rattle.scanner_table.specs.Ticks.{all_expired, all_given_up, tick}
+use Rattle.device_laws.specs.CutCloses.{ClosesOver}
 use Rattle.device_laws.specs.TidyScanners.{triad_in, HasConnection, is_mismatch, IsEnded, HasUntilEnd}
-use Rattle.device_laws.proofs.SmallTables.{gatherer, profile, triad, opening, link, connection, indexed, second_slot, table}
+use Rattle.device_laws.proofs.SmallTables.{gatherer, profile, target, triad, opening, link, connection, indexed, second_slot, table}
 
 -- the small scanner, tidy, with its first slot in a state
 abbrev tidy_table : SlotState → ScannerTable
@@ -82,3 +89,21 @@ leaves_it until = on until.1
     on : IsEnded (table (Opening opening)) 0 triad (scanner_step (table (Opening opening)) (Stop 0)) ⊎ HasConnection (record (table Idle) { slots = record (indexed Idle).slot { desired_up = false } ∷ second_slot ∷ [] }) 0 triad → ⊥
     on (inl ended) = drops ended
     on (inr has) = place_has_not (record (table Idle) { slots = record (indexed Idle).slot { desired_up = false } ∷ second_slot ∷ [] }) 0 (record (indexed Idle) { slot = record (indexed Idle).slot { desired_up = false } }) refl refl has
+
+-- ---- a close that is cut
+
+-- the slot closes until 2600 ms
+abbrev closing : PendingClose
+closing = record { request = 7; link = link; deadline = record { 0 = 2600 } }
+
+closes_over : ClosesOver (tidy_table (Closing closing)) 0 (indexed (Closing closing)) closing
+closes_over = record { at = refl; closes = refl; early = omega arith; stream = record { number = 0; peer = target; stage = Up 1 }; found = refl; goes = refl }
+
+-- what slot 0 is after the stream is cut
+abbrev cut_state : ScannerTable → Option SlotState
+cut_state t = option_map (λ (place : IndexedSlot). place.slot.state) (slot_at (left_by t (scanner_step t (StreamCut 0))) 0)
+
+-- the connection is kept, unless the time for the reply is over, or the scanner is not tidy
+cut_states : cut_state (tidy_table (Closing closing)) ∷ cut_state (record (tidy_table (Closing closing)) { clock = record { 0 = 2600 } }) ∷ cut_state (table (Closing closing)) ∷ [] ≡ Some (TimedOut link) ∷ Some Idle ∷ Some Idle ∷ []
+unfolding stream_cut target_lost explicit_lost
+cut_states = refl

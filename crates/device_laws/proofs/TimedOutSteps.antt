@@ -1,8 +1,9 @@
 -- A tick leaves no slot timed out that could open or close.
-use Rattle.std.proofs.Common.{◌≡◌, ◌≢◌, ◌⊎◌, inl, inr, ◌≤◌, ℕ, zero, suc, ◌+◌, ◌==◌, ◌&&◌, ◌||◌, nat_le, nat_lt, Bool, true, false, cond, List, [], ◌∷◌, map, filter, find, slice_get, Option, Some, None, Result, Ok, Err, IfOk, refl, sym, ◌∙◌, ap, subst, arith, eqb-true as number_is}
+use Rattle.std.proofs.Common.{◌≡◌, ◌≢◌, ◌⊎◌, inl, inr, ◌≤◌, ℕ, zero, suc, ◌+◌, ◌==◌, ◌&&◌, ◌||◌, nat_le, nat_lt, Bool, true, false, cond, List, [], ◌∷◌, length, map, filter, find, slice_get, Option, Some, None, Result, Ok, Err, IfOk, refl, sym, ◌∙◌, ap, subst, arith, eqb-true as number_is}
 use Rattle.std.proofs.lemmas.Bool.{eqb-false}
 use Rattle.std.proofs.lemmas.Bool.Decides.{nat_tests}
 use Rattle.std.proofs.lemmas.Option.{same_Some}
+use Rattle.cip_types.specs.declared.names.Node.{Node}
 use Rattle.cip_types.specs.declared.names.Ms.{Ms}
 use Rattle.cip_events.specs.Clock.{longest_tick, clock_end}
 use Rattle.cip_events.specs.declared.event.StepFault.{StepFault}
@@ -15,17 +16,17 @@ use Rattle.scanner_table.specs.declared.slot.SlotState.{SlotState}
 use Rattle.scanner_table.specs.declared.slot.SlotState.TheVariants.{Idle, Opening, Established, TimedOut, Closing}
 use Rattle.scanner_table.specs.declared.table.ScannerTable.{ScannerTable}
 use Rattle.scanner_table.specs.declared.table.Session.{Session}
-use Rattle.scanner_table.specs.Effects.{Next, Effect, on_each}
+use Rattle.scanner_table.specs.Effects.{Next, on_each}
 use Rattle.scanner_table.specs.Explicit.{explicit_timed_out}
-use Rattle.scanner_table.specs.Opening.{has_request, can_open, open_requested, opening_slot, resigned, exhausted, opened_within, closing_slot, close_requested, cleared_within, opened_from, opened, is_ready_slot, ready_slots, ready_opened}
+use Rattle.scanner_table.specs.Opening.{has_request, can_open, open_requested, opening_slot, resigned, exhausted, opened_within, closing_slot, close_requested, cleared_within, opened_from, opens_at, leaves_room, open_session, asking_in, opened, is_ready_slot, ready_slots, ready_opened}
 use Rattle.scanner_table.specs.Productions.{state_is_due, produced_state, produced_slot, produced_table}
 use Rattle.scanner_table.specs.Sessions.{session_with}
 use Rattle.scanner_table.specs.Slots.{IndexedSlot, indexed_slots, is_numbered}
 use Rattle.scanner_table.specs.Ticks.{all_expired, all_given_up, clocked_table, moved_on, ticked, tick}
-use Rattle.scanner_table.specs.Lemmas.Moves.{Kept, IsClosedSlot, Local, stand_on, ready_leads}
+use Rattle.scanner_table.specs.Lemmas.Moves.{Kept, IsClosedSlot, Local, stand_on, ready_leads, overdue_leads, expired_leads}
 use Rattle.scanner_table.specs.Lemmas.SlotLookups.{Stands, Each, EachTwo, Apart, get_same, indexed_at, slot_is, slot_stands}
 use Rattle.device_laws.specs.Lemmas.Texts.{either}
-use Rattle.device_laws.specs.TimedOutSlots.{WaitsForSession, TimedOutSlotsWait}
+use Rattle.device_laws.specs.TimedOutSlots.{ClosesInTime, WaitsForSession, TimedOutSlotsWait}
 use Rattle.device_laws.proofs.TidyEffects.{each_cares, at_opened, ready_cares, ready_stand, ready_apart, ready_rest}
 
 -- ---- one slot
@@ -71,14 +72,34 @@ cleared_done : (t : ScannerTable) (place : IndexedSlot) (link : Link) (session :
 cleared_done t place link None is stands = none_done t place stands is
 cleared_done t place link (Some session) is stands = close_done (has_request t) t place link place.slot.desired_up session stands
 
-from_done : (t : ScannerTable) (place : IndexedSlot) (session : Option Session) (state : SlotState) → session_with t place.config.target ≡ session → Stands t place → IsDoneAt (opened_from t place session state).table place.number
-from_done t place session (TimedOut link) is stands =
-    either (λ (e : Effect). IsDoneAt e.table place.number) t.profile.tidy (cleared_within t place link session) (opened_within t place session) (cleared_done t place link session is stands) (within_done t place session is stands)
-from_done t place session other is stands = within_done t place session is stands
+-- without a limit on openings no slot waits for its turn
+turn_is : (t : ScannerTable) (target : Node) (openings : Option ℕ) (count : ℕ) → openings ≡ None → session_with t target ≡ cond (leaves_room openings count) (session_with t target) None
+turn_is t target None count is = refl
+turn_is t target (Some most) count is = absurd cc
 
-opened_done : (t : ScannerTable) (place : IndexedSlot) → Stands t place → IsDoneAt (opened t place).table place.number
+timed_out_done : (b : Bool) (t : ScannerTable) (place : IndexedSlot) (link : Link) → t.profile.tidy ≡ b → ClosesInTime t → Stands t place → IsDoneAt (cond b (cleared_within t place link (cond b (session_with t place.config.target) (open_session t place.config.target))) (opened_within t place (cond b (session_with t place.config.target) (open_session t place.config.target)))).table place.number
+timed_out_done true t place link tidy limits stands = cleared_done t place link (session_with t place.config.target) refl stands
+timed_out_done false t place link tidy limits stands =
+    within_done t place (open_session t place.config.target) (turn_is t place.config.target t.profile.openings (length (filter (opens_at place.config.target) (indexed_slots t))) (limits tidy)) stands
+
+-- a slot that has not timed out
+turn_done : (t : ScannerTable) (place : IndexedSlot) (session : Option Session) → ((link : Link) → place.slot.state ≡ TimedOut link → ⊥) → Stands t place → IsDoneAt (opened_within t place session).table place.number
+turn_done t place None other stands = other_done t place.number place.slot stands.slot other
+turn_done t place (Some session) other stands = open_done (can_open t place.config) t place session stands
+
+other_state : (state now : SlotState) (link : Link) → (TimedOut link ≡ now → ⊥) → state ≡ now → state ≡ TimedOut link → ⊥
+other_state state now link differs is timed_out = differs (sym timed_out ∙ is)
+
+from_done : (t : ScannerTable) (place : IndexedSlot) (state : SlotState) → place.slot.state ≡ state → ClosesInTime t → Stands t place → IsDoneAt (opened_from t place (asking_in t place.config.target state) state).table place.number
+from_done t place (TimedOut link) is limits stands = timed_out_done t.profile.tidy t place link refl limits stands
+from_done t place Idle is limits stands = turn_done t place (open_session t place.config.target) (λ link timed_out. other_state place.slot.state Idle link (λ e. absurd cc) is timed_out) stands
+from_done t place (Opening o) is limits stands = turn_done t place (open_session t place.config.target) (λ link timed_out. other_state place.slot.state (Opening o) link (λ e. absurd cc) is timed_out) stands
+from_done t place (Established c) is limits stands = turn_done t place (open_session t place.config.target) (λ link timed_out. other_state place.slot.state (Established c) link (λ e. absurd cc) is timed_out) stands
+from_done t place (Closing c) is limits stands = turn_done t place (open_session t place.config.target) (λ link timed_out. other_state place.slot.state (Closing c) link (λ e. absurd cc) is timed_out) stands
+
+opened_done : (t : ScannerTable) (place : IndexedSlot) → ClosesInTime t → Stands t place → IsDoneAt (opened t place).table place.number
 unfolding opened
-opened_done t place stands = from_done t place (session_with t place.config.target) place.slot.state refl stands
+opened_done t place limits stands = from_done t place place.slot.state refl limits stands
 
 -- ---- all ready slots
 
@@ -86,15 +107,15 @@ done_on : (t u : ScannerTable) (number : ℕ) → u.profile ≡ t.profile → u.
 done_on t u number profile streams same done config slot link at is timed_out =
     rw streams (done config slot link (subst (λ (p : ScannerProfile). slice_get p.slots number ≡ Some config) profile at) (sym same ∙ is) timed_out)
 
-each_done : (places : List IndexedSlot) (t : ScannerTable) → Each (Stands t) places → EachTwo Apart places → Each IsClosedSlot places → Each (λ place. IsDoneAt (on_each opened places t).table place.number) places
-each_done [] t stand apart rest = tt
-each_done (place ∷ places) t stand apart rest =
+each_done : (places : List IndexedSlot) (t : ScannerTable) → ClosesInTime t → Each (Stands t) places → EachTwo Apart places → Each IsClosedSlot places → Each (λ place. IsDoneAt (on_each opened places t).table place.number) places
+each_done [] t limits stand apart rest = tt
+each_done (place ∷ places) t limits stand apart rest =
     let u = (opened t place).table in
     let one = at_opened t place stand.0 rest.0 in
     let local : Local place.number t (opened t place).table = record { profile = one.profile; elsewhere = one.elsewhere } in
     let later = stand_on t u place.number places local apart.0 stand.1 in
     let two = each_cares IsClosedSlot opened at_opened places u later apart.1 rest.1 in
-    (done_on u (on_each opened places u).table place.number two.cares.profile two.cares.streams (two.elsewhere place.number apart.0) (opened_done t place stand.0), each_done places u later apart.1 rest.1)
+    (done_on u (on_each opened places u).table place.number two.cares.profile two.cares.streams (two.elsewhere place.number apart.0) (opened_done t place limits stand.0), each_done places u (subst (λ (p : ScannerProfile). p.tidy ≡ false → p.openings ≡ None) (sym one.profile) limits) later apart.1 rest.1)
 
 -- a slot of this number is among these, or none is
 record Among (P : IndexedSlot → Type 0) (number : ℕ) : Type 0 where
@@ -148,18 +169,18 @@ clock_stays = record {
   closing = λ t place link desired_up stands is. refl;
 }
 
-ready_each : (t : ScannerTable) → Each (λ place. IsDoneAt (ready_opened t).table place.number) (ready_slots t)
+ready_each : (t : ScannerTable) → ClosesInTime t → Each (λ place. IsDoneAt (ready_opened t).table place.number) (ready_slots t)
 unfolding ready_opened
-ready_each t = each_done (ready_slots t) t (ready_stand t) (ready_apart t) (ready_rest t)
+ready_each t limits = each_done (ready_slots t) t limits (ready_stand t) (ready_apart t) (ready_rest t)
 
 ready_elsewhere : (t : ScannerTable) (k : ℕ) → Each (λ place. k ≢ place.number) (ready_slots t) → slice_get (ready_opened t).table.slots k ≡ slice_get t.slots k
 unfolding ready_opened
 ready_elsewhere t k away = (each_cares IsClosedSlot opened at_opened (ready_slots t) t (ready_stand t) (ready_apart t) (ready_rest t)).elsewhere k away
 
 -- after the ready slots have opened, a slot that has timed out waits
-opened_waits : (t : ScannerTable) (place : IndexedSlot) → Stands (ready_opened t).table place → WaitsForSession (ready_opened t).table place
-opened_waits t place stands link is came =
-    on (among_or_apart (λ other. IsDoneAt (ready_opened t).table other.number) place.number (ready_slots t) (ready_each t))
+opened_waits : (t : ScannerTable) (place : IndexedSlot) → ClosesInTime t → Stands (ready_opened t).table place → WaitsForSession (ready_opened t).table place
+opened_waits t place limits stands link is came =
+    on (among_or_apart (λ other. IsDoneAt (ready_opened t).table other.number) place.number (ready_slots t) (ready_each t limits))
   where
     end : ScannerTable
     end = (ready_opened t).table
@@ -218,22 +239,39 @@ rest_waits t waits place stands link is came =
     let retry : place.slot.retry_at ≡ before.was.retry_at = ap (λ (s : Slot). s.retry_at) (sym before.is) ∙ produced_retry (state_is_due t.clock before.was.state) t.clock before.was in
     waits (indexed_at place.number place.config before.was) (record { config = stands.config; slot = before.there }) link state (subst (λ (k : Ms). k.0 ≤ t.clock.0) retry came)
 
-ticked_waits : (t : ScannerTable) (place : IndexedSlot) → Stands (ticked (moved_on t)).1 place → WaitsForSession (ticked (moved_on t)).1 place
-ticked_waits t place stands =
+-- the profile stays
+abbrev ProfileStays : ScannerTable → ScannerTable → Type 0
+ProfileStays t u = u.profile ≡ t.profile
+
+profile_stays : Kept ProfileStays
+profile_stays = record {
+  same = λ t. refl;
+  after = λ t u v first next. next ∙ first;
+  opening = λ t place stands closed_before. refl;
+  idling = λ t place slot stands idle. refl;
+  timing_out = λ t place link slot stands is becomes. refl;
+  closing = λ t place link desired_up stands is. refl;
+}
+
+second_profile : (t : ScannerTable) → (all_given_up (all_expired t).table).table.profile ≡ t.profile
+second_profile t = overdue_leads ProfileStays profile_stays (all_expired t).table ∙ expired_leads ProfileStays profile_stays t
+
+ticked_waits : (t : ScannerTable) (place : IndexedSlot) → ClosesInTime t → Stands (ticked (moved_on t)).1 place → WaitsForSession (ticked (moved_on t)).1 place
+ticked_waits t place limits stands =
     let second = all_given_up (all_expired t).table in
-    rest_waits (ready_opened second.table).table (opened_waits second.table) place stands
+    rest_waits (ready_opened second.table).table (λ other there. opened_waits second.table other (subst (λ (p : ScannerProfile). p.tidy ≡ false → p.openings ≡ None) (sym (second_profile t)) limits) there) place stands
 
 -- so it is of each answer
 abbrev WaitsAfter : Result Next StepFault → Type 0
 WaitsAfter said = IfOk said (λ next. (place : IndexedSlot) → Stands next.1 place → WaitsForSession next.1 place)
 
-tick_waits : (t : ScannerTable) (ms : ℕ) → WaitsAfter (tick t ms)
+tick_waits : (t : ScannerTable) (ms : ℕ) → ClosesInTime t → WaitsAfter (tick t ms)
 unfolding tick
-tick_waits t ms =
+tick_waits t ms limits =
     either WaitsAfter (nat_lt longest_tick ms) (Err fault.TickTooLong) _ tt
-    (either WaitsAfter (nat_lt clock_end (t.clock.0 + ms)) (Err fault.ClockEnd) (Ok (ticked (moved_on (clocked_table t ms)))) tt (ticked_waits (clocked_table t ms)))
+    (either WaitsAfter (nat_lt clock_end (t.clock.0 + ms)) (Err fault.ClockEnd) (Ok (ticked (moved_on (clocked_table t ms)))) tt (λ place stands. ticked_waits (clocked_table t ms) place limits stands))
 
 pub slots_wait : TimedOutSlotsWait
-slots_wait t ms next is number place at =
-    let waits : WaitsAfter (Ok next) = subst WaitsAfter is (tick_waits t ms) in
+slots_wait t ms next limits is number place at =
+    let waits : WaitsAfter (Ok next) = subst WaitsAfter is (tick_waits t ms limits) in
     waits place (slot_is next.1 number place at).stands

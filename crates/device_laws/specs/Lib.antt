@@ -22,6 +22,7 @@ pub mod ScannerDeadlines
 pub mod ScannerDeliveries
 pub mod Scratch
 pub mod Newest
+pub mod CutCloses
 pub mod TidyScanners
 pub mod TimedOutSlots
 pub mod ScannerRuns

@@ -52,7 +52,9 @@ pub use scanner_table::{
     later_counters_keep_tables_whole, numbers_are_below_the_next, slots_produce_as_themselves,
     steps_keep_tables_whole,
 };
-pub use scanner_ticks::{ticks_leave_none_late, timed_out_slots_wait_for_sessions};
+pub use scanner_ticks::{
+    cut_closes_are_kept, ticks_leave_none_late, timed_out_slots_wait_for_sessions,
+};
 pub use sending::devices_send_over_their_streams;
 pub use stated_limits::{another_node_closes_nothing, numbers_far_ahead_change_nothing};
 pub use states::{outputs_hold_newest_data, owners_are_said};

@@ -1,13 +1,16 @@
 -- Parts of data sheets, worked by hand, of a device with outputs 300 of 2 bytes and 151 of 1 byte, and input 70000 of 2 bytes.
-use Rattle.std.specs.Prelude.{ℕ, ◌≡◌, List, [], ◌∷◌, map, codes, Option, Some, None, true, false, refl}
+use Rattle.std.specs.Prelude.{ℕ, ◌≡◌, List, [], ◌∷◌, ◌++◌, map, codes, Option, Some, None, true, false, refl}
+use Rattle.std.specs.List.{filter_map}
 use Rattle.adapter_table.specs.declared.profile.Description.{Description}
 use Rattle.adapter_table.specs.declared.maker_limits.MakerLimits.{MakerLimits}
 use Rattle.adapter_table.specs.declared.profile.Profile.{Profile}
+use Rattle.adapter_table.specs.Objects.{Attribute, ClassFacts, class_instance, interface_instance, link_instance, link_label, qos_instance}
 use Rattle.adapter_table.specs.Profiles.{no_limits}
 use Rattle.adapter_table.specs.declared.profile.Action.TheVariants.{Zero}
 use Rattle.cip_productions.specs.declared.kind.Kind.TheVariants.{ExclusiveOwner, InputOnly, ListenOnly}
 use Rattle.cip_epath.specs.Written.{path_text}
 use Rattle.eds_text.specs.declared.connections.SheetConnection.{SheetConnection}
+use Rattle.eds_text.specs.Classes.{classes_text, interface_text, link_text, qos_text}
 use Rattle.eds_text.specs.Connections.{connections_of}
 use Rattle.eds_text.specs.Device.{name_line}
 use Rattle.eds_text.specs.Manager.{kind_lines, o_t_line, sheet_path}
@@ -109,12 +112,20 @@ intervals_by_the_maker : map offered_intervals (no_limits ∷ slow ∷ record no
 intervals_by_the_maker = refl
 
 capacity_by_the_maker : map (λ limits. capacity_of (record island { limits = limits })) (no_limits ∷ slow ∷ record no_limits { least_rpi = Some 30000 } ∷ [])
-    ≡ record { rate = 1000; connections = 64; producers = 1 }
-    ∷ record { rate = 50; connections = 6; producers = 1 }
-    ∷ record { rate = 34; connections = 64; producers = 1 }
+    ≡ record { rate = 1000; connections = 64; producers = 1; messages = 64 }
+    ∷ record { rate = 50; connections = 6; producers = 1; messages = 64 }
+    ∷ record { rate = 34; connections = 64; producers = 1; messages = 64 }
     ∷ []
 unfolding island
 capacity_by_the_maker = refl
+
+-- .. and no connection of class 3, or 5
+message_places : map (λ limits. (capacity_of (record island { limits = limits })).messages)
+    (record no_limits { places = Some (record { owners = 1; readers = 4; listeners = 2; class3_connections = Some 0 }) }
+    ∷ record no_limits { places = Some (record { owners = 1; readers = 4; listeners = 2; class3_connections = Some 5 }) } ∷ [])
+    ≡ 0 ∷ 5 ∷ []
+unfolding island
+message_places = refl
 
 no_owner_has_a_place : connections_of (record island { limits = slow }) ≡
     record { kind = InputOnly; changes = false; consumed = 152; o_t_len = 0; produced = 70000; t_o_len = 2 }
@@ -128,3 +139,31 @@ words_of_bits : kind_lines true ListenOnly ∷ kind_lines false InputOnly ∷ []
     ≡ codes "                0x01030002,\n                0x44240305,\n" ∷ codes "                0x02010002,\n                0x44640305,\n" ∷ []
 unfolding kind_lines
 words_of_bits = refl
+
+-- THE CLASSES
+
+-- the attributes of an instance, by their numbers
+abbrev numbers_of : List Attribute → List ℕ
+numbers_of attributes = filter_map (λ (attribute : Attribute). attribute.number) attributes
+
+-- those that the sections of the classes have
+the_attributes_of_the_sections :
+    (d : Description) →
+    numbers_of (interface_instance island d).attributes ∷ numbers_of (link_instance d).attributes ∷ numbers_of qos_instance.attributes ∷ []
+    ≡ (1 ∷ 2 ∷ 3 ∷ 4 ∷ 5 ∷ 6 ∷ 8 ∷ 9 ∷ 10 ∷ 11 ∷ 13 ∷ []) ∷ (1 ∷ 2 ∷ 3 ∷ 7 ∷ 8 ∷ 9 ∷ 10 ∷ 11 ∷ []) ∷ (1 ∷ 2 ∷ 3 ∷ 4 ∷ 5 ∷ 6 ∷ 7 ∷ 8 ∷ []) ∷ []
+the_attributes_of_the_sections d = refl
+
+the_attributes_of_a_class : (facts : ClassFacts) → numbers_of (class_instance 1 1 1 facts).attributes ≡ 1 ∷ 2 ∷ 3 ∷ 4 ∷ 5 ∷ 6 ∷ 7 ∷ []
+the_attributes_of_a_class facts = refl
+
+the_label : link_label ≡ codes "Ethernet"
+the_label = refl
+
+-- a device without a description has none of these classes, and one whose maker has the class of QoS has its own
+no_sections : classes_text island ≡ []
+unfolding island
+no_sections = refl
+
+the_makers_own_qos : (d : Description) → classes_text (record island { description = Some d; objects = 0x48 ∷ [] }) ≡ interface_text ++ (link_text d ++ [])
+unfolding island qos_text
+the_makers_own_qos d = refl

@@ -4,5 +4,6 @@ pub mod Device
 pub mod Offer
 pub mod Connections
 pub mod Points
+pub mod Classes
 pub mod Manager
 pub mod Sheet

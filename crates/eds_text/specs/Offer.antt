@@ -7,7 +7,8 @@ use Rattle.cip_productions.specs.declared.kind.Kind.{Kind}
 use Rattle.adapter_table.specs.declared.maker_limits.MakerLimits.{MakerLimits}
 use Rattle.adapter_table.specs.declared.maker_limits.Places.{Places}
 use Rattle.adapter_table.specs.declared.profile.Profile.{Profile}
-use Rattle.adapter_table.specs.Profiles.{all_places}
+use Rattle.adapter_table.specs.Objects.{most_class3}
+use Rattle.adapter_table.specs.Profiles.{all_places, class3_places}
 use Rattle.adapter_table.specs.StatedLimits.{places_of}
 use Rattle.eds_text.specs.declared.offer.OfferedIntervals.{OfferedIntervals}
 use Rattle.eds_text.specs.declared.offer.SheetCapacity.{SheetCapacity}
@@ -50,10 +51,11 @@ abbrev pub all_of : Option Places → ℕ
 all_of None = MOST_CONNECTIONS
 all_of (Some places) = all_places places
 
--- datagrams of a connection at the shortest interval; connections; producers of groups, one for each input
+-- datagrams of a connection at the shortest interval; connections; producers of groups, one for each input; connections of class 3
 abbrev pub capacity_of : Profile → SheetCapacity
 capacity_of profile = record {
   rate = rate_at (offered_intervals profile.limits);
   connections = all_of profile.limits.places;
   producers = length profile.inputs;
+  messages = most_class3 (class3_places profile.limits.places);
 }

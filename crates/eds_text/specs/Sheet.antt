@@ -1,6 +1,7 @@
 -- The electronic data sheet of an adapter's profile, section by section (Volume 1, chapter 7, electronic data sheets).
 use Rattle.std.specs.Prelude.{ℕ, List, ◌++◌, codes, decimal}
 use Rattle.adapter_table.specs.declared.profile.Profile.{Profile}
+use Rattle.eds_text.specs.Classes.{classes_text}
 use Rattle.eds_text.specs.Connections.{connections_of}
 use Rattle.eds_text.specs.Device.{device_text}
 use Rattle.eds_text.specs.Manager.{manager_text}
@@ -21,13 +22,21 @@ params_text intervals =
     ++ (decimal intervals.least ++ (codes "," ++ (decimal intervals.most ++ (codes "," ++ (decimal intervals.first
     ++ codes ",\n                ,,,,\n                ,,,,\n                ;\n")))))
 
--- how much the adapter takes: datagrams of the greatest size in a second; connections; producers of groups; consumers of one
-unfoldable pub capacity_text : SheetCapacity → List ℕ
-capacity_text capacity =
+-- how much the adapter takes of class 1: datagrams of the greatest size in a second; connections; producers of groups; consumers of one
+unfoldable pub datagrams_text : SheetCapacity → List ℕ
+datagrams_text capacity =
     codes "\n[Capacity]\n        TSpec1 = TxRx, " ++ (decimal LONGEST_DATAGRAM ++ (codes ", " ++ (decimal capacity.rate
     ++ (codes ";\n        MaxIOConnections = " ++ (decimal capacity.connections
     ++ (codes ";\n        MaxIOMcastProducers = " ++ (decimal capacity.producers
     ++ (codes ";\n        MaxConsumersPerMcast = " ++ (decimal capacity.connections ++ codes ";\n")))))))))
+
+-- how many connections of class 3 it takes
+unfoldable pub messages_text : ℕ → List ℕ
+messages_text messages = codes "        MaxMsgConnections = " ++ (decimal messages ++ codes ";\n")
+
+-- how much the adapter takes
+unfoldable pub capacity_text : SheetCapacity → List ℕ
+capacity_text capacity = datagrams_text capacity ++ messages_text capacity.messages
 
 -- the data sheet
 unfoldable pub sheet_text : ShownNames → Profile → List ℕ
@@ -38,4 +47,5 @@ sheet_text names profile =
     ++ (points_text profile
     ++ (manager_text profile.config (connections_of profile)
     ++ (port_text
-    ++ capacity_text (capacity_of profile))))))
+    ++ (classes_text profile
+    ++ capacity_text (capacity_of profile)))))))

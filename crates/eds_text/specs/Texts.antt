@@ -8,6 +8,6 @@ use Rattle.std.specs.Prelude.{ℕ, List, codes}
 unfoldable pub file_text : List ℕ
 file_text = codes "$ Electronic data sheet of an EtherNet/IP adapter\n\n[File]\n        DescText = \"EtherNet/IP adapter\";\n        CreateDate = 01-01-2026;\n        CreateTime = 00:00:00;\n        Revision = 1.0;\n"
 
--- the port: Ethernet, whose object is the TCP/IP Interface
+-- the port: Ethernet, whose object is the TCP/IP Interface, and whose number is none of a backplane
 unfoldable pub port_text : List ℕ
-port_text = codes "\n[Port]\n        Object_Name = \"Port Object\";\n        Object_Class_Code = 0xF4;\n        Port1 =\n                TCP,\n                \"EtherNet/IP port\",\n                \"20 F5 24 01\",\n                1;\n"
+port_text = codes "\n[Port]\n        Object_Name = \"Port Object\";\n        Object_Class_Code = 0xF4;\n        Port1 =\n                TCP,\n                \"EtherNet/IP port\",\n                \"20 F5 24 01\",\n                2;\n"

@@ -3,6 +3,7 @@
 //! Volume 1, chapter 7, electronic data sheets.
 #![tactic(auto)]
 
+mod classes;
 mod connections;
 mod device;
 mod manager;

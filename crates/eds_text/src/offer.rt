@@ -2,6 +2,7 @@
 //! limits that its maker states.
 
 ghost use Rattle.std.specs.Prelude.{◌≡◌, ◌<◌};
+ghost use Rattle.adapter_table.specs.Objects.{most_class3};
 ghost use Rattle.eds_text.specs.Offer.{all_of, capacity_of, has_place, offered_intervals, offers_changes, rate_at};
 
 use adapter_table::{MakerLimits, Places, Profile};
@@ -16,6 +17,9 @@ pub const SHORTEST_OFFERED_US: u32 = 1_000;
 /// The packet interval of a new connection, in microseconds, where the maker states no longer one.
 pub const USUAL_RPI_US: u32 = 10_000;
 
+/// The class 3 connections of an adapter, where its maker states no number (limit 2.16).
+const MOST_CLASS3: u64 = 64;
+
 /// The bytes of the longest datagram of a connection: a sequence count, a run/idle header and a point.
 pub const LONGEST_DATAGRAM: u64 = 1_406;
 
@@ -29,12 +33,13 @@ pub struct OfferedIntervals {
 }
 
 /// How much an adapter takes: how many datagrams in a second of a connection at the shortest interval that is offered,
-/// how many connections, and how many multicast producers.
+/// how many connections, how many multicast producers, and how many connections of class 3.
 #[derive(Clone, Copy)]
 pub struct SheetCapacity {
     pub rate: u32,
     pub connections: u64,
     pub producers: u64,
+    pub messages: u64,
 }
 
 /// The packet intervals that are offered: none is below the least that the maker states.
@@ -83,6 +88,17 @@ pub fn capacity_of(profile: &Profile) -> SheetCapacity
         rate: rate_at(offered_intervals(&profile.limits)),
         connections: all_of(profile.limits.places),
         producers: profile.inputs.as_slice().len() as u64,
+        messages: most_class3(profile.limits.class3_places()),
+    }
+}
+
+/// How many connections of class 3 there can be.
+fn most_class3(places: Option<u8>) -> u64
+    ensures { result ≡ most_class3 places }
+{
+    match places {
+        Some(places) => u64::from(places),
+        None => MOST_CLASS3,
     }
 }
 

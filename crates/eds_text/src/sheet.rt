@@ -2,9 +2,10 @@
 
 ghost use Rattle.std.specs.Prelude.{◌≡◌, ◌++◌, IfOk, OnOk, string_bytes};
 ghost use Rattle.eds_text.specs.Names.{shown_names};
-ghost use Rattle.eds_text.specs.Sheet.{capacity_text, params_text, sheet_text};
+ghost use Rattle.eds_text.specs.Sheet.{capacity_text, datagrams_text, messages_text, params_text, sheet_text};
 ghost use Rattle.eds_text.specs.Texts.{port_text};
 
+use crate::classes::push_classes;
 use crate::connections::connections_of;
 use crate::device::{push_device, push_file};
 use crate::manager::push_manager;
@@ -39,6 +40,7 @@ pub fn write_sheet(
     push_points(&mut out, profile)?;
     push_manager(alloc, &mut out, profile.config, connections.as_slice())?;
     push_port(&mut out)?;
+    push_classes(&mut out, profile)?;
     push_capacity(&mut out, capacity_of(profile))?;
     Ok(out)
 }
@@ -85,7 +87,7 @@ fn push_port(out: &mut String) -> Result<(), OutOfMemory>
                 TCP,
                 \"EtherNet/IP port\",
                 \"20 F5 24 01\",
-                1;
+                2;
 ",
     )
 }
@@ -94,6 +96,15 @@ fn push_port(out: &mut String) -> Result<(), OutOfMemory>
 #[tactic(auto, unfolding(crate::specs::Sheet::capacity_text))]
 fn push_capacity(out: &mut String, capacity: SheetCapacity) -> Result<(), OutOfMemory>
     ensures { OnOk result (string_bytes out.new ≡ string_bytes out.old ++ capacity_text capacity) }
+{
+    push_datagrams(out, capacity)?;
+    push_messages(out, capacity.messages)
+}
+
+/// Appends how much the adapter takes of class 1.
+#[tactic(auto, unfolding(crate::specs::Sheet::datagrams_text))]
+fn push_datagrams(out: &mut String, capacity: SheetCapacity) -> Result<(), OutOfMemory>
+    ensures { OnOk result (string_bytes out.new ≡ string_bytes out.old ++ datagrams_text capacity) }
 {
     let (rate, connections, producers) = (capacity.rate, capacity.connections, capacity.producers);
     Ok(write!(
@@ -106,4 +117,12 @@ fn push_capacity(out: &mut String, capacity: SheetCapacity) -> Result<(), OutOfM
         MaxConsumersPerMcast = {connections};
 "
     )?)
+}
+
+/// Appends how many connections of class 3 the adapter takes.
+#[tactic(auto, unfolding(crate::specs::Sheet::messages_text))]
+fn push_messages(out: &mut String, messages: u64) -> Result<(), OutOfMemory>
+    ensures { OnOk result (string_bytes out.new ≡ string_bytes out.old ++ messages_text messages) }
+{
+    Ok(write!(out, "        MaxMsgConnections = {messages};\n")?)
 }

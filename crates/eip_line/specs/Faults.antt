@@ -4,7 +4,7 @@ use Rattle.trace_text.specs.declared.trace.TraceFault.{TraceFault}
 use Rattle.trace_text.specs.declared.trace.TraceFault.TheVariants as trace
 use Rattle.trace_stepper.specs.declared.stepper.StepperFault.{StepperFault}
 use Rattle.trace_stepper.specs.declared.stepper.StepperFault.TheVariants as stepper
-use Rattle.socket_loop.specs.declared.fault.LoopFault.TheVariants as loop
+use Rattle.eip_line.specs.declared.socket_loop.fault.LoopFault.TheVariants as loop
 use Rattle.line_threads.specs.declared.fault.LineFault.TheVariants as line
 use Rattle.settling.specs.declared.settled.Unsettled.TheVariants as unsettled
 use Rattle.eip_line.specs.declared.faults.ProgramFault.{ProgramFault}

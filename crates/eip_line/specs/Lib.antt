@@ -5,3 +5,5 @@ pub mod Looped
 pub mod Tasks
 pub mod Usage
 pub mod Versioned
+pub mod LineSetup
+pub mod SocketLoop

@@ -5,11 +5,11 @@ use Rattle.trace_stepper.specs.Written.{BeginsToWrite}
 use Rattle.segment_world.specs.declared.act.Act.{Act}
 use Rattle.device_lock.specs.Histories.{HistoryValue}
 use Rattle.device_lock.specs.declared.receipt.Receipt.{Receipt}
-use Rattle.schedule_search.specs.Histories.{configs_of}
+use Rattle.settling.specs.Search.Histories.{configs_of}
 use Rattle.settling.specs.Settlings.{SettlesAll}
 use Rattle.line_threads.specs.Accounts.{own_in, HasItsReceipts}
-use Rattle.line_setup.specs.Devices.{line_configs}
-use Rattle.line_setup.specs.Scripts.{line_scripts}
+use Rattle.eip_line.specs.LineSetup.Devices.{line_configs}
+use Rattle.eip_line.specs.LineSetup.Scripts.{line_scripts}
 use Rattle.command_lines.specs.declared.line_task.LineTask.{LineTask}
 use Rattle.eip_line.specs.declared.faults.ProgramFault.{ProgramFault}
 use Rattle.eip_line.specs.declared.faults.ProgramFault.TheVariants as program

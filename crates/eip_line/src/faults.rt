@@ -5,9 +5,9 @@ ghost use Rattle.trace_stepper.specs.Written.{BeginsToWrite, IsTaken};
 ghost use Rattle.eip_line.specs.Faults.{fault_line};
 
 use crate::output::write_numbered;
+use crate::socket_loop::LoopFault;
 use line_threads::LineFault;
 use settling::Unsettled;
-use socket_loop::LoopFault;
 use std::io::Write;
 use trace_stepper::{NotTaken, StepperFault, write_text};
 use trace_text::TraceFault;

@@ -2,17 +2,17 @@
 
 ghost use Rattle.std.specs.Prelude.{◌≡◌, None, All, IfOk, map};
 ghost use Rattle.segment_world.specs.Configs.{world_fault};
-ghost use Rattle.schedule_search.specs.Histories.{configs_of};
+ghost use Rattle.settling.specs.Search.Histories.{configs_of};
 ghost use Rattle.line_threads.specs.Accounts.{own_in, HasItsReceipts};
-ghost use Rattle.line_setup.specs.Devices.{line_configs};
-ghost use Rattle.line_setup.specs.Scripts.{line_scripts};
+ghost use Rattle.eip_line.specs.LineSetup.Devices.{line_configs};
+ghost use Rattle.eip_line.specs.LineSetup.Scripts.{line_scripts};
 ghost use Rattle.eip_line.specs.Lined.{IsLined};
 
 use crate::faults::ProgramFault;
+use crate::line_setup::{line_of, scripts};
 use crate::output::flush;
 use command_lines::LineTask;
 use fast_device::FastDevice;
-use line_setup::{line_of, scripts};
 use line_threads::{LineFault, LineRun, Open, run_line};
 use segment_world::WorldFault;
 use settling::settle;

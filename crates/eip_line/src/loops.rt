@@ -4,10 +4,10 @@ ghost use Rattle.eip_line.specs.Looped.{IsLooped};
 
 use crate::faults::ProgramFault;
 use crate::output::{flush, write_numbered};
+use crate::socket_loop::run_loop;
 use adapter_engine::FastAdapter;
 use command_lines::LoopTask;
 use scanner_engine::FastScanner;
-use socket_loop::run_loop;
 use std::io::Write;
 use std::net::{Net, TcpListener, TcpStream};
 use std::rt::Clock;

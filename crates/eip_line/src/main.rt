@@ -4,10 +4,12 @@
 
 mod console;
 mod faults;
+mod line_setup;
 mod lines;
 mod loops;
 mod output;
 mod running;
+mod socket_loop;
 mod usage;
 
 use std::process::ExitCode;

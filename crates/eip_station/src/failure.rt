@@ -5,20 +5,18 @@ ghost use Rattle.eip_station.specs.Failures.{is_reported, status_of};
 
 use cip_tables::NewFault;
 use cip_types::OutOfMemory;
-use command_lines::StationMisuse;
+use command_lines::{StationMisuse, file_at, wrong_word};
 use identity_search::SearchFault;
-use option_words::{file_at, wrong_word};
 use plant_command::PlantFailure;
-use regular_files::FileFault;
 use settle_command::SettleFault;
 use station::EarlyEnd;
-use station_files::StateFault;
-use station_opening::SocketPlace;
 use station_port::{SocketCause, StationFault, StationSocket};
-use station_record::RecordFault;
+use station_record::{RecordFault, StateFault};
+use station_setup::SocketPlace;
 use std::alloc::{AllocError, AllocFailed};
 use thiserror::Error;
 use trace_commands::TracesFault;
+use trace_files::FileFault;
 use trace_text::TraceFault;
 use world_command::WorldFailure;
 

@@ -3,22 +3,17 @@
 use crate::failure::Failure;
 use crate::program::Surroundings;
 use cip_types::Node;
-use command_lines::Options;
-use option_words::word_from_end;
-use page_server::{PageSetting, greeting_text};
-use station_opening::SocketPlace;
-use station_page::{Allowed, OwnNames, Secrets};
+use command_lines::{Options, word_from_end};
+use page_server::{Allowed, OwnNames, PageSetting, Secrets, greeting_text, page_node};
 use station_port::page_listener;
 use station_rim::report_line;
+use station_setup::SocketPlace;
 use std::fs::{self, File};
 use std::net::{Net, TcpListener, TcpStream};
 use std::random::RandomSource;
 use std::rt::{Clock, Files};
 use std::sync::Wait;
 use trace_words::{push_digits, push_node};
-
-/// The address of this host alone: 127.0.0.1.
-const LOCAL: Node = Node(0x7F00_0001);
 
 /// The bytes of a word, and of a token.
 const TOKEN_BYTES: usize = 16;
@@ -50,7 +45,7 @@ where
     R: AllocGlobal + Files<File = File> + Clock + HostNet + RandomSource + Wait + Copy + Drop,
 {
     let alloc = rt.alloc();
-    let address = options.page_address.unwrap_or(LOCAL);
+    let address = page_node(options.page_address);
     let listener = match page_listener(&rt, address, port) {
         Ok(listener) => listener,
         Err(fault) => return Err(Failure::at(fault, SocketPlace::new(address, port))),

@@ -4,8 +4,8 @@ use crate::failure::Failure;
 use cip_tables::Config;
 use cip_types::OutOfMemory;
 use command_lines::Options;
-use station_opening::{UnusableProfile, is_scanner, profile_in};
 use station_rim::{Rim, report_line};
+use station_setup::{UnusableProfile, is_scanner, profile_in};
 use std::rt::Files;
 use std::sync::Wait;
 

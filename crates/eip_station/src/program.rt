@@ -3,18 +3,17 @@
 use crate::failure::{Failure, NO_MEMORY, is_reported, status_of, subject_of};
 use crate::paging::{HostNet, PageSubject, begin_page, page_host};
 use crate::stationing::{report_end, run_task};
-use command_lines::{Options, ProgramTask, VERSION};
-use identity_search::search;
-use option_words::{
-    USAGE, file_of, files_of, names_of, profile_of, push_value_fault, read_task, split_words,
-    word_from_end,
+use command_lines::{
+    Options, ProgramTask, USAGE, VERSION, file_of, files_of, names_of, profile_of,
+    push_value_fault, read_task, split_words, word_from_end,
 };
+use identity_search::search;
 use page_server::SharedPage;
 use plant_command::{PlantSetting, names_in, run_plant};
 use plant_rim::SharedPlant;
-use port_alarm::Alarm;
 use settle_command::settle_files;
-use station_files::stem_of;
+use station_port::Alarm;
+use station_record::stem_of;
 use station_rim::Rim;
 use std::alloc::Global;
 use std::env::{self, Env};

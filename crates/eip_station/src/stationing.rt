@@ -6,28 +6,24 @@ use crate::profiles::profile_of;
 use crate::program::{Surroundings, line_of};
 use cip_tables::{Config, Device};
 use cip_types::OutOfMemory;
-use command_lines::{Options, StationTask};
+use command_lines::{Options, StationTask, file_of, word_from_end};
 use fast_device::FastDevice;
-use option_words::{file_of, word_from_end};
 use page_feed::PageFeed;
 use point_names::{Names, ReadNames};
 use port_faults::FaultyPort;
 use socket_port::SystemClock;
 use station::{Reporting, Station, StationObserver};
-use station_files::{Start, StateFault, name_of, stem_of};
 use station_lines::NoLines;
-use station_opening::{
-    OpenedPort, incarnation_of, is_scanner, names_in, open_port, recorder_in, socket_place,
-    start_in, with_incarnation,
-};
 use station_port::{StationPlace, StationPort};
-use station_record::Recorder;
+use station_record::{Recorder, Start, StateFault, StationState, name_of, stem_of};
 use station_rim::{
     Entries, LabelledLines, LineEntrance, Rim, SharedDevices, drain_lines, drain_record,
     report_line,
 };
-use station_setup::{ending_of, rates_of, with_description};
-use station_state::StationState;
+use station_setup::{
+    OpenedPort, ending_of, incarnation_of, is_scanner, names_in, open_port, rates_of, recorder_in,
+    socket_place, start_in, with_description, with_incarnation, with_serials,
+};
 use std::fs::File;
 use std::random::RandomSource;
 use std::rt::{Clock, Files};
@@ -122,7 +118,9 @@ where
     let path = file_of(setting.words);
     let config = profile_of(setting.rt, setting.rim, path, setting.options, scanner)?;
     let start = start_of(setting, incarnation_of(&config))?;
-    let config = with_incarnation(config, start.state().incarnation);
+    let state = start.state();
+    let config = with_incarnation(config, state.incarnation);
+    let config = with_serials(config, state.serial, state.serials);
     let ran = open(setting, config, &start);
     if ran.is_err() {
         start.discard(&setting.rt);

@@ -57,5 +57,7 @@ scanner_profile incarnation node target = record {
   retry = 3000;
   newer = None;
   tidy = false;
+  openings = None;
+  serials = None;
   slots = slot_config target ∷ [];
 }

@@ -133,6 +133,8 @@ pub fn scanner(
         retry: 3_000,
         newer: None,
         tidy: false,
+        openings: None,
+        serials: None,
         slots: Items::one(alloc, slot(alloc, target))?,
     })
 }

@@ -56,6 +56,8 @@ profile = record {
   retry = 3000;
   newer = None;
   tidy = false;
+  openings = None;
+  serials = None;
   slots = owner ∷ [];
 }
 

@@ -4,7 +4,7 @@ use Rattle.std.specs.Int.{w16, to_be_bytes}
 use Rattle.hex.specs.Hex.{encode_lower}
 use Rattle.cip_types.specs.declared.names.Identity.{Identity}
 use Rattle.cip_types.specs.declared.names.Node.{Node}
-use Rattle.identity_reading.specs.Items.{IdentityFields}
+use Rattle.identity_search.specs.Reading.Items.{IdentityFields}
 use Rattle.trace_words.specs.Words.{node_word}
 
 unfoldable pub device_words : Identity → List ℕ

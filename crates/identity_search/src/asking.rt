@@ -2,9 +2,9 @@
 
 use crate::fault::SearchFault;
 use crate::line::identity_line;
+use crate::reading::{identity_request, read_identity_reply};
 use cip_types::Node;
 use cip_types::limits::TCP_PORT;
-use identity_reading::{identity_request, read_identity_reply};
 use std::alloc::Global;
 use std::io::Write;
 use std::net::{IpAddr, Ipv4Addr, Net, SocketAddr, UdpSocket};

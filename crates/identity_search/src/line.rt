@@ -1,12 +1,12 @@
 //! The line of an answer.
 
 ghost use Rattle.std.specs.Prelude.{◌≡◌, ◌++◌, IfOk, OnOk, map, string_bytes};
-ghost use Rattle.identity_reading.specs.Items.{view_found};
+ghost use Rattle.identity_search.specs.Reading.Items.{view_found};
 ghost use Rattle.identity_search.specs.Lines.{device_words, identity_line, line_words, number_words, shown_byte, state_words};
 
+use crate::reading::FoundIdentity;
 use cip_types::fields::put_bytes;
 use cip_types::{Identity, Node, OutOfMemory};
-use identity_reading::FoundIdentity;
 use std::alloc::Global;
 use trace_words::{push_digits, push_node, push_text};
 

@@ -19,3 +19,4 @@ mod Remaining
 mod Runs
 mod Peers
 mod Cyclic
+mod DueTimes

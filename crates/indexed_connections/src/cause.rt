@@ -6,12 +6,11 @@ ghost use Rattle.adapter_table.specs.Productions.{is_produced_by};
 ghost use Rattle.conn_slab.specs.Producing.{producer_by};
 ghost use Rattle.indexed_connections.specs.Turns.{IsInTime, AreShort, input_by, rows_on, written_if, producer_on, is_among, sends, rank};
 
-use adapter_table::Row;
+use adapter_table::{Row, is_produced_by};
 use assembly_set::AssemblySet;
 use cip_productions::{Producer, Production, is_produced_on_change, is_production_due};
 use cip_types::Ms;
 use conn_slab::Connections;
-use row_productions::is_produced_by;
 
 /// Why producers send.
 #[derive(Clone, Copy)]

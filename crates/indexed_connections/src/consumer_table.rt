@@ -5,10 +5,10 @@ ghost use Rattle.std.specs.List.{list_any};
 ghost use Rattle.conn_slab.specs.Producing.{peer_in};
 ghost use Rattle.indexed_connections.specs.ConsumerTables.{consumers_among, consumers_by_producer, consumers_in, is_of, more_by, one_consumer, AreWithin, IsNewIfSingle};
 
+use adapter_table::has_node;
 use cip_types::limits::MOST_CONNECTIONS;
 use cip_types::{Node, OutOfMemory};
 use conn_slab::{Connections, Peer};
-use row_productions::has_node;
 use std::alloc::Global;
 use std::marker::Model;
 

@@ -6,10 +6,9 @@ ghost use Rattle.adapter_table.specs.Productions.{is_produced_by};
 ghost use Rattle.adapter_table.specs.Ticks.{by_deadline, expired};
 ghost use Rattle.indexed_connections.specs.Peers.{has_timed_out_by, has_run_out, number_among, stays_with};
 
-use adapter_table::{Row, by_deadline, has_expired};
+use adapter_table::{Row, by_deadline, has_expired, is_produced_by};
 use cip_types::{Ms, Order, OutOfMemory, sorted};
 use conn_slab::{Peer, Peers, Rows};
-use row_productions::is_produced_by;
 use std::alloc::Global;
 
 /// Connections by their deadlines, and then by their openings.

@@ -4,11 +4,11 @@ ghost use Rattle.std.specs.Prelude.{◌≡◌, IfOk, find};
 ghost use Rattle.adapter_table.specs.Opening.{is_replaced, replaced_triad};
 ghost use Rattle.conn_slab.specs.Connections.{AreConnections};
 
+use crate::queries::first_timed_out;
 use adapter_table::Row;
 use cip_types::limits::MOST_CONNECTIONS;
 use cip_types::{OutOfMemory, Triad};
 use conn_slab::Connections;
-use connection_queries::first_timed_out;
 use std::alloc::Global;
 
 /// These connections. Out of memory is the only fault.

@@ -5,6 +5,8 @@
 //!
 //! Volume 1, chapter 3, class 1 transport, inactivity watchdog, production triggers; Volume 2, chapter 2,
 //! sequenced address item, and chapter 3, multicast connections.
+//!
+//! `queries` are questions that a walk over the connections of the slab answers: there are at most 64.
 #![tactic(auto)]
 
 mod cause;
@@ -14,6 +16,7 @@ mod datagrams;
 mod expiries;
 mod from_list;
 mod keys;
+mod queries;
 mod table;
 
 pub use consumer_table::ConsumerTable;

@@ -7,7 +7,7 @@ use Rattle.cip_events.specs.declared.event.Event.{Event}
 use Rattle.cip_tables.specs.declared.table.Config.{Config}
 use Rattle.device_lock.specs.declared.receipt.Receipt.{Receipt}
 use Rattle.device_lock.specs.Histories.{HistoryValue}
-use Rattle.schedule_search.specs.Histories.{config_in, configs_of}
+use Rattle.settling.specs.Search.Histories.{config_in, configs_of}
 use Rattle.line_threads.specs.Accounts.{own_in, HasItsReceipts}
 use Rattle.line_threads.specs.Lines.{byte_of, ReportsScripts}
 use Rattle.line_threads.specs.Scripts.{is_local, events_in}

@@ -3,7 +3,7 @@ use Rattle.std.specs.Prelude.{◌≡◌, ◌==◌, ℕ, List, map, filter, All}
 use Rattle.cip_events.specs.declared.event.Event.{Event}
 use Rattle.device_lock.specs.declared.receipt.Receipt.{Receipt}
 use Rattle.device_lock.specs.Histories.{HistoryValue}
-use Rattle.schedule_search.specs.Histories.{byte_in}
+use Rattle.settling.specs.Search.Histories.{byte_in}
 use Rattle.line_threads.specs.Scripts.{is_local}
 
 abbrev pub event_of : Receipt → Event

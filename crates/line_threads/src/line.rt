@@ -4,7 +4,7 @@ ghost use Rattle.std.specs.Prelude.{◌≡◌, ◌<◌, ◌≤◌, ℕ, None, Al
 ghost use Rattle.std.specs.List.{enumerate_from};
 ghost use Rattle.cip_tables.specs.Step.{AcceptsAll};
 ghost use Rattle.segment_world.specs.Configs.{world_fault};
-ghost use Rattle.schedule_search.specs.Histories.{configs_of};
+ghost use Rattle.settling.specs.Search.Histories.{configs_of};
 ghost use Rattle.line_threads.specs.Accounts.{own_in, IsAccount, HasItsReceipts};
 ghost use Rattle.line_threads.specs.Lines.{byte_of, job_of, Apart, IsJob, ReportsScripts};
 ghost use Rattle.line_threads.specs.Scripts.{events_in, IsOwn};

@@ -2,7 +2,7 @@
 
 ghost use Rattle.std.specs.Prelude.{◌≡◌, true, None, All, IfOk};
 ghost use Rattle.cip_tables.specs.Step.{AcceptsAll, config_fault};
-ghost use Rattle.schedule_search.specs.Histories.{config_in, configs_of};
+ghost use Rattle.settling.specs.Search.Histories.{config_in, configs_of};
 ghost use Rattle.line_threads.specs.Accounts.{HasItsReceipts};
 ghost use Rattle.line_threads.specs.Lines.{byte_of};
 

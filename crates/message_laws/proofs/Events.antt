@@ -98,7 +98,7 @@ sessions t number (Some s) is whole =
 
 -- ---- one event
 
-pub event_goes : (d : Class3Connection) (count : ℕ) (t : AdapterTable) (happens : Event) → IsWhole t → asks_next d count happens ≡ false → Goes d count t (sent_at d count t happens) (left_of t (adapter_step t happens))
+pub event_goes : (d : Class3Connection) (count : ℕ) (t : AdapterTable) (happens : Event) → IsWhole t → asks_next t.profile.description d count happens ≡ false → Goes d count t (sent_at d count t happens) (left_of t (adapter_step t happens))
 unfolding requested received inquired write frame stream_cut stream_opened
 event_goes d count t (event.Request peer bytes) whole none = requested_goes d count t peer (router_request_reading bytes) (own_of t.profile.objects (router_request_reading bytes)) whole.messages.own.ids_differ
 event_goes d count t (event.StreamOpened number peer) whole none =

@@ -29,7 +29,7 @@ use Rattle.cip_router.specs.declared.command.EncapStatus.TheVariants as encap
 use Rattle.cip_router.specs.declared.refusal.Refusal.{Refusal}
 use Rattle.cip_router.specs.declared.refusal.Status.TheVariants as status
 use Rattle.cip_router.specs.Commands.{command_of, is_silent}
-use Rattle.cip_router.specs.Frames.{RequestHeader, FrameFields, without_header, wrong_length, whole, protocol_text, frame_fields, frame_reading}
+use Rattle.cip_router.specs.Frames.{RequestHeader, FrameFields, without_header, wrong_length, whole, protocol_text, frame_fields, frame_reading, wrong_length_of}
 use Rattle.cip_router.specs.Requests.{RouterRequestFields, nothing, refused, closing, object, opening, router_request_reading}
 use Rattle.list_identity.specs.declared.inquiry.Inquiry.{Inquiry}
 use Rattle.list_identity.specs.declared.inquiry.Inquiry.TheVariants as inquiry
@@ -48,7 +48,7 @@ use Rattle.adapter_table.specs.Connections.{Row}
 use Rattle.adapter_table.specs.Checks.{Check, Admitted}
 use Rattle.adapter_table.specs.Class3Opening.{class3_view, class3_refusal, opened_class3, class3_table, judged_class3, served_class3, stream_served}
 use Rattle.adapter_table.specs.Closing.{closed_table}
-use Rattle.adapter_table.specs.Encapsulation.{Handled, refusal, unanswered, session_begun, session_ended, register_session, request_replied, request_handled, packet_replied, unit_replied, handled, reply_frames, frame_answer, stream_answer, frame_of}
+use Rattle.adapter_table.specs.Encapsulation.{Handled, refusal, unanswered, session_begun, session_ended, register_session, request_replied, request_handled, packet_replied, unit_replied, handled, reply_frames, frame_answer, stream_answer, frame_of, outside_session, frame_for}
 use Rattle.adapter_table.specs.Inquiries.{identity_of, address_of, inquiry_reply_of, inquiry_reply}
 use Rattle.adapter_table.specs.Messages.{messages_table}
 use Rattle.adapter_table.specs.Objects.{ObjectAnswer, said, denied, resetting, object_answer}
@@ -58,6 +58,7 @@ use Rattle.adapter_table.specs.Requests.{Next, Served, judged_open, admitted_ope
 use Rattle.adapter_table.specs.Rows.{has_triad}
 use Rattle.adapter_table.specs.StatedLimits.{limited_admission, is_wrong_closer, is_wrong_ender}
 use Rattle.adapter_table.specs.Streams.{without_stream, has_session, registered_table}
+use Rattle.adapter_table.specs.Lemmas.FrameLemmas.{frame_has}
 use Rattle.message_laws.specs.Repetitions.{Message, message_read, message_of_command, message_of_frame, if_message, is_message_of, has_count, is_counted, is_next}
 use Rattle.message_laws.proofs.Found.{Found, Leaves, same, leaves_same, filter_leaves, appended}
 use Rattle.message_laws.proofs.Going.{Holds, Goes, Differ, stays, quiet, unchanged, alone, Leads, leads_refused}
@@ -220,11 +221,11 @@ read_over number (Ok unit) x is = ap_stream (record { stream = number; unit = un
   ap_stream a b is2 = let e : a ≡ b = cc in ap (λ (m : Message). m.stream) (sym e)
 
 -- SendUnitData: within the session or not
-sent_goes : (a s : Bool) (d : Class3Connection) (count : ℕ) (t : AdapterTable) (stream : Stream) (header : RequestHeader) (reading : Result ConnectedFields ItemFault) → HasSession t stream → stream.registered ≡ a → (header.session == stream.number + 1) ≡ s → Differ t.messaging → has_next d count (cond s (message_read stream.number reading) None) ≡ false → FrameGoes d count t stream.number header (cond s (message_read stream.number reading) None) (cond (a && s) (unit_replied t stream reading) (refusal t encap.InvalidCommand))
+sent_goes : (a s : Bool) (d : Class3Connection) (count : ℕ) (t : AdapterTable) (stream : Stream) (header : RequestHeader) (reading : Result ConnectedFields ItemFault) → HasSession t stream → stream.registered ≡ a → (header.session == stream.number + 1) ≡ s → Differ t.messaging → has_next d count (cond s (message_read stream.number reading) None) ≡ false → FrameGoes d count t stream.number header (cond s (message_read stream.number reading) None) (cond (a && s) (unit_replied t stream reading) (refusal t (outside_session t.profile.description)))
 sent_goes true true d count t stream header reading session has is differ none = unit_goes d count t stream header reading differ (eqb-true _ _ is) none
 sent_goes true false d count t stream header reading session has is differ none = unchanged d count t
 sent_goes false true d count t stream header reading session has is differ none =
-    unregistered d count t stream (message_read stream.number reading) (reply_frames stream.number header (refusal t encap.InvalidCommand).reply) session has (λ x read. read_over stream.number reading x read)
+    unregistered d count t stream (message_read stream.number reading) (reply_frames stream.number header (refusal t (outside_session t.profile.description)).reply) session has (λ x read. read_over stream.number reading x read)
 sent_goes false false d count t stream header reading session has is differ none = unchanged d count t
 
 handled_goes : (d : Class3Connection) (count : ℕ) (t : AdapterTable) (stream : Stream) (header : RequestHeader) (body : List ℕ) (kind : Command) → HasSession t stream → Differ t.messaging → has_next d count (message_of_command stream.number header.session body kind) ≡ false → FrameGoes d count t stream.number header (message_of_command stream.number header.session body kind) (handled t stream header body kind)
@@ -280,19 +281,24 @@ described_none t number bytes (Some x) text is =
     let found = answered_inquiry t x (inquiry_in bytes) text is in
     inquiry_is_none number (fields_at header_widths bytes) (message_reading bytes) found.0 found.1
 
--- an inquiry that is answered brings no connected message
-pub answered_none : (t : AdapterTable) (number : ℕ) (bytes : List ℕ) (text : List ℕ) → inquiry_reply t bytes ≡ Some text → message_of_frame number (frame_reading bytes) ≡ None
-unfolding inquiry_reply
-answered_none t number bytes text is = described_none t number bytes t.profile.description text is
+misfit_none : (number : ℕ) (header : Option Tailed) → message_of_frame number (wrong_length_of header) ≡ None
+misfit_none number None = refl
+misfit_none number (Some h) = refl
 
-bytes_go : (d : Class3Connection) (count : ℕ) (t : AdapterTable) (stream : Stream) (bytes : List ℕ) (reply : Option (List ℕ)) → inquiry_reply t bytes ≡ reply → HasSession t stream → Differ t.messaging → has_next d count (message_of_frame stream.number (frame_reading bytes)) ≡ false → Leads d count t (has_it d count (message_of_frame stream.number (frame_reading bytes))) (Ok (stream_answer t stream bytes reply))
-bytes_go d count t stream bytes None is session differ none = fields_go d count t stream (frame_reading bytes) session differ none
+-- an inquiry that is answered brings no connected message
+pub answered_none : (t : AdapterTable) (number : ℕ) (bytes : List ℕ) (text : List ℕ) → inquiry_reply t bytes ≡ Some text → message_of_frame number (frame_for t.profile.description bytes) ≡ None
+unfolding inquiry_reply
+answered_none t number bytes text is =
+    frame_has (λ (fields : FrameFields). message_of_frame number fields ≡ None) t.profile.description bytes (described_none t number bytes t.profile.description text is) (misfit_none number (fields_at header_widths bytes)) (λ m. refl)
+
+bytes_go : (d : Class3Connection) (count : ℕ) (t : AdapterTable) (stream : Stream) (bytes : List ℕ) (reply : Option (List ℕ)) → inquiry_reply t bytes ≡ reply → HasSession t stream → Differ t.messaging → has_next d count (message_of_frame stream.number (frame_for t.profile.description bytes)) ≡ false → Leads d count t (has_it d count (message_of_frame stream.number (frame_for t.profile.description bytes))) (Ok (stream_answer t stream bytes reply))
+bytes_go d count t stream bytes None is session differ none = fields_go d count t stream (frame_for t.profile.description bytes) session differ none
 bytes_go d count t stream bytes (Some text) is session differ none =
-    sends_nothing d count t t (has_it d count (message_of_frame stream.number (frame_reading bytes))) _ (ap (has_it d count) (answered_none t stream.number bytes text is)) (unchanged d count t)
+    sends_nothing d count t t (has_it d count (message_of_frame stream.number (frame_for t.profile.description bytes))) _ (ap (has_it d count) (answered_none t stream.number bytes text is)) (unchanged d count t)
 
 -- a frame of a stream
-pub frame_goes : (d : Class3Connection) (count : ℕ) (t : AdapterTable) (number : ℕ) (bytes : List ℕ) (found : Option Stream) → IfSome found (λ s. (s.number ≡ number) × HasSession t s) → Differ t.messaging → has_next d count (message_of_frame number (frame_reading bytes)) ≡ false → Leads d count t (has_it d count (message_of_frame number (frame_reading bytes))) (frame_of t bytes found)
-frame_goes d count t number bytes None session differ none = leads_refused d count t (has_it d count (message_of_frame number (frame_reading bytes))) NotAllowedNow
+pub frame_goes : (d : Class3Connection) (count : ℕ) (t : AdapterTable) (number : ℕ) (bytes : List ℕ) (found : Option Stream) → IfSome found (λ s. (s.number ≡ number) × HasSession t s) → Differ t.messaging → has_next d count (message_of_frame number (frame_for t.profile.description bytes)) ≡ false → Leads d count t (has_it d count (message_of_frame number (frame_for t.profile.description bytes))) (frame_of t bytes found)
+frame_goes d count t number bytes None session differ none = leads_refused d count t (has_it d count (message_of_frame number (frame_for t.profile.description bytes))) NotAllowedNow
 frame_goes d count t number bytes (Some stream) session differ none =
-    subst (λ (n : ℕ). has_next d count (message_of_frame n (frame_reading bytes)) ≡ false → Leads d count t (has_it d count (message_of_frame n (frame_reading bytes))) (Ok (stream_answer t stream bytes (inquiry_reply t bytes)))) session.0
+    subst (λ (n : ℕ). has_next d count (message_of_frame n (frame_for t.profile.description bytes)) ≡ false → Leads d count t (has_it d count (message_of_frame n (frame_for t.profile.description bytes))) (Ok (stream_answer t stream bytes (inquiry_reply t bytes)))) session.0
     (λ no. bytes_go d count t stream bytes (inquiry_reply t bytes) refl session.1 differ no) none

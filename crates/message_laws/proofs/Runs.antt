@@ -25,6 +25,8 @@ use Rattle.adapter_table.specs.Laws.{StepsKeep}
 use Rattle.adapter_table.specs.Requests.{Next}
 use Rattle.adapter_table.specs.Step.{adapter_step}
 use Rattle.adapter_table.specs.Whole.{IsWhole}
+use Rattle.adapter_table.specs.declared.profile.Description.{Description}
+use Rattle.adapter_table.specs.Lemmas.CounterSteps.{profile_stays}
 use Rattle.cip_tables.specs.declared.table.DeviceTable.{DeviceTable}
 use Rattle.cip_tables.specs.declared.table.DeviceTable.TheVariants.{Adapter}
 use Rattle.cip_tables.specs.Run.{table_of, table_after}
@@ -160,9 +162,9 @@ its_own t d e count number unit is found stream size =
 weaker : (d : Class3Connection) (count : ℕ) (m : Message) → (is_counted d count m && is_request m) ≡ true → (is_counted d count m ≡ true) × (is_request m ≡ true)
 weaker d count m is = let parts = and_parts (is_counted d count m) (is_request m) is in (parts.0, parts.1)
 
-first_frame : (t : AdapterTable) (d : Class3Connection) (count number : ℕ) (bytes : List ℕ) → IsWhole t → Found d.o_t_id t.messaging.class3_connections d → asks d count (event.Frame number bytes) ≡ true → brings d count (event.Frame number bytes) ≡ true → Keeps d count (last_or None (sent_at d count t (event.Frame number bytes))) (left_of t (adapter_step t (event.Frame number bytes)))
+first_frame : (t : AdapterTable) (d : Class3Connection) (count number : ℕ) (bytes : List ℕ) → IsWhole t → Found d.o_t_id t.messaging.class3_connections d → asks t.profile.description d count (event.Frame number bytes) ≡ true → brings t.profile.description d count (event.Frame number bytes) ≡ true → Keeps d count (last_or None (sent_at d count t (event.Frame number bytes))) (left_of t (adapter_step t (event.Frame number bytes)))
 first_frame t d count number bytes whole found requests brought =
-    let bearing = bears number bytes (λ m. is_counted d count m && is_request m) requests in
+    let bearing = bears t.profile.description number bytes (λ m. is_counted d count m && is_request m) requests in
     let unit = bearing.unit in
     let tests = weaker d count (over number unit) bearing.passes in
     let its = its_own t d d count number unit tests.0 found refl refl in
@@ -170,18 +172,18 @@ first_frame t d count number bytes whole found requests brought =
     let same_count : unit.count ≡ count = eqb-true unit.count count parts.1 in
     let is = serves t number bytes unit d bearing.carries whole its in
     let kept = served_keeps (repeats_last d unit.count) t number bearing.carries.header unit d refl whole its bearing.carries.session tests.1 in
-    subst (λ (o : Result Next StepFault). Keeps d count (last_or None (cond (brings d count (event.Frame number bytes)) (frames_of o) [])) (left_of t o)) (sym is)
+    subst (λ (o : Result Next StepFault). Keeps d count (last_or None (cond (brings t.profile.description d count (event.Frame number bytes)) (frames_of o) [])) (left_of t o)) (sym is)
     (subst (λ (b : Bool). Keeps d count (last_or None (cond b (reply_frames number bearing.carries.header (serving t d unit).reply) [])) (serving t d unit).table) (sym brought)
     (subst (λ (n : ℕ). Keeps d n (last_or None (reply_frames number bearing.carries.header (serving t d unit).reply)) (serving t d unit).table) same_count kept))
 
-asks_brought : (d : Class3Connection) (count number : ℕ) (bytes : List ℕ) → asks d count (event.Frame number bytes) ≡ true → brings d count (event.Frame number bytes) ≡ true
-asks_brought d count number bytes requests = by_message (message_in (event.Frame number bytes)) requests where
+asks_brought : (described : Option Description) (d : Class3Connection) (count number : ℕ) (bytes : List ℕ) → asks described d count (event.Frame number bytes) ≡ true → brings described d count (event.Frame number bytes) ≡ true
+asks_brought described d count number bytes requests = by_message (message_in described (event.Frame number bytes)) requests where
   by_message : (m : Option Message) → if_message (λ x. is_counted d count x && is_request x) m ≡ true → if_message (is_counted d count) m ≡ true
   by_message None is = absurd (let x = is in cc)
   by_message (Some m) is = (weaker d count m is).0
 
-pub first_keeps : (t : AdapterTable) (d : Class3Connection) (count : ℕ) (first : Event) → IsWhole t → Found d.o_t_id t.messaging.class3_connections d → asks d count first ≡ true → Keeps d count (last_or None (sent_at d count t first)) (left_of t (adapter_step t first))
-first_keeps t d count (event.Frame number bytes) whole found requests = first_frame t d count number bytes whole found requests (asks_brought d count number bytes requests)
+pub first_keeps : (t : AdapterTable) (d : Class3Connection) (count : ℕ) (first : Event) → IsWhole t → Found d.o_t_id t.messaging.class3_connections d → asks t.profile.description d count first ≡ true → Keeps d count (last_or None (sent_at d count t first)) (left_of t (adapter_step t first))
+first_keeps t d count (event.Frame number bytes) whole found requests = first_frame t d count number bytes whole found requests (asks_brought t.profile.description d count number bytes requests)
 first_keeps t d count other whole found requests = absurd (let x = requests in cc)
 
 -- ---- the events behind it
@@ -198,6 +200,13 @@ pub left_whole : StepsKeep IsWhole → (t : AdapterTable) (happens : Event) (out
 left_whole steps t happens (Ok next) is whole = steps t happens next is whole
 left_whole steps t happens (Err fault) is whole = whole
 
+-- the first event leaves the profile
+first_profile : (t : AdapterTable) (first : Event) → IsWhole t → (left_of t (adapter_step t first)).profile.description ≡ t.profile.description
+first_profile t first whole = left_profile (adapter_step t first) refl where
+  left_profile : (outcome : Result Next StepFault) → adapter_step t first ≡ outcome → (left_of t outcome).profile.description ≡ t.profile.description
+  left_profile (Ok next) is = ap (λ (p : Profile). p.description) (profile_stays t.profile t first next is refl)
+  left_profile (Err fault) is = refl
+
 -- what stands behind some events
 record Stands (d : Class3Connection) (count : ℕ) (sent : Option Frame) (last : DeviceTable) : Type 0 where
   table : AdapterTable
@@ -205,25 +214,28 @@ record Stands (d : Class3Connection) (count : ℕ) (sent : Option Frame) (last :
   keeps : Keeps d count sent table
   whole : IsWhole table
 
-run_stands : StepsKeep IsWhole → (d : Class3Connection) (count : ℕ) (sent : Option Frame) (t : AdapterTable) (events : List Event) → IsWhole t → Keeps d count sent t → EachOf (λ happens. asks_next d count happens ≡ false) events → Stands d count (last_sent d count sent (Adapter t) events) (table_after (Adapter t) events)
-run_stands steps d count sent t [] whole keeps none = record { table = t; is = refl; keeps = keeps; whole = whole }
-run_stands steps d count sent t (happens ∷ events) whole keeps none =
+run_stands : StepsKeep IsWhole → (described : Option Description) (d : Class3Connection) (count : ℕ) (sent : Option Frame) (t : AdapterTable) (events : List Event) → t.profile.description ≡ described → IsWhole t → Keeps d count sent t → EachOf (λ happens. asks_next described d count happens ≡ false) events → Stands d count (last_sent d count sent (Adapter t) events) (table_after (Adapter t) events)
+run_stands steps described d count sent t [] same whole keeps none = record { table = t; is = refl; keeps = keeps; whole = whole }
+run_stands steps described d count sent t (happens ∷ events) same whole keeps none =
+    let goes = event_goes d count t happens whole (subst (λ (o : Option Description). asks_next o d count happens ≡ false) (sym same) none.0) in
     subst (λ (next : DeviceTable). Stands d count (last_sent d count (last_or sent (sent_at d count t happens)) next events) (table_after next events)) (sym (step_left t happens))
-    (run_stands steps d count (last_or sent (sent_at d count t happens)) (left_of t (adapter_step t happens)) events
+    (run_stands steps described d count (last_or sent (sent_at d count t happens)) (left_of t (adapter_step t happens)) events
+    (ap (λ (p : Profile). p.description) goes.profile ∙ same)
     (left_whole steps t happens (adapter_step t happens) refl whole)
-    (keeps_on d count sent t (left_of t (adapter_step t happens)) (sent_at d count t happens) keeps (event_goes d count t happens whole none.0)) none.1)
+    (keeps_on d count sent t (left_of t (adapter_step t happens)) (sent_at d count t happens) keeps goes) none.1)
 
-all_stands : StepsKeep IsWhole → (d : Class3Connection) (count : ℕ) (t : AdapterTable) (first : Event) (events : List Event) → IsWhole t → Found d.o_t_id t.messaging.class3_connections d → asks d count first ≡ true → EachOf (λ happens. asks_next d count happens ≡ false) events → Stands d count (last_sent d count None (Adapter t) (first ∷ events)) (table_after (Adapter t) (first ∷ events))
+all_stands : StepsKeep IsWhole → (d : Class3Connection) (count : ℕ) (t : AdapterTable) (first : Event) (events : List Event) → IsWhole t → Found d.o_t_id t.messaging.class3_connections d → asks t.profile.description d count first ≡ true → EachOf (λ happens. asks_next t.profile.description d count happens ≡ false) events → Stands d count (last_sent d count None (Adapter t) (first ∷ events)) (table_after (Adapter t) (first ∷ events))
 all_stands steps d count t first events whole found requests none =
     subst (λ (next : DeviceTable). Stands d count (last_sent d count (last_or None (sent_at d count t first)) next events) (table_after next events)) (sym (step_left t first))
-    (run_stands steps d count (last_or None (sent_at d count t first)) (left_of t (adapter_step t first)) events
+    (run_stands steps t.profile.description d count (last_or None (sent_at d count t first)) (left_of t (adapter_step t first)) events
+    (first_profile t first whole)
     (left_whole steps t first (adapter_step t first) refl whole) (first_keeps t d count first whole found requests) none)
 
 -- ---- the repetition
 
-again_frame : (u : AdapterTable) (d now : Class3Connection) (count : ℕ) (sent : Option Frame) (number : ℕ) (bytes : List ℕ) → IsWhole u → Found d.o_t_id u.messaging.class3_connections now → Holds d count sent now → brings d count (event.Frame number bytes) ≡ true → adapter_step u (event.Frame number bytes) ≡ Ok (repetition sent u now)
+again_frame : (u : AdapterTable) (d now : Class3Connection) (count : ℕ) (sent : Option Frame) (number : ℕ) (bytes : List ℕ) → IsWhole u → Found d.o_t_id u.messaging.class3_connections now → Holds d count sent now → brings u.profile.description d count (event.Frame number bytes) ≡ true → adapter_step u (event.Frame number bytes) ≡ Ok (repetition sent u now)
 again_frame u d now count sent number bytes whole found h brought =
-    let bearing = bears number bytes (is_counted d count) brought in
+    let bearing = bears u.profile.description number bytes (is_counted d count) brought in
     let unit = bearing.unit in
     let its = its_own u d now count number unit bearing.passes found h.stream h.size in
     let parts = and_parts _ _ bearing.passes in
@@ -236,14 +248,14 @@ again_frame u d now count sent number bytes whole found h brought =
     ∙ ap (λ (b : Bool). Ok (framed number bearing.carries.header (cond b (message_repeated u now unit.count) (new_message u now unit)))) repeats
     ∙ ap (λ (fs : List Frame). Ok (record { frames = fs; datagrams = []; verdict = Delivered Duplicate; notices = [] }, repeated_table u now)) frames
 
-again_is : (u : AdapterTable) (d now : Class3Connection) (count : ℕ) (sent : Option Frame) (again : Event) → IsWhole u → Found d.o_t_id u.messaging.class3_connections now → Holds d count sent now → brings d count again ≡ true → adapter_step u again ≡ Ok (repetition sent u now)
+again_is : (u : AdapterTable) (d now : Class3Connection) (count : ℕ) (sent : Option Frame) (again : Event) → IsWhole u → Found d.o_t_id u.messaging.class3_connections now → Holds d count sent now → brings u.profile.description d count again ≡ true → adapter_step u again ≡ Ok (repetition sent u now)
 again_is u d now count sent (event.Frame number bytes) whole found h brought = again_frame u d now count sent number bytes whole found h brought
 again_is u d now count sent other whole found h brought = absurd (let x = brought in cc)
 
 same_table : (a b : AdapterTable) → ◌≡◌ {A = DeviceTable} (Adapter a) (Adapter b) → a ≡ b
 same_table a b is = cc
 
-stood_again : (d now : Class3Connection) (count : ℕ) (sent : Option Frame) (u : AdapterTable) (last : DeviceTable) (again : Event) → Stands d count sent last → Adapter u ≡ last → Found d.o_t_id u.messaging.class3_connections now → brings d count again ≡ true → adapter_step u again ≡ Ok (repetition sent u now)
+stood_again : (d now : Class3Connection) (count : ℕ) (sent : Option Frame) (u : AdapterTable) (last : DeviceTable) (again : Event) → Stands d count sent last → Adapter u ≡ last → Found d.o_t_id u.messaging.class3_connections now → brings u.profile.description d count again ≡ true → adapter_step u again ≡ Ok (repetition sent u now)
 stood_again d now count sent u last again stood is found brought =
     let same : stood.table ≡ u = sym (same_table u stood.table (is ∙ stood.is)) in
     again_is u d now count sent again (subst IsWhole same stood.whole) found ((subst (Keeps d count sent) same stood.keeps).stands now found) brought

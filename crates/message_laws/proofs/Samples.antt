@@ -112,48 +112,48 @@ gets_own count = OnStream 0 (head 0x1E 1 ++ (items 0x10 1 0x0A count ++ own_get)
 abbrev empty : (count : ℕ) → Event
 empty count = OnStream 0 (head 0x16 1 ++ items 0x10 1 0x02 count)
 
-a_message_is_its_connections : brings connection 7 (gets 7) ≡ true
+a_message_is_its_connections : brings None connection 7 (gets 7) ≡ true
 unfolding frame_reading messages.message_reading connected_reading packets.are_sockets
 a_message_is_its_connections = refl
 
-another_count_is_not_it : brings connection 8 (gets 7) ≡ false
+another_count_is_not_it : brings None connection 8 (gets 7) ≡ false
 unfolding frame_reading messages.message_reading connected_reading packets.are_sockets
 another_count_is_not_it = refl
 
-another_stream_is_not_it : brings connection 7 (OnStream 1 (head 0x1E 2 ++ (items 0x10 1 0x0A 7 ++ get))) ≡ false
+another_stream_is_not_it : brings None connection 7 (OnStream 1 (head 0x1E 2 ++ (items 0x10 1 0x0A 7 ++ get))) ≡ false
 unfolding frame_reading messages.message_reading connected_reading packets.are_sockets
 another_stream_is_not_it = refl
 
-another_session_is_not_it : brings connection 7 (OnStream 0 (head 0x1E 2 ++ (items 0x10 1 0x0A 7 ++ get))) ≡ false
+another_session_is_not_it : brings None connection 7 (OnStream 0 (head 0x1E 2 ++ (items 0x10 1 0x0A 7 ++ get))) ≡ false
 unfolding frame_reading messages.message_reading connected_reading packets.are_sockets
 another_session_is_not_it = refl
 
-another_id_is_not_it : brings connection 7 (OnStream 0 (head 0x1E 1 ++ (items 0x10 2 0x0A 7 ++ get))) ≡ false
+another_id_is_not_it : brings None connection 7 (OnStream 0 (head 0x1E 1 ++ (items 0x10 2 0x0A 7 ++ get))) ≡ false
 unfolding frame_reading messages.message_reading connected_reading packets.are_sockets
 another_id_is_not_it = refl
 
 -- 21 bytes with the count, where the size is 20
-a_longer_one_is_not_it : brings connection 7 (OnStream 0 (head 0x29 1 ++ (items 0x10 1 0x15 7 ++ (get ++ (0 ∷ 0 ∷ 0 ∷ 0 ∷ 0 ∷ 0 ∷ 0 ∷ 0 ∷ 0 ∷ 0 ∷ 0 ∷ []))))) ≡ false
+a_longer_one_is_not_it : brings None connection 7 (OnStream 0 (head 0x29 1 ++ (items 0x10 1 0x15 7 ++ (get ++ (0 ∷ 0 ∷ 0 ∷ 0 ∷ 0 ∷ 0 ∷ 0 ∷ 0 ∷ 0 ∷ 0 ∷ 0 ∷ []))))) ≡ false
 unfolding frame_reading messages.message_reading connected_reading packets.are_sockets
 a_longer_one_is_not_it = refl
 
-a_message_without_bytes_asks_nothing : asks connection 7 (empty 7) ≡ false
+a_message_without_bytes_asks_nothing : asks None connection 7 (empty 7) ≡ false
 unfolding frame_reading messages.message_reading connected_reading packets.are_sockets
 a_message_without_bytes_asks_nothing = refl
 
-but_it_may_repeat : brings connection 7 (empty 7) ≡ true
+but_it_may_repeat : brings None connection 7 (empty 7) ≡ true
 unfolding frame_reading messages.message_reading connected_reading packets.are_sockets
 but_it_may_repeat = refl
 
-the_next_count_is_the_next : asks_next connection 7 (gets 8) ≡ true
+the_next_count_is_the_next : asks_next None connection 7 (gets 8) ≡ true
 unfolding frame_reading messages.message_reading connected_reading packets.are_sockets
 the_next_count_is_the_next = refl
 
-the_same_count_is_not : asks_next connection 7 (gets 7) ≡ false
+the_same_count_is_not : asks_next None connection 7 (gets 7) ≡ false
 unfolding frame_reading messages.message_reading connected_reading packets.are_sockets
 the_same_count_is_not = refl
 
-nor_is_one_without_bytes : asks_next connection 7 (empty 8) ≡ false
+nor_is_one_without_bytes : asks_next None connection 7 (empty 8) ≡ false
 unfolding frame_reading messages.message_reading connected_reading packets.are_sockets
 nor_is_one_without_bytes = refl
 

@@ -8,20 +8,20 @@ use Rattle.cip_events.specs.declared.event.Delivery.TheVariants.{WrongSize}
 use Rattle.cip_events.specs.declared.event.Event.TheVariants as event
 use Rattle.cip_router.specs.declared.command.Command.{Command}
 use Rattle.cip_router.specs.declared.command.Command.TheVariants as command
-use Rattle.cip_router.specs.declared.command.EncapStatus.TheVariants as encap
 use Rattle.cip_router.specs.Commands.{command_of}
-use Rattle.cip_router.specs.Frames.{RequestHeader, FrameFields, without_header, wrong_length, whole, frame_reading}
+use Rattle.cip_router.specs.Frames.{RequestHeader, FrameFields, without_header, wrong_length, whole}
 use Rattle.messaging.specs.declared.class3.Class3Connection.{Class3Connection}
 use Rattle.messaging.specs.Class3Connections.{has_class3_id, is_on_stream, is_class3, repeats_last}
 use Rattle.adapter_table.specs.declared.table.AdapterTable.{AdapterTable}
 use Rattle.adapter_table.specs.declared.table.Stream.{Stream}
-use Rattle.adapter_table.specs.Encapsulation.{Handled, undelivered, refusal, message_repeated, message_found, unit_replied, handled, framed, stream_answer, frame_of, frame}
+use Rattle.adapter_table.specs.Encapsulation.{Handled, undelivered, refusal, message_repeated, message_found, unit_replied, handled, framed, stream_answer, frame_of, frame, outside_session, frame_for}
 use Rattle.adapter_table.specs.Inquiries.{inquiry_reply}
 use Rattle.adapter_table.specs.MessagesSound.{IsCarried, IsInPlace}
 use Rattle.adapter_table.specs.Requests.{Next}
 use Rattle.adapter_table.specs.Step.{adapter_step}
 use Rattle.adapter_table.specs.Streams.{is_stream, has_session}
 use Rattle.adapter_table.specs.Whole.{IsWhole}
+use Rattle.adapter_table.specs.declared.profile.Description.{Description}
 use Rattle.message_laws.specs.Repetitions.{Message, message_read, message_of_command, message_of_frame, if_message}
 use Rattle.message_laws.proofs.Found.{Found, each_found, found_with, registered, carrying}
 use Rattle.message_laws.proofs.Requests.{answered_none}
@@ -30,45 +30,45 @@ use Rattle.message_laws.proofs.Steps.{over, new_message}
 -- ---- the frame of a message
 
 -- the bytes over the stream of this number are SendUnitData within its session, with these items
-pub record Carries (number : ℕ) (bytes : List ℕ) (unit : ConnectedFields) : Type 0 where
+pub record Carries (described : Option Description) (number : ℕ) (bytes : List ℕ) (unit : ConnectedFields) : Type 0 where
   pub header : RequestHeader
   pub body : List ℕ
-  pub reads : frame_reading bytes ≡ whole header body
+  pub reads : frame_for described bytes ≡ whole header body
   pub command : command_of header.command ≡ command.SendUnitData
   pub session : header.session ≡ number + 1
   pub items : connected_reading body ≡ Ok unit
 
 -- a message of such bytes, which passes a test
-pub record Bears (number : ℕ) (bytes : List ℕ) (test : Message → Bool) : Type 0 where
+pub record Bears (described : Option Description) (number : ℕ) (bytes : List ℕ) (test : Message → Bool) : Type 0 where
   pub unit : ConnectedFields
-  pub carries : Carries number bytes unit
+  pub carries : Carries described number bytes unit
   pub passes : test (over number unit) ≡ true
 
-bears_read : (number : ℕ) (bytes : List ℕ) (test : Message → Bool) (header : RequestHeader) (body : List ℕ) (reading : Result ConnectedFields ItemFault) → frame_reading bytes ≡ whole header body → command_of header.command ≡ command.SendUnitData → header.session ≡ number + 1 → connected_reading body ≡ reading → if_message test (message_read number reading) ≡ true → Bears number bytes test
-bears_read number bytes test header body (Err fault) reads is session items some = absurd (let x = some in cc)
-bears_read number bytes test header body (Ok unit) reads is session items some =
+bears_read : (described : Option Description) (number : ℕ) (bytes : List ℕ) (test : Message → Bool) (header : RequestHeader) (body : List ℕ) (reading : Result ConnectedFields ItemFault) → frame_for described bytes ≡ whole header body → command_of header.command ≡ command.SendUnitData → header.session ≡ number + 1 → connected_reading body ≡ reading → if_message test (message_read number reading) ≡ true → Bears described number bytes test
+bears_read described number bytes test header body (Err fault) reads is session items some = absurd (let x = some in cc)
+bears_read described number bytes test header body (Ok unit) reads is session items some =
     record { unit = unit; carries = record { header = header; body = body; reads = reads; command = is; session = session; items = items }; passes = some }
 
-bears_session : (s : Bool) (number : ℕ) (bytes : List ℕ) (test : Message → Bool) (header : RequestHeader) (body : List ℕ) → frame_reading bytes ≡ whole header body → command_of header.command ≡ command.SendUnitData → (header.session == number + 1) ≡ s → if_message test (cond s (message_read number (connected_reading body)) None) ≡ true → Bears number bytes test
-bears_session true number bytes test header body reads is session some = bears_read number bytes test header body (connected_reading body) reads is (eqb-true header.session (number + 1) session) refl some
-bears_session false number bytes test header body reads is session some = absurd (let x = some in cc)
+bears_session : (described : Option Description) (s : Bool) (number : ℕ) (bytes : List ℕ) (test : Message → Bool) (header : RequestHeader) (body : List ℕ) → frame_for described bytes ≡ whole header body → command_of header.command ≡ command.SendUnitData → (header.session == number + 1) ≡ s → if_message test (cond s (message_read number (connected_reading body)) None) ≡ true → Bears described number bytes test
+bears_session described true number bytes test header body reads is session some = bears_read described number bytes test header body (connected_reading body) reads is (eqb-true header.session (number + 1) session) refl some
+bears_session described false number bytes test header body reads is session some = absurd (let x = some in cc)
 
-bears_command : (number : ℕ) (bytes : List ℕ) (test : Message → Bool) (header : RequestHeader) (body : List ℕ) (kind : Command) → frame_reading bytes ≡ whole header body → command_of header.command ≡ kind → if_message test (message_of_command number header.session body kind) ≡ true → Bears number bytes test
-bears_command number bytes test header body command.SendUnitData reads is some = bears_session (header.session == number + 1) number bytes test header body reads is refl some
-bears_command number bytes test header body command.Nop reads is some = absurd (let x = some in cc)
-bears_command number bytes test header body command.ListServices reads is some = absurd (let x = some in cc)
-bears_command number bytes test header body command.RegisterSession reads is some = absurd (let x = some in cc)
-bears_command number bytes test header body command.UnregisterSession reads is some = absurd (let x = some in cc)
-bears_command number bytes test header body command.SendRrData reads is some = absurd (let x = some in cc)
-bears_command number bytes test header body command.Other reads is some = absurd (let x = some in cc)
+bears_command : (described : Option Description) (number : ℕ) (bytes : List ℕ) (test : Message → Bool) (header : RequestHeader) (body : List ℕ) (kind : Command) → frame_for described bytes ≡ whole header body → command_of header.command ≡ kind → if_message test (message_of_command number header.session body kind) ≡ true → Bears described number bytes test
+bears_command described number bytes test header body command.SendUnitData reads is some = bears_session described (header.session == number + 1) number bytes test header body reads is refl some
+bears_command described number bytes test header body command.Nop reads is some = absurd (let x = some in cc)
+bears_command described number bytes test header body command.ListServices reads is some = absurd (let x = some in cc)
+bears_command described number bytes test header body command.RegisterSession reads is some = absurd (let x = some in cc)
+bears_command described number bytes test header body command.UnregisterSession reads is some = absurd (let x = some in cc)
+bears_command described number bytes test header body command.SendRrData reads is some = absurd (let x = some in cc)
+bears_command described number bytes test header body command.Other reads is some = absurd (let x = some in cc)
 
-bears_fields : (number : ℕ) (bytes : List ℕ) (test : Message → Bool) (fields : FrameFields) → frame_reading bytes ≡ fields → if_message test (message_of_frame number fields) ≡ true → Bears number bytes test
-bears_fields number bytes test without_header reads some = absurd (let x = some in cc)
-bears_fields number bytes test (wrong_length header) reads some = absurd (let x = some in cc)
-bears_fields number bytes test (whole header body) reads some = bears_command number bytes test header body (command_of header.command) reads refl some
+bears_fields : (described : Option Description) (number : ℕ) (bytes : List ℕ) (test : Message → Bool) (fields : FrameFields) → frame_for described bytes ≡ fields → if_message test (message_of_frame number fields) ≡ true → Bears described number bytes test
+bears_fields described number bytes test without_header reads some = absurd (let x = some in cc)
+bears_fields described number bytes test (wrong_length header) reads some = absurd (let x = some in cc)
+bears_fields described number bytes test (whole header body) reads some = bears_command described number bytes test header body (command_of header.command) reads refl some
 
-pub bears : (number : ℕ) (bytes : List ℕ) (test : Message → Bool) → if_message test (message_of_frame number (frame_reading bytes)) ≡ true → Bears number bytes test
-bears number bytes test some = bears_fields number bytes test (frame_reading bytes) refl some
+pub bears : (described : Option Description) (number : ℕ) (bytes : List ℕ) (test : Message → Bool) → if_message test (message_of_frame number (frame_for described bytes)) ≡ true → Bears described number bytes test
+bears described number bytes test some = bears_fields described number bytes test (frame_for described bytes) refl some
 
 -- ---- how the message is served
 
@@ -93,31 +93,31 @@ both_true : (a b : Bool) → a ≡ true → b ≡ true → (a && b) ≡ true
 both_true true b first second = second
 both_true false b first second = absurd (let x = first in cc)
 
-handled_serves : (t : AdapterTable) (number : ℕ) (bytes : List ℕ) (unit : ConnectedFields) (e : Class3Connection) (s : Stream) (carries : Carries number bytes unit) → s.number ≡ number → s.registered ≡ true → IsIts t number unit e → handled t s carries.header carries.body (command_of carries.header.command) ≡ serving t e unit
+handled_serves : (t : AdapterTable) (number : ℕ) (bytes : List ℕ) (unit : ConnectedFields) (e : Class3Connection) (s : Stream) (carries : Carries t.profile.description number bytes unit) → s.number ≡ number → s.registered ≡ true → IsIts t number unit e → handled t s carries.header carries.body (command_of carries.header.command) ≡ serving t e unit
 unfolding handled
 handled_serves t number bytes unit e s carries same has its =
     let session : has_session s carries.header.session ≡ true = both_true s.registered (carries.header.session == s.number + 1) has (eq-eqb carries.header.session (s.number + 1) (carries.session ∙ ap (λ (n : ℕ). n + 1) (sym same))) in
     ap (handled t s carries.header carries.body) carries.command
-    ∙ ap (λ (b : Bool). cond b (unit_replied t s (connected_reading carries.body)) (refusal t encap.InvalidCommand)) session
+    ∙ ap (λ (b : Bool). cond b (unit_replied t s (connected_reading carries.body)) (refusal t (outside_session t.profile.description))) session
     ∙ ap (unit_replied t s) carries.items ∙ unit_serves t number unit e s same its
 
-pub unit_message : (number : ℕ) (bytes : List ℕ) (unit : ConnectedFields) (carries : Carries number bytes unit) → message_of_frame number (frame_reading bytes) ≡ Some (over number unit)
-unit_message number bytes unit carries =
+pub unit_message : (described : Option Description) (number : ℕ) (bytes : List ℕ) (unit : ConnectedFields) (carries : Carries described number bytes unit) → message_of_frame number (frame_for described bytes) ≡ Some (over number unit)
+unit_message described number bytes unit carries =
     ap (message_of_frame number) carries.reads ∙ ap (message_of_command number carries.header.session carries.body) carries.command
     ∙ ap (λ (b : Bool). cond b (message_read number (connected_reading carries.body)) None) (eq-eqb carries.header.session (number + 1) carries.session)
     ∙ ap (message_read number) carries.items
 
-no_inquiry : (t : AdapterTable) (number : ℕ) (bytes : List ℕ) (unit : ConnectedFields) (reply : Option (List ℕ)) → Carries number bytes unit → inquiry_reply t bytes ≡ reply → reply ≡ None
+no_inquiry : (t : AdapterTable) (number : ℕ) (bytes : List ℕ) (unit : ConnectedFields) (reply : Option (List ℕ)) → Carries t.profile.description number bytes unit → inquiry_reply t bytes ≡ reply → reply ≡ None
 no_inquiry t number bytes unit None carries is = refl
 no_inquiry t number bytes unit (Some text) carries is =
-    absurd (let never = sym (unit_message number bytes unit carries) ∙ answered_none t number bytes text is in cc)
+    absurd (let never = sym (unit_message t.profile.description number bytes unit carries) ∙ answered_none t number bytes text is in cc)
 
-fields_serve : (t : AdapterTable) (number : ℕ) (bytes : List ℕ) (unit : ConnectedFields) (e : Class3Connection) (s : Stream) (carries : Carries number bytes unit) → s.number ≡ number → s.registered ≡ true → IsIts t number unit e → stream_answer t s bytes (inquiry_reply t bytes) ≡ framed number carries.header (serving t e unit)
+fields_serve : (t : AdapterTable) (number : ℕ) (bytes : List ℕ) (unit : ConnectedFields) (e : Class3Connection) (s : Stream) (carries : Carries t.profile.description number bytes unit) → s.number ≡ number → s.registered ≡ true → IsIts t number unit e → stream_answer t s bytes (inquiry_reply t bytes) ≡ framed number carries.header (serving t e unit)
 fields_serve t number bytes unit e s carries same has its =
     let quiet : inquiry_reply t bytes ≡ None = no_inquiry t number bytes unit (inquiry_reply t bytes) carries refl in
     rw (quiet, carries.reads, handled_serves t number bytes unit e s carries same has its, same) refl
 
-pub serves : (t : AdapterTable) (number : ℕ) (bytes : List ℕ) (unit : ConnectedFields) (e : Class3Connection) (carries : Carries number bytes unit) → IsWhole t → IsIts t number unit e → adapter_step t (event.Frame number bytes) ≡ Ok (framed number carries.header (serving t e unit))
+pub serves : (t : AdapterTable) (number : ℕ) (bytes : List ℕ) (unit : ConnectedFields) (e : Class3Connection) (carries : Carries t.profile.description number bytes unit) → IsWhole t → IsIts t number unit e → adapter_step t (event.Frame number bytes) ≡ Ok (framed number carries.header (serving t e unit))
 unfolding frame
 serves t number bytes unit e carries kept its =
     let carried : IsCarried t.streams number = subst (IsCarried t.streams) its.stream (each_found (IsInPlace t.rows t.streams) (has_class3_id e.o_t_id) t.messaging.class3_connections e its.found kept.messages.class3_connections).stream in

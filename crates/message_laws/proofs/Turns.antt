@@ -156,10 +156,10 @@ none_executed d t outcome (Some m) = refl
 -- the connection has ended
 closed_turn : (d : Class3Connection) (count : ℕ) (sent : Option Frame) (t : AdapterTable) (happens : Event) → IsWhole t → Keeps d count sent t → find (has_class3_id d.o_t_id) t.messaging.class3_connections ≡ None → Turns d count t happens
 closed_turn d count sent t happens kept keeps none =
-    let other = own_count d (message_in happens) in
+    let other = own_count d (message_in t.profile.description happens) in
     let goes = event_goes d other.0 t happens kept other.1 in
     inl (
-      ap (executed_by d t (adapter_step t happens) (message_in happens)) none ∙ none_executed d t (adapter_step t happens) (message_in happens),
+      ap (executed_by d t (adapter_step t happens) (message_in t.profile.description happens)) none ∙ none_executed d t (adapter_step t happens) (message_in t.profile.description happens),
       (
         sent,
         record {
@@ -173,11 +173,11 @@ closed_turn d count sent t happens kept keeps none =
     )
 
 -- the event brings no message of the connection
-other_turn : (d : Class3Connection) (count : ℕ) (sent : Option Frame) (t : AdapterTable) (happens : Event) → IsWhole t → Keeps d count sent t → if_message (is_message_of d) (message_in happens) ≡ false → Turns d count t happens
+other_turn : (d : Class3Connection) (count : ℕ) (sent : Option Frame) (t : AdapterTable) (happens : Event) → IsWhole t → Keeps d count sent t → if_message (is_message_of d) (message_in t.profile.description happens) ≡ false → Turns d count t happens
 other_turn d count sent t happens kept keeps none =
     inl (
-      not_executed (message_in happens) (find (has_class3_id d.o_t_id) t.messaging.class3_connections) none,
-      (last_or sent (sent_at d count t happens), keeps_on d count sent t (left_by t happens) (sent_at d count t happens) keeps (event_goes d count t happens kept (not_next (message_in happens) none))),
+      not_executed (message_in t.profile.description happens) (find (has_class3_id d.o_t_id) t.messaging.class3_connections) none,
+      (last_or sent (sent_at d count t happens), keeps_on d count sent t (left_by t happens) (sent_at d count t happens) keeps (event_goes d count t happens kept (not_next (message_in t.profile.description happens) none))),
     )
   where
     not_executed : (m : Option Message) (found : Option Class3Connection) → if_message (is_message_of d) m ≡ false → executed_by d t (adapter_step t happens) m found ≡ []
@@ -202,7 +202,7 @@ keeps_as d e n sent u id stream size keeps = record {
 record IsServed (d : Class3Connection) (count : ℕ) (sent : Option Frame) (t : AdapterTable) (number : ℕ) (bytes : List ℕ) (e : Class3Connection) : Type 0 where
   unit : ConnectedFields
   header : RequestHeader
-  message : message_in (event.Frame number bytes) ≡ Some (over number unit)
+  message : message_in t.profile.description (event.Frame number bytes) ≡ Some (over number unit)
   own : is_message_of d (over number unit) ≡ true
   session : header.session ≡ number + 1
   its : IsIts t number unit e
@@ -220,7 +220,7 @@ executed_is d count sent t number bytes e s b is =
 
 quiet_turn : (d : Class3Connection) (count : ℕ) (sent : Option Frame) (t : AdapterTable) (number : ℕ) (bytes : List ℕ) (e : Class3Connection) (s : IsServed d count sent t number bytes e) → IsWhole t → Keeps d count sent t → acts d.o_t_id t (Ok (framed number s.header (serving t e s.unit))) ≡ false → (not (s.unit.count == count) && has_bytes s.unit.message) ≡ false → Turns d count t (event.Frame number bytes)
 quiet_turn d count sent t number bytes e s kept keeps not_acting none =
-    let not_next : asks_next d count (event.Frame number bytes) ≡ false =
+    let not_next : asks_next t.profile.description d count (event.Frame number bytes) ≡ false =
     ap (if_message (is_next d count)) s.message ∙ behind (is_message_of d (over number s.unit)) (not (s.unit.count == count) && has_bytes s.unit.message) none in
     inl (
       executed_is d count sent t number bytes e s false not_acting,
@@ -272,16 +272,16 @@ served_turn false true d count sent t number bytes e s new some kept keeps =
 counts_own : (d : Class3Connection) (m : Message) → is_message_of d m ≡ true → is_counted d m.unit.count m ≡ true
 counts_own d m is = rw is (same_number m.unit.count)
 
-frame_turn : (d : Class3Connection) (count : ℕ) (sent : Option Frame) (t : AdapterTable) (number : ℕ) (bytes : List ℕ) (e : Class3Connection) → IsWhole t → Keeps d count sent t → Found d.o_t_id t.messaging.class3_connections e → if_message (is_message_of d) (message_in (event.Frame number bytes)) ≡ true → Turns d count t (event.Frame number bytes)
+frame_turn : (d : Class3Connection) (count : ℕ) (sent : Option Frame) (t : AdapterTable) (number : ℕ) (bytes : List ℕ) (e : Class3Connection) → IsWhole t → Keeps d count sent t → Found d.o_t_id t.messaging.class3_connections e → if_message (is_message_of d) (message_in t.profile.description (event.Frame number bytes)) ≡ true → Turns d count t (event.Frame number bytes)
 frame_turn d count sent t number bytes e kept keeps found own =
-    let bearing = bears number bytes (is_message_of d) own in
+    let bearing = bears t.profile.description number bytes (is_message_of d) own in
     let unit = bearing.unit in
     let h = keeps.stands e found in
     let its = its_own t d e unit.count number unit (counts_own d (over number unit) bearing.passes) found h.stream h.size in
     let s : IsServed d count sent t number bytes e = record {
       unit = unit;
       header = bearing.carries.header;
-      message = unit_message number bytes unit bearing.carries;
+      message = unit_message t.profile.description number bytes unit bearing.carries;
       own = bearing.passes;
       session = bearing.carries.session;
       its = its;
@@ -291,14 +291,14 @@ frame_turn d count sent t number bytes e kept keeps found own =
     } in
     served_turn (repeats_last e unit.count) (has_bytes unit.message) d count sent t number bytes e s refl refl kept keeps
 
-event_turn : (b : Bool) (d : Class3Connection) (count : ℕ) (sent : Option Frame) (t : AdapterTable) (happens : Event) (e : Class3Connection) → IsWhole t → Keeps d count sent t → Found d.o_t_id t.messaging.class3_connections e → if_message (is_message_of d) (message_in happens) ≡ b → Turns d count t happens
+event_turn : (b : Bool) (d : Class3Connection) (count : ℕ) (sent : Option Frame) (t : AdapterTable) (happens : Event) (e : Class3Connection) → IsWhole t → Keeps d count sent t → Found d.o_t_id t.messaging.class3_connections e → if_message (is_message_of d) (message_in t.profile.description happens) ≡ b → Turns d count t happens
 event_turn false d count sent t happens e kept keeps found own = other_turn d count sent t happens kept keeps own
 event_turn true d count sent t (event.Frame number bytes) e kept keeps found own = frame_turn d count sent t number bytes e kept keeps found own
 event_turn true d count sent t other e kept keeps found own = absurd (let x = own in cc)
 
 turn : (d : Class3Connection) (count : ℕ) (sent : Option Frame) (t : AdapterTable) (happens : Event) (found : Option Class3Connection) → find (has_class3_id d.o_t_id) t.messaging.class3_connections ≡ found → IsWhole t → Keeps d count sent t → Turns d count t happens
 turn d count sent t happens None is kept keeps = closed_turn d count sent t happens kept keeps is
-turn d count sent t happens (Some e) is kept keeps = event_turn (if_message (is_message_of d) (message_in happens)) d count sent t happens e kept keeps is refl
+turn d count sent t happens (Some e) is kept keeps = event_turn (if_message (is_message_of d) (message_in t.profile.description happens)) d count sent t happens e kept keeps is refl
 
 -- ---- a run
 

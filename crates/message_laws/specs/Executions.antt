@@ -47,7 +47,7 @@ executed_by d t outcome (Some m) (Some open_one) = if is_message_of d m && acts 
 
 -- the count of the message that an event brings on the connection while it is open, if the event does something for it
 abbrev pub executed_at : Class3Connection → AdapterTable → Event → List ℕ
-executed_at d t happens = executed_by d t (adapter_step t happens) (message_in happens) (find (has_class3_id d.o_t_id) t.messaging.class3_connections)
+executed_at d t happens = executed_by d t (adapter_step t happens) (message_in t.profile.description happens) (find (has_class3_id d.o_t_id) t.messaging.class3_connections)
 
 abbrev pub executed_in : Class3Connection → DeviceTable → Event → List ℕ
 executed_in d (Adapter t) happens = executed_at d t happens
@@ -70,6 +70,6 @@ DifferInTurn last (count ∷ counts) = (last ≢ count) × DifferInTurn count co
 abbrev pub MessagesAreExecutedOnce : Type 0
 MessagesAreExecutedOnce =
     (old : AdapterTable) (new : DeviceTable) (d : Class3Connection) (count : ℕ) (first : Event) (behind events : List Event) (outcomes : List Outcome) →
-    IsWhole old → find (has_class3_id d.o_t_id) old.messaging.class3_connections ≡ Some d → asks d count first ≡ true →
+    IsWhole old → find (has_class3_id d.o_t_id) old.messaging.class3_connections ≡ Some d → asks old.profile.description d count first ≡ true →
     Runs (Adapter old) events outcomes new → performed events outcomes ≡ first ∷ behind →
     DifferInTurn count (executions d (table_of (Adapter old) (step (Adapter old) first)) behind)

@@ -17,7 +17,7 @@ use Rattle.cip_events.specs.Outcomes.{Outcome}
 use Rattle.cip_router.specs.declared.command.Command.{Command}
 use Rattle.cip_router.specs.declared.command.Command.TheVariants as command
 use Rattle.cip_router.specs.Commands.{command_of}
-use Rattle.cip_router.specs.Frames.{FrameFields, without_header, wrong_length, whole, frame_reading}
+use Rattle.cip_router.specs.Frames.{FrameFields, without_header, wrong_length, whole}
 use Rattle.messaging.specs.declared.class3.Class3Connection.{Class3Connection}
 use Rattle.messaging.specs.declared.requests.Requester.{Requester}
 use Rattle.messaging.specs.declared.requests.Requester.TheVariants as asker
@@ -33,6 +33,8 @@ use Rattle.adapter_table.specs.Requests.{Next}
 use Rattle.adapter_table.specs.Step.{adapter_step}
 use Rattle.adapter_table.specs.Ticks.{late_frames}
 use Rattle.adapter_table.specs.Whole.{IsWhole}
+use Rattle.adapter_table.specs.Encapsulation.{frame_for}
+use Rattle.adapter_table.specs.declared.profile.Description.{Description}
 use Rattle.cip_tables.specs.declared.table.DeviceTable.{DeviceTable}
 use Rattle.cip_tables.specs.declared.table.DeviceTable.TheVariants.{Adapter, Scanner}
 use Rattle.cip_tables.specs.Run.{Runs, table_of, performed}
@@ -59,10 +61,10 @@ message_of_frame number without_header = None
 message_of_frame number (wrong_length header) = None
 message_of_frame number (whole header body) = message_of_command number header.session body (command_of header.command)
 
--- the connected message that an event brings, if it brings one
-abbrev pub message_in : Event → Option Message
-message_in (event.Frame number bytes) = message_of_frame number (frame_reading bytes)
-message_in other = None
+-- the connected message that an event brings a device that is described so, if it brings one
+abbrev pub message_in : Option Description → Event → Option Message
+message_in described (event.Frame number bytes) = message_of_frame number (frame_for described bytes)
+message_in described other = None
 
 -- THOSE OF A CONNECTION
 
@@ -90,19 +92,19 @@ abbrev pub is_counted : Class3Connection → ℕ → Message → Bool
 is_counted d count m = is_message_of d m && has_count count m
 
 -- the event brings a message of the connection with this count
-abbrev pub brings : Class3Connection → ℕ → Event → Bool
-brings d count happens = if_message (is_counted d count) (message_in happens)
+abbrev pub brings : Option Description → Class3Connection → ℕ → Event → Bool
+brings described d count happens = if_message (is_counted d count) (message_in described happens)
 
 -- it is a request, too
-abbrev pub asks : Class3Connection → ℕ → Event → Bool
-asks d count happens = if_message (λ m. is_counted d count m && is_request m) (message_in happens)
+abbrev pub asks : Option Description → Class3Connection → ℕ → Event → Bool
+asks described d count happens = if_message (λ m. is_counted d count m && is_request m) (message_in described happens)
 
 -- the event brings a request of the connection with another count
 abbrev pub is_next : Class3Connection → ℕ → Message → Bool
 is_next d count m = is_message_of d m && (not (has_count count m) && is_request m)
 
-abbrev pub asks_next : Class3Connection → ℕ → Event → Bool
-asks_next d count happens = if_message (is_next d count) (message_in happens)
+abbrev pub asks_next : Option Description → Class3Connection → ℕ → Event → Bool
+asks_next described d count happens = if_message (is_next d count) (message_in described happens)
 
 -- WHAT IS SENT FOR A MESSAGE
 
@@ -137,7 +139,7 @@ unless_refused (Err fault) frames = []
 -- answer to it, and what a tick answers in place of the application.
 abbrev pub sent_at : Class3Connection → ℕ → AdapterTable → Event → List Frame
 sent_at d count t (event.Frame number bytes) =
-    if brings d count (event.Frame number bytes) then frames_of (adapter_step t (event.Frame number bytes)) else []
+    if brings t.profile.description d count (event.Frame number bytes) then frames_of (adapter_step t (event.Frame number bytes)) else []
 sent_at d count t (event.Respond number status bytes) =
     if is_answer_to d.o_t_id count (find (has_request_number number) t.messaging.waiting) then frames_of (adapter_step t (event.Respond number status bytes)) else []
 sent_at d count t (event.Tick ms) =
@@ -166,9 +168,9 @@ abbrev pub RepetitionsGetWhatWasSent : Type 0
 RepetitionsGetWhatWasSent =
     (old new : AdapterTable) (d now : Class3Connection) (count : ℕ) (first again : Event) (between events : List Event) (outcomes : List Outcome) →
     IsWhole old → find (has_class3_id d.o_t_id) old.messaging.class3_connections ≡ Some d →
-    asks d count first ≡ true → EachOf (λ happens. asks_next d count happens ≡ false) between →
+    asks old.profile.description d count first ≡ true → EachOf (λ happens. asks_next old.profile.description d count happens ≡ false) between →
     Runs (Adapter old) events outcomes (Adapter new) → performed events outcomes ≡ first ∷ between →
-    find (has_class3_id d.o_t_id) new.messaging.class3_connections ≡ Some now → brings d count again ≡ true →
+    find (has_class3_id d.o_t_id) new.messaging.class3_connections ≡ Some now → brings new.profile.description d count again ≡ true →
     adapter_step new again ≡ Ok (repetition (last_sent d count None (Adapter old) (first ∷ between)) new now)
 
 -- what is sent for a message is among what the event sends: it passes each test that all of that passes

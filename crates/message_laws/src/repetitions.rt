@@ -15,7 +15,7 @@ use adapter_table::laws::tables_are_whole;
 /// - `sent`: what counts as sent for a message is among the frames of that event's answer: those that answer the message, those of
 ///   the application's answer to it, and the reply of a tick in place of the application.
 ///
-/// The law speaks of every run from a whole table.
+/// The law speaks of every run from a whole table. A frame whose options are not 0 brings no message to a device that is described.
 ///
 /// Volume 1, chapter 3, transport class 3.
 pub fn repetitions_get_what_was_sent()

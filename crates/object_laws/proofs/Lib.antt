@@ -3,3 +3,5 @@ mod ServedClasses
 mod ServiceLaws
 mod IdentityLaws
 mod OwnedBit
+mod ListLaws
+mod ObjectSamples

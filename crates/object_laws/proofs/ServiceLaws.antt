@@ -6,6 +6,7 @@ use Rattle.std.proofs.lemmas.Bool.Decides.{nat_tests}
 use Rattle.base_lemmas.specs.Booleans.{either}
 use Rattle.cip_types.specs.declared.names.Node.{Node}
 use Rattle.cip_types.specs.Fields.{fields_at}
+use Rattle.cip_types.specs.Texts.{Tailed}
 use Rattle.cip_encap.specs.declared.message.EncapFault.{EncapFault}
 use Rattle.cip_encap.specs.declared.packet.ItemFault.{ItemFault}
 use Rattle.cip_encap.specs.Message.{MessageFields, header_widths}
@@ -16,8 +17,8 @@ use Rattle.cip_events.specs.declared.event.Notice.{Notice}
 use Rattle.cip_events.specs.declared.event.StepFault.{StepFault}
 use Rattle.cip_events.specs.Answers.{plain_answer}
 use Rattle.cip_router.specs.declared.refusal.Status.TheVariants as status
-use Rattle.cip_router.specs.Commands.{command_of}
-use Rattle.cip_router.specs.Frames.{request_header_of, frame_fields, frame_reading}
+use Rattle.cip_router.specs.Commands.{command_of, is_silent}
+use Rattle.cip_router.specs.Frames.{request_header_of, frame_fields, frame_reading, request_header_in, wrong_length_of}
 use Rattle.cip_router.specs.Requests.{RouterRequestFields, object, router_request_reading}
 use Rattle.cip_router.specs.declared.object_service.ObjectService.TheVariants.{GetSingle}
 use Rattle.messaging.specs.declared.requests.Requester.TheVariants as asker
@@ -28,12 +29,13 @@ use Rattle.adapter_table.specs.declared.table.Stream.{Stream}
 use Rattle.adapter_table.specs.Encapsulation.{Handled, request_handled, packet_replied, handled, frame_answer, stream_answer, frame_of, frame}
 use Rattle.adapter_table.specs.Inquiries.{inquiry_reply}
 use Rattle.adapter_table.specs.Lemmas.RequestLemmas.{next_is}
-use Rattle.adapter_table.specs.Objects.{Attribute, Instance, identity_instance, status_word, described_at, instance_at, is_numbered, is_owning, ObjectAnswer, said, denied, resetting, attribute_of, single_of, set_of, all_of, reset_of, reset_by, instance_answer, object_said, object_answer}
+use Rattle.adapter_table.specs.Objects.{Attribute, Instance, identity_instance, standing_of, described_at, instance_at, is_numbered, is_owning, ObjectAnswer, said, denied, resetting, attribute_of, single_of, set_of, all_of, reset_of, reset_by, instance_answer, object_said, object_answer}
 use Rattle.adapter_table.specs.Messages.{messages_table}
 use Rattle.adapter_table.specs.Own.{OwnRequest, own_of, cannot_ask, is_own_class, referred_verdict, referred_table}
 use Rattle.adapter_table.specs.Requests.{Next, router_refusal, object_served, served_object, served, replied, requested_by, requested}
 use Rattle.adapter_table.specs.Step.{adapter_step}
 use Rattle.adapter_table.specs.Streams.{is_stream, has_session}
+use Rattle.adapter_table.specs.Lemmas.FrameLemmas.{answer_has}
 use Rattle.object_laws.proofs.ServedClasses.{served_itself}
 use Rattle.object_laws.specs.Services.{IsServiceRequest, IsServiceFrame, Brings, IsGet, GetsChangeNothing, IsOneReset, ResetsChangeNothing, ResetsAreReported, AttributesReadBack, AsksAlone, OwnServicesAskAlone}
 
@@ -102,8 +104,13 @@ unfolding frame_reading
 message_leaves N t service serves stream bytes is =
     subst (λ (r : Result MessageFields EncapFault). NextLeaves N t (frame_answer t stream (frame_fields (fields_at header_widths bytes) r))) (sym is.reads) (sent_leaves N t service serves stream bytes is)
 
+misfit_leaves : (N : List Notice → Type 0) (t : AdapterTable) (service : ℕ) → Serves N t service → (stream : Stream) (header : Option Tailed) → NextLeaves N t (frame_answer t stream (wrong_length_of header))
+misfit_leaves N t service serves stream None = (refl, serves.none)
+misfit_leaves N t service serves stream (Some h) = either (NextLeaves N t) (is_silent (command_of (request_header_in h.0).command)) _ _ (refl, serves.none) (refl, serves.none)
+
 stream_leaves : (N : List Notice → Type 0) (t : AdapterTable) (service : ℕ) → Serves N t service → (stream : Stream) (bytes : List ℕ) (reply : Option (List ℕ)) → IsServiceFrame t.profile.objects bytes service → NextLeaves N t (stream_answer t stream bytes reply)
-stream_leaves N t service serves stream bytes None is = message_leaves N t service serves stream bytes is
+stream_leaves N t service serves stream bytes None is =
+    answer_has (NextLeaves N t) t stream bytes (message_leaves N t service serves stream bytes is) (misfit_leaves N t service serves stream (fields_at header_widths bytes)) (refl, serves.none)
 stream_leaves N t service serves stream bytes (Some text) is = (refl, serves.none)
 
 frame_leaves : (N : List Notice → Type 0) (t : AdapterTable) (service : ℕ) → Serves N t service → (bytes : List ℕ) (found : Option Stream) (next : Next) → frame_of t bytes found ≡ Ok next → IsServiceFrame t.profile.objects bytes service → NextLeaves N t next
@@ -235,7 +242,7 @@ answered_as t peer bytes service class instance attribute body answer reads free
     ∙ ap (λ (o : Option OwnRequest). done (requested_by t peer (object service class instance attribute body) o)) (none_own t.profile.objects service class instance attribute body free) ∙ ap (λ (a : ObjectAnswer). done (replied peer (object_served t service a))) is
 
 -- the Identity object of a device that is described
-pub identity_found : (t : AdapterTable) (d : Description) → t.profile.description ≡ Some d → instance_at t 0x01 1 ≡ Some (identity_instance t.profile.identity d (status_word t))
+pub identity_found : (t : AdapterTable) (d : Description) → t.profile.description ≡ Some d → instance_at t 0x01 1 ≡ Some (identity_instance t.profile.identity d (standing_of t))
 unfolding instance_at
 identity_found t d is = ap (described_at t 0x01 1) is
 
@@ -247,7 +254,7 @@ reset_said t d attribute kind is free small =
 
 pub resets_said : ResetsAreReported
 resets_said t peer bytes d attribute kind whole is free small reads =
-    let served = served_itself t 0x01 1 (identity_instance t.profile.identity d (status_word t)) whole (identity_found t d is) in
+    let served = served_itself t 0x01 1 (identity_instance t.profile.identity d (standing_of t)) whole (identity_found t d is) in
     answered_as t peer bytes 0x05 0x01 1 attribute (kind ∷ []) (resetting kind) reads served (reset_said t d attribute kind is free small)
 
 single_said : (t : AdapterTable) (class instance number : ℕ) (o : Instance) (attribute : Attribute) → instance_at t class instance ≡ Some o → find (is_numbered number) o.attributes ≡ Some attribute → object_answer t 0x0E class instance (Some number) [] ≡ said GetSingle attribute.value

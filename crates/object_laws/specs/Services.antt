@@ -1,6 +1,6 @@
 -- What the services of an adapter's objects change and report (Volume 1, appendix A, common services, and chapter 5, Identity
 -- object).
-use Rattle.std.specs.Prelude.{ℕ, ◌≡◌, ◌≤◌, ◌⊎◌, false, List, [], ◌∷◌, find, Option, Some, Ok}
+use Rattle.std.specs.Prelude.{ℕ, ◌≡◌, ◌≤◌, ◌⊎◌, ◌||◌, Bool, false, List, [], ◌∷◌, find, Option, Some, None, Ok, is_some}
 use Rattle.std.specs.List.{list_any}
 use Rattle.cip_types.specs.declared.names.Node.{Node}
 use Rattle.cip_encap.specs.Message.{MessageFields}
@@ -14,14 +14,16 @@ use Rattle.cip_events.specs.declared.event.Notice.{Notice}
 use Rattle.cip_events.specs.declared.event.Notice.TheVariants as notice
 use Rattle.cip_events.specs.declared.event.Verdict.TheVariants.{Done}
 use Rattle.cip_router.specs.declared.object_service.ObjectService.TheVariants.{GetSingle, Reset}
+use Rattle.cip_router.specs.declared.refusal.Status.TheVariants as status
 use Rattle.cip_router.specs.Replies.{ReplyFields, object_reply}
 use Rattle.cip_router.specs.Requests.{object, router_request_reading}
 use Rattle.messaging.specs.declared.table.Messaging.{Messaging}
 use Rattle.adapter_table.specs.declared.profile.Description.{Description}
 use Rattle.adapter_table.specs.declared.table.AdapterTable.{AdapterTable}
-use Rattle.adapter_table.specs.Objects.{Attribute, Instance, instance_at, is_numbered, is_owning}
+use Rattle.adapter_table.specs.Objects.{Attribute, Instance, denied, instance_at, is_numbered, is_owning, numbers, object_answer, said}
 use Rattle.adapter_table.specs.Messages.{with_messages}
 use Rattle.adapter_table.specs.Own.{OwnRequest, own_of, is_own_class}
+use Rattle.adapter_table.specs.Profiles.{is_class}
 use Rattle.adapter_table.specs.Requests.{Next, reply_frame}
 use Rattle.adapter_table.specs.Step.{adapter_step}
 use Rattle.adapter_table.specs.Whole.{IsWhole}
@@ -109,6 +111,26 @@ AttributesReadBack =
     IsWhole t → instance_at t class instance ≡ Some o → find (is_numbered number) o.attributes ≡ Some attribute →
     router_request_reading bytes ≡ object 0x0E class instance (Some number) [] →
     adapter_step t (event.Request peer bytes) ≡ Ok (replied_with peer (object_reply GetSingle attribute.value) [], t)
+
+-- WHICH OBJECTS THERE ARE
+
+-- an object of the maker's own has the class, or the device has instance 0 of it
+abbrev pub has_object : AdapterTable → ℕ → Bool
+has_object t class = is_own_class t.profile.objects class || is_some (instance_at t class 0)
+
+-- the Message Router answers a list of classes, which are exactly those of the objects
+pub record ListsObjects (t : AdapterTable) : Type 0 where
+  pub classes : List ℕ
+  pub answered : object_answer t 0x0E 0x02 1 (Some 1) [] ≡ said GetSingle (numbers classes)
+  pub each : (class : ℕ) → list_any (is_class class) classes ≡ has_object t class
+
+-- so it is of every device that is described
+abbrev pub ObjectsAreListed : Type 0
+ObjectsAreListed = (t : AdapterTable) (d : Description) → t.profile.description ≡ Some d → ListsObjects t
+
+-- a device without a description has no list
+abbrev pub NothingIsListed : Type 0
+NothingIsListed = (t : AdapterTable) → t.profile.description ≡ None → object_answer t 0x0E 0x02 1 (Some 1) [] ≡ denied status.PathDestination
 
 -- OBJECTS OF THE MAKER'S OWN
 

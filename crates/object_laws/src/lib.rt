@@ -11,5 +11,6 @@ mod services;
 pub use identities::{identities_agree, the_owned_bit_says_owners};
 pub use inquiries::inquiries_change_nothing;
 pub use services::{
-    attributes_read_back, gets_change_nothing, own_services_ask_alone, resets_are_reported,
+    attributes_read_back, gets_change_nothing, objects_are_listed, own_services_ask_alone,
+    resets_are_reported,
 };

@@ -1,6 +1,6 @@
 //! What an adapter answers to the services of its objects.
 
-ghost use Rattle.object_laws.specs.Services.{AttributesReadBack, GetsChangeNothing, OwnServicesAskAlone, ResetsChangeNothing, ResetsAreReported};
+ghost use Rattle.object_laws.specs.Services.{AttributesReadBack, GetsChangeNothing, NothingIsListed, ObjectsAreListed, OwnServicesAskAlone, ResetsChangeNothing, ResetsAreReported};
 
 /// Get_Attribute_Single and Get_Attributes_All leave the table of an adapter as it is, and report nothing: over a stream and over
 /// none, whether they are answered or refused. So it is of every object but instance 1 of the Connection Manager, whose services
@@ -29,6 +29,17 @@ pub fn resets_are_reported()
 /// Volume 1, appendix A, Get_Attribute_Single service.
 pub fn attributes_read_back()
     ensures { AttributesReadBack }
+{}
+
+/// A tool that reads attribute 1 of the Message Router sees each class that it can ask, and no other.
+///
+/// - `listed`: of a described device the classes are those of the maker's own objects and those that have an instance 0.
+/// - `none`: a device without a description refuses the request, as it has no such object.
+///
+/// Volume 1, chapter 5, Message Router object, attribute 1.
+pub fn objects_are_listed()
+    ensures listed { ObjectsAreListed }
+    ensures none { NothingIsListed }
 {}
 
 /// A request of a peer to an object of the maker's own leaves all of an adapter's table but the requests that wait for its

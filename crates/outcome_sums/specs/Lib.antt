@@ -1,2 +1,3 @@
 pub mod Sums
 pub mod SumLines
+pub mod Crc32

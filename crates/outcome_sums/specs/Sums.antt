@@ -1,7 +1,7 @@
 -- The sum of an outcome, which a record may have in place of the outcome's lines: the verdict, how many frames, datagrams and
 -- notices there are, and the CRC-32 of the lines.
 use Rattle.std.specs.Prelude.{ℕ, ◌≡◌, List, length, option_map, Option, Some, None, Ok, Err}
-use Rattle.crc32.specs.Crc.{crc32}
+use Rattle.outcome_sums.specs.Crc32.Crc.{crc32}
 use Rattle.cip_events.specs.declared.event.Answer.{Answer}
 use Rattle.cip_events.specs.declared.event.Verdict.{Verdict}
 use Rattle.cip_events.specs.declared.event.Verdict.TheVariants as verdict

@@ -3,9 +3,9 @@
 ghost use Rattle.std.specs.Prelude.{◌≡◌, ◌↔◌, IsTrue, Ok};
 ghost use Rattle.outcome_sums.specs.Sums.{HasSumOver, sum_over};
 
+use crate::check_sequence::crc32;
 use crate::verdict::{PlainVerdict, plain_of};
 use cip_events::{Answer, Outcome};
-use crc32::crc32;
 
 /// What a record has of an outcome in place of its lines: the verdict, how many frames, datagrams and notices there are,
 /// and the CRC-32 of the lines.

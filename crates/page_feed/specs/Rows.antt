@@ -1,9 +1,9 @@
 -- What a station has counted and noted of a connection or a slot, beside its device's table, as JSON (RFC 8259).
 use Rattle.std.specs.Prelude.{ℕ, List, [], ◌++◌, codes, decimal, Option, Some, None}
-use Rattle.datagram_counts.specs.Gaps.{last_minute}
-use Rattle.datagram_counts.specs.declared.counts.DatagramCounts.{DatagramCounts}
-use Rattle.datagram_counts.specs.declared.gaps.GapMeter.{GapMeter}
-use Rattle.datagram_counts.specs.declared.gaps.GapSums.{GapSums}
+use Rattle.station_watch.specs.DatagramCounts.Gaps.{last_minute}
+use Rattle.station_watch.specs.declared.datagram_counts.counts.DatagramCounts.{DatagramCounts}
+use Rattle.station_watch.specs.declared.datagram_counts.gaps.GapMeter.{GapMeter}
+use Rattle.station_watch.specs.declared.datagram_counts.gaps.GapSums.{GapSums}
 use Rattle.station_watch.specs.declared.notes.StateNote.{StateNote}
 use Rattle.station_watch.specs.declared.traffic.CountedConnection.{CountedConnection}
 

@@ -1,8 +1,9 @@
 -- The calls that a page hands on.
-use Rattle.std.specs.Prelude.{ℕ, ◌+◌, ◌==◌, ◌||◌, Bool, true, false, List, [], drop, position, Option, Some, None}
+use Rattle.std.specs.Prelude.{ℕ, ◌+◌, ◌==◌, ◌&&◌, ◌||◌, not, if◌then◌else◌, Bool, true, false, List, [], ◌∷◌, ◌++◌, drop, position, Option, Some, None}
 use Rattle.std.specs.List.{list_any}
 use Rattle.cip_events.specs.declared.event.Event.{Event}
 use Rattle.cip_events.specs.declared.event.Event.TheVariants as event
+use Rattle.station_lines.specs.Calls.{call_of}
 
 -- a call that changes a device
 abbrev pub writes : Event → Bool
@@ -39,3 +40,11 @@ behind_place line None = []
 -- the call behind the name of a device, which ends with the first space
 abbrev pub behind_name : List ℕ → List ℕ
 behind_name line = behind_place line (position is_space line)
+
+-- what a call says to its device
+abbrev pub own_call : (is_plant : Bool) → List ℕ → List ℕ
+own_call is_plant call = if is_plant then behind_name call else call
+
+-- the line of the input for a call: none for what is no call of a page, and for several lines
+abbrev pub call_line : (is_plant : Bool) → List ℕ → Option (List ℕ)
+call_line is_plant call = if not (has_line_break call) && is_page_call (call_of (own_call is_plant call)) then Some (call ++ 10 ∷ []) else None

@@ -1,2 +1,4 @@
 pub mod Calls
 pub mod Waits
+pub mod Page
+pub mod IdleThreads

@@ -1,7 +1,19 @@
--- How long a page waits for a browser that does not read.
-use Rattle.std.specs.Prelude.{ℕ, ◌+◌, ◌-◌, ◌/◌, min}
+-- How long a page waits for a browser: for its request, and while it does not read.
+use Rattle.std.specs.Prelude.{ℕ, ◌+◌, ◌-◌, ◌/◌, min, nat_le, Bool, true}
+use Rattle.page_server.specs.declared.page.request.Body.{Body}
+use Rattle.page_server.specs.declared.page.request.Body.TheVariants.{Bytes}
 
--- A whole answer may take 5,000 milliseconds, and one more for each 100 bytes of it that the system has taken.
+-- the body behind a head of so many bytes has arrived with so many; one that is refused is not waited for
+abbrev pub is_whole : Body → (head arrived : ℕ) → Bool
+is_whole (Bytes count) head arrived = nat_le (head + count) arrived
+is_whole other head arrived = true
+
+-- A request may take 3,000 milliseconds, however many reads it takes.
+abbrev pub request_wait_ms : ℕ → ℕ
+request_wait_ms passed = 3000 - passed
+
+-- A whole answer, or an event of an event stream, may take 5,000 milliseconds, and one more for each 100 bytes of it that the
+-- system has taken.
 abbrev pub answer_ms : ℕ → ℕ
 answer_ms sent = 5000 + sent / 100
 

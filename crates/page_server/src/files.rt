@@ -1,12 +1,12 @@
 //! The record of a station, and its capture file, as a page hands them out: piece by piece, and one at a time. Behind each piece
 //! the thread pauses, so that a station that shares its processor has its time.
 
+use crate::page::{PageAnswer, PageRefusal, head_of};
 use crate::sent_answer::{PAUSE_MS, send_piece};
 use crate::server::PageContext;
 use crate::talk::Unheard;
 use cip_tables::Device;
 use cip_types::OutOfMemory;
-use station_page::{PageAnswer, PageRefusal, head_of};
 use station_record::file_name;
 use std::alloc::Global;
 use std::fs::{self, File};
@@ -16,8 +16,7 @@ use std::rt::{Clock, Files};
 use std::sync::Wait;
 use std::thread;
 use std::time::Duration;
-use trace_files::LONGEST_LINE;
-use trace_pcap::CaptureLines;
+use trace_files::{CaptureLines, LONGEST_LINE};
 
 /// A record is read in pieces of so many bytes, with a pause behind each.
 const PIECE: usize = 16_384;

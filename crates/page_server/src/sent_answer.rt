@@ -1,13 +1,17 @@
-//! Answers on their way to a browser. Each write has a time, and so has the whole answer; or, of a file, each piece.
+//! How long a browser may take. Its request has a time; each write to it has one, and so has the whole answer, or each event of an
+//! event stream, or each piece of a file.
 
 ghost use Rattle.std.specs.Prelude.{◌≡◌};
-ghost use Rattle.page_server.specs.Waits.{piece_wait_ms, write_wait_ms};
+ghost use Rattle.page_server.specs.Waits.{piece_wait_ms, request_wait_ms, write_wait_ms};
 
 use crate::talk::Unheard;
 use std::io::{ErrorKind, Write};
 use std::net::TcpStream;
 use std::rt::Clock;
 use std::time::{Duration, Instant};
+
+/// A request is to arrive within so many milliseconds.
+const REQUEST_MS: u64 = 3_000;
 
 /// A write waits at most so long for a browser that does not read, in milliseconds.
 const WRITE_MS: u64 = 3_000;
@@ -25,7 +29,7 @@ const PIECE_MS: u64 = 10_000;
 /// processor has its time.
 pub(crate) const PAUSE_MS: u64 = 1;
 
-/// A whole answer that is being sent.
+/// A whole answer, or an event of an event stream, that is being sent.
 #[derive(Drop)]
 pub(crate) struct SentAnswer {
     begin: Instant,
@@ -71,6 +75,14 @@ impl SentAnswer {
     }
 }
 
+/// How long a read of a request may wait, in milliseconds, if so many have passed since the browser came: 0 if the request's time
+/// is over, which is 3,000, however many reads it takes.
+pub(crate) fn request_wait_ms(passed_ms: u64) -> u64
+    ensures { result ≡ request_wait_ms passed_ms }
+{
+    REQUEST_MS.saturating_sub(passed_ms)
+}
+
 /// How long a write of an answer may wait, in milliseconds, if so many have passed since the answer began, and the system has
 /// taken so many bytes of it: at most 3,000, and 0 if the answer's time is over, which is 5,000 and 1 more for each 100 bytes.
 pub(crate) fn write_wait_ms(passed_ms: u64, sent: u64) -> u64
@@ -113,7 +125,7 @@ fn piece_wait_ms(passed_ms: u64) -> u64
 }
 
 /// The whole milliseconds that have passed since a moment. The fault: the clock could not be read.
-fn passed_ms<R: Clock>(rt: &R, begin: Instant) -> Result<u64, Unheard> {
+pub(crate) fn passed_ms<R: Clock>(rt: &R, begin: Instant) -> Result<u64, Unheard> {
     let Ok(now) = Instant::now(rt) else {
         return Err(Unheard::Left);
     };

@@ -1,12 +1,16 @@
 //! The page of a station, which threads of its own serve. A station waits for none of them.
 
+ghost use Rattle.std.specs.Prelude.{◌≡◌};
+ghost use Rattle.page_server.specs.IdleThreads.{page_node};
+
+use crate::idle_threads::{IdleThreads, Offered};
+use crate::page::{Allowed, OwnNames, PageRefusal};
 use crate::sent_answer::PAUSE_MS;
 use crate::talk::{refuse_at_once, talk};
 use cip_tables::Device;
-use cip_types::OutOfMemory;
+use cip_types::{Node, OutOfMemory};
 use page_feed::{FeedEnd, PageEnd, page_place};
 use serde_json::Value;
-use station_page::{Allowed, OwnNames, PageRefusal};
 use station_rim::SharedInput;
 use std::alloc::Global;
 use std::fs::File;
@@ -15,6 +19,9 @@ use std::rt::{Clock, Files};
 use std::sync::{Arc, Condvar, Mutex, Wait};
 use std::thread::{self, Threads};
 use std::time::Duration;
+
+/// The address of this host alone: 127.0.0.1.
+const THIS_HOST: Node = Node(0x7F00_0001);
 
 /// So many threads serve browsers, one at a time each.
 pub const PAGE_THREADS: usize = 8;
@@ -31,6 +38,13 @@ pub struct PageSetting {
     pub record: Option<String>,
     /// Whether it is the page of a plant, whose calls have the name of a device in front.
     pub is_plant: bool,
+}
+
+/// The address at which a page is served: the one that was chosen, or else that of this host alone, 127.0.0.1.
+pub fn page_node(chosen: Option<Node>) -> Node
+    ensures { result ≡ page_node chosen }
+{
+    chosen.unwrap_or(THIS_HOST)
 }
 
 /// What an event stream begins with, as JSON: the name of the station or plant, what the page allows, and the devices of a
@@ -86,19 +100,12 @@ struct Browser {
     stream: TcpStream,
 }
 
-/// The threads that wait for a browser, and the browsers for which one of them waits.
-#[derive(Drop)]
-struct Browsers {
-    idle: usize,
-    browsers: Vec<Browser>,
-}
-
 /// The places where a page's threads find its setting, and the browsers.
 #[derive(Drop)]
 struct PageOpening {
     setting: Mutex<Option<PageSetting>>,
     more: Condvar,
-    browsers: Mutex<Browsers>,
+    browsers: Mutex<IdleThreads<Browser>>,
     came: Condvar,
 }
 
@@ -116,10 +123,7 @@ impl SharedPage {
         let opening = PageOpening {
             setting: Mutex::new(None),
             more: Condvar::new(),
-            browsers: Mutex::new(Browsers {
-                idle: 0,
-                browsers: Vec::new(alloc),
-            }),
+            browsers: Mutex::new(IdleThreads::new(alloc)),
             came: Condvar::new(),
         };
         let texts = page_place(alloc, devices)?;
@@ -215,28 +219,32 @@ impl SharedPage {
         context: &SharedContext,
         stream: TcpStream,
     ) -> Option<TcpStream> {
-        let mut browsers = self.opening.browsers.lock(rt);
-        if browsers.browsers.len() >= browsers.idle || browsers.browsers.reserve(1).is_err() {
-            return Some(stream);
-        }
         let Ok(context) = Arc::try_clone(context) else {
             return Some(stream);
         };
-        let _ = browsers.browsers.push(Browser { context, stream });
-        self.opening.came.notify_one();
-        None
+        let offered = self
+            .opening
+            .browsers
+            .lock(rt)
+            .offer(Browser { context, stream });
+        match offered {
+            Offered::Taken => {
+                self.opening.came.notify_one();
+                None
+            }
+            Offered::Full(browser) | Offered::OutOfMemory(browser) => Some(stream_of(browser)),
+        }
     }
 
     /// Waits for a browser.
     fn next_browser<R: Wait>(&self, rt: &R) -> Option<Browser> {
         let mut browsers = self.opening.browsers.lock(rt);
-        browsers.idle = browsers.idle.saturating_add(1);
+        browsers.begin_wait();
         let mut browsers = self
             .opening
             .came
-            .wait_while(rt, browsers, |browsers| browsers.browsers.is_empty());
-        browsers.idle = browsers.idle.saturating_sub(1);
-        browsers.browsers.pop()
+            .wait_while(rt, browsers, |browsers| browsers.is_empty());
+        browsers.call()
     }
 
     /// Waits for the setting of the page.
@@ -248,6 +256,12 @@ impl SharedPage {
             .wait_while(rt, setting, |setting| setting.is_none());
         setting.take()
     }
+}
+
+/// The stream of a browser that is not served.
+fn stream_of(browser: Browser) -> TcpStream {
+    let Browser { context: _, stream } = browser;
+    stream
 }
 
 /// Begins the thread that accepts the browsers of a station's page, whose calls go to this input. Whether it could begin.

@@ -1,16 +1,18 @@
-//! What is said to one browser. Each read and each write has a time, and so have the whole request and the whole answer, if it
-//! is no event stream and no file.
+//! What is said to one browser.
 
-use crate::calls::{behind_name, has_line_break, is_page_call};
+ghost use Rattle.std.specs.Prelude.{◌≡◌};
+ghost use Rattle.page_server.specs.Waits.{is_whole};
+
+use crate::calls::call_line;
 use crate::files::send_download;
-use crate::sent_answer::{PAUSE_MS, SentAnswer};
-use crate::server::PageContext;
-use cip_tables::Device;
-use cip_types::OutOfMemory;
-use page_text::{PAGE_FRONT, PAGE_REST};
-use station_page::{
+use crate::page::{
     Body, PageAnswer, PageRefusal, PageRequest, RequestReading, answer_to, head_of, read_request,
 };
+use crate::sent_answer::{PAUSE_MS, SentAnswer, passed_ms, request_wait_ms};
+use crate::server::PageContext;
+use crate::text::{PAGE_FRONT, PAGE_REST};
+use cip_tables::Device;
+use cip_types::OutOfMemory;
 use std::alloc::AllocError;
 use std::fs::File;
 use std::io::{ErrorKind, Read, Write};
@@ -22,12 +24,6 @@ use std::time::{Duration, Instant, SystemTime};
 
 /// A request has at most so many bytes, its body included.
 const MOST_BYTES: usize = 12_288;
-
-/// A request is to arrive within so many milliseconds.
-const REQUEST_MS: u64 = 3_000;
-
-/// A write of an event waits at most so long for a browser that does not read, in milliseconds.
-const EVENT_WRITE_MS: u64 = 3_000;
 
 /// A browser that is refused unheard has so many milliseconds to say why it came.
 const UNHEARD_MS: u64 = 20;
@@ -109,9 +105,11 @@ fn read_whole<R: Clock>(
 }
 
 /// Whether the body that a head announces has arrived. One that is refused is not waited for.
-fn is_whole(request: PageRequest, head: usize, arrived: usize) -> bool {
+fn is_whole(request: PageRequest, head: usize, arrived: usize) -> bool
+    ensures { result ≡ is_whole request.body head arrived }
+{
     match request.body {
-        Body::Bytes(count) => head.saturating_add(count) <= arrived,
+        Body::Bytes(count) => head <= arrived && count <= arrived - head,
         _ => true,
     }
 }
@@ -123,12 +121,9 @@ fn read_more<R: Clock>(
     stream: &mut TcpStream,
     bytes: &mut Vec<u8>,
 ) -> Result<(), Unheard> {
-    let Ok(now) = Instant::now(rt) else {
-        return Err(Unheard::Left);
-    };
-    let passed = now.saturating_duration_since(begin);
-    let left = Duration::from_millis(REQUEST_MS).saturating_sub(passed);
-    if left.is_zero() || stream.set_read_timeout(Some(left)).is_err() {
+    let left = request_wait_ms(passed_ms(rt, begin)?);
+    let wait = Some(Duration::from_millis(left));
+    if left == 0 || stream.set_read_timeout(wait).is_err() {
         return Err(Unheard::Refused(PageRefusal::Late));
     }
     let mut chunk = [0u8; CHUNK_BYTES];
@@ -188,15 +183,12 @@ where
 
 /// Sends an answer that is one text.
 fn send<R: Clock>(rt: &R, stream: &mut TcpStream, text: &str) -> Result<(), Unheard> {
-    SentAnswer::begin(rt)?.send(rt, stream, text.as_bytes())
+    send_part(rt, stream, text.as_bytes())
 }
 
-/// Sends a part of an event stream, as long as the browser reads.
-fn send_part(stream: &mut TcpStream, bytes: &[u8]) -> Result<(), Unheard> {
-    match stream.write_all(bytes) {
-        Ok(()) => Ok(()),
-        Err(_) => Err(Unheard::Left),
-    }
+/// Sends a part of an event stream, which has the time of an answer.
+fn send_part<R: Clock>(rt: &R, stream: &mut TcpStream, bytes: &[u8]) -> Result<(), Unheard> {
+    SentAnswer::begin(rt)?.send(rt, stream, bytes)
 }
 
 /// Sends each new snapshot, as long as the browser reads.
@@ -205,11 +197,10 @@ fn send_events<R: Wait + Clock>(
     context: &PageContext,
     stream: &mut TcpStream,
 ) -> Result<(), Unheard> {
-    let _ = stream.set_write_timeout(Some(Duration::from_millis(EVENT_WRITE_MS)));
-    send_part(stream, head_of(PageAnswer::Events).as_bytes())?;
-    send_part(stream, b"event: station\ndata: ")?;
-    send_part(stream, context.greeting.as_bytes())?;
-    send_part(stream, b"\n\n")?;
+    send(rt, stream, head_of(PageAnswer::Events))?;
+    send_part(rt, stream, b"event: station\ndata: ")?;
+    send_part(rt, stream, context.greeting.as_bytes())?;
+    send_part(rt, stream, b"\n\n")?;
     let mut seen = context.texts.numbers(rt)?;
     let mut named = vec![in context.alloc; false; seen.len()]?;
     // (a station that waits for its peers makes a turn, and with it a snapshot)
@@ -227,7 +218,7 @@ fn send_events<R: Wait + Clock>(
                 from = device.saturating_add(1);
             }
         }
-        send_part(stream, text.as_slice())?;
+        send_part(rt, stream, text.as_slice())?;
         thread::sleep(rt, Duration::from_millis(PAUSE_MS));
     }
     Ok(())
@@ -303,16 +294,9 @@ fn note_seen(seen: &mut Vec<u64>, device: usize, number: u64) {
 
 /// Hands a call on to the station, as if it was typed.
 fn hand_on<R: Wait>(rt: &R, context: &PageContext, call: &[u8]) -> Result<(), Unheard> {
-    let own = if context.is_plant {
-        behind_name(call)
-    } else {
-        call
-    };
-    if has_line_break(call) || !is_page_call(context.alloc, own)? {
+    let Some(line) = call_line(context.alloc, context.is_plant, call)? else {
         return Err(Unheard::Refused(PageRefusal::Bad));
-    }
-    let mut line = Vec::from_slice(context.alloc, call)?;
-    line.extend_from_slice(b"\n")?;
+    };
     if context.input.offer(rt, line.as_slice()) {
         Ok(())
     } else {

@@ -3,7 +3,7 @@ use Rattle.std.specs.Prelude.{ℕ, List}
 use Rattle.cip_tables.specs.declared.table.Config.{Config}
 use Rattle.cip_tables.specs.declared.table.Config.TheVariants.{Adapter, Scanner}
 use Rattle.command_lines.specs.declared.station_options.Options.{Options}
-use Rattle.station_opening.specs.Devices.{with_incarnation}
+use Rattle.station_setup.specs.Opening.Devices.{with_incarnation}
 use Rattle.station_setup.specs.Settings.{with_description}
 
 -- an adapter without a description has the name of its device, and its address as its serial number

@@ -1,7 +1,7 @@
 -- Why a plant fails, and the status of the program then.
 use Rattle.std.specs.Prelude.{ℕ, Bool, true, false}
-use Rattle.regular_files.specs.declared.fault.FileFault.{FileFault}
-use Rattle.regular_files.specs.declared.fault.FileFault.TheVariants as file
+use Rattle.trace_files.specs.declared.regular.fault.FileFault.{FileFault}
+use Rattle.trace_files.specs.declared.regular.fault.FileFault.TheVariants as file
 use Rattle.plant_rim.specs.declared.failure.DeviceFailure.{DeviceFailure}
 use Rattle.plant_rim.specs.declared.failure.DeviceFailure.TheVariants as device
 use Rattle.station_port.specs.declared.fault.SocketCause.TheVariants.{NoAddress}

@@ -5,10 +5,10 @@ ghost use Rattle.plant_command.specs.Statuses.{device_status, is_reported, statu
 
 use cip_types::OutOfMemory;
 use plant_rim::DeviceFailure;
-use regular_files::FileFault;
 use station_port::SocketCause;
 use std::alloc::{AllocError, AllocFailed};
 use thiserror::Error;
+use trace_files::FileFault;
 
 /// Why a plant fails.
 #[derive(Clone, Copy, Debug, PartialEq, Eq, Error)]

@@ -10,20 +10,20 @@ use command_lines::Options;
 use fast_device::FastDevice;
 use page_feed::{FeedEnd, PageFeed};
 use plant_rim::{
-    DeviceFailure, DeviceLines, DeviceSetup, LifeEnd, NameForm, NamedLines, PlantJob, SharedPlant,
-    incarnation_behind,
+    DeviceFailure, DeviceLines, DeviceSetup, LifeEnd, NameForm, NamedLines, PlantJob, ScriptRun,
+    SharedPlant, incarnation_behind,
 };
-use plant_script::ScriptRun;
 use port_faults::FaultyPort;
 use port_orders::OrderPort;
 use socket_port::SystemClock;
 use station::{Reporting, Station, StationObserver};
 use station_lines::LineSink;
-use station_opening::{OpenedPort, open_port, recorder_in, with_incarnation};
 use station_port::{StationFault, StationPort};
 use station_record::Recorder;
 use station_rim::{Entries, LabelledLines, LineEntrance, SharedRecord};
-use station_setup::{rates_of, with_description};
+use station_setup::{
+    OpenedPort, open_port, rates_of, recorder_in, with_description, with_incarnation,
+};
 use std::alloc::Global;
 use std::fs::{self, File};
 use std::net::Net;
@@ -296,7 +296,7 @@ impl Life<'_> {
         })?;
         trace_words::push_node(&mut line, place.address)?;
         let (tcp, udp) = (place.tcp, place.udp);
-        let (life, incarnation) = (self.number, station_opening::incarnation_of(self.config));
+        let (life, incarnation) = (self.number, station_setup::incarnation_of(self.config));
         write!(
             line,
             ", TCP {tcp}, UDP {udp}, life {life}, incarnation {incarnation}\n"

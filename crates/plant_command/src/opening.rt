@@ -8,12 +8,12 @@ use cip_types::OutOfMemory;
 use cip_types::limits::LONGEST_TRACE;
 use command_lines::Options;
 use page_server::SharedPage;
-use plant_file::{PlantFault, PlantFile, push_fault, read_plant};
-use regular_files::{FileFault, read_regular};
+use plant_rim::{PlantFault, PlantFile, push_fault, read_plant};
 use station_rim::{Rim, report_line};
 use std::alloc::Global;
 use std::rt::Files;
 use std::sync::Wait;
+use trace_files::{FileFault, read_regular};
 
 /// The words of a plant: its file, its options, the folder of its records if an option names one, and its page if it has one.
 #[derive(Clone, Copy)]

@@ -8,9 +8,9 @@ use Rattle.cip_tables.specs.Step.{incarnation_of, opening_table}
 use Rattle.segment_world.specs.declared.act.Act.{Act}
 use Rattle.segment_world.specs.declared.act.ActFault.{ActFault}
 use Rattle.segment_world.specs.World.{Happened, happens}
-use Rattle.segment_lives.specs.Plants.{life_of, act_of_lives}
-use Rattle.segment_lives.specs.Restarts.{is_used, with_incarnation, restarts_unless, restarts_as, restarts_at}
-use Rattle.segment_lives.specs.Stories.{Move, Performed, Restart, PlantStory, with_act, with_act_of_lives, cuts_at, with_restart, then_move, plays}
+use Rattle.segment_world.specs.Lives.Plants.{life_of, act_of_lives}
+use Rattle.segment_world.specs.Lives.Restarts.{is_used, with_incarnation, restarts_unless, restarts_as, restarts_at}
+use Rattle.segment_world.specs.Lives.Stories.{Move, Performed, Restart, PlantStory, with_act, with_act_of_lives, cuts_at, with_restart, then_move, plays}
 use Rattle.schedule_laws.specs.Ids.{AreBytes}
 use Rattle.plant_laws.specs.Chronicles.{IsByteMove}
 

@@ -6,7 +6,7 @@ use Rattle.segment_world.specs.declared.act.Act.{Act}
 use Rattle.segment_world.specs.declared.act.ActFault.{ActFault}
 use Rattle.segment_world.specs.Configs.{opening_world}
 use Rattle.segment_world.specs.Story.{Story, begins, events_of, runs}
-use Rattle.segment_lives.specs.Stories.{Move, PlantStory, fresh_story, then_move, plays, IsStory, with_later, MomentsAreSchedules, StoriesAreSchedules, LaterLivesHaveNoEvents, StoriesGrow, IncarnationsNameLives}
+use Rattle.segment_world.specs.Lives.Stories.{Move, PlantStory, fresh_story, then_move, plays, IsStory, with_later, MomentsAreSchedules, StoriesAreSchedules, LaterLivesHaveNoEvents, StoriesGrow, IncarnationsNameLives}
 use Rattle.schedule_laws.specs.Chronicle.{Chronicle, blank, chronicles}
 use Rattle.schedule_laws.specs.Ids.{AreBytes}
 use Rattle.schedule_laws.specs.Lives.{AreLives}

@@ -3,7 +3,7 @@ use Rattle.std.specs.Prelude.{◌≡◌, ◌≤◌, ℕ, List, ◌++◌, None, S
 use Rattle.std.specs.List.{AllByRecursion}
 use Rattle.cip_tables.specs.declared.table.Config.{Config}
 use Rattle.segment_world.specs.Configs.{world_fault}
-use Rattle.segment_lives.specs.Stories.{Move, Performed, Restart, PlantStory, IsStory, plays, with_later}
+use Rattle.segment_world.specs.Lives.Stories.{Move, Performed, Restart, PlantStory, IsStory, plays, with_later}
 use Rattle.schedule_laws.specs.Chronicle.{Chronicle}
 use Rattle.schedule_laws.specs.Ids.{AreBytes}
 use Rattle.schedule_laws.specs.Order.{IsChronicle}

@@ -5,7 +5,7 @@
 ghost use Rattle.plant_laws.specs.Chronicles.{StoriesAreChronicled, LaterLivesTakeNothingOlder};
 
 use schedule_laws::a_new_life_takes_nothing_older;
-use segment_lives::laws::{
+use segment_world::lives::laws::{
     incarnations_name_lives, later_lives_have_no_events, moments_are_schedules,
     stories_are_schedules, stories_grow,
 };

@@ -1,1 +1,7 @@
 mod Samples
+mod Lines
+mod FileSamples
+mod Words
+mod Rounds
+mod ScriptSamples
+mod Waits

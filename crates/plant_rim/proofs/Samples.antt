@@ -1,7 +1,7 @@
 -- Lines under names, lines that are typed, and the end of a plant, worked by hand.
 use Rattle.std.proofs.Common.{◌≡◌, ℕ, cond, [], ◌∷◌, ◌++◌, codes, false, true, None, Some, is_some, refl, ap}
 use Rattle.std.proofs.Math.Bool.{or-true}
-use Rattle.plant_file.specs.Calls.{own_call_of, plant_call_of}
+use Rattle.plant_rim.specs.File.Calls.{own_call_of, plant_call_of}
 use Rattle.plant_rim.specs.Boards.{device_left, record_ended}
 use Rattle.plant_rim.specs.declared.failure.DeviceFailure.TheVariants.{Record, RecordEnd}
 use Rattle.plant_rim.specs.Named.{named_text}

@@ -5,3 +5,5 @@ pub mod Failures
 pub mod Named
 pub mod Phases
 pub mod Typed
+pub mod File
+pub mod Script

@@ -1,14 +1,14 @@
 -- What a call of a plant has its device do.
 use Rattle.std.specs.Prelude.{ℕ, Bool, if◌then◌else◌, List, slice_get, Option, Some, None}
-use Rattle.plant_file.specs.Calls.{plant_call_of}
-use Rattle.plant_script.specs.declared.run.DueLine.{DueLine}
-use Rattle.plant_script.specs.declared.run.ScriptRun.{ScriptRun}
-use Rattle.plant_script.specs.declared.script.ScriptLine.{ScriptLine}
-use Rattle.plant_script.specs.Runs.{taken, wait_of}
-use Rattle.plant_script.specs.declared.incarnations.IncarnationSpan.{IncarnationSpan}
-use Rattle.plant_script.specs.Incarnations.{next_of}
-use Rattle.plant_script.specs.declared.script.PlantCall.{PlantCall}
-use Rattle.plant_script.specs.declared.script.PlantCall.TheVariants as call
+use Rattle.plant_rim.specs.File.Calls.{plant_call_of}
+use Rattle.plant_rim.specs.declared.script.run.DueLine.{DueLine}
+use Rattle.plant_rim.specs.declared.script.run.ScriptRun.{ScriptRun}
+use Rattle.plant_rim.specs.declared.script.script.ScriptLine.{ScriptLine}
+use Rattle.plant_rim.specs.Script.Runs.{taken, wait_of}
+use Rattle.plant_rim.specs.declared.script.incarnations.IncarnationSpan.{IncarnationSpan}
+use Rattle.plant_rim.specs.Script.Incarnations.{next_of}
+use Rattle.plant_rim.specs.declared.script.script.PlantCall.{PlantCall}
+use Rattle.plant_rim.specs.declared.script.script.PlantCall.TheVariants as call
 use Rattle.port_orders.specs.declared.order.PortOrder.TheVariants as order
 use Rattle.station.specs.declared.living.NextTask.{NextTask}
 use Rattle.station.specs.declared.living.NextTask.TheVariants.{Line, Order, Wait, End}

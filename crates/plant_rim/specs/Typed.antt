@@ -1,6 +1,6 @@
 -- What the lines of a plant's standard input are.
 use Rattle.std.specs.Prelude.{ℕ, ◌+◌, ◌==◌, ◌||◌, if◌then◌else◌, Bool, true, false, List, drop, position, is_some, Option, Some, None}
-use Rattle.plant_file.specs.Calls.{plant_call_of}
+use Rattle.plant_rim.specs.File.Calls.{plant_call_of}
 use Rattle.station_lines.specs.Calls.{is_skipped, is_status, line_of}
 use Rattle.station_lines.specs.declared.calls.InputLine.{InputLine}
 use Rattle.station_lines.specs.declared.calls.InputLine.TheVariants as input

@@ -2,11 +2,11 @@
 
 use crate::board::{Board, PlantState};
 use crate::failure::DeviceFailure;
+use crate::script::{IncarnationSpan, ScriptLine};
 use cip_tables::Config;
 use cip_types::{Items, OutOfMemory};
 use command_lines::Options;
 use page_feed::FeedEnd;
-use plant_script::{IncarnationSpan, ScriptLine};
 use point_names::Names;
 use station_rim::{SharedDevices, SharedInput, SharedLines, SharedRecord};
 use std::alloc::Global;

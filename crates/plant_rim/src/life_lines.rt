@@ -1,13 +1,13 @@
 //! The lines by which a device of a plant lives: those that are typed, and those of its script.
 
 ghost use Rattle.std.specs.Prelude.{◌≡◌, IfOk, OnOk};
-ghost use Rattle.plant_file.specs.Calls.{plant_call_of};
+ghost use Rattle.plant_rim.specs.File.Calls.{plant_call_of};
 ghost use Rattle.plant_rim.specs.Tasks.{task_of, end_after, incarnation_behind, script_task, typed_task, typed_end};
-ghost use Rattle.plant_script.specs.Runs.{after, taken};
+ghost use Rattle.plant_rim.specs.Script.Runs.{after, taken};
 
+use crate::file::read_plant_call;
+use crate::script::{IncarnationSpan, PlantCall, ScriptLine, ScriptRun};
 use cip_types::{Items, OutOfMemory};
-use plant_file::read_plant_call;
-use plant_script::{IncarnationSpan, PlantCall, ScriptLine, ScriptRun};
 use port_orders::PortOrder;
 use station::{LifeLines, NextTask};
 use station_lines::{CallLines, NextLine};

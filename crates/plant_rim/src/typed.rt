@@ -4,8 +4,8 @@ ghost use Rattle.std.specs.Prelude.{◌≡◌, ◌<◌, length, position, slice_
 ghost use Rattle.station_lines.specs.Calls.{is_skipped, is_status, line_of};
 ghost use Rattle.plant_rim.specs.Typed.{for_device, is_device_call, is_space, is_taken, typed_of};
 
+use crate::file::read_plant_call;
 use cip_types::OutOfMemory;
-use plant_file::read_plant_call;
 use station_lines::{InputLine, read_line};
 use std::alloc::Global;
 use trace_words::TextFault;

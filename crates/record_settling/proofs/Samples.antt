@@ -10,7 +10,7 @@ use Rattle.cip_events.specs.declared.event.StepFault.TheVariants.{NoSuchPoint}
 use Rattle.cip_events.specs.declared.event.Verdict.TheVariants.{Delivered, Done}
 use Rattle.cip_events.specs.Answers.{plain_answer}
 use Rattle.trace_text.specs.Reading.{Entry}
-use Rattle.stream_names.specs.declared.renaming.StreamName.{StreamName}
+use Rattle.record_settling.specs.declared.stream_names.renaming.StreamName.{StreamName}
 use Rattle.record_settling.specs.declared.account.EventRole.TheVariants.{Cut, LeftOut, Whole}
 use Rattle.record_settling.specs.Accounts.{accounted, role_of}
 use Rattle.record_settling.specs.Senders.{is_bare}

@@ -15,9 +15,9 @@ use Rattle.device_lock.specs.Histories.{HistoryValue}
 use Rattle.trace_text.specs.Reading.{Entry}
 use Rattle.record_settling.specs.declared.account.EventRole.{EventRole}
 use Rattle.record_settling.specs.declared.account.EventRole.TheVariants.{Whole, LeftOut, Cut}
-use Rattle.stream_names.specs.declared.renaming.StreamName.{StreamName}
-use Rattle.stream_names.specs.StationMessages.{is_of_station}
-use Rattle.stream_names.specs.Names.{named_answer, named_event, named_stream}
+use Rattle.record_settling.specs.declared.stream_names.renaming.StreamName.{StreamName}
+use Rattle.record_settling.specs.StreamNames.StationMessages.{is_of_station}
+use Rattle.record_settling.specs.StreamNames.Names.{named_answer, named_event, named_stream}
 
 -- WHAT IS LEFT OUT
 

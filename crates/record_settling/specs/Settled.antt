@@ -10,7 +10,7 @@ use Rattle.trace_stepper.specs.Compared.{AgreeBefore}
 use Rattle.trace_stepper.specs.Stepping.{outcomes_of_trace}
 use Rattle.trace_text.specs.declared.trace.Trace.{Trace}
 use Rattle.trace_text.specs.Reading.{Entry}
-use Rattle.stream_names.specs.declared.renaming.StreamName.{StreamName}
+use Rattle.record_settling.specs.declared.stream_names.renaming.StreamName.{StreamName}
 use Rattle.record_settling.specs.declared.settled.SettledRecords.{SettledRecords}
 use Rattle.outcome_sums.specs.declared.sum.PlacedSum.{PlacedSum}
 use Rattle.record_settling.specs.Summed.{AllHaveSums}

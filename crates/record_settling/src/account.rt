@@ -4,12 +4,12 @@ ghost use Rattle.std.specs.Prelude.{◌≡◌, ◌++◌, None, IfOk, OnOk, map, 
 ghost use Rattle.cip_tables.specs.Step.{AcceptsAll, config_fault};
 ghost use Rattle.record_settling.specs.Accounts.{account_history, accounted, cut_of, event_in, role_by, role_of, role_of_datagram, is_silent, next_seen, receipts_from, step_of};
 
+use crate::stream_names::{StreamName, is_of_station, named_answer, named_event, named_stream};
 use cip_events::{Answer, Delivery, Event, Notice, Verdict};
 use cip_tables::{Config, Device};
 use cip_types::{Items, OutOfMemory};
 use device_lock::{History, Receipt, Segment};
 use std::alloc::Global;
-use stream_names::{StreamName, is_of_station, named_answer, named_event, named_stream};
 use trace_text::Recorded;
 
 // WHAT IS LEFT OUT

@@ -1,8 +1,8 @@
 //! Why records do not settle.
 
+use crate::stream_names::{EventPlace, NamingFault};
 use cip_types::{Node, OutOfMemory};
 use std::alloc::{AllocError, AllocFailed};
-use stream_names::{EventPlace, NamingFault};
 
 /// Why records do not settle.
 #[derive(Clone, Copy, PartialEq, Eq)]

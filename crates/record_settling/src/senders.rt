@@ -6,11 +6,11 @@ ghost use Rattle.record_settling.specs.Senders.{AnySends, EntrySends, IsSentAs, 
 
 use crate::account::{EventRole, role_of};
 use crate::fault::RecordsFault;
+use crate::stream_names::{EventPlace, record_of};
 use cip_datagram::{Datagram, read_datagram};
 use cip_events::{Answer, Event, OutgoingDatagram};
 use cip_types::Node;
 use std::alloc::Global;
-use stream_names::{EventPlace, record_of};
 use trace_text::{Recorded, Trace};
 
 /// The address that an event comes from, if it comes from another device.

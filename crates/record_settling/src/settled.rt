@@ -7,6 +7,7 @@ ghost use Rattle.record_settling.specs.Settled.{AllRecorded, HasSettledRecords, 
 use crate::account::{divide, history_of, kept_place, steps_of};
 use crate::fault::RecordsFault;
 use crate::senders::check_senders;
+use crate::stream_names::{EventPlace, StreamName, name_streams, node_of};
 use crate::summed::check_all_sums;
 use cip_tables::{Config, Device, Event};
 use cip_types::Items;
@@ -15,7 +16,6 @@ use outcome_sums::PlacedSum;
 use segment_world::{Act, WorldFault};
 use settling::{Unsettled, check_configs, settle};
 use std::alloc::Global;
-use stream_names::{EventPlace, StreamName, name_streams, node_of};
 use trace_stepper::{StepperFault, compare, replay};
 use trace_text::{Recorded, Trace};
 

@@ -4,11 +4,11 @@ ghost use Rattle.std.specs.Prelude.{◌≡◌, ◌↔◌, IsTrue, IfOk, OnOk};
 ghost use Rattle.record_settling.specs.Summed.{AllHaveSums, HasPlacedSum, HaveSums, first_sums, other_sums};
 
 use crate::fault::RecordsFault;
+use crate::stream_names::EventPlace;
 use cip_events::Event;
 use cip_types::{Items, OutOfMemory};
 use outcome_sums::{PlacedSum, has_sum};
 use std::alloc::Global;
-use stream_names::EventPlace;
 use trace_outcomes::write_outcome;
 use trace_text::{Recorded, Trace};
 

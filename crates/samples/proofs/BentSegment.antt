@@ -1,7 +1,7 @@
 -- The laws of the devices on a segment refuse chronicles that were bent against them.
 use Rattle.std.proofs.Common.{◌≡◌, Bool, true, false, List, [], ◌∷◌, map, Some, refl}
 use Rattle.cip_tables.specs.declared.table.DeviceTable.{DeviceTable}
-use Rattle.segment_traffic.specs.Log.{Sent}
+use Rattle.segment_world.specs.Transit.Log.{Sent}
 use Rattle.segment_world.specs.declared.act.Act.TheVariants.{Local}
 use Rattle.segment_world.specs.declared.act.Call.TheVariants as call
 use Rattle.segment_world.specs.World.{ReportedEvent, World}

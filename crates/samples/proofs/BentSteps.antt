@@ -15,9 +15,9 @@ use Rattle.cip_tables.specs.declared.table.Config.TheVariants as config
 use Rattle.segment_world.specs.declared.act.Act.{Act}
 use Rattle.segment_world.specs.declared.act.Act.TheVariants.{Local, NextFrame}
 use Rattle.segment_world.specs.declared.act.Call.TheVariants as call
-use Rattle.segment_traffic.specs.declared.direction.Direction.{Direction}
-use Rattle.segment_traffic.specs.declared.direction.Direction.TheVariants.{Forth, Back}
-use Rattle.segment_traffic.specs.Streams.{Opening, Queued, Ending, QueueItem, Stream, side_of}
+use Rattle.segment_world.specs.declared.transit.direction.Direction.{Direction}
+use Rattle.segment_world.specs.declared.transit.direction.Direction.TheVariants.{Forth, Back}
+use Rattle.segment_world.specs.Transit.Streams.{Opening, Queued, Ending, QueueItem, Stream, side_of}
 use Rattle.samples.specs.Devices.{common}
 use Rattle.device_laws.specs.Frames.{OpeningsAre}
 use Rattle.device_laws.specs.OwnIds.{AsksOwnId}

@@ -7,7 +7,7 @@ use Rattle.segment_world.specs.declared.act.Act.{Act}
 use Rattle.segment_world.specs.declared.act.Act.TheVariants.{Local, Deliver}
 use Rattle.segment_world.specs.declared.act.ActFault.TheVariants.{NeverSent}
 use Rattle.segment_world.specs.declared.act.Call.TheVariants as call
-use Rattle.segment_traffic.specs.Log.{Sent}
+use Rattle.segment_world.specs.Transit.Log.{Sent}
 use Rattle.segment_world.specs.World.{World}
 use Rattle.samples.specs.Hex.{hex}
 use Rattle.samples.specs.Devices.{fresh, peer}

@@ -10,7 +10,7 @@ use Rattle.cip_events.specs.declared.event.Verdict.TheVariants.{Done, Ignored, R
 use Rattle.cip_router.specs.Replies.{object_reply_text}
 use Rattle.cip_router.specs.RouterReplies.{router_reply_reading}
 use Rattle.adapter_table.specs.Objects.{instance_at, object_answer}
-use Rattle.segment_traffic.specs.declared.direction.Direction.TheVariants.{Forth, Back}
+use Rattle.segment_world.specs.declared.transit.direction.Direction.TheVariants.{Forth, Back}
 use Rattle.segment_world.specs.declared.act.Act.{Act}
 use Rattle.segment_world.specs.declared.act.Act.TheVariants.{Local, NextFrame, CutStream}
 use Rattle.segment_world.specs.declared.act.ActFault.TheVariants.{Step}

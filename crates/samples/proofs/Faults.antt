@@ -8,8 +8,8 @@ use Rattle.cip_events.specs.declared.profile_fault.ProfileFault.TheVariants.{Inc
 use Rattle.adapter_table.specs.declared.profile.Profile.{Profile}
 use Rattle.cip_tables.specs.declared.table.Config.{Config}
 use Rattle.cip_tables.specs.declared.table.Config.TheVariants as config
-use Rattle.segment_traffic.specs.declared.direction.Direction.TheVariants.{Forth, Back}
-use Rattle.segment_traffic.specs.Streams.{Ending}
+use Rattle.segment_world.specs.declared.transit.direction.Direction.TheVariants.{Forth, Back}
+use Rattle.segment_world.specs.Transit.Streams.{Ending}
 use Rattle.segment_world.specs.declared.act.Act.TheVariants.{Local, Deliver, NextFrame, OpenStream, CutStream}
 use Rattle.segment_world.specs.declared.act.ActFault.TheVariants.{NoSuchDevice, NeverSent, StreamEmpty, NoSuchStream, Step}
 use Rattle.segment_world.specs.declared.act.Call.TheVariants as call

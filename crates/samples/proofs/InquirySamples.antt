@@ -117,10 +117,10 @@ the_table_stays :
 unfolding computing
 the_table_stays = refl
 
--- ListServices is answered as any device answers it, and the others are commands that are not served
+-- the three commands have no data
 with_data_they_are_no_inquiries :
     opened (message 0x04 0 0 (hex "FF") ∷ message 0x63 7 0 (hex "00") ∷ message 0x64 7 0 (hex "00") ∷ [])
-    ≡ back services ∷ back (message 0x63 7 0x01 []) ∷ back (message 0x64 7 0x01 []) ∷ []
+    ≡ back (message 0x04 0 0x65 []) ∷ back (message 0x63 7 0x65 []) ∷ back (message 0x64 7 0x65 []) ∷ []
 unfolding computing
 with_data_they_are_no_inquiries = refl
 

@@ -1,6 +1,6 @@
 -- The objects of a described adapter, byte for byte: their attributes, the status word, and each refusal in its order (Volume 1,
 -- chapter 5, object library, and appendix A, common services; Volume 2, chapter 5, TCP/IP Interface and Ethernet Link).
-use Rattle.std.proofs.Common.{◌≡◌, refl, ℕ, List, [], ◌∷◌, ◌++◌, map, Some}
+use Rattle.std.proofs.Common.{◌≡◌, refl, ℕ, List, [], ◌∷◌, ◌++◌, map, replicate, Some}
 use Rattle.cip_events.specs.declared.event.Event.{Event}
 use Rattle.cip_events.specs.declared.event.Event.TheVariants.{Datagram, Request, Tick}
 use Rattle.cip_events.specs.declared.event.Notice.TheVariants.{Reset}
@@ -69,8 +69,13 @@ a_name_of_no_byte = refl
 
 -- ---- the TCP/IP Interface object
 
--- status, capability, control, the path of the link, 192.168.1.10 and its mask, no gateway, no name servers, no domain and no host name
-interface_attributes_all : answers (hex "01 02 20 F5 24 01" ∷ []) ≡ gets (hex "81 00 00 00 01 00 00 00 00 00 00 00 00 00 00 00 02 00 20 F6 24 01 0A 01 A8 C0 00 FF FF FF 00 00 00 00 00 00 00 00 00 00 00 00 00 00 00 00") ∷ []
+-- status, capability, control, the path of the link, 192.168.1.10 and its mask, no gateway, no name servers, no domain and no host
+-- name, no safety network, time to live 1, one group from 239.192.2.32 on, no conflict detection and none seen, no quick connection,
+-- two minutes
+interface_attributes_all :
+    answers (hex "01 02 20 F5 24 01" ∷ [])
+    ≡ gets (hex "81 00 00 00 01 00 00 00 00 00 00 00 00 00 00 00 02 00 20 F6 24 01 0A 01 A8 C0 00 FF FF FF 00 00 00 00 00 00 00 00 00 00 00 00 00 00 00 00"
+    ++ (replicate 6 0 ++ (hex "01 00 00 01 00 20 02 C0 EF 00" ++ (replicate 35 0 ++ hex "00 78 00")))) ∷ []
 unfolding computing
 interface_attributes_all = refl
 
@@ -97,7 +102,12 @@ interface_host_name_and_inactivity = refl
 
 -- ---- the Ethernet Link object
 
-link_attributes_all : answers (hex "01 02 20 F6 24 01" ∷ []) ≡ gets (hex "81 00 00 00 64 00 00 00 0F 00 00 00 02 00 5E 10 00 07") ∷ []
+-- speed, flags, physical address, no counters and no control, twisted pair, enabled, the label, and the one speed
+abbrev whole_link : List Outcome
+whole_link =
+    gets (hex "81 00 00 00 64 00 00 00 0F 00 00 00 02 00 5E 10 00 07" ++ (replicate 96 0 ++ hex "02 01 01 08 45 74 68 65 72 6E 65 74 02 00 00 00 01 64 00 01")) ∷ []
+
+link_attributes_all : answers (hex "01 02 20 F6 24 01" ∷ []) ≡ whole_link
 unfolding computing
 link_attributes_all = refl
 
@@ -122,48 +132,48 @@ assembly_data :
 unfolding computing
 assembly_data = refl
 
-heartbeats_are_no_assemblies :
-    answers (hex "0E 03 20 04 24 98 30 04" ∷ hex "0E 03 20 04 24 99 30 04" ∷ [])
-    ≡ gets (hex "8E 00 05 00") ∷ gets (hex "8E 00 05 00") ∷ []
+heartbeats_have_no_data :
+    answers (hex "0E 03 20 04 24 98 30 03" ∷ hex "0E 03 20 04 24 99 30 04" ∷ [])
+    ≡ gets (hex "8E 00 00 00") ∷ gets (hex "8E 00 00 00 00 00") ∷ []
 unfolding computing
-heartbeats_are_no_assemblies = refl
+heartbeats_have_no_data = refl
 
--- ---- class attributes: revision, largest instance, number of instances
+-- ---- class attributes: revision, largest instance, number of instances, optional attributes
 
 class_of_identity :
     answers (hex "0E 03 20 01 24 00 30 01" ∷ hex "0E 03 20 01 24 00 30 02" ∷ hex "0E 03 20 01 24 00 30 03" ∷ hex "0E 03 20 01 24 00 30 04" ∷ [])
-    ≡ gets (hex "8E 00 00 00 01 00") ∷ gets (hex "8E 00 00 00 01 00") ∷ gets (hex "8E 00 00 00 01 00") ∷ gets (hex "8E 00 14 00") ∷ []
+    ≡ gets (hex "8E 00 00 00 01 00") ∷ gets (hex "8E 00 00 00 01 00") ∷ gets (hex "8E 00 00 00 01 00") ∷ gets (hex "8E 00 00 00 02 00 08 00 09 00") ∷ []
 unfolding computing
 class_of_identity = refl
 
 class_of_the_message_router :
     answers (hex "0E 03 20 02 24 00 30 01" ∷ hex "0E 03 20 02 24 00 30 02" ∷ hex "0E 03 20 02 24 00 30 03" ∷ hex "0E 03 20 02 24 00 30 04" ∷ [])
-    ≡ gets (hex "8E 00 00 00 01 00") ∷ gets (hex "8E 00 00 00 01 00") ∷ gets (hex "8E 00 00 00 01 00") ∷ gets (hex "8E 00 14 00") ∷ []
+    ≡ gets (hex "8E 00 00 00 01 00") ∷ gets (hex "8E 00 00 00 01 00") ∷ gets (hex "8E 00 00 00 01 00") ∷ gets (hex "8E 00 00 00 03 00 01 00 02 00 03 00") ∷ []
 unfolding computing
 class_of_the_message_router = refl
 
--- of 150, 100 and 151
+-- of 150, 100, 151, and the heartbeats 152 and 153
 class_of_assemblies :
     answers (hex "0E 03 20 04 24 00 30 01" ∷ hex "0E 03 20 04 24 00 30 02" ∷ hex "0E 03 20 04 24 00 30 03" ∷ hex "0E 03 20 04 24 00 30 04" ∷ [])
-    ≡ gets (hex "8E 00 00 00 02 00") ∷ gets (hex "8E 00 00 00 97 00") ∷ gets (hex "8E 00 00 00 03 00") ∷ gets (hex "8E 00 14 00") ∷ []
+    ≡ gets (hex "8E 00 00 00 02 00") ∷ gets (hex "8E 00 00 00 99 00") ∷ gets (hex "8E 00 00 00 05 00") ∷ gets (hex "8E 00 00 00 01 00 04 00") ∷ []
 unfolding computing
 class_of_assemblies = refl
 
 class_of_the_connection_manager :
     answers (hex "0E 03 20 06 24 00 30 01" ∷ hex "0E 03 20 06 24 00 30 02" ∷ hex "0E 03 20 06 24 00 30 03" ∷ hex "0E 03 20 06 24 00 30 04" ∷ [])
-    ≡ gets (hex "8E 00 00 00 01 00") ∷ gets (hex "8E 00 00 00 01 00") ∷ gets (hex "8E 00 00 00 01 00") ∷ gets (hex "8E 00 14 00") ∷ []
+    ≡ gets (hex "8E 00 00 00 01 00") ∷ gets (hex "8E 00 00 00 01 00") ∷ gets (hex "8E 00 00 00 01 00") ∷ gets (hex "8E 00 00 00 00 00") ∷ []
 unfolding computing
 class_of_the_connection_manager = refl
 
 class_of_the_interface :
     answers (hex "0E 03 20 F5 24 00 30 01" ∷ hex "0E 03 20 F5 24 00 30 02" ∷ hex "0E 03 20 F5 24 00 30 03" ∷ hex "0E 03 20 F5 24 00 30 04" ∷ [])
-    ≡ gets (hex "8E 00 00 00 04 00") ∷ gets (hex "8E 00 00 00 01 00") ∷ gets (hex "8E 00 00 00 01 00") ∷ gets (hex "8E 00 14 00") ∷ []
+    ≡ gets (hex "8E 00 00 00 04 00") ∷ gets (hex "8E 00 00 00 01 00") ∷ gets (hex "8E 00 00 00 01 00") ∷ gets (hex "8E 00 00 00 04 00 08 00 09 00 0A 00 0B 00") ∷ []
 unfolding computing
 class_of_the_interface = refl
 
 class_of_the_link :
     answers (hex "0E 03 20 F6 24 00 30 01" ∷ hex "0E 03 20 F6 24 00 30 02" ∷ hex "0E 03 20 F6 24 00 30 03" ∷ hex "0E 03 20 F6 24 00 30 04" ∷ [])
-    ≡ gets (hex "8E 00 00 00 04 00") ∷ gets (hex "8E 00 00 00 01 00") ∷ gets (hex "8E 00 00 00 01 00") ∷ gets (hex "8E 00 14 00") ∷ []
+    ≡ gets (hex "8E 00 00 00 04 00") ∷ gets (hex "8E 00 00 00 01 00") ∷ gets (hex "8E 00 00 00 01 00") ∷ gets (hex "8E 00 00 00 04 00 07 00 08 00 09 00 0A 00") ∷ []
 unfolding computing
 class_of_the_link = refl
 
@@ -316,7 +326,7 @@ unfolding computing
 the_service_before_the_attribute = refl
 
 attribute_unknown :
-    answers (hex "0E 03 20 01 24 01 30 09" ∷ hex "0E 03 20 02 24 01 30 01" ∷ hex "0E 03 20 04 24 96 30 05" ∷ hex "0E 03 20 F5 24 01 30 07" ∷ hex "0E 03 20 F6 24 01 30 04" ∷ [])
+    answers (hex "0E 03 20 01 24 01 30 0A" ∷ hex "0E 03 20 02 24 01 30 04" ∷ hex "0E 03 20 04 24 96 30 05" ∷ hex "0E 03 20 F5 24 01 30 07" ∷ hex "0E 03 20 F6 24 01 30 04" ∷ [])
     ≡ gets (hex "8E 00 14 00") ∷ gets (hex "8E 00 14 00") ∷ gets (hex "8E 00 14 00") ∷ gets (hex "8E 00 14 00") ∷ gets (hex "8E 00 14 00") ∷ []
 unfolding computing
 attribute_unknown = refl
@@ -329,7 +339,7 @@ no_attribute_is_named = refl
 
 -- .. and before the setting
 the_attribute_before_the_data :
-    answers (hex "0E 03 20 01 24 01 30 09 00" ∷ hex "10 03 20 01 24 01 30 63 41" ∷ [])
+    answers (hex "0E 03 20 01 24 01 30 0A 00" ∷ hex "10 03 20 01 24 01 30 63 41" ∷ [])
     ≡ gets (hex "8E 00 14 00") ∷ gets (hex "90 00 14 00") ∷ []
 unfolding computing
 the_attribute_before_the_data = refl
@@ -346,7 +356,7 @@ too_much_data :
 unfolding computing
 too_much_data = refl
 
-an_attribute_is_not_looked_at_by_other_services : answers (hex "01 03 20 F6 24 01 30 63" ∷ []) ≡ gets (hex "81 00 00 00 64 00 00 00 0F 00 00 00 02 00 5E 10 00 07") ∷ []
+an_attribute_is_not_looked_at_by_other_services : answers (hex "01 03 20 F6 24 01 30 63" ∷ []) ≡ whole_link
 unfolding computing
 an_attribute_is_not_looked_at_by_other_services = refl
 

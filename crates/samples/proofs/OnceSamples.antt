@@ -3,7 +3,7 @@ use Rattle.std.proofs.Common.{◌≡◌, ℕ, [], ◌∷◌, ◌++◌, Some, ref
 use Rattle.std.specs.List.{count_by}
 use Rattle.segment_world.specs.declared.act.Act.TheVariants.{Local, NextFrame, CutStream}
 use Rattle.segment_world.specs.declared.act.Call.TheVariants as call
-use Rattle.segment_traffic.specs.declared.direction.Direction.TheVariants.{Forth}
+use Rattle.segment_world.specs.declared.transit.direction.Direction.TheVariants.{Forth}
 use Rattle.device_laws.specs.Requests.{asks_id}
 use Rattle.schedule_laws.specs.Chronicle.{Chronicle}
 use Rattle.schedule_laws.specs.MadeOnce.{has_id, waiting_count}

@@ -6,11 +6,11 @@ use Rattle.cip_tables.specs.declared.table.Config.TheVariants as config
 use Rattle.segment_world.specs.declared.act.Act.TheVariants.{Deliver, Local, NextFrame, OpenStream}
 use Rattle.segment_world.specs.declared.act.ActFault.TheVariants as act_fault
 use Rattle.segment_world.specs.declared.act.Call.TheVariants as call
-use Rattle.segment_traffic.specs.declared.direction.Direction.TheVariants.{Forth, Back}
-use Rattle.segment_lives.specs.declared.fault.RestartFault.TheVariants.{NoSuchDevice, UsedIncarnation, ZeroIncarnation}
-use Rattle.segment_lives.specs.Stories.{PlantStory, Move, Performed, Restart, fresh_story, plays}
-use Rattle.segment_lives.specs.Plants.{act_of_lives, opening_plant}
-use Rattle.segment_lives.specs.Restarts.{restarts}
+use Rattle.segment_world.specs.declared.transit.direction.Direction.TheVariants.{Forth, Back}
+use Rattle.segment_world.specs.declared.lives.fault.RestartFault.TheVariants.{NoSuchDevice, UsedIncarnation, ZeroIncarnation}
+use Rattle.segment_world.specs.Lives.Stories.{PlantStory, Move, Performed, Restart, fresh_story, plays}
+use Rattle.segment_world.specs.Lives.Plants.{act_of_lives, opening_plant}
+use Rattle.segment_world.specs.Lives.Restarts.{restarts}
 use Rattle.samples.specs.Playing.{playing}
 use Rattle.samples.specs.Restarted.{first_life, late, two_lives}
 use Rattle.samples.specs.Schedules.{owner, scanner}

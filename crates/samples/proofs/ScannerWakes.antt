@@ -1,5 +1,5 @@
 -- Wakes of a scanner: in how many milliseconds a slot is due, and that it acts then and not before.
-use Rattle.std.proofs.Common.{◌≡◌, refl, ℕ, List, [], ◌∷◌}
+use Rattle.std.proofs.Common.{◌≡◌, refl, ℕ, List, [], ◌∷◌, Some}
 use Rattle.cip_events.specs.declared.event.Event.{Event}
 use Rattle.cip_events.specs.declared.event.Event.TheVariants.{StreamCut, Frame, Tick, Start, Stop, Explicit}
 use Rattle.cip_router.specs.RouterReplies.{router_reply_reading}
@@ -148,3 +148,19 @@ behind_an_opening = refl
 without_a_reply : wake_after (asks ∷ Tick 2000 ∷ []) ∷ wake_after (asks ∷ Frame 0 (items 1 4 (0x81 ∷ 0x00 ∷ 0x08 ∷ 0x00 ∷ [])) ∷ []) ∷ [] ≡ 60000 ∷ 60000 ∷ []
 unfolding computing router_reply_reading
 without_a_reply = refl
+
+-- ---- turns
+
+-- one opening at a time, and two slots that are started
+abbrev in_turn : ScannerTable
+in_turn = after (scanner_table (record (profile (owner ∷ record owner { produced = 101 } ∷ [])) { openings = Some 1 })) (Start 0 ∷ Start 1 ∷ registers)
+
+-- a slot that waits for its turn is not due
+waits_for_its_turn : wake in_turn ≡ 2000
+unfolding computing
+waits_for_its_turn = refl
+
+-- it is as soon as the place is free
+its_turn_comes : wake (after in_turn (Frame 0 (items 1 16 (ownership 1)) ∷ [])) ≡ 0
+unfolding computing
+its_turn_comes = refl

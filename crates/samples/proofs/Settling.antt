@@ -8,16 +8,16 @@ use Rattle.cip_tables.specs.declared.table.Config.TheVariants as config
 use Rattle.cip_tables.specs.declared.table.DeviceTable.{DeviceTable}
 use Rattle.device_lock.specs.declared.receipt.Receipt.{Receipt}
 use Rattle.device_lock.specs.Histories.{HistoryValue}
-use Rattle.segment_traffic.specs.declared.direction.Direction.TheVariants.{Forth, Back}
+use Rattle.segment_world.specs.declared.transit.direction.Direction.TheVariants.{Forth, Back}
 use Rattle.segment_world.specs.declared.act.Act.{Act}
 use Rattle.segment_world.specs.declared.act.Act.TheVariants.{Local, Deliver, NextFrame, OpenStream, CutStream}
 use Rattle.segment_world.specs.declared.act.Call.TheVariants as call
 use Rattle.segment_world.specs.Story.{Story, begins, events_of, runs}
 use Rattle.segment_world.specs.World.{World, ReportedEvent}
-use Rattle.schedule_search.specs.Histories.{bytes_of, events_of_all, start_of}
+use Rattle.settling.specs.Search.Histories.{bytes_of, events_of_all, start_of}
 use Rattle.settling.specs.Receipts.{has_receipt, AllGood, Covered, IsMissing}
-use Rattle.schedule_search.specs.Replays.{replay}
-use Rattle.schedule_search.specs.Schedules.{NoWay, Projects, Settles, history, outcomes_of}
+use Rattle.settling.specs.Search.Replays.{replay}
+use Rattle.settling.specs.Search.Schedules.{NoWay, Projects, Settles, history, outcomes_of}
 use Rattle.settling.specs.Settlings.{AllStand, SettlesAll}
 use Rattle.samples.specs.Devices.{common, fresh, other}
 use Rattle.samples.specs.Worlds.{after, home, neighbour, plainly, two}

@@ -65,6 +65,8 @@ profile slots = record {
   retry = 3000;
   newer = None;
   tidy = false;
+  openings = None;
+  serials = None;
   slots = slots;
 }
 

@@ -6,8 +6,8 @@ use Rattle.cip_events.specs.declared.event.Recipient.TheVariants as to
 use Rattle.cip_events.specs.declared.event.StepFault.TheVariants.{NotAllowedNow}
 use Rattle.cip_events.specs.declared.event.Verdict.TheVariants.{Done}
 use Rattle.cip_tables.specs.Run.{table_after}
-use Rattle.segment_traffic.specs.declared.direction.Direction.TheVariants.{Forth, Back}
-use Rattle.segment_traffic.specs.Streams.{QueueItem, Opening, Queued, Ending, Side, Stream, frames_sent, notices_applied}
+use Rattle.segment_world.specs.declared.transit.direction.Direction.TheVariants.{Forth, Back}
+use Rattle.segment_world.specs.Transit.Streams.{QueueItem, Opening, Queued, Ending, Side, Stream, frames_sent, notices_applied}
 use Rattle.segment_world.specs.declared.act.Act.TheVariants.{NextFrame, OpenStream, CutStream}
 use Rattle.segment_world.specs.declared.act.ActFault.TheVariants.{StreamEmpty, NoSuchStream, Step}
 use Rattle.segment_world.specs.World.{World}

@@ -6,7 +6,7 @@ use Rattle.cip_tables.specs.declared.table.Config.TheVariants as config
 use Rattle.segment_world.specs.declared.act.Act.{Act}
 use Rattle.segment_world.specs.declared.act.Act.TheVariants.{CutStream, Deliver, Local, NextFrame, OpenStream}
 use Rattle.segment_world.specs.declared.act.Call.TheVariants as call
-use Rattle.segment_traffic.specs.declared.direction.Direction.TheVariants.{Forth, Back}
+use Rattle.segment_world.specs.declared.transit.direction.Direction.TheVariants.{Forth, Back}
 use Rattle.samples.specs.Schedules.{owner, scanner, meets, opens, runs_mode, ticks, writes}
 use Rattle.samples.specs.Twofold.{other_owner, twofold}
 

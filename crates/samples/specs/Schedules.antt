@@ -17,7 +17,7 @@ use Rattle.segment_world.specs.declared.act.Act.TheVariants.{Local, NextFrame, O
 use Rattle.segment_world.specs.declared.act.ActFault.{ActFault}
 use Rattle.segment_world.specs.declared.act.Call.TheVariants as call
 use Rattle.segment_world.specs.Configs.{opening_world}
-use Rattle.segment_traffic.specs.declared.direction.Direction.TheVariants.{Forth, Back}
+use Rattle.segment_world.specs.declared.transit.direction.Direction.TheVariants.{Forth, Back}
 use Rattle.samples.specs.Devices.{common}
 use Rattle.device_laws.specs.Productions.{Production}
 use Rattle.schedule_laws.specs.Chronicle.{Acceptance, Chronicle, Establishment, blank, chronicles}
@@ -59,6 +59,8 @@ scanner slot = record {
   retry = 3000;
   newer = None;
   tidy = false;
+  openings = None;
+  serials = None;
   slots = slot ∷ [];
 }
 

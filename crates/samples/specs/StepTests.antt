@@ -27,7 +27,7 @@ use Rattle.scanner_table.specs.Replies.{open_answer}
 use Rattle.scanner_table.specs.Slots.{IndexedSlot, indexed_slots}
 use Rattle.device_laws.specs.Newest.{came_from}
 use Rattle.segment_world.specs.World.{World}
-use Rattle.segment_traffic.specs.Log.{Sent}
+use Rattle.segment_world.specs.Transit.Log.{Sent}
 use Rattle.device_laws.specs.Made.{Made}
 use Rattle.device_laws.specs.ProductionRuns.{opening_number}
 use Rattle.schedule_laws.specs.Ids.{is_drawn}

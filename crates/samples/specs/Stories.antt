@@ -3,7 +3,7 @@ use Rattle.std.specs.Prelude.{List, [], ◌∷◌, ◌++◌}
 use Rattle.segment_world.specs.declared.act.Act.{Act}
 use Rattle.segment_world.specs.declared.act.Act.TheVariants.{CutStream, Deliver, Local, NextFrame}
 use Rattle.segment_world.specs.declared.act.Call.TheVariants as call
-use Rattle.segment_traffic.specs.declared.direction.Direction.TheVariants.{Forth, Back}
+use Rattle.segment_world.specs.declared.transit.direction.Direction.TheVariants.{Forth, Back}
 use Rattle.samples.specs.Schedules.{meets, opens, closes, runs_mode, writes, ticks}
 
 -- ---- one scanner that owns the output

@@ -12,7 +12,7 @@ use Rattle.cip_tables.specs.declared.table.DeviceTable.TheVariants.{Adapter, Sca
 use Rattle.segment_world.specs.declared.act.Act.{Act}
 use Rattle.segment_world.specs.declared.act.Act.TheVariants.{Deliver, Local, NextFrame}
 use Rattle.segment_world.specs.declared.act.Call.TheVariants as call
-use Rattle.segment_traffic.specs.declared.direction.Direction.TheVariants.{Forth, Back}
+use Rattle.segment_world.specs.declared.transit.direction.Direction.TheVariants.{Forth, Back}
 use Rattle.samples.specs.Devices.{common, output}
 use Rattle.schedule_laws.specs.Chronicle.{Chronicle}
 use Rattle.samples.specs.Schedules.{owner, scanner, meets, opens, runs_mode, ticks, writes}

@@ -8,7 +8,7 @@ use Rattle.cip_events.specs.declared.event.Verdict.TheVariants.{Done}
 use Rattle.adapter_table.specs.declared.profile.Profile.{Profile}
 use Rattle.cip_tables.specs.declared.table.Config.TheVariants as config
 use Rattle.cip_tables.specs.declared.table.DeviceTable.{DeviceTable}
-use Rattle.segment_traffic.specs.Streams.{QueueItem, Side, Stream}
+use Rattle.segment_world.specs.Transit.Streams.{QueueItem, Side, Stream}
 use Rattle.segment_world.specs.declared.act.Act.{Act}
 use Rattle.segment_world.specs.declared.act.ActFault.{ActFault}
 use Rattle.segment_world.specs.World.{World, ReportedEvent, Happened, happens}

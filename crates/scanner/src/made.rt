@@ -1,7 +1,7 @@
 //! The first state of the slots, and copies of their table.
 
 ghost use Rattle.std.specs.Prelude.{◌≡◌, map, IfOk};
-ghost use Rattle.scanner_table.specs.Step.{fresh_slot, scanner_table};
+ghost use Rattle.scanner_table.specs.Step.{fresh_slot, first_serial, scanner_table};
 ghost use Rattle.scanner.specs.Tables.{table_in};
 
 use crate::slots::ScannerSlots;
@@ -35,6 +35,13 @@ fn fresh_slots(alloc: Global, configs: &[SlotConfig]) -> Result<Vec<Slot>, OutOf
     Ok(slots)
 }
 
+/// Returns the connection serial number of the first opening.
+fn first_serial(serials: Option<u16>) -> u16
+    ensures { result ≡ first_serial serials }
+{
+    serials.unwrap_or(1)
+}
+
 impl ScannerSlots {
     /// Makes the slots of a fresh scanner.
     pub fn fresh(alloc: Global, profile: ScannerProfile) -> Result<Self, OutOfMemory>
@@ -46,7 +53,7 @@ impl ScannerSlots {
             run: false,
             clock: Ms(0),
             next_id: 1,
-            next_serial: 1,
+            next_serial: first_serial(profile.serials),
             next_request: 1,
             streams: Vec::new(alloc),
             explicit: Vec::new(alloc),

@@ -4,7 +4,8 @@ ghost use Rattle.std.specs.Prelude.{◌≡◌, Ok};
 ghost use Rattle.std.specs.List.{list_any};
 ghost use Rattle.cip_encap.specs.Message.{view_message};
 ghost use Rattle.cip_events.specs.Outcomes.{Follows};
-ghost use Rattle.scanner_table.specs.Encapsulation.{stream_opened, stream_cut, frame, reported};
+ghost use Rattle.scanner_table.specs.Encapsulation.{explicit_ends, stream_opened, stream_cut, frame, reported, session_renewed};
+ghost use Rattle.scanner_table.specs.Effects.{done};
 ghost use Rattle.scanner_table.specs.Sessions.{is_to, is_taken};
 ghost use Rattle.scanner_table.specs.WellFormed.{IsWellFormed};
 ghost use Rattle.scanner_slots.specs.Bounding.{IsHinted};
@@ -22,10 +23,12 @@ use cip_types::limits::MOST_STREAMS;
 use cip_types::{Items, Node, OutOfMemory};
 use explicit_requests::find_pending;
 use open_streams::{add_stream, find_stream, has_stream};
-use scanner_requests::registration_frame;
+use scanner_requests::{ends_session, registration_frame};
 use scanner_slots::{Hints, ScannerState};
-use scanner_table::{Stage, TargetStream};
-use scanner_transactions::{MessageOutcome, Transaction, cut_stream, receive_message};
+use scanner_table::{PendingExplicit, Stage, TargetStream};
+use scanner_transactions::{
+    MessageOutcome, Transaction, cut_stream, receive_message, renew_session,
+};
 use std::alloc::Global;
 
 fn goes_to(streams: &[TargetStream], target: Node) -> bool
@@ -128,6 +131,44 @@ impl ScannerSlots {
         }
     }
 
+    /// Ends the session of a stream, whose target does not know it, and registers a new one.
+    fn end_session<H: Hints>(&mut self, hints: &mut H, stream: TargetStream) -> Outcome
+        requires { IsWellFormed (table_in self.old) }
+        ensures step { Follows (Ok (done (session_renewed stream (table_in self.old)))) (table_in self.old) result
+            (table_in self.new) }
+        ensures hints { IsHinted (H.bounds hints.old) (table_in self.old)
+            → IsHinted (H.bounds hints.new) (table_in self.new) }
+    {
+        let mut transaction = Transaction::begin(self.alloc, &self.profile, &mut self.state);
+        match renew_session(&mut transaction, stream) {
+            Ok(()) => {
+                let none = Vec::new(self.alloc);
+                Ok(commit_bounded(transaction, &mut self.state, hints, none))
+            }
+            Err(_) => Err(roll_back(transaction, &mut self.state, StepFault::OutOfMemory)),
+        }
+    }
+
+    /// Takes the message to an explicit request, which ends it. If the target does not know the session, the session ends with it.
+    fn take_explicit<H: Hints>(
+        &mut self,
+        hints: &mut H,
+        stream: TargetStream,
+        pending: PendingExplicit,
+        message: &MessageView<'_>,
+    ) -> Outcome
+        requires { IsWellFormed (table_in self.old) }
+        ensures step { Follows (Ok (explicit_ends (table_in self.old) stream (view_message message.now) pending))
+            (table_in self.old) result (table_in self.new) }
+        ensures hints { IsHinted (H.bounds hints.old) (table_in self.old)
+            → IsHinted (H.bounds hints.new) (table_in self.new) }
+    {
+        if ends_session(self.profile.tidy, message) {
+            return self.end_session(hints, stream);
+        }
+        self.take_reply(pending, message)
+    }
+
     /// Takes a frame of a stream: a message to an explicit request ends it, and the session judges any other.
     #[tactic(auto, unfolding(scanner_table::specs::Encapsulation::frame))]
     pub fn frame<H: Hints>(&mut self, hints: &mut H, number: u16, bytes: &[u8]) -> Outcome
@@ -144,7 +185,7 @@ impl ScannerSlots {
             return Ok(Answer::plain(self.alloc, Verdict::BadFrame));
         };
         match find_pending(&self.state.explicit, stream.number, message.context) {
-            Some(pending) => self.take_reply(pending, &message),
+            Some(pending) => self.take_explicit(hints, stream, pending, &message),
             None => self.take_message(hints, stream, &message),
         }
     }

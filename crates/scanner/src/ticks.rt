@@ -31,7 +31,7 @@ use explicit_requests::{
 use scanner_data::{due_datagrams, produce};
 use scanner_slots::{
     Bounds, Hints, bounds_are_kept_by_earlier_ones, bounds_of, connections_rest_before_bounds,
-    first_due, producers_rest_before_bounds,
+    first_due, hints_are_times, producers_rest_before_bounds,
 };
 use scanner_table::advancing_keeps_tables_well_formed;
 use scanner_transactions::{Transaction, move_on};
@@ -134,6 +134,7 @@ impl ScannerSlots {
         ensures profile { self.new.profile ≡ self.old.profile }
     {
         // Before the bounds, no connection changes, and before the deadlines no explicit request ends.
+        hints_are_times();
         connections_rest_before_bounds();
         explicit_requests_rest();
         let clock = Ms(self.state.clock.0 + u64::from(ms));
@@ -207,6 +208,7 @@ impl ScannerSlots {
         ensures hints { IsHinted bounds (table_in self.new) }
     {
         // Before the bounds, no connection changes and no slot produces; before the deadlines no explicit request ends.
+        hints_are_times();
         connections_rest_before_bounds();
         producers_rest_before_bounds();
         explicit_requests_rest();

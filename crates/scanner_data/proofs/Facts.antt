@@ -15,7 +15,7 @@ use Rattle.scanner_table.specs.declared.slot.Slot.{Slot}
 use Rattle.scanner_table.specs.declared.slot.SlotState.{SlotState}
 use Rattle.scanner_table.specs.declared.slot.SlotState.TheVariants.{Established}
 use Rattle.scanner_table.specs.declared.table.ScannerTable.{ScannerTable}
-use Rattle.scanner_table.specs.Profiles.{are_few, listens_to_group, are_served, are_apart, is_point_len, is_out_len, is_config, has_lengths, has_times, keeps_time, are_paced, is_wait, profile_fault}
+use Rattle.scanner_table.specs.Profiles.{are_few, listens_to_group, are_served, are_apart, is_point_len, is_out_len, is_config, has_lengths, has_times, keeps_time, are_paced, are_openings, are_serials, is_wait, profile_fault}
 use Rattle.cip_types.specs.Order.{in_order, inserted}
 use Rattle.cip_productions.specs.Kinds.{is_owner}
 use Rattle.scanner_slots.specs.declared.indexed_slots.SlotView.{SlotView}
@@ -61,7 +61,7 @@ five_cases a b c d e v w x y z rest is =
 pub faultless : (profile : ScannerProfile) → profile_fault profile ≡ None → Faultless profile
 unfolding profile_fault
 faultless profile is =
-    let none = five_cases (profile.incarnation == 0) (not (are_served profile)) (not (are_apart profile.slots)) (not (list_all has_lengths profile.slots)) (not (keeps_time profile)) fault.Incarnation fault.Points fault.SameInstance fault.Length fault.Timing ((not (are_paced profile.newer profile.slots), fault.Limits) ∷ []) is in
+    let none = five_cases (profile.incarnation == 0) (not (are_served profile)) (not (are_apart profile.slots)) (not (list_all has_lengths profile.slots)) (not (keeps_time profile)) fault.Incarnation fault.Points fault.SameInstance fault.Length fault.Timing ((not (are_paced profile.newer profile.slots), fault.Limits) ∷ (not (are_openings profile.openings), fault.Limits) ∷ (not (are_serials profile.serials), fault.Limits) ∷ []) is in
     let are = and_parts (are_few profile.slots) (list_all listens_to_group profile.slots) (not_false (are_served profile) none.0) in
     let counts = and_parts (nat_le 1 (length profile.slots)) (nat_le (length profile.slots) 64) are.0 in
     record {

@@ -1,10 +1,10 @@
 //! The frames of requests.
 
-ghost use Rattle.std.specs.Prelude.{◌≡◌, ◌≤◌, ◌++◌, ℕ, List, IfOk, IsTrue, length};
+ghost use Rattle.std.specs.Prelude.{◌≡◌, ◌<◌, ◌≤◌, ◌++◌, ℕ, List, IfOk, IsTrue, length};
 ghost use Rattle.cip_encap.specs.Message.{view_header};
 ghost use Rattle.cip_epath.specs.Path.{view_path};
 ghost use Rattle.cip_fwdopen.specs.Open.{sent_open};
-ghost use Rattle.scanner_table.specs.Requests.{id_or_zero, is_large, slot_path, open_fields, close_fields, opening, closing, registration, numbered, sent_frame};
+ghost use Rattle.scanner_table.specs.Requests.{id_or_zero, is_large, slot_path, time_out, open_time, requested_interval, open_fields, close_fields, opening, closing, registration, numbered, sent_frame};
 ghost use Rattle.scanner_table.specs.Profiles.{has_lengths};
 ghost use Rattle.scanner_requests.specs.Requests.{request_numbers, manager_bytes};
 
@@ -22,16 +22,28 @@ use cip_fwdopen::{CloseRequest, OpenRequest, close_len, open_len, put_close, put
 use cip_types::fields::put_bytes;
 use cip_types::{ConnId, Items, OutOfMemory, Triad};
 use conn_state::Requested;
-use scanner_table::{Session, SlotConfig};
+use scanner_table::{ScannerProfile, Session, SlotConfig};
 use std::alloc::Global;
 
 /// Protocol version 1, without option flags.
 const PROTOCOL: [u8; 4] = [1, 0, 0, 0];
 
-/// Priority and time tick of requests, and their time-out in ticks.
+/// Priority and time tick of a request that says no time of the profile, and its time-out in ticks: 14.3 seconds.
 const PRIORITY_TICK: u8 = 0x0A;
 
 const TICKS: u8 = 0x0E;
+
+/// The microseconds of a millisecond.
+const MILLISECOND: u32 = 1000;
+
+/// A time that a request says: a number of ticks of 2^tick milliseconds each.
+///
+/// Volume 1, chapter 3, unconnected send service, priority and time tick.
+#[derive(Clone, Copy)]
+struct TimeOut {
+    tick: u8,
+    ticks: u8,
+}
 
 /// Makes the RegisterSession frame of a new stream. `OutOfMemory` is the only error.
 ///
@@ -96,20 +108,96 @@ fn id_or_zero(id: Option<ConnId>) -> ConnId
     id.unwrap_or(ConnId(0))
 }
 
+/// Returns so many ticks of 2^tick milliseconds.
+fn ticks_of(tick: u8, ticks: u64) -> TimeOut
+    requires { ticks < 256 }
+    ensures tick { result.tick ≡ tick }
+    ensures ticks { result.ticks ≡ ticks }
+{
+    TimeOut {
+        tick,
+        ticks: ticks as u8,
+    }
+}
+
+/// Returns a time of at most a minute in the shortest ticks that can say it, rounded up.
+fn time_out(ms: u64) -> TimeOut
+    requires { ms ≤ 60000 }
+    ensures tick { result.tick ≡ (time_out ms).tick }
+    ensures ticks { result.ticks ≡ (time_out ms).ticks }
+{
+    if ms <= 255 {
+        return ticks_of(0, ms);
+    }
+    if ms <= 510 {
+        return ticks_of(1, (ms + 1) / 2);
+    }
+    if ms <= 1020 {
+        return ticks_of(2, (ms + 3) / 4);
+    }
+    if ms <= 2040 {
+        return ticks_of(3, (ms + 7) / 8);
+    }
+    if ms <= 4080 {
+        return ticks_of(4, (ms + 15) / 16);
+    }
+    if ms <= 8160 {
+        return ticks_of(5, (ms + 31) / 32);
+    }
+    if ms <= 16320 {
+        return ticks_of(6, (ms + 63) / 64);
+    }
+    if ms <= 32640 {
+        return ticks_of(7, (ms + 127) / 128);
+    }
+    ticks_of(8, (ms + 255) / 256)
+}
+
+/// Returns how long a target has for an opening, as the request says.
+fn open_time(profile: &ScannerProfile) -> TimeOut
+    requires { profile.now.open_timeout ≤ 60000 }
+    ensures tick { result.tick ≡ (open_time profile.now).tick }
+    ensures ticks { result.ticks ≡ (open_time profile.now).ticks }
+{
+    if profile.tidy {
+        return time_out(profile.open_timeout);
+    }
+    TimeOut {
+        tick: PRIORITY_TICK,
+        ticks: TICKS,
+    }
+}
+
+/// Returns the O->T packet interval that a request asks for.
+fn requested_interval(profile: &ScannerProfile, us: u32) -> u32
+    ensures { result ≡ requested_interval profile.now us }
+{
+    if profile.tidy {
+        return (us / MILLISECOND).max(1) * MILLISECOND;
+    }
+    us
+}
+
 /// Returns the contents of a slot's Forward_Open.
-fn open_request<'a>(config: &'a SlotConfig, requested: &Requested) -> OpenRequest<ConnPath<'a>>
-    requires { IsTrue (has_lengths config.now) }
-    ensures contents { sent_open result ≡ open_fields config.now requested.now }
+fn open_request<'a>(
+    profile: &ScannerProfile,
+    config: &'a SlotConfig,
+    requested: &Requested,
+) -> OpenRequest<ConnPath<'a>>
+    requires lengths { IsTrue (has_lengths config.now) }
+    requires time { profile.now.open_timeout ≤ 60000 }
+    ensures contents { sent_open result ≡ open_fields profile.now config.now requested.now }
     ensures path { view_path result.path ≡ slot_path config.now }
 {
+    let time = open_time(profile);
     OpenRequest {
-        priority_tick: PRIORITY_TICK,
-        ticks: TICKS,
+        priority_tick: time.tick,
+        ticks: time.ticks,
         o_t_id: ConnId(0),
         t_o_id: id_or_zero(requested.t_o_id),
         triad: requested.triad,
         multiplier: config.mult,
-        o_t_rpi: config.o_t_rpi,
+        o_t_rpi: requested_interval(profile, config.o_t_rpi),
         o_t_params: o_t_params(config),
         t_o_rpi: config.t_o_rpi,
         t_o_params: t_o_params(config),
@@ -124,17 +212,19 @@ fn open_request<'a>(config: &'a SlotConfig, requested: &Requested) -> OpenReques
 /// Volume 1, chapter 3, Forward_Open and Large_Forward_Open services.
 pub fn open_frame(
     alloc: Global,
+    profile: &ScannerProfile,
     config: &SlotConfig,
     requested: &Requested,
     session: Session,
     number: u64,
 ) -> Result<Frame, OutOfMemory>
-    requires { IsTrue (has_lengths config.now) }
+    requires lengths { IsTrue (has_lengths config.now) }
+    requires time { profile.now.open_timeout ≤ 60000 }
     ensures { IfOk result
         (λ frame. frame ≡ sent_frame
-        (numbered session number (opening (is_large config.now) (open_fields config.now requested.now)))) }
+        (numbered session number (opening (is_large config.now) (open_fields profile.now config.now requested.now)))) }
 {
-    let request = open_request(config, requested);
+    let request = open_request(profile, config, requested);
     let service = service_for(config);
     let len = open_len(service, path_len(&request.path));
     let mut out = manager_front(alloc, session, number, service.code(), len)?;

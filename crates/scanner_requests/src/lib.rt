@@ -15,6 +15,6 @@ mod waits;
 pub use connections::{linked, new_connection};
 pub use frames::{close_frame, open_frame, registration_frame};
 pub use numbers::{LAST_REQUEST, can_open, id_after, next_requested, serial_after};
-pub use replies::{is_registered, open_answer};
+pub use replies::{ends_session, is_registered, open_answer};
 pub use sizes::service_for;
 pub use waits::later;

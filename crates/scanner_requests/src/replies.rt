@@ -1,6 +1,6 @@
 //! Replies to requests.
 
-ghost use Rattle.std.specs.Prelude.{◌≡◌};
+ghost use Rattle.std.specs.Prelude.{◌≡◌, ◌==◌, ◌&&◌};
 ghost use Rattle.cip_encap.specs.Message.{view_message};
 ghost use Rattle.scanner_table.specs.Encapsulation.{is_registered};
 ghost use Rattle.scanner_table.specs.Replies.{open_answer};
@@ -10,6 +10,9 @@ use cip_encap::command::{REGISTER_SESSION, SEND_RR_DATA};
 use cip_encap::{MessageView, read_items};
 use cip_events::Reason;
 use cip_fwdopen::{OpenAnswer, OpenService, read_open_reply};
+
+/// The encapsulation status of a message whose session the target does not know.
+const INVALID_SESSION: u32 = 0x0064;
 
 /// Reads the answer to a request of this service from a message.
 ///
@@ -47,4 +50,13 @@ pub fn is_registered(message: &MessageView<'_>) -> bool
     ensures { result ≡ is_registered (view_message message.now) }
 {
     message.command == REGISTER_SESSION && message.status == 0 && message.data.len() == 4
+}
+
+/// Returns whether a message ends the session that it came over: with `tidy`, if its target does not know the session.
+///
+/// Volume 2, chapter 2, encapsulation status, invalid session handle.
+pub fn ends_session(tidy: bool, message: &MessageView<'_>) -> bool
+    ensures { result ≡ (tidy && (view_message message.now).status == 0x0064) }
+{
+    tidy && message.status == INVALID_SESSION
 }

@@ -24,7 +24,7 @@ use Rattle.scanner_table.specs.Replies.{state_consumes}
 use Rattle.scanner_table.specs.WellFormed.{states_clash, clashes, IdsDiffer}
 use Rattle.cip_tables.specs.Wakes.{has_session}
 use Rattle.scanner_slots.specs.declared.bounds.Bounds.{Bounds}
-use Rattle.scanner_slots.specs.Bounding.{EndsFrom, IsDueFrom, IsBounded, AreBounded, IsHinted, IsNoLater, with_deadline}
+use Rattle.scanner_slots.specs.Bounding.{EndsFrom, IsDueFrom, has_target, IsBounded, AreBounded, IsHinted, IsNoLater, with_deadline}
 use Rattle.scanner_slots.proofs.Bounded.{earlier_one, earlier_all}
 
 some_is : {A : Type 0} (a b : A) → Some a ≡ Some b → a ≡ b
@@ -34,17 +34,17 @@ some_is a b is = cc
 
 -- the bounds of the old slot lead to the next bounds of the new one
 abbrev pub Carries : Bounds → Bounds → List TargetStream → Slot → Slot → Type 0
-Carries bounds next streams old new = (number : ℕ) (config : SlotConfig) → IsBounded bounds streams (record { number = number; config = config; slot = old }) → IsBounded next streams (record { number = number; config = config; slot = new })
+Carries bounds next streams old new = (number : ℕ) (config : SlotConfig) → IsBounded bounds (has_target streams (record { number = number; config = config; slot = old })) (record { number = number; config = config; slot = old }) → IsBounded next (has_target streams (record { number = number; config = config; slot = new })) (record { number = number; config = config; slot = new })
 
-set_bounded : (bounds next : Bounds) (streams : List TargetStream) (old new : Slot) (index from : ℕ) (configs : List SlotConfig) (slots : List Slot) → IsNoLater next bounds → slice_get slots index ≡ Some old → Carries bounds next streams old new → AreBounded bounds streams (indexed_from from configs slots) → AreBounded next streams (indexed_from from configs (slice_set slots index new))
+set_bounded : (bounds next : Bounds) (streams : List TargetStream) (old new : Slot) (index from : ℕ) (configs : List SlotConfig) (slots : List Slot) → IsNoLater next bounds → slice_get slots index ≡ Some old → Carries bounds next streams old new → AreBounded bounds (has_target streams) (indexed_from from configs slots) → AreBounded next (has_target streams) (indexed_from from configs (slice_set slots index new))
 set_bounded bounds next streams old new index from [] slots le is carries hold = tt
 set_bounded bounds next streams old new zero from (config ∷ configs) [] le is carries hold = tt
 set_bounded bounds next streams old new (suc index) from (config ∷ configs) [] le is carries hold = tt
 set_bounded bounds next streams old new zero from (config ∷ configs) (slot ∷ slots) le is carries hold =
     let same : slot ≡ old = some_is slot old is in
-    (carries from config (subst (λ (s : Slot). IsBounded bounds streams (record { number = from; config = config; slot = s })) same hold.0), earlier_all next bounds streams (indexed_from (suc from) configs slots) le hold.1)
+    (carries from config (subst (λ (s : Slot). IsBounded bounds (has_target streams (record { number = from; config = config; slot = s })) (record { number = from; config = config; slot = s })) same hold.0), earlier_all next bounds (has_target streams) (indexed_from (suc from) configs slots) le hold.1)
 set_bounded bounds next streams old new (suc index) from (config ∷ configs) (slot ∷ slots) le is carries hold =
-    (earlier_one next bounds streams (record { number = from; config = config; slot = slot }) le hold.0, set_bounded bounds next streams old new index (suc from) configs slots le is carries hold.1)
+    (earlier_one next bounds (has_target streams (record { number = from; config = config; slot = slot })) (record { number = from; config = config; slot = slot }) le hold.0, set_bounded bounds next streams old new index (suc from) configs slots le is carries hold.1)
 
 -- ---- datagrams
 
@@ -93,7 +93,7 @@ written_timed_out (TimedOut link) = refl
 written_timed_out (Closing c) = refl
 
 -- new data and another output change no time
-written_bounded : (bounds : Bounds) (streams : List TargetStream) (number : ℕ) (config : SlotConfig) (slot : Slot) (output : List ℕ) → IsBounded bounds streams (record { number = number; config = config; slot = slot }) → IsBounded bounds streams (record { number = number; config = config; slot = record slot { output = output; state = written_state slot.state } })
+written_bounded : (bounds : Bounds) (streams : List TargetStream) (number : ℕ) (config : SlotConfig) (slot : Slot) (output : List ℕ) → IsBounded bounds (has_target streams (record { number = number; config = config; slot = slot })) (record { number = number; config = config; slot = slot }) → IsBounded bounds (has_target streams (record { number = number; config = config; slot = record slot { output = output; state = written_state slot.state } })) (record { number = number; config = config; slot = record slot { output = output; state = written_state slot.state } })
 written_bounded bounds streams number config slot output one = record {
   deadlines = written_ends bounds.deadlines.0 slot.state one.deadlines;
   retries = λ can. one.retries (ap (λ (closed : Bool). needs_request slot && (closed && has_session streams config.target)) (sym (written_closed slot.state)) ∙ ap (λ (timed_out : Bool). (slot.desired_up || timed_out) && (is_closed (written_state slot.state) && has_session streams config.target)) (sym (written_timed_out slot.state)) ∙ can);
@@ -128,11 +128,11 @@ write_hints bounds t number bytes answer new at is hinted = found_hints bounds t
 
 -- ---- modes
 
-moded_one : (b : Bool) (bounds : Bounds) (streams : List TargetStream) (number : ℕ) (config : SlotConfig) (slot : Slot) → IsBounded bounds streams (record { number = number; config = config; slot = slot }) → IsBounded bounds streams (record { number = number; config = config; slot = cond b (record slot { state = written_state slot.state }) slot })
+moded_one : (b : Bool) (bounds : Bounds) (streams : List TargetStream) (number : ℕ) (config : SlotConfig) (slot : Slot) → IsBounded bounds (has_target streams (record { number = number; config = config; slot = slot })) (record { number = number; config = config; slot = slot }) → IsBounded bounds (has_target streams (record { number = number; config = config; slot = cond b (record slot { state = written_state slot.state }) slot })) (record { number = number; config = config; slot = cond b (record slot { state = written_state slot.state }) slot })
 moded_one true bounds streams number config slot one = written_bounded bounds streams number config slot slot.output one
 moded_one false bounds streams number config slot one = one
 
-moded_all : (bounds : Bounds) (streams : List TargetStream) (number : ℕ) (configs : List SlotConfig) (slots : List Slot) → AreBounded bounds streams (indexed_from number configs slots) → AreBounded bounds streams (indexed_from number configs (map moded_slot (indexed_from number configs slots)))
+moded_all : (bounds : Bounds) (streams : List TargetStream) (number : ℕ) (configs : List SlotConfig) (slots : List Slot) → AreBounded bounds (has_target streams) (indexed_from number configs slots) → AreBounded bounds (has_target streams) (indexed_from number configs (map moded_slot (indexed_from number configs slots)))
 moded_all bounds streams number [] slots hold = tt
 moded_all bounds streams number (config ∷ configs) [] hold = tt
 moded_all bounds streams number (config ∷ configs) (slot ∷ slots) hold =

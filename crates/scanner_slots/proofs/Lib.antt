@@ -4,5 +4,6 @@ pub mod Resting
 pub mod Changes
 pub mod Few
 pub mod FirstDue
+mod Turns
 mod Singly
 mod OrderedViews

@@ -6,7 +6,7 @@ use Rattle.scanner_table.specs.declared.slot.SlotState.TheVariants.{Idle, Openin
 use Rattle.scanner_table.specs.declared.table.ScannerTable.{ScannerTable}
 use Rattle.scanner_table.specs.declared.table.TargetStream.{TargetStream}
 use Rattle.scanner_table.specs.Slots.{IndexedSlot, indexed_slots, is_closed, needs_request, slot_at}
-use Rattle.cip_tables.specs.Wakes.{has_session}
+use Rattle.cip_tables.specs.Wakes.{has_session, can_ask}
 use Rattle.scanner_slots.specs.declared.bounds.Bounds.{Bounds}
 
 -- ONE SLOT
@@ -27,21 +27,25 @@ IsDueFrom bound (Established c) = bound ≤ c.production.due.0
 IsDueFrom bound (TimedOut link) = Unit {0}
 IsDueFrom bound (Closing c) = Unit {0}
 
--- the connection is wanted and not open, and its target has a session: the slot opens or closes it at its retry time
-abbrev pub can_retry : List TargetStream → IndexedSlot → Bool
-can_retry streams indexed = needs_request indexed.slot && (is_closed indexed.slot.state && has_session streams indexed.config.target)
+-- the connection is wanted and not open, and its target can be asked: the slot opens or closes it at its retry time
+abbrev pub can_retry : Bool → IndexedSlot → Bool
+can_retry asks indexed = needs_request indexed.slot && (is_closed indexed.slot.state && asks)
 
--- no time of the slot comes before its bound
-pub record IsBounded (bounds : Bounds) (streams : List TargetStream) (indexed : IndexedSlot) : Type 0 where
+-- a session with the slot's target is registered
+abbrev pub has_target : List TargetStream → IndexedSlot → Bool
+has_target streams indexed = has_session streams indexed.config.target
+
+-- no time of the slot, which can ask its target or not, comes before its bound
+pub record IsBounded (bounds : Bounds) (asks : Bool) (indexed : IndexedSlot) : Type 0 where
   pub deadlines : EndsFrom bounds.deadlines.0 indexed.slot.state
-  pub retries : can_retry streams indexed ≡ true → bounds.retries.0 ≤ indexed.slot.retry_at.0
+  pub retries : can_retry asks indexed ≡ true → bounds.retries.0 ≤ indexed.slot.retry_at.0
   pub dues : IsDueFrom bounds.dues.0 indexed.slot.state
 
 -- ALL SLOTS
 
-abbrev pub AreBounded : Bounds → List TargetStream → List IndexedSlot → Type 0
-AreBounded bounds streams [] = Unit {0}
-AreBounded bounds streams (indexed ∷ rest) = IsBounded bounds streams indexed × AreBounded bounds streams rest
+abbrev pub AreBounded : Bounds → (IndexedSlot → Bool) → List IndexedSlot → Type 0
+AreBounded bounds asks [] = Unit {0}
+AreBounded bounds asks (indexed ∷ rest) = IsBounded bounds (asks indexed) indexed × AreBounded bounds asks rest
 
 -- one time for each bound
 abbrev pub all_bounds : Ms → Bounds
@@ -49,11 +53,16 @@ all_bounds time = record { deadlines = time; retries = time; dues = time }
 
 -- no time of the slot of a number, if there is one, comes before its bound
 abbrev pub IsBoundedAt : Bounds → ScannerTable → ℕ → Type 0
-IsBoundedAt bounds t number = (indexed : IndexedSlot) → slot_at t number ≡ Some indexed → IsBounded bounds t.streams indexed
+IsBoundedAt bounds t number = (indexed : IndexedSlot) → slot_at t number ≡ Some indexed → IsBounded bounds (has_target t.streams indexed) indexed
 
--- no time of a slot of the table comes before its bound
+-- No time of a slot of the table comes before its bound. A slot that waits for its turn counts as one that can open, so that
+-- a change of another slot makes no bound too late.
 pub record IsHinted (bounds : Bounds) (t : ScannerTable) : Type 0 where
-  pub slots : AreBounded bounds t.streams (indexed_slots t)
+  pub slots : AreBounded bounds (has_target t.streams) (indexed_slots t)
+
+-- no time of a slot that can ask its target comes before its bound
+pub record IsTimed (bounds : Bounds) (t : ScannerTable) : Type 0 where
+  pub slots : AreBounded bounds (can_ask t) (indexed_slots t)
 
 -- CHANGES
 

@@ -16,7 +16,7 @@ ghost use Rattle.scanner_table.specs.Slots.{IndexedSlot, indexed_slots, is_numbe
 ghost use Rattle.scanner_table.specs.Ticks.{advanced};
 ghost use Rattle.scanner_table.specs.WellFormed.{IsWellFormed};
 ghost use Rattle.scanner_slots.specs.declared.bounds.Bounds.{Bounds};
-ghost use Rattle.scanner_slots.specs.Bounding.{IsBoundedAt, IsHinted, IsNoLater, with_deadline, at_time};
+ghost use Rattle.scanner_slots.specs.Bounding.{IsBoundedAt, IsHinted, IsTimed, IsNoLater, with_deadline, at_time};
 
 use crate::found_slots_match;
 
@@ -37,15 +37,20 @@ pub fn bounds_hold_slot_by_slot()
 
 /// Before the first deadline and the first retry that opens, no connection changes.
 pub fn connections_rest_before_bounds()
-    ensures { (bounds : Bounds) (t : ScannerTable) (clock : Ms) → IsHinted bounds t → clock.0 < bounds.deadlines.0
+    ensures { (bounds : Bounds) (t : ScannerTable) (clock : Ms) → IsTimed bounds t → clock.0 < bounds.deadlines.0
         → clock.0 < bounds.retries.0 → advanced (at_time t clock) ≡ nothing (at_time t clock) }
+{}
+
+/// Bounds that count a slot that waits for its turn as one that can open hold of those that can.
+pub fn hints_are_times()
+    ensures { (bounds : Bounds) (t : ScannerTable) → IsHinted bounds t → IsTimed bounds t }
 {}
 
 /// Before the first due time, no slot produces.
 pub fn producers_rest_before_bounds()
-    ensures sent { (bounds : Bounds) (t : ScannerTable) (clock : Ms) → IsHinted bounds t → clock.0 < bounds.dues.0
+    ensures sent { (bounds : Bounds) (t : ScannerTable) (clock : Ms) → IsTimed bounds t → clock.0 < bounds.dues.0
         → due_productions (at_time t clock) ≡ [] }
-    ensures table { (bounds : Bounds) (t : ScannerTable) (clock : Ms) → IsWellFormed t → IsHinted bounds t
+    ensures table { (bounds : Bounds) (t : ScannerTable) (clock : Ms) → IsWellFormed t → IsTimed bounds t
         → clock.0 < bounds.dues.0 → produced_table (at_time t clock) ≡ at_time t clock }
 {}
 

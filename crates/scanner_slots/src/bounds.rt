@@ -4,7 +4,7 @@ ghost use Rattle.std.specs.Prelude.{◌≡◌, ◌<◌, ◌≤◌, ◌^◌, ◌&
 ghost use Rattle.scanner_table.specs.Profiles.{profile_fault};
 ghost use Rattle.scanner_table.specs.Slots.{indexed_from, is_closed};
 ghost use Rattle.scanner_slots.specs.Views.{view_slot, table_of};
-ghost use Rattle.scanner_slots.specs.Bounding.{can_retry, IsBounded, IsBoundedAt, AreBounded, IsHinted, IsNoLater};
+ghost use Rattle.scanner_slots.specs.Bounding.{can_retry, has_target, IsBounded, IsBoundedAt, AreBounded, IsHinted, IsNoLater};
 
 use crate::due::has_session;
 use crate::states::needs_request;
@@ -36,7 +36,8 @@ const UNBOUNDED: Bounds = Bounds {
 /// The retry time of a closed slot, if it opens at it.
 fn retry_of(streams: &[TargetStream], indexed: SlotView<'_>) -> Ms
     requires { is_closed indexed.slot.now.state ≡ true }
-    ensures { can_retry streams.now (view_slot indexed.entry) ≡ true → result.0 ≤ indexed.entry.slot.now.retry_at.0 }
+    ensures { can_retry (has_target streams.now (view_slot indexed.entry)) (view_slot indexed.entry) ≡ true
+        → result.0 ≤ indexed.entry.slot.now.retry_at.0 }
 {
     if needs_request(indexed.slot) && has_session(streams, indexed.config.target) {
         return indexed.slot.retry_at;
@@ -46,7 +47,7 @@ fn retry_of(streams: &[TargetStream], indexed: SlotView<'_>) -> Ms
 
 /// The times of one slot.
 fn times_of(streams: &[TargetStream], indexed: SlotView<'_>) -> Bounds
-    ensures { IsBounded result streams.now (view_slot indexed.entry) }
+    ensures { IsBounded result (has_target streams.now (view_slot indexed.entry)) (view_slot indexed.entry) }
 {
     match &indexed.slot.state {
         SlotState::Opening(opening) => Bounds {
@@ -130,7 +131,7 @@ pub fn narrowed_at(
 
 fn bounds_among(streams: &[TargetStream], configs: &[SlotConfig], slots: &[Slot]) -> Bounds
     requires { length configs.now ≤ 2 ^ 32 }
-    ensures { AreBounded result streams.now (indexed_from 0 configs.now slots.now) }
+    ensures { AreBounded result (has_target streams.now) (indexed_from 0 configs.now slots.now) }
 {
     let mut bounds = UNBOUNDED;
     for index in 0..configs.len().min(slots.len()) {

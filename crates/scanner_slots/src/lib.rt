@@ -18,11 +18,11 @@ mod states;
 
 pub use bound_laws::{
     accepted_datagrams_keep_bounds, bounds_are_kept_by_earlier_ones, bounds_hold_slot_by_slot,
-    connections_rest_before_bounds, found_consumers_are_first, modes_keep_bounds,
+    connections_rest_before_bounds, found_consumers_are_first, hints_are_times, modes_keep_bounds,
     producers_rest_before_bounds, writes_keep_bounds,
 };
 pub use bounds::{Bounds, bounds_of, narrowed_at};
-pub use due::first_due;
+pub use due::{first_due, open_session};
 pub use expired::expired_numbers;
 pub use hints::{Hints, NoHints, SlotHints};
 pub use indexed_slots::{SlotView, slot_at};

@@ -34,7 +34,8 @@ pub enum SlotTest {
     Due(Ms),
 }
 
-fn is_with(indexed: SlotView<'_>, target: Node) -> bool
+/// Whether a slot is of this target.
+pub(crate) fn is_with(indexed: SlotView<'_>, target: Node) -> bool
     ensures { result ≡ is_with target (view_slot indexed.entry) }
 {
     indexed.config.target.0 == target.0

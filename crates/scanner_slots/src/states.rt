@@ -1,7 +1,7 @@
 //! How far the connection of a slot is.
 
 ghost use Rattle.std.specs.Prelude.{◌≡◌};
-ghost use Rattle.scanner_table.specs.Slots.{number_of, is_closed, is_timed_out, needs_request, is_ready};
+ghost use Rattle.scanner_table.specs.Slots.{number_of, is_closed, is_opening, is_timed_out, needs_request, is_ready};
 ghost use Rattle.scanner_table.specs.Ticks.{state_has_expired, state_is_overdue};
 ghost use Rattle.scanner_table.specs.Productions.{state_is_due};
 ghost use Rattle.scanner_table.specs.Replies.{state_consumes};
@@ -32,6 +32,19 @@ fn is_closed(state: &SlotState) -> bool
     match state {
         SlotState::Idle | SlotState::TimedOut(_) => true,
         SlotState::Opening(_) | SlotState::Established(_) | SlotState::Closing(_) => false,
+    }
+}
+
+/// Whether a slot waits for the reply to its Forward_Open.
+pub(crate) fn is_opening(state: &SlotState) -> bool
+    ensures { result ≡ is_opening state.now }
+{
+    match state {
+        SlotState::Opening(_) => true,
+        SlotState::Idle
+        | SlotState::Established(_)
+        | SlotState::TimedOut(_)
+        | SlotState::Closing(_) => false,
     }
 }
 

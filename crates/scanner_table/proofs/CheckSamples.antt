@@ -219,3 +219,27 @@ held_back = refl
 times_first : profile_fault (record (profile (owner ∷ [])) { retry = 0; newer = Some 1 }) ≡ Some Timing
 unfolding profile_fault
 times_first = refl
+
+-- ---- openings that wait at one time
+
+-- with this number of them
+abbrev turning : ℕ → Option ProfileFault
+turning most = profile_fault (record (profile (owner ∷ [])) { openings = Some most })
+
+openings_in_range : (turning 1 ≡ None) × (turning 48 ≡ None)
+unfolding profile_fault
+openings_in_range = (refl, refl)
+
+openings_out_of_range : (turning 0 ≡ Some Limits) × (turning 49 ≡ Some Limits)
+unfolding profile_fault
+openings_out_of_range = (refl, refl)
+
+-- ---- the first serial number
+
+serials_in_range : (profile_fault (record (profile (owner ∷ [])) { serials = Some 1 }) ≡ None) × (profile_fault (record (profile (owner ∷ [])) { serials = Some 65535 }) ≡ None)
+unfolding profile_fault
+serials_in_range = (refl, refl)
+
+no_serial : profile_fault (record (profile (owner ∷ [])) { serials = Some 0 }) ≡ Some Limits
+unfolding profile_fault
+no_serial = refl

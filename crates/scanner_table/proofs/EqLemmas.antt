@@ -119,7 +119,9 @@ profile_decides a b =
     (Decides-and _ _ (Decides-eqb a.retry b.retry)
     (Decides-and _ _ (numbers_decide a.newer b.newer)
     (Decides-and _ _ (booleans_Decides a.tidy b.tidy)
-    (pointwise_decides config_decides a.slots b.slots)))))))))
+    (Decides-and _ _ (numbers_decide a.openings b.openings)
+    (Decides-and _ _ (numbers_decide a.serials b.serials)
+    (pointwise_decides config_decides a.slots b.slots)))))))))))
 
 -- ---- slots
 

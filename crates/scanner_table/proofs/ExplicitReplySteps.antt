@@ -37,7 +37,7 @@ use Rattle.scanner_table.specs.Datagrams.{accepts_at, is_for, delivered, accepte
 use Rattle.scanner_table.specs.Points.{output_written, write_length, write_at, write, read_at, read, mode, desired_slot, started, start_state, start_at, start, stop_of, stop}
 use Rattle.scanner_table.specs.Ticks.{clocked_table, moved_on, ticked, tick}
 use Rattle.scanner_table.specs.Explicit.{awaits, connects_to, has_explicit_length, is_barred, explicit_sent, explicit_within, explicit_sized, explicit_request, explicit_reply, explicit_answered}
-use Rattle.scanner_table.specs.Encapsulation.{registering_on, registered, ignored, is_awaiting, replied, replied_to, reported, message_answer, frame_answer, frame_of, frame, stream_opened, cut_of, stream_cut}
+use Rattle.scanner_table.specs.Encapsulation.{registering_on, registered, ignored, ends_session, session_renewed, is_awaiting, replied, replied_to, unserved_at, reported, message_answer, frame_answer, frame_of, frame, stream_opened, cut_of, stream_cut}
 use Rattle.scanner_table.specs.Step.{scanner_step}
 use Rattle.scanner_table.specs.ExplicitReplies.{is_reply, RepliesToPending, RepliesAreToPending}
 
@@ -157,9 +157,14 @@ replied_to_none : (t : ScannerTable) (m : MessageFields) (found : Option Indexed
 replied_to_none t m None = refl
 replied_to_none t m (Some indexed) = replied_none t indexed m indexed.slot.state
 
+answered_at_none : (b : Bool) (t : ScannerTable) (stream : TargetStream) (m : MessageFields) (found : Option IndexedSlot) → NoReply (cond b (unserved_at t stream m found) (replied_to t m found))
+answered_at_none true t stream m None = refl
+answered_at_none true t stream m (Some indexed) = refl
+answered_at_none false t stream m found = replied_to_none t m found
+
 reported_none : (t : ScannerTable) (stream : TargetStream) (m : MessageFields) (stage : Stage) → NoReply (reported t stream m stage)
 reported_none t stream m Waiting = either NoReply (m.context == 0) (done (registered t stream m)) (ignored t) refl refl
-reported_none t stream m (Up handle) = replied_to_none t m (find (is_awaiting stream.peer m.context) (indexed_slots t))
+reported_none t stream m (Up handle) = answered_at_none (ends_session t m) t stream m (find (is_awaiting stream.peer m.context) (indexed_slots t))
 reported_none t stream m Unused = refl
 
 -- a verdict that is a reply, and is none
@@ -187,9 +192,13 @@ explicit_answered_replies t number bytes m pending (Ok reply) read found is = λ
   removed = refl;
 }
 
+explicit_ends_replies : (b : Bool) (t : ScannerTable) (stream : TargetStream) (bytes : List ℕ) (m : MessageFields) (pending : PendingExplicit) → message_reading bytes ≡ Ok m → find (awaits stream.number m.context) t.explicit ≡ Some pending → Replies t stream.number bytes (cond b (done (session_renewed stream t)) (explicit_answered t pending (explicit_reply pending.service m)))
+explicit_ends_replies true t stream bytes m pending read is = λ reply. both false refl reply
+explicit_ends_replies false t stream bytes m pending read is = explicit_answered_replies t stream.number bytes m pending (explicit_reply pending.service m) read is refl
+
 message_replies : (t : ScannerTable) (stream : TargetStream) (bytes : List ℕ) (m : MessageFields) (found : Option PendingExplicit) → message_reading bytes ≡ Ok m → find (awaits stream.number m.context) t.explicit ≡ found → Replies t stream.number bytes (message_answer t stream m found)
 message_replies t stream bytes m None read is = λ reply. both _ (reported_none t stream m stream.stage) reply
-message_replies t stream bytes m (Some pending) read is = explicit_answered_replies t stream.number bytes m pending (explicit_reply pending.service m) read is refl
+message_replies t stream bytes m (Some pending) read is = explicit_ends_replies (ends_session t m) t stream bytes m pending read is
 
 frame_answer_replies : (t : ScannerTable) (stream : TargetStream) (bytes : List ℕ) (reading : Result MessageFields EncapFault) → message_reading bytes ≡ reading → Replies t stream.number bytes (frame_answer t stream reading)
 frame_answer_replies t stream bytes (Err why) read = λ reply. both false refl reply

@@ -1,5 +1,5 @@
 -- Samples of explicit requests at a small scanner: each says which outcomes a list of events has.
-use Rattle.std.proofs.Common.{◌≡◌, ℕ, List, [], ◌∷◌, ◌++◌, replicate, Ok, Err, refl}
+use Rattle.std.proofs.Common.{◌≡◌, ℕ, List, [], ◌∷◌, ◌++◌, replicate, Ok, Err, true, refl}
 use Rattle.cip_events.specs.declared.event.Event.{Event}
 use Rattle.cip_events.specs.declared.event.Event.TheVariants.{StreamOpened, Frame, StreamCut, Tick, Start, Explicit}
 use Rattle.cip_events.specs.declared.event.Notice.TheVariants as notice
@@ -10,7 +10,7 @@ use Rattle.cip_events.specs.declared.event.Unanswered.TheVariants as unanswered
 use Rattle.cip_events.specs.declared.event.Verdict.TheVariants.{Done, Ignored, Replied}
 use Rattle.cip_events.specs.Answers.{plain_answer}
 use Rattle.cip_events.specs.Outcomes.{Outcome}
-use Rattle.scanner_table.proofs.SmallScanner.{target, other_target, owner, profile, reported, after, quiet, only, not_now, reports_notices, items, connected}
+use Rattle.scanner_table.proofs.SmallScanner.{target, other_target, owner, profile, reported, after, quiet, only, not_now, reports_notices, items, registration, unknown_session, connected}
 use Rattle.cip_encap.specs.Reading as messages
 use Rattle.cip_encap.specs.PacketReading as packets
 use Rattle.cip_fwdopen.specs.Open as opens
@@ -178,3 +178,13 @@ too_many = refl
 numbers_end : reported (record connected { next_request = 281474976710657 }) (vendor_request ∷ []) ≡ not_now ∷ []
 unfolding messages.message_reading packets.packet_reading packets.behind_socket packets.are_sockets router_reply_reading opens.open_text opened ready_opened target_opened target_lost stream_opened stream_cut frame explicit_request explicit_reply produced_table all_expired all_given_up explicit_timed_out explicit_lost tick start
 numbers_end = refl
+
+-- the target does not know the session of a request: at a tidy scanner the request is lost with the session, and the next one is registered
+unknown_to_tidy : reported (record requested { profile = record requested.profile { tidy = true } }) (Frame 0 (unknown_session 1) ∷ Frame 0 vendor_frame ∷ []) ≡ Ok (record (plain_answer Done) { frames = record { to = recipient.Stream 0; bytes = registration } ∷ []; notices = notice.Unanswered 7 unanswered.Lost ∷ [] }) ∷ only Ignored ∷ []
+unfolding messages.message_reading packets.packet_reading packets.behind_socket packets.are_sockets router_reply_reading opens.open_text opened ready_opened target_opened target_lost stream_opened stream_cut frame explicit_request explicit_reply produced_table all_expired all_given_up explicit_timed_out explicit_lost tick start
+unknown_to_tidy = refl
+
+-- and at another scanner it is answered with the status
+unknown_to_other : reported requested (Frame 0 (unknown_session 1) ∷ []) ≡ unanswered_for (unanswered.Encap 0x64) ∷ []
+unfolding messages.message_reading packets.packet_reading packets.behind_socket packets.are_sockets router_reply_reading opens.open_text opened ready_opened target_opened target_lost stream_opened stream_cut frame explicit_request explicit_reply produced_table all_expired all_given_up explicit_timed_out explicit_lost tick start
+unknown_to_other = refl

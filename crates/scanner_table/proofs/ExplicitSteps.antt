@@ -43,11 +43,11 @@ use Rattle.scanner_table.specs.Slots.{IndexedSlot, indexed_slots, with_slot}
 use Rattle.scanner_table.specs.Sessions.{is_stream, is_other_stream, is_to, is_taken, with_stream, without_stream, with_stage, session_at, session_on, session_with}
 use Rattle.scanner_table.specs.Requests.{is_large}
 use Rattle.scanner_table.specs.Effects.{Next, nothing, done}
-use Rattle.scanner_table.specs.Opening.{has_request, can_open, exhausted, open_requested, opened_within, close_requested, cleared_within, opened_from, opened, target_opened}
+use Rattle.scanner_table.specs.Opening.{has_request, can_open, exhausted, open_requested, opened_within, close_requested, cleared_within, opened_from, asking_session, opened, target_opened}
 use Rattle.scanner_table.specs.Replies.{open_answer, is_id_free, refused, disowned, disowned_within, rejected, judged_success, answered}
 use Rattle.scanner_table.specs.Closing.{idle_slot, closed, target_lost}
 use Rattle.scanner_table.specs.Explicit.{has_number, is_request, is_over, awaits, others, with_explicit, connects_to, has_explicit_length, service_of, is_for_slots, is_barred, pending_explicit, explicit_sent, explicit_within, explicit_request, explicit_reply, explicit_answered, is_late, explicit_timed_out, explicit_lost}
-use Rattle.scanner_table.specs.Encapsulation.{registering_on, ignored, stream_opened, cut_of, stream_cut, is_registered, session_begun, session_failed, registered, is_awaiting, replied, replied_to, reported, message_answer, frame_answer, frame_of, frame}
+use Rattle.scanner_table.specs.Encapsulation.{registering_on, ignored, stream_opened, cut_of, stream_cut, is_registered, session_begun, session_failed, registered, ends_session, session_renewed, is_awaiting, replied, replied_to, unserved_state, unserved, unserved_at, reported, message_answer, frame_answer, frame_of, frame}
 use Rattle.scanner_table.specs.Productions.{produced_table}
 use Rattle.scanner_table.specs.Ticks.{clocked_table, advanced, moved_on, ticked, tick}
 use Rattle.scanner_table.specs.Step.{scanner_step, scanner_table}
@@ -378,7 +378,7 @@ from_keeps t indexed session other = within_keeps t indexed session
 
 opened_keeps : (t : ScannerTable) (indexed : IndexedSlot) → Keeps t (opened t indexed).table
 unfolding opened
-opened_keeps t indexed = from_keeps t indexed (session_with t indexed.config.target) indexed.slot.state
+opened_keeps t indexed = from_keeps t indexed (asking_session t indexed) indexed.slot.state
 
 reopen_keeps : (b : Bool) (t : ScannerTable) (indexed : IndexedSlot) → Keeps t (cond b (opened t indexed) (nothing t)).table
 reopen_keeps true t indexed = opened_keeps t indexed
@@ -418,18 +418,41 @@ first_step : (b : Bool) (t : ScannerTable) (stream : TargetStream) (m : MessageF
 first_step true t stream m = registered_keeps (is_registered m) t stream m.session
 first_step false t stream m = keeps_same t
 
-reported_keeps : (t : ScannerTable) (stream : TargetStream) (m : MessageFields) (stage : Stage) → Keeps t (reported t stream m stage).1
-reported_keeps t stream m Waiting = first_step (m.context == 0) t stream m
-reported_keeps t stream m (Up handle) = replied_to_keeps t m (find (is_awaiting stream.peer m.context) (indexed_slots t))
-reported_keeps t stream m Unused = keeps_same t
+-- the session on a stream ends, and a new one is registered: the requests of other streams are pending still
+renewed_pending : (t : ScannerTable) (stream : TargetStream) → ExplicitArePending t → ExplicitArePending (session_renewed stream t).table
+unfolding explicit_lost
+renewed_pending t stream all =
+    let now = with_stage t stream.number Waiting in
+    let lost = (target_lost stream.peer now).table in
+    fits_left (λ p. not (is_over stream.number p)) lost (fits_kept t lost (keeps_after t now lost (staged_keeps t stream.number Waiting) (lost_leads Keeps slots_keep stream.peer now)) all)
+
+unserved_keeps : (t : ScannerTable) (indexed : IndexedSlot) (status : ℕ) (state : SlotState) → Keeps t (unserved_state status t indexed state).table
+unserved_keeps t indexed status (Opening o) = record { profile = refl; clock = refl; explicit = refl; requests = omega arith; streams = λ n here. here }
+unserved_keeps t indexed status other = keeps_same t
+
+answered_at_pending : (b : Bool) (t : ScannerTable) (stream : TargetStream) (m : MessageFields) (found : Option IndexedSlot) → ExplicitArePending t → ExplicitArePending (cond b (unserved_at t stream m found) (replied_to t m found)).1
+answered_at_pending true t stream m None all = all
+answered_at_pending true t stream m (Some indexed) all =
+    let u = (unserved m.status t indexed).table in
+    renewed_pending u stream (fits_kept t u (unserved_keeps t indexed m.status indexed.slot.state) all)
+answered_at_pending false t stream m found all = fits_kept t (replied_to t m found).1 (replied_to_keeps t m found) all
+
+reported_pending : (t : ScannerTable) (stream : TargetStream) (m : MessageFields) (stage : Stage) → ExplicitArePending t → ExplicitArePending (reported t stream m stage).1
+reported_pending t stream m Waiting all = fits_kept t (reported t stream m Waiting).1 (first_step (m.context == 0) t stream m) all
+reported_pending t stream m (Up handle) all = answered_at_pending (ends_session t m) t stream m (find (is_awaiting stream.peer m.context) (indexed_slots t)) all
+reported_pending t stream m Unused all = all
 
 explicit_answered_pending : (t : ScannerTable) (pending : PendingExplicit) (reply : Result RouterReplyFields Unanswered) → ExplicitArePending t → ExplicitArePending (explicit_answered t pending reply).1
 explicit_answered_pending t pending (Ok reply) all = fits_left (λ p. not (is_request pending.request p)) t all
 explicit_answered_pending t pending (Err why) all = fits_left (λ p. not (is_request pending.request p)) t all
 
+explicit_ends_pending : (b : Bool) (t : ScannerTable) (stream : TargetStream) (m : MessageFields) (pending : PendingExplicit) (reply : Result RouterReplyFields Unanswered) → ExplicitArePending t → ExplicitArePending (cond b (done (session_renewed stream t)) (explicit_answered t pending reply)).1
+explicit_ends_pending true t stream m pending reply all = renewed_pending t stream all
+explicit_ends_pending false t stream m pending reply all = explicit_answered_pending t pending reply all
+
 message_pending : (t : ScannerTable) (stream : TargetStream) (m : MessageFields) (found : Option PendingExplicit) → ExplicitArePending t → ExplicitArePending (message_answer t stream m found).1
-message_pending t stream m None all = fits_kept t (reported t stream m stream.stage).1 (reported_keeps t stream m stream.stage) all
-message_pending t stream m (Some pending) all = explicit_answered_pending t pending (explicit_reply pending.service m) all
+message_pending t stream m None all = reported_pending t stream m stream.stage all
+message_pending t stream m (Some pending) all = explicit_ends_pending (ends_session t m) t stream m pending (explicit_reply pending.service m) all
 
 frame_answer_pending : (t : ScannerTable) (stream : TargetStream) (reading : Result MessageFields EncapFault) → ExplicitArePending t → ExplicitArePending (frame_answer t stream reading).1
 frame_answer_pending t stream (Err why) all = all

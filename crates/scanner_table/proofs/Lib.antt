@@ -5,6 +5,7 @@ mod SmallScanner
 mod OpeningSamples
 mod ReplySamples
 mod TidySamples
+mod TurnSamples
 mod DataSamples
 mod CheckSamples
 mod ExplicitSamples

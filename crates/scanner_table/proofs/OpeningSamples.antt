@@ -151,6 +151,14 @@ last_request : reported last_serial (Start 0 ∷ []) ≡ sends_request (items 1 
 unfolding messages.message_reading packets.packet_reading packets.behind_socket packets.are_sockets replies.open_reply_reading replies.unread_reading opens.open_text closes.close_text datagrams.datagram_reading opened ready_opened target_opened open_answer answered target_lost stream_opened stream_cut frame received produced_table all_expired all_given_up explicit_timed_out explicit_lost tick write read mode start stop
 last_request = refl
 
+-- the profile says the first one
+abbrev from_serial : ScannerTable
+from_serial = after (scanner_table (record (profile (owner ∷ [])) { serials = Some 65535 })) registers
+
+first_of_profile : reported from_serial (Start 0 ∷ []) ≡ reported last_serial (Start 0 ∷ [])
+unfolding messages.message_reading packets.packet_reading packets.behind_socket packets.are_sockets replies.open_reply_reading replies.unread_reading opens.open_text closes.close_text datagrams.datagram_reading opened ready_opened target_opened open_answer answered target_lost stream_opened stream_cut frame received produced_table all_expired all_given_up explicit_timed_out explicit_lost tick write read mode start stop
+first_of_profile = refl
+
 first_again : (after last_serial (Start 0 ∷ [])).next_serial ≡ 1
 unfolding messages.message_reading packets.packet_reading packets.behind_socket packets.are_sockets replies.open_reply_reading replies.unread_reading opens.open_text closes.close_text datagrams.datagram_reading opened ready_opened target_opened open_answer answered target_lost stream_opened stream_cut frame received produced_table all_expired all_given_up explicit_timed_out explicit_lost tick write read mode start stop
 first_again = refl
@@ -215,7 +223,7 @@ last_numbered = refl
 
 -- the request of a slot's first opening, as a message router reads it
 abbrev requested_by : SlotConfig → List ℕ
-requested_by config = manager_text (open_service (is_large config)) (opens.open_text (is_large config) (open_fields config (next_requested connected config)))
+requested_by config = manager_text (open_service (is_large config)) (opens.open_text (is_large config) (open_fields connected.profile config (next_requested connected config)))
 
 -- a target that produces at a change, with an inhibit time of 5 ms
 at_change : requested_by (record owner { trigger = ChangeOfState; inhibit = 5 }) ≡ 0x54 ∷ 0x02 ∷ 0x20 ∷ 0x06 ∷ 0x24 ∷ 0x01 ∷ 0x0A ∷ 0x0E ∷ 0x00 ∷ 0x00 ∷ 0x00 ∷ 0x00 ∷ 0x01 ∷ 0x00 ∷ 0x00 ∷ 0x20 ∷ 0x01 ∷ 0x00 ∷ 0x34 ∷ 0x12 ∷ 0x78 ∷ 0x56 ∷ 0x34 ∷ 0x12 ∷ 0x02 ∷ 0x00 ∷ 0x00 ∷ 0x00 ∷ 0x10 ∷ 0x27 ∷ 0x00 ∷ 0x00 ∷ 0x0A ∷ 0x48 ∷ 0x10 ∷ 0x27 ∷ 0x00 ∷ 0x00 ∷ 0x06 ∷ 0x48 ∷ 0x11 ∷ 0x05 ∷ 0x43 ∷ 0x05 ∷ 0x20 ∷ 0x04 ∷ 0x24 ∷ 0x97 ∷ 0x2C ∷ 0x96 ∷ 0x2C ∷ 0x64 ∷ []

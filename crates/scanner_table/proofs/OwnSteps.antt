@@ -121,7 +121,7 @@ link_drawn t false Idle link is drawn = absurd cc
 link_drawn t false (Opening o) link is drawn = subst (LinkIsDrawn t.profile t.next_id false) (same_Some (requested_link o.requested) link is) (requested_drawn t.profile t.next_id o.requested.t_o_id drawn.1)
 link_drawn t false (Established c) link is drawn = subst (LinkIsDrawn t.profile t.next_id false) (same_Some c.link link is) drawn.1
 link_drawn t false (TimedOut other) link is drawn = subst (LinkIsDrawn t.profile t.next_id false) (same_Some other link is) drawn
-link_drawn t false (Closing c) link is drawn = absurd cc
+link_drawn t false (Closing c) link is drawn = subst (LinkIsDrawn t.profile t.next_id false) (same_Some c.link link is) drawn.1
 
 timed_out_drawn : (t : ScannerTable) (multicast : Bool) (state : SlotState) (link : Link) → state ≡ TimedOut link → LinkIsDrawn t.profile t.next_id multicast link → StateIsDrawn t.profile t.next_id t.next_request multicast state
 timed_out_drawn t multicast state link is drawn = rw is drawn
@@ -271,7 +271,7 @@ link_id t false Idle link id is drawn same = absurd cc
 link_id t false (Opening o) link id is drawn same = requested_t_o t.profile t.next_id o.requested.t_o_id id drawn.1 (ap (λ (l : Link). Some l.t_o_id) (same_Some (requested_link o.requested) link is) ∙ same)
 link_id t false (Established c) link id is drawn same = ap (λ (l : Link). Some l.t_o_id) (same_Some c.link link is) ∙ same
 link_id t false (TimedOut other) link id is drawn same = ap (λ (l : Link). Some l.t_o_id) (same_Some other link is) ∙ same
-link_id t false (Closing c) link id is drawn same = absurd cc
+link_id t false (Closing c) link id is drawn same = ap (λ (l : Link). Some l.t_o_id) (same_Some c.link link is) ∙ same
 
 -- the state before had this id
 same_state_id : (config : SlotConfig) (state other next : SlotState) (id : ConnId) → state ≡ other → drawn_id other ≡ drawn_id next → slot_id config next ≡ Some id → slot_id config state ≡ Some id

@@ -67,6 +67,8 @@ profile slots = record {
   retry = 3000;
   newer = None;
   tidy = false;
+  openings = None;
+  serials = None;
   slots = slots;
 }
 
@@ -141,13 +143,21 @@ abbrev pub message : ℕ → ℕ → ℕ → List ℕ → List ℕ
 message status number len rest =
     0x6F ∷ 0 ∷ (16 + len) ∷ 0 ∷ 1 ∷ 0 ∷ 0 ∷ 0 ∷ status ∷ 0 ∷ 0 ∷ 0 ∷ number ∷ 0 ∷ 0 ∷ 0 ∷ 0 ∷ 0 ∷ 0 ∷ 0 ∷ 0 ∷ 0 ∷ 0 ∷ 0 ∷ rest
 
+-- the target does not know session 1: it answers a request, by its sender context, with the status invalid session handle
+abbrev pub unknown_session : ℕ → List ℕ
+unknown_session number = 0x6F ∷ 0 ∷ 0 ∷ 0 ∷ 1 ∷ 0 ∷ 0 ∷ 0 ∷ 0x64 ∷ 0 ∷ 0 ∷ 0 ∷ number ∷ 0 ∷ 0 ∷ 0 ∷ 0 ∷ 0 ∷ 0 ∷ 0 ∷ 0 ∷ 0 ∷ 0 ∷ 0 ∷ []
+
 -- the same, with the data in their items
 abbrev pub items : ℕ → ℕ → List ℕ → List ℕ
 items number len text = message 0 number len (0 ∷ 0 ∷ 0 ∷ 0 ∷ 0 ∷ 0 ∷ 2 ∷ 0 ∷ 0 ∷ 0 ∷ 0 ∷ 0 ∷ 0xB2 ∷ 0 ∷ len ∷ 0 ∷ text)
 
--- the Forward_Open of the owner's opening, by its serial number and the last byte of its id
+-- the Forward_Open of the owner's opening, by its tick and ticks, its serial number and the last byte of its id
+abbrev pub timed_open : ℕ → ℕ → ℕ → ℕ → List ℕ
+timed_open tick ticks serial id = 0x54 ∷ 0x02 ∷ 0x20 ∷ 0x06 ∷ 0x24 ∷ 0x01 ∷ tick ∷ ticks ∷ 0x00 ∷ 0x00 ∷ 0x00 ∷ 0x00 ∷ id ∷ 0x00 ∷ 0x00 ∷ 0x20 ∷ serial ∷ 0x00 ∷ 0x34 ∷ 0x12 ∷ 0x78 ∷ 0x56 ∷ 0x34 ∷ 0x12 ∷ 0x02 ∷ 0x00 ∷ 0x00 ∷ 0x00 ∷ 0x10 ∷ 0x27 ∷ 0x00 ∷ 0x00 ∷ 0x0A ∷ 0x48 ∷ 0x10 ∷ 0x27 ∷ 0x00 ∷ 0x00 ∷ 0x06 ∷ 0x48 ∷ 0x01 ∷ 0x04 ∷ 0x20 ∷ 0x04 ∷ 0x24 ∷ 0x97 ∷ 0x2C ∷ 0x96 ∷ 0x2C ∷ 0x64 ∷ []
+
+-- the same with the time-out of each request of a scanner that is not tidy
 abbrev pub forward_open : ℕ → ℕ → List ℕ
-forward_open serial id = 0x54 ∷ 0x02 ∷ 0x20 ∷ 0x06 ∷ 0x24 ∷ 0x01 ∷ 0x0A ∷ 0x0E ∷ 0x00 ∷ 0x00 ∷ 0x00 ∷ 0x00 ∷ id ∷ 0x00 ∷ 0x00 ∷ 0x20 ∷ serial ∷ 0x00 ∷ 0x34 ∷ 0x12 ∷ 0x78 ∷ 0x56 ∷ 0x34 ∷ 0x12 ∷ 0x02 ∷ 0x00 ∷ 0x00 ∷ 0x00 ∷ 0x10 ∷ 0x27 ∷ 0x00 ∷ 0x00 ∷ 0x0A ∷ 0x48 ∷ 0x10 ∷ 0x27 ∷ 0x00 ∷ 0x00 ∷ 0x06 ∷ 0x48 ∷ 0x01 ∷ 0x04 ∷ 0x20 ∷ 0x04 ∷ 0x24 ∷ 0x97 ∷ 0x2C ∷ 0x96 ∷ 0x2C ∷ 0x64 ∷ []
+forward_open serial id = timed_open 0x0A 0x0E serial id
 
 -- its frame, by the number of the request: openings of a scanner that sends nothing else have equal numbers
 abbrev pub opening_frame : ℕ → List ℕ

@@ -9,7 +9,7 @@ use Rattle.cip_events.specs.declared.event.Recipient.TheVariants as recipient
 use Rattle.cip_events.specs.declared.event.Verdict.TheVariants.{Done, Ignored}
 use Rattle.cip_events.specs.Answers.{plain_answer}
 use Rattle.cip_events.specs.Outcomes.{Outcome}
-use Rattle.scanner_table.proofs.SmallScanner.{target, reported, after, quiet, only, not_now, becomes, refuses, sends_request, items, success, ownership, forward_open, opened_frame, forward_close, registration, registered, connected}
+use Rattle.scanner_table.proofs.SmallScanner.{target, reported, after, quiet, only, not_now, becomes, refuses, sends_request, items, success, ownership, forward_open, opened_frame, forward_close, registration, registered, unknown_session, connected, timed_open}
 use Rattle.cip_encap.specs.Reading as messages
 use Rattle.cip_encap.specs.PacketReading as packets
 use Rattle.cip_fwdopen.specs.Open as opens
@@ -49,9 +49,16 @@ close_reply = items 2 14 (0xCE ∷ 0x00 ∷ 0x00 ∷ 0x00 ∷ 0x01 ∷ 0x00 ∷ 
 abbrev close_refusal : List ℕ
 close_refusal = items 2 16 (0xCE ∷ 0x00 ∷ 0x01 ∷ 0x01 ∷ 0x07 ∷ 0x01 ∷ 0x01 ∷ 0x00 ∷ 0x34 ∷ 0x12 ∷ 0x78 ∷ 0x56 ∷ 0x34 ∷ 0x12 ∷ 0x00 ∷ 0x00 ∷ [])
 
--- the next opening, as the third request
+-- the same close again, as the third request, and its reply
+abbrev closing_again : List ℕ
+closing_again = items 3 26 forward_close
+
+abbrev second_reply : List ℕ
+second_reply = items 3 14 (0xCE ∷ 0x00 ∷ 0x00 ∷ 0x00 ∷ 0x01 ∷ 0x00 ∷ 0x34 ∷ 0x12 ∷ 0x78 ∷ 0x56 ∷ 0x34 ∷ 0x12 ∷ 0x00 ∷ 0x00 ∷ [])
+
+-- the next opening, as the third request: the target has the 2,000 ms that the scanner waits, in 250 ticks of 8 ms
 abbrev reopening_frame : List ℕ
-reopening_frame = items 3 50 (forward_open 2 2)
+reopening_frame = items 3 50 (timed_open 3 250 2 2)
 
 -- these bytes go over stream 0, with these notices
 abbrev answers : List ℕ → List Notice → Outcome
@@ -119,3 +126,39 @@ stop_timed_out = refl
 stop_without_session : reported open_table (StreamCut 0 ∷ Stop 0 ∷ StreamOpened 0 target ∷ Frame 0 registered ∷ Frame 0 close_reply ∷ Tick 3000 ∷ []) ≡ quiet ∷ becomes 4 ∷ answers_silently registration ∷ sends_request closing_frame 6 ∷ becomes 0 ∷ quiet ∷ []
 unfolding messages.message_reading packets.packet_reading packets.behind_socket packets.are_sockets replies.open_reply_reading replies.unread_reading opens.open_text closes.close_text datagrams.datagram_reading opened ready_opened target_opened open_answer answered target_lost stream_opened stream_cut frame received produced_table all_expired all_given_up explicit_timed_out explicit_lost tick write read mode start stop
 stop_without_session = refl
+
+-- a close whose stream is cut before its reply is sent again over the next session, after the retry time; the slot that was stopped does
+-- not open again
+stop_cut : reported open_table (Stop 0 ∷ StreamCut 0 ∷ StreamOpened 0 target ∷ Frame 0 registered ∷ Tick 2999 ∷ Tick 1 ∷ Frame 0 second_reply ∷ Tick 3000 ∷ []) ≡ sends_request closing_frame 6 ∷ becomes 4 ∷ answers_silently registration ∷ quiet ∷ quiet ∷ sends_request closing_again 6 ∷ becomes 0 ∷ quiet ∷ []
+unfolding messages.message_reading packets.packet_reading packets.behind_socket packets.are_sockets replies.open_reply_reading replies.unread_reading opens.open_text closes.close_text datagrams.datagram_reading opened ready_opened target_opened open_answer answered target_lost stream_opened stream_cut frame received produced_table all_expired all_given_up explicit_timed_out explicit_lost tick write read mode start stop
+stop_cut = refl
+
+-- so is a close before an opening, and then the slot opens, as the fourth request
+clear_cut : reported clearing (StreamCut 0 ∷ StreamOpened 0 target ∷ Frame 0 registered ∷ Tick 3000 ∷ Frame 0 second_reply ∷ []) ≡ becomes 4 ∷ answers_silently registration ∷ quiet ∷ sends_request closing_again 6 ∷ answers (items 4 50 (timed_open 3 250 2 2)) (notice.Slot 0 0 ∷ notice.Slot 0 2 ∷ []) ∷ []
+unfolding messages.message_reading packets.packet_reading packets.behind_socket packets.are_sockets replies.open_reply_reading replies.unread_reading opens.open_text closes.close_text datagrams.datagram_reading opened ready_opened target_opened open_answer answered target_lost stream_opened stream_cut frame received produced_table all_expired all_given_up explicit_timed_out explicit_lost tick write read mode start stop
+clear_cut = refl
+
+-- the target does not know the session of an opening: the slot is refused, the scanner registers a session on the same stream, and the
+-- slot opens over it after the retry time
+opening_unknown : reported pending_open (Frame 0 (unknown_session 1) ∷ Frame 0 (unknown_session 1) ∷ Frame 0 registered ∷ Tick 2999 ∷ Tick 1 ∷ []) ≡ answers registration (notice.Refused 0 (reason.Encap 0x64) ∷ notice.Slot 0 0 ∷ []) ∷ only Ignored ∷ quiet ∷ quiet ∷ sends_request (items 2 50 (timed_open 3 250 2 2)) 2 ∷ []
+unfolding messages.message_reading packets.packet_reading packets.behind_socket packets.are_sockets replies.open_reply_reading replies.unread_reading opens.open_text closes.close_text datagrams.datagram_reading opened ready_opened target_opened open_answer answered target_lost stream_opened stream_cut frame received produced_table all_expired all_given_up explicit_timed_out explicit_lost tick write read mode start stop
+opening_unknown = refl
+
+-- nor that of a close: the slot closes again, over the new session, after the retry time
+closing_unknown : reported clearing (Frame 0 (unknown_session 2) ∷ Frame 0 registered ∷ Tick 2999 ∷ Tick 1 ∷ []) ≡ answers registration (notice.Slot 0 4 ∷ []) ∷ quiet ∷ quiet ∷ sends_request closing_again 6 ∷ []
+unfolding messages.message_reading packets.packet_reading packets.behind_socket packets.are_sockets replies.open_reply_reading replies.unread_reading opens.open_text closes.close_text datagrams.datagram_reading opened ready_opened target_opened open_answer answered target_lost stream_opened stream_cut frame received produced_table all_expired all_given_up explicit_timed_out explicit_lost tick write read mode start stop
+closing_unknown = refl
+
+-- a message that nobody waits for leaves the session
+unknown_ignored : reported open_table (Frame 0 (unknown_session 1) ∷ Stop 0 ∷ []) ≡ only Ignored ∷ sends_request closing_frame 6 ∷ []
+unfolding messages.message_reading packets.packet_reading packets.behind_socket packets.are_sockets replies.open_reply_reading replies.unread_reading opens.open_text closes.close_text datagrams.datagram_reading opened ready_opened target_opened open_answer answered target_lost stream_opened stream_cut frame received produced_table all_expired all_given_up explicit_timed_out explicit_lost tick write read mode start stop
+unknown_ignored = refl
+
+-- a scanner that is not tidy keeps the session, and forgets a close whose stream is cut
+untidy_unknown : reported (after connected (Start 0 ∷ [])) (Frame 0 (unknown_session 1) ∷ Tick 3000 ∷ []) ≡ refuses (reason.Encap 0x64) ∷ sends_request (items 2 50 (forward_open 2 2)) 2 ∷ []
+unfolding messages.message_reading packets.packet_reading packets.behind_socket packets.are_sockets replies.open_reply_reading replies.unread_reading opens.open_text closes.close_text datagrams.datagram_reading opened ready_opened target_opened open_answer answered target_lost stream_opened stream_cut frame received produced_table all_expired all_given_up explicit_timed_out explicit_lost tick write read mode start stop
+untidy_unknown = refl
+
+untidy_cut : reported (after connected (Start 0 ∷ Frame 0 opened_frame ∷ [])) (Stop 0 ∷ StreamCut 0 ∷ []) ≡ sends_request closing_frame 6 ∷ becomes 0 ∷ []
+unfolding messages.message_reading packets.packet_reading packets.behind_socket packets.are_sockets replies.open_reply_reading replies.unread_reading opens.open_text closes.close_text datagrams.datagram_reading opened ready_opened target_opened open_answer answered target_lost stream_opened stream_cut frame received produced_table all_expired all_given_up explicit_timed_out explicit_lost tick write read mode start stop
+untidy_cut = refl

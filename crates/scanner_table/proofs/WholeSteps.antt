@@ -48,11 +48,11 @@ use Rattle.scanner_table.specs.declared.table.Session.{Session}
 use Rattle.scanner_table.specs.Sessions.{session_with, is_stream, is_other_stream, is_to, is_taken, with_stream, without_stream, with_stage}
 use Rattle.scanner_table.specs.Requests.{is_large}
 use Rattle.scanner_table.specs.Effects.{Next, nothing, and_then, changed, counted, done}
-use Rattle.scanner_table.specs.Opening.{has_request, has_id, can_open, drawn, opening_slot, resigned, exhausted, open_requested, opened_within, closing_slot, close_requested, cleared_within, opened_from, opened, is_ready_slot, ready_slots, ready_opened, target_opened}
+use Rattle.scanner_table.specs.Opening.{has_request, has_id, can_open, drawn, opening_slot, resigned, exhausted, open_requested, opened_within, closing_slot, close_requested, cleared_within, opened_from, asking_session, opened, is_ready_slot, ready_slots, ready_opened, target_opened}
 use Rattle.scanner_table.specs.Replies.{uses_id, open_answer, is_id_free, new_connection, established_slot, failed_slot, refused, disowned, disowned_within, rejected, judged_success, answered}
-use Rattle.scanner_table.specs.Closing.{requested_link, idle_slot, given_up_state, given_up, target_lost, closed, slot_resigned, closed_within, stopped, stopped_at}
+use Rattle.scanner_table.specs.Closing.{requested_link, idle_slot, is_close_in_time, given_up_state, given_up, target_lost, closed, slot_resigned, closed_within, stopped, stopped_at}
 use Rattle.scanner_table.specs.Explicit.{is_request, others, with_explicit, has_number, awaits, has_explicit_length, service_of, is_for_slots, is_barred, connects_to, explicit_sent, explicit_within, explicit_request, explicit_reply, explicit_answered, explicit_timed_out, explicit_lost}
-use Rattle.scanner_table.specs.Encapsulation.{registering_on, ignored, stream_opened, message_answer, cut_of, stream_cut, is_registered, session_begun, session_failed, registered, is_awaiting, replied, replied_to, reported, frame_answer, frame_of, frame}
+use Rattle.scanner_table.specs.Encapsulation.{registering_on, ignored, stream_opened, message_answer, cut_of, stream_cut, is_registered, session_begun, session_failed, registered, ends_session, session_renewed, is_awaiting, replied, replied_to, unserved_state, unserved, unserved_at, reported, frame_answer, frame_of, frame}
 use Rattle.scanner_table.specs.Datagrams.{accepts_at, delivered, is_for, accepted_connection, accepted_table, accepted, sized, state_received, received_at, received_as, received}
 use Rattle.scanner_table.specs.Points.{stop_of, stop}
 use Rattle.scanner_table.specs.WellFormed.{RequestsDiffer, IdsDiffer, FitsState, FitsSlot, StateIsDesired, IsWellFormed, IsWatched}
@@ -228,7 +228,7 @@ keeps_from t indexed session other is whole at needed = keeps_within t indexed s
 
 pub keeps_opened : KeepsAt NeedsRequest opened
 unfolding opened
-keeps_opened t indexed whole at needed = keeps_from t indexed (session_with t indexed.config.target) indexed.slot.state refl whole at needed
+keeps_opened t indexed whole at needed = keeps_from t indexed (asking_session t indexed) indexed.slot.state refl whole at needed
 
 needs_of : (clock : _) (rest : List IndexedSlot) → Each (λ indexed. is_ready_slot clock indexed ≡ true) rest → Each NeedsRequest rest
 needs_of clock [] ready = tt
@@ -328,12 +328,18 @@ keeps_unanswered true t indexed link tidy whole at =
     keeps_changed t indexed slot [] whole at (timed_out_fits t indexed link slot at refl refl refl) (tidy_only t slot tidy) (λ old. timed_out_weaker old link) (λ old. timed_out_quieter old link)
 keeps_unanswered false t indexed link tidy whole at = keeps_failed [] t indexed whole at
 
+-- a Forward_Close is not answered
+keeps_unclosed : (b c : Bool) (t : ScannerTable) (indexed : IndexedSlot) (link : Link) → t.profile.tidy ≡ b → IsWellFormed t → IsAt t indexed → Keeps t (changed t indexed (cond (b && c) (failed_slot t (TimedOut link) indexed.slot) (idle_slot indexed.slot)) [])
+keeps_unclosed true true t indexed link tidy whole at = keeps_unanswered true t indexed link tidy whole at
+keeps_unclosed true false t indexed link tidy whole at = keeps_idle t indexed whole at
+keeps_unclosed false c t indexed link tidy whole at = keeps_idle t indexed whole at
+
 keeps_given_state : (t : ScannerTable) (indexed : IndexedSlot) (state : SlotState) → IsWellFormed t → IsAt t indexed → Keeps t (given_up_state t indexed state)
 keeps_given_state t indexed Idle whole at = keeps_nothing t whole
 keeps_given_state t indexed (Opening o) whole at = keeps_unanswered t.profile.tidy t indexed (requested_link o.requested) refl whole at
 keeps_given_state t indexed (Established c) whole at = keeps_nothing t whole
 keeps_given_state t indexed (TimedOut link) whole at = keeps_nothing t whole
-keeps_given_state t indexed (Closing c) whole at = keeps_idle t indexed whole at
+keeps_given_state t indexed (Closing c) whole at = keeps_unclosed t.profile.tidy (is_close_in_time t c) t indexed c.link refl whole at
 
 pub keeps_given : KeepsAt Any given_up
 keeps_given t indexed whole at any = keeps_given_state t indexed indexed.slot.state whole at
@@ -541,22 +547,42 @@ replied_to_whole : (t : ScannerTable) (m : MessageFields) (p : IndexedSlot → B
 replied_to_whole t m p None is whole = whole
 replied_to_whole t m p (Some indexed) is whole = replied_whole t indexed m indexed.slot.state refl whole (each_found (IsAt t) p (indexed_slots t) indexed is (each_at t whole))
 
+-- the session on a stream ends, and a new one is registered
+renewed_whole : (t : ScannerTable) (stream : TargetStream) → IsWellFormed t → IsWellFormed (session_renewed stream t).table
+renewed_whole t stream whole =
+    let now = with_stage t stream.number Waiting in
+    lost_whole stream.number (target_lost stream.peer now).table (keeps_lost stream.peer now (whole_staged t stream.number Waiting whole)).whole
+
+unserved_whole : (t : ScannerTable) (indexed : IndexedSlot) (status : ℕ) (state : SlotState) → IsWellFormed t → IsAt t indexed → IsWellFormed (unserved_state status t indexed state).table
+unserved_whole t indexed status (Opening o) whole at = (keeps_refused (reason.Encap status) t indexed whole at).whole
+unserved_whole t indexed status other whole at = whole
+
+answered_at_whole : (b : Bool) (t : ScannerTable) (stream : TargetStream) (m : MessageFields) (p : IndexedSlot → Bool) (found : Option IndexedSlot) → find p (indexed_slots t) ≡ found → IsWellFormed t → IsWellFormed (cond b (unserved_at t stream m found) (replied_to t m found)).1
+answered_at_whole true t stream m p None is whole = whole
+answered_at_whole true t stream m p (Some indexed) is whole =
+    renewed_whole (unserved m.status t indexed).table stream (unserved_whole t indexed m.status indexed.slot.state whole (each_found (IsAt t) p (indexed_slots t) indexed is (each_at t whole)))
+answered_at_whole false t stream m p found is whole = replied_to_whole t m p found is whole
+
 first_step : (b : Bool) (t : ScannerTable) (stream : TargetStream) (m : MessageFields) → IsWellFormed t → IsWellFormed (cond b (done (registered t stream m)) (ignored t)).1
 first_step true t stream m whole = registered_step (is_registered m) t stream m.session whole
 first_step false t stream m whole = whole
 
 reported_whole : (t : ScannerTable) (stream : TargetStream) (m : MessageFields) (stage : Stage) → IsWellFormed t → IsWellFormed (reported t stream m stage).1
 reported_whole t stream m Waiting whole = first_step (m.context == 0) t stream m whole
-reported_whole t stream m (Up handle) whole = replied_to_whole t m (is_awaiting stream.peer m.context) (find (is_awaiting stream.peer m.context) (indexed_slots t)) refl whole
+reported_whole t stream m (Up handle) whole = answered_at_whole (ends_session t m) t stream m (is_awaiting stream.peer m.context) (find (is_awaiting stream.peer m.context) (indexed_slots t)) refl whole
 reported_whole t stream m Unused whole = whole
 
 explicit_answered_whole : (t : ScannerTable) (pending : PendingExplicit) (reply : Result RouterReplyFields Unanswered) → IsWellFormed t → IsWellFormed (explicit_answered t pending reply).1
 explicit_answered_whole t pending (Ok reply) whole = whole_explicit t (others (is_request pending.request) t.explicit) whole
 explicit_answered_whole t pending (Err why) whole = whole_explicit t (others (is_request pending.request) t.explicit) whole
 
+explicit_ends_whole : (b : Bool) (t : ScannerTable) (stream : TargetStream) (m : MessageFields) (pending : PendingExplicit) (reply : Result RouterReplyFields Unanswered) → IsWellFormed t → IsWellFormed (cond b (done (session_renewed stream t)) (explicit_answered t pending reply)).1
+explicit_ends_whole true t stream m pending reply whole = renewed_whole t stream whole
+explicit_ends_whole false t stream m pending reply whole = explicit_answered_whole t pending reply whole
+
 message_whole : (t : ScannerTable) (stream : TargetStream) (m : MessageFields) (found : Option PendingExplicit) → IsWellFormed t → IsWellFormed (message_answer t stream m found).1
 message_whole t stream m None whole = reported_whole t stream m stream.stage whole
-message_whole t stream m (Some pending) whole = explicit_answered_whole t pending (explicit_reply pending.service m) whole
+message_whole t stream m (Some pending) whole = explicit_ends_whole (ends_session t m) t stream m pending (explicit_reply pending.service m) whole
 
 frame_answer_whole : (t : ScannerTable) (stream : TargetStream) (reading : Result MessageFields EncapFault) → IsWellFormed t → IsWellFormed (frame_answer t stream reading).1
 frame_answer_whole t stream (Err why) whole = whole

@@ -1,13 +1,15 @@
 -- Ticks and what the application does keep a scanner's table whole, and so does each step.
-use Rattle.std.proofs.Common.{subst, sym, slice_set, ◌≡◌, ◌≤◌, ℕ, suc, ◌+◌, ◌^◌, Bool, true, false, cond, ◌==◌, nat_lt, List, [], ◌∷◌, length, map, filter, Option, Some, None, Ok, Err, refl, arith, leb-true, eqb-true}
-use Rattle.std.specs.List.{list_any, AllByRecursion}
+use Rattle.std.proofs.Common.{subst, sym, slice_set, ◌≡◌, ◌≤◌, ℕ, suc, ◌+◌, ◌^◌, Bool, true, false, not, ◌&&◌, cond, ◌==◌, nat_lt, nat_le, List, [], ◌∷◌, length, map, filter, Option, Some, None, Ok, Err, refl, arith, leb-true, eqb-true}
+use Rattle.std.specs.List.{list_any, list_all, AllByRecursion}
 use Rattle.std.proofs.lemmas.Bool.Decides.{nat_tests}
 use Rattle.std.proofs.lemmas.List.{length-replicate}
 use Rattle.base_lemmas.specs.Booleans.{and_none}
 use Rattle.cip_types.specs.declared.names.Ms.{Ms}
+use Rattle.cip_types.specs.Cases.{first_case}
 use Rattle.cip_types.specs.Order.{inserted, in_order}
 use Rattle.cip_netparams.specs.declared.Trigger.{Trigger}
 use Rattle.cip_netparams.specs.declared.Trigger.TheVariants.{Cyclic, ChangeOfState}
+use Rattle.cip_events.specs.declared.profile_fault.ProfileFault.TheVariants.{Incarnation, Points, SameInstance, Length, Timing, Limits}
 use Rattle.cip_events.specs.declared.event.Event.{Event}
 use Rattle.cip_events.specs.declared.event.Event.TheVariants.{StreamOpened, Frame, StreamCut, Datagram, Write, Tick, Mode, Start, Stop, Explicit}
 use Rattle.cip_events.specs.declared.event.StepFault.TheVariants as fault
@@ -21,7 +23,7 @@ use Rattle.scanner_table.specs.declared.slot.Slot.{Slot}
 use Rattle.scanner_table.specs.declared.slot.SlotState.{SlotState}
 use Rattle.scanner_table.specs.declared.slot.SlotState.TheVariants.{Idle, Opening, Established, TimedOut, Closing}
 use Rattle.scanner_table.specs.declared.table.ScannerTable.{ScannerTable}
-use Rattle.scanner_table.specs.Profiles.{profile_fault}
+use Rattle.scanner_table.specs.Profiles.{profile_fault, are_served, are_apart, has_lengths, keeps_time, are_paced, are_openings, are_serials}
 use Rattle.scanner_table.specs.Slots.{IndexedSlot, indexed_from, indexed_slots, slot_at, is_numbered, with_slot}
 use Rattle.scanner_table.specs.Effects.{Effect, and_then, done}
 use Rattle.scanner_table.specs.Opening.{ready_opened}
@@ -31,7 +33,7 @@ use Rattle.scanner_table.specs.Explicit.{explicit_timed_out}
 use Rattle.scanner_table.specs.Productions.{written_connection, produced_connection, written_state, state_is_due, produced_state, produced_slot, produced_table}
 use Rattle.scanner_table.specs.Ticks.{by_deadline, has_expired, expired_slots, expired_state, expired, all_expired, is_overdue, all_given_up, clocked_table, advanced, moved_on, ticked, tick}
 use Rattle.scanner_table.specs.Points.{output_slot, output_written, write_length, write_at, write, same_mode, moded_slot, moded_table, mode, desired_slot, started, start_state, start_at, start}
-use Rattle.scanner_table.specs.Step.{scanner_step, fresh_slot, scanner_table}
+use Rattle.scanner_table.specs.Step.{scanner_step, fresh_slot, first_serial, scanner_table}
 use Rattle.scanner_table.specs.WellFormed.{RequestsDiffer, shares_request, clashes, IdsDiffer, FitsState, FitsSlot, SlotsFit, StateIsDesired, IsDesired, IsWellFormed, IsWatched}
 use Rattle.scanner_table.proofs.IdsLemmas.{Weaker, idle_weaker, timed_out_weaker, same_weaker, linked_weaker, AllWeaker, all_set, all_map, differ_weaker}
 use Rattle.scanner_table.proofs.RequestLemmas.{Quieter, AllQuieter, idle_quieter, established_quieter, timed_out_quieter, same_quieter, set_quieter, map_quieter, differ_quieter}
@@ -426,6 +428,33 @@ fresh_quiet : (configs : List SlotConfig) → RequestsDiffer (map fresh_slot con
 fresh_quiet [] = tt
 fresh_quiet (config ∷ configs) = (none_waits config configs, fresh_quiet configs)
 
+last_passes : {A : Type 0} (a b c d e f g h : Bool) (q r s v w x y z : A) → first_case ((a, q) ∷ (b, r) ∷ (c, s) ∷ (d, v) ∷ (e, w) ∷ (f, x) ∷ (g, y) ∷ (not h, z) ∷ []) ≡ None → h ≡ true
+last_passes true b c d e f g h q r s v w x y z is = absurd (cc)
+last_passes false true c d e f g h q r s v w x y z is = absurd (cc)
+last_passes false false true d e f g h q r s v w x y z is = absurd (cc)
+last_passes false false false true e f g h q r s v w x y z is = absurd (cc)
+last_passes false false false false true f g h q r s v w x y z is = absurd (cc)
+last_passes false false false false false true g h q r s v w x y z is = absurd (cc)
+last_passes false false false false false false true h q r s v w x y z is = absurd (cc)
+last_passes false false false false false false false true q r s v w x y z is = refl
+last_passes false false false false false false false false q r s v w x y z is = absurd (cc)
+
+first_fits : (serials : Option ℕ) → are_serials serials ≡ true → (1 ≤ first_serial serials) × (first_serial serials ≤ 65535)
+first_fits None is = (omega arith, omega arith)
+first_fits (Some first) is = split (nat_le 1 first) (nat_le first 65535) refl refl is
+  where
+    split : (a b : Bool) → nat_le 1 first ≡ a → nat_le first 65535 ≡ b → (a && b) ≡ true → (1 ≤ first) × (first ≤ 65535)
+    split true true low high is = (grind (arith, nat_tests), grind (arith, nat_tests))
+    split true false low high is = absurd (cc)
+    split false b low high is = absurd (cc)
+
+-- the first serial number of a profile without a fault is one
+serials_fit : (profile : ScannerProfile) → profile_fault profile ≡ None → (1 ≤ first_serial profile.serials) × (first_serial profile.serials ≤ 65535)
+unfolding profile_fault
+serials_fit profile faultless =
+    first_fits profile.serials
+    (last_passes (profile.incarnation == 0) (not (are_served profile)) (not (are_apart profile.slots)) (not (list_all has_lengths profile.slots)) (not (keeps_time profile)) (not (are_paced profile.newer profile.slots)) (not (are_openings profile.openings)) (are_serials profile.serials) Incarnation Points SameInstance Length Timing Limits Limits Limits faultless)
+
 pub fresh_whole : (profile : ScannerProfile) → profile_fault profile ≡ None → IsWellFormed (scanner_table profile)
 fresh_whole profile faultless = record {
   ids_differ = fresh_differ 0 profile.slots;
@@ -435,8 +464,8 @@ fresh_whole profile faultless = record {
   desires = λ untidy. fresh_desired profile.slots;
   clock = omega arith;
   ids = omega arith;
-  serial_begins = omega arith;
-  serial_ends = omega arith;
+  serial_begins = (serials_fit profile faultless).0;
+  serial_ends = (serials_fit profile faultless).1;
   requests = omega arith;
   few_streams = omega arith;
   streams_differ = tt;

@@ -1,11 +1,12 @@
 -- How the connection of a slot ends: the application stops the slot, the stream is cut, or a reply does not come
 -- (Volume 1, chapter 3, Forward_Close service and connection timeouts).
-use Rattle.std.specs.Prelude.{false, if◌then◌else◌, [], filter, Option, Some, None, Result, Ok, Err}
+use Rattle.std.specs.Prelude.{nat_lt, ◌&&◌, Bool, false, if◌then◌else◌, [], filter, Option, Some, None, Result, Ok, Err}
 use Rattle.cip_types.specs.declared.names.Node.{Node}
 use Rattle.cip_events.specs.declared.event.StepFault.{StepFault}
 use Rattle.cip_events.specs.declared.event.StepFault.TheVariants as fault
 use Rattle.conn_state.specs.declared.names.Link.{Link}
 use Rattle.conn_state.specs.declared.names.Requested.{Requested}
+use Rattle.scanner_table.specs.declared.slot.PendingClose.{PendingClose}
 use Rattle.scanner_table.specs.declared.slot.Slot.{Slot}
 use Rattle.scanner_table.specs.declared.slot.SlotState.{SlotState}
 use Rattle.scanner_table.specs.declared.slot.SlotState.TheVariants.{Idle, Opening, Established, TimedOut, Closing}
@@ -32,14 +33,22 @@ requested_link requested = record { triad = requested.triad; o_t_id = record { 0
 abbrev pub left_state : ScannerTable → Link → SlotState
 left_state t link = if t.profile.tidy then TimedOut link else Idle
 
--- The slot gives up the reply that it waits for. A slot that opens tries again after the retry time; a slot that closes
--- becomes idle.
+-- the time for the reply to the Forward_Close is not over
+abbrev pub is_close_in_time : ScannerTable → PendingClose → Bool
+is_close_in_time t c = nat_lt t.clock.0 c.deadline.0
+
+-- The slot gives up the reply to its Forward_Close: it has no connection. With `tidy` a slot that gives up before the time is over, as
+-- its session ends, is timed out and closes the connection again after the retry time.
+abbrev pub unclosed_slot : ScannerTable → PendingClose → Slot → Slot
+unclosed_slot t c slot = if t.profile.tidy && is_close_in_time t c then failed_slot t (TimedOut c.link) slot else idle_slot slot
+
+-- The slot gives up the reply that it waits for. A slot that opens tries again after the retry time.
 abbrev pub given_up_state : ScannerTable → IndexedSlot → SlotState → Effect
 given_up_state t indexed Idle = nothing t
 given_up_state t indexed (Opening o) = changed t indexed (failed_slot t (left_state t (requested_link o.requested)) indexed.slot) []
 given_up_state t indexed (Established c) = nothing t
 given_up_state t indexed (TimedOut link) = nothing t
-given_up_state t indexed (Closing c) = changed t indexed (idle_slot indexed.slot) []
+given_up_state t indexed (Closing c) = changed t indexed (unclosed_slot t c indexed.slot) []
 
 abbrev pub given_up : ScannerTable → IndexedSlot → Effect
 given_up t indexed = given_up_state t indexed indexed.slot.state

@@ -5,6 +5,7 @@ use Rattle.cip_types.specs.declared.names.Node.{Node}
 use Rattle.cip_encap.specs.declared.message.EncapFault.{EncapFault}
 use Rattle.cip_encap.specs.Message.{MessageFields}
 use Rattle.cip_encap.specs.Reading.{message_reading}
+use Rattle.cip_events.specs.declared.event.Reason.TheVariants as reason
 use Rattle.cip_events.specs.declared.event.StepFault.{StepFault}
 use Rattle.cip_events.specs.declared.event.StepFault.TheVariants.{NotAllowedNow}
 use Rattle.cip_events.specs.declared.event.Verdict.TheVariants.{BadFrame, Ignored}
@@ -21,7 +22,7 @@ use Rattle.scanner_table.specs.Sessions.{is_stream, is_taken, with_stream, witho
 use Rattle.scanner_table.specs.Requests.{is_large, registration}
 use Rattle.scanner_table.specs.Effects.{Next, Effect, nothing, and_then, done}
 use Rattle.scanner_table.specs.Opening.{target_opened}
-use Rattle.scanner_table.specs.Replies.{open_answer, answered}
+use Rattle.scanner_table.specs.Replies.{open_answer, refused, answered}
 use Rattle.scanner_table.specs.Closing.{closed, target_lost}
 use Rattle.scanner_table.specs.Explicit.{awaits, explicit_reply, explicit_answered, explicit_lost}
 
@@ -66,6 +67,21 @@ session_failed t stream = nothing (with_stage t stream.number Unused)
 abbrev pub registered : ScannerTable → TargetStream → MessageFields → Effect
 registered t stream m = if is_registered m then session_begun t stream m.session else session_failed t stream
 
+-- SESSIONS THAT END
+
+-- with `tidy`, the message says that its target does not know the session: the encapsulation status is invalid session handle
+abbrev pub ends_session : ScannerTable → MessageFields → Bool
+ends_session t m = t.profile.tidy && m.status == 0x0064
+
+-- the scanner registers a session on the stream again
+abbrev pub registering_again : ScannerTable → TargetStream → Effect
+registering_again t stream = record { sent = registration stream.number ∷ []; notices = []; table = with_stage t stream.number Waiting }
+
+-- The session on the stream ends: what waits for a reply over it ends as at a cut, and the scanner registers a new session on the same
+-- stream.
+abbrev pub session_renewed : TargetStream → ScannerTable → Effect
+session_renewed stream t = and_then (and_then (registering_again t stream) (target_lost stream.peer)) (explicit_lost stream.number)
+
 -- MESSAGES
 
 -- no slot and no registration waits for the message
@@ -96,17 +112,41 @@ abbrev pub replied_to : ScannerTable → MessageFields → Option IndexedSlot �
 replied_to t m None = ignored t
 replied_to t m (Some indexed) = replied t indexed m indexed.slot.state
 
+-- the target did not serve the slot's request: a slot that opens is refused with this status
+abbrev pub unserved_state : ℕ → ScannerTable → IndexedSlot → SlotState → Effect
+unserved_state status t indexed Idle = nothing t
+unserved_state status t indexed (Opening o) = refused t indexed (reason.Encap status)
+unserved_state status t indexed (Established c) = nothing t
+unserved_state status t indexed (TimedOut link) = nothing t
+unserved_state status t indexed (Closing c) = nothing t
+
+abbrev pub unserved : ℕ → ScannerTable → IndexedSlot → Effect
+unserved status t indexed = unserved_state status t indexed indexed.slot.state
+
+-- the slot that waits for the reply, if any, is not served, and the session ends
+abbrev pub unserved_at : ScannerTable → TargetStream → MessageFields → Option IndexedSlot → Next
+unserved_at t stream m None = ignored t
+unserved_at t stream m (Some indexed) = done (and_then (unserved m.status t indexed) (session_renewed stream))
+
+-- the message at the slot that waits for it, if any
+abbrev pub answered_at : ScannerTable → TargetStream → MessageFields → Option IndexedSlot → Next
+answered_at t stream m found = if ends_session t m then unserved_at t stream m found else replied_to t m found
+
 -- A message by the state of the session. The reply to the registration has sender context 0, and the reply to a request has
 -- the request's number.
 abbrev pub reported : ScannerTable → TargetStream → MessageFields → Stage → Next
 reported t stream m Waiting = if m.context == 0 then done (registered t stream m) else ignored t
-reported t stream m (Up handle) = replied_to t m (find (is_awaiting stream.peer m.context) (indexed_slots t))
+reported t stream m (Up handle) = answered_at t stream m (find (is_awaiting stream.peer m.context) (indexed_slots t))
 reported t stream m Unused = ignored t
+
+-- the message ends the explicit request that waits for it: with the session, if the target does not know it
+abbrev pub explicit_ends : ScannerTable → TargetStream → MessageFields → PendingExplicit → Next
+explicit_ends t stream m pending = if ends_session t m then done (session_renewed stream t) else explicit_answered t pending (explicit_reply pending.service m)
 
 -- a message ends the explicit request that waits for it, if any; else the session judges it
 abbrev pub message_answer : ScannerTable → TargetStream → MessageFields → Option PendingExplicit → Next
 message_answer t stream m None = reported t stream m stream.stage
-message_answer t stream m (Some pending) = explicit_answered t pending (explicit_reply pending.service m)
+message_answer t stream m (Some pending) = explicit_ends t stream m pending
 
 -- the answer to a frame of an open stream
 abbrev pub frame_answer : ScannerTable → TargetStream → Result MessageFields EncapFault → Next

@@ -1,6 +1,6 @@
 -- Openings: a slot whose connection is desired sends a Forward_Open to its target. With `tidy` it first closes a connection
 -- that timed out (Volume 1, chapter 3, Forward_Open and Forward_Close services).
-use Rattle.std.specs.Prelude.{ℕ, ◌+◌, ◌^◌, ◌==◌, ◌&&◌, ◌||◌, nat_le, Bool, false, if◌then◌else◌, List, [], ◌∷◌, filter, Option, Some, None}
+use Rattle.std.specs.Prelude.{ℕ, ◌+◌, ◌^◌, ◌==◌, ◌&&◌, ◌||◌, nat_le, nat_lt, Bool, true, false, if◌then◌else◌, List, [], ◌∷◌, length, filter, Option, Some, None}
 use Rattle.cip_types.specs.declared.names.Node.{Node}
 use Rattle.cip_types.specs.declared.names.Ms.{Ms}
 use Rattle.cip_events.specs.declared.event.Notice.TheVariants as notice
@@ -10,7 +10,7 @@ use Rattle.scanner_table.specs.declared.slot.Slot.{Slot}
 use Rattle.scanner_table.specs.declared.slot.SlotState.{SlotState}
 use Rattle.scanner_table.specs.declared.slot.SlotState.TheVariants.{Idle, Opening, TimedOut, Closing}
 use Rattle.scanner_table.specs.declared.table.ScannerTable.{ScannerTable}
-use Rattle.scanner_table.specs.Slots.{IndexedSlot, indexed_slots, is_with, is_ready}
+use Rattle.scanner_table.specs.Slots.{IndexedSlot, indexed_slots, is_with, is_opening, is_ready}
 use Rattle.scanner_table.specs.declared.table.Session.{Session}
 use Rattle.scanner_table.specs.Sessions.{session_with}
 use Rattle.scanner_table.specs.Requests.{opening, closing, is_large, next_requested, open_fields, close_fields}
@@ -40,6 +40,25 @@ id_after config counter = if config.multicast then counter else counter + 1
 abbrev pub drawn : ScannerTable → SlotConfig → ScannerTable
 drawn t config = record t { next_id = id_after config t.next_id; next_serial = serial_after t.next_serial }
 
+-- TURNS
+
+-- the slot has sent a Forward_Open to this target, and waits for the reply
+abbrev pub opens_at : Node → IndexedSlot → Bool
+opens_at target indexed = is_with target indexed && is_opening indexed.slot.state
+
+-- one more is at most the limit, if there is one
+abbrev pub leaves_room : Option ℕ → ℕ → Bool
+leaves_room None count = true
+leaves_room (Some most) count = nat_lt count most
+
+-- fewer openings wait for replies of the target than the profile allows at one time
+abbrev pub has_place : ScannerTable → Node → Bool
+has_place t target = leaves_room t.profile.openings (length (filter (opens_at target) (indexed_slots t)))
+
+-- the session in which a slot of the target opens: none while the slot waits for its turn
+abbrev pub open_session : ScannerTable → Node → Option Session
+open_session t target = if has_place t target then session_with t target else None
+
 -- OPENING ONE
 
 abbrev pub later : Ms → ℕ → Ms
@@ -62,7 +81,7 @@ exhausted t indexed = changed t indexed (resigned indexed.slot) (notice.NoIds in
 -- the slot sends a Forward_Open
 abbrev pub open_requested : ScannerTable → IndexedSlot → Session → Effect
 open_requested t indexed session =
-    request_sent (drawn t indexed.config) indexed session (opening (is_large indexed.config) (open_fields indexed.config (next_requested t indexed.config))) (opening_slot t indexed)
+    request_sent (drawn t indexed.config) indexed session (opening (is_large indexed.config) (open_fields t.profile indexed.config (next_requested t indexed.config))) (opening_slot t indexed)
 
 -- the slot opens over a session, if one is registered and numbers are left
 abbrev pub opened_within : ScannerTable → IndexedSlot → Option Session → Effect
@@ -94,9 +113,17 @@ abbrev pub opened_from : ScannerTable → IndexedSlot → Option Session → Slo
 opened_from t indexed session (TimedOut link) = if t.profile.tidy then cleared_within t indexed link session else opened_within t indexed session
 opened_from t indexed session other = opened_within t indexed session
 
--- a slot opens, if the session with its target is registered
+-- the session in which a slot in a state asks its target: to open in its turn, and to close a connection that timed out at once
+abbrev pub asking_in : ScannerTable → Node → SlotState → Option Session
+asking_in t target (TimedOut link) = if t.profile.tidy then session_with t target else open_session t target
+asking_in t target other = open_session t target
+
+abbrev pub asking_session : ScannerTable → IndexedSlot → Option Session
+asking_session t indexed = asking_in t indexed.config.target indexed.slot.state
+
+-- a slot opens, if the session with its target is registered, and it is its turn
 unfoldable pub opened : ScannerTable → IndexedSlot → Effect
-opened t indexed = opened_from t indexed (session_with t indexed.config.target) indexed.slot.state
+opened t indexed = opened_from t indexed (asking_session t indexed) indexed.slot.state
 
 -- OPENING ALL READY SLOTS
 

@@ -92,6 +92,20 @@ abbrev pub are_paced : Option ℕ → List SlotConfig → Bool
 are_paced None slots = true
 are_paced (Some within) slots = is_window within && list_all has_pace slots
 
+-- OPENINGS
+
+-- 1 to 48 openings
+abbrev pub are_openings : Option ℕ → Bool
+are_openings None = true
+are_openings (Some most) = nat_le 1 most && nat_le most 48
+
+-- SERIAL NUMBERS
+
+-- a connection serial number is 1 to 65,535
+abbrev pub are_serials : Option ℕ → Bool
+are_serials None = true
+are_serials (Some first) = nat_le 1 first && nat_le first 65535
+
 -- THE FIRST FAULT
 
 -- the tests of a profile in their order, each with its fault
@@ -103,6 +117,8 @@ profile_tests profile =
     ∷ (not (list_all has_lengths profile.slots), Length)
     ∷ (not (keeps_time profile), Timing)
     ∷ (not (are_paced profile.newer profile.slots), Limits)
+    ∷ (not (are_openings profile.openings), Limits)
+    ∷ (not (are_serials profile.serials), Limits)
     ∷ []
 
 -- the fault of the first test that fails

@@ -1,7 +1,8 @@
 -- The requests that a scanner sends to its targets, and their messages (Volume 1, chapter 3, Forward_Open,
 -- Large_Forward_Open and Forward_Close services; Volume 2, chapter 2, RegisterSession and SendRRData).
-use Rattle.std.specs.Prelude.{ℕ, ◌+◌, ◌/◌, ◌==◌, ◌||◌, nat_lt, Bool, false, if◌then◌else◌, List, [], ◌∷◌, ◌++◌, length, Option, Some, None}
+use Rattle.std.specs.Prelude.{ℕ, ◌+◌, ◌-◌, ◌*◌, ◌/◌, ◌^◌, max, ◌==◌, ◌||◌, nat_lt, nat_le, Bool, false, if◌then◌else◌, List, [], ◌∷◌, ◌++◌, length, Option, Some, None}
 use Rattle.std.specs.Option.{option_map}
+use Rattle.cip_types.specs.Cases.{first_case_or}
 use Rattle.cip_types.specs.Ids.{connection_id}
 use Rattle.cip_types.specs.declared.names.ConnId.{ConnId}
 use Rattle.cip_types.specs.declared.names.Triad.{Triad}
@@ -24,6 +25,7 @@ use Rattle.cip_events.specs.declared.event.Recipient.TheVariants as recipient
 use Rattle.cip_productions.specs.Kinds.{is_owner}
 use Rattle.cip_router.specs.Frames.{protocol_text}
 use Rattle.conn_state.specs.declared.names.Requested.{Requested}
+use Rattle.scanner_table.specs.declared.profile.ScannerProfile.{ScannerProfile}
 use Rattle.scanner_table.specs.declared.profile.SlotConfig.{SlotConfig}
 use Rattle.scanner_table.specs.declared.table.ScannerTable.{ScannerTable}
 use Rattle.scanner_table.specs.declared.table.Session.{Session}
@@ -78,6 +80,11 @@ next_triad t = record { serial = t.next_serial; vendor = t.profile.vendor; origi
 abbrev pub next_t_o_id : ScannerTable → SlotConfig → Option ConnId
 next_t_o_id t config = if config.multicast then None else Some (connection_id t.profile.incarnation t.next_id)
 
+-- a time that a request says: a number of ticks of 2^tick milliseconds each. The byte of the tick is for usual priority
+pub record TimeOut : Type 0 where
+  pub tick : ℕ
+  pub ticks : ℕ
+
 -- the triad and the id that the next opening of a slot asks for
 abbrev pub next_requested : ScannerTable → SlotConfig → Requested
 next_requested t config = record { triad = next_triad t; t_o_id = next_t_o_id t config }
@@ -86,16 +93,46 @@ abbrev pub id_or_zero : Option ConnId → ConnId
 id_or_zero None = record { 0 = 0 }
 id_or_zero (Some id) = id
 
+-- ticks of 2^n milliseconds, no fewer than a time
+abbrev pub ticks_of : ℕ → ℕ → TimeOut
+ticks_of n ms = record { tick = n; ticks = (ms + (2 ^ n - 1)) / 2 ^ n }
+
+-- a time of at most a minute in ticks, of which there are at most 255: the shortest tick that can say it
+abbrev pub time_out : ℕ → TimeOut
+time_out ms = first_case_or (ticks_of 8 ms) (
+    (nat_le ms 255, ticks_of 0 ms)
+    ∷ (nat_le ms 510, ticks_of 1 ms)
+    ∷ (nat_le ms 1020, ticks_of 2 ms)
+    ∷ (nat_le ms 2040, ticks_of 3 ms)
+    ∷ (nat_le ms 4080, ticks_of 4 ms)
+    ∷ (nat_le ms 8160, ticks_of 5 ms)
+    ∷ (nat_le ms 16320, ticks_of 6 ms)
+    ∷ (nat_le ms 32640, ticks_of 7 ms)
+    ∷ []
+    )
+
+-- how long the target has for an opening, as the request says: with `tidy` no less than the scanner waits for the reply
+abbrev pub open_time : ScannerProfile → TimeOut
+open_time profile = if profile.tidy then time_out profile.open_timeout else record { tick = 10; ticks = 14 }
+
+-- the whole milliseconds of a packet interval, and at least one: in microseconds
+abbrev pub whole_interval : ℕ → ℕ
+whole_interval us = max (us / 1000) 1 * 1000
+
+-- the O->T packet interval that a request asks for: with `tidy` one that the scanner keeps, whose clock counts milliseconds
+abbrev pub requested_interval : ScannerProfile → ℕ → ℕ
+requested_interval profile us = if profile.tidy then whole_interval us else us
+
 -- the Forward_Open request of a slot; the target chooses the O->T id
-abbrev pub open_fields : SlotConfig → Requested → OpenFields
-open_fields config requested = record {
-  priority_tick = 0x0A;
-  ticks = 0x0E;
+abbrev pub open_fields : ScannerProfile → SlotConfig → Requested → OpenFields
+open_fields profile config requested = record {
+  priority_tick = (open_time profile).tick;
+  ticks = (open_time profile).ticks;
   o_t_id = record { 0 = 0 };
   t_o_id = id_or_zero requested.t_o_id;
   triad = requested.triad;
   multiplier = config.mult;
-  o_t_rpi = config.o_t_rpi;
+  o_t_rpi = requested_interval profile config.o_t_rpi;
   o_t_params = slot_params (o_t_size config) PointToPoint;
   t_o_rpi = config.t_o_rpi;
   t_o_params = slot_params (t_o_size config) (t_o_type config.multicast);

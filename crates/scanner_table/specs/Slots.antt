@@ -59,6 +59,14 @@ is_closed (Established c) = false
 is_closed (TimedOut link) = true
 is_closed (Closing c) = false
 
+-- the slot has sent a Forward_Open, and waits for the reply
+abbrev pub is_opening : SlotState → Bool
+is_opening Idle = false
+is_opening (Opening o) = true
+is_opening (Established c) = false
+is_opening (TimedOut link) = false
+is_opening (Closing c) = false
+
 -- no datagram came in time, and the target may still have the connection
 abbrev pub is_timed_out : SlotState → Bool
 is_timed_out Idle = false

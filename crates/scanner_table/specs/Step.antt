@@ -1,5 +1,5 @@
 -- One event at a scanner's table.
-use Rattle.std.specs.Prelude.{false, [], map, replicate, Result, Ok, Err}
+use Rattle.std.specs.Prelude.{ℕ, false, [], map, replicate, Result, Ok, Err, Option, Some, None}
 use Rattle.cip_events.specs.declared.event.Event.{Event}
 use Rattle.cip_events.specs.declared.event.Event.TheVariants.{Request, StreamOpened, Frame, StreamCut, Datagram, Inquiry, Write, Read, Tick, Mode, Start, Stop, Explicit, Respond}
 use Rattle.cip_events.specs.declared.event.StepFault.{StepFault}
@@ -44,8 +44,13 @@ fresh_slot config = record {
   image = replicate config.in_len 0;
 }
 
--- the table of a fresh scanner: idle, with clock 0, with all numbers at 1, without streams and pending
--- explicit requests
+-- the connection serial number of the first opening: 1, if the profile has no other one
+abbrev pub first_serial : Option ℕ → ℕ
+first_serial None = 1
+first_serial (Some first) = first
+
+-- the table of a fresh scanner: idle, with clock 0, without streams and pending explicit requests. Its numbers begin with 1,
+-- but for the serial number, with which the profile may have another first one.
 abbrev pub scanner_table : ScannerProfile → ScannerTable
 scanner_table profile = record {
   profile = profile;
@@ -53,7 +58,7 @@ scanner_table profile = record {
   run = false;
   clock = record { 0 = 0 };
   next_id = 1;
-  next_serial = 1;
+  next_serial = first_serial profile.serials;
   next_request = 1;
   streams = [];
   explicit = [];

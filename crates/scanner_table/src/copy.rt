@@ -61,6 +61,8 @@ impl ScannerProfile {
             retry: self.retry,
             newer: self.newer,
             tidy: self.tidy,
+            openings: self.openings,
+            serials: self.serials,
             slots,
         })
     }

@@ -26,6 +26,7 @@ pub use laws::{
     advancing_keeps_tables_well_formed, fresh_tables_are_well_formed, steps_keep_tables_well_formed,
 };
 pub use profile::{ScannerProfile, SlotConfig};
+pub use profile_check::MOST_WAITING_OPENINGS;
 pub use report::{SlotReport, TargetReport};
 pub use slot::{PendingClose, PendingOpen, Slot, SlotConnection, SlotState};
 pub use slots::{answers_are_waited_for_in_time, slots_produce_as_themselves};

@@ -64,6 +64,10 @@ pub struct ScannerProfile {
     pub newer: Option<u32>,
     /// Whether the scanner closes each connection that its targets may have and no slot has.
     pub tidy: bool,
+    /// The most openings that wait for replies of one target at one time: 1 to 48. An absent one limits nothing.
+    pub openings: Option<u8>,
+    /// The connection serial number of the first opening: never 0. Without one it is 1.
+    pub serials: Option<u16>,
     /// The connections; a slot's number is its index here.
     pub slots: Items<SlotConfig>,
 }

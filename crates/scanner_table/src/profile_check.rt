@@ -2,13 +2,16 @@
 
 ghost use Rattle.std.specs.Prelude.{◌≡◌, ◌↔◌, None, Some, IsOk, IfErr};
 ghost use Rattle.std.specs.List.{list_any, list_all};
-ghost use Rattle.scanner_table.specs.Profiles.{are_few, listens_to_group, are_served, shares_group, are_apart, is_point_len, is_out_len, is_config, has_lengths, is_inhibit, has_times, is_wait, keeps_time, has_pace, is_window, are_paced, profile_fault};
+ghost use Rattle.scanner_table.specs.Profiles.{are_few, listens_to_group, are_served, shares_group, are_apart, is_point_len, is_out_len, is_config, has_lengths, is_inhibit, has_times, is_wait, keeps_time, has_pace, is_window, are_paced, are_openings, are_serials, profile_fault};
 
 use crate::profile::{ScannerProfile, SlotConfig};
 use cip_events::ProfileFault;
 use cip_netparams::{Trigger, api_of};
 use cip_productions::{FARTHEST_NUMBER, Kind};
 use cip_types::limits::{LONGEST_CONFIG, LONGEST_POINT, LONGEST_WAIT_MS, MOST_SLOTS};
+
+/// The most openings that can wait for replies of one target at one time.
+pub const MOST_WAITING_OPENINGS: u8 = 48;
 
 fn are_few(slots: &[SlotConfig]) -> bool
     ensures { result ≡ are_few slots.now }
@@ -159,6 +162,24 @@ fn are_paced(profile: &ScannerProfile) -> bool
     }
 }
 
+fn are_openings(openings: Option<u8>) -> bool
+    ensures { result ≡ are_openings openings }
+{
+    match openings {
+        Some(most) => (1..=MOST_WAITING_OPENINGS).contains(&most),
+        None => true,
+    }
+}
+
+fn are_serials(serials: Option<u16>) -> bool
+    ensures { result ≡ are_serials serials }
+{
+    match serials {
+        Some(first) => first != 0,
+        None => true,
+    }
+}
+
 fn are_long_enough(slots: &[SlotConfig]) -> bool
     ensures { result ≡ list_all has_lengths slots.now }
 {
@@ -188,6 +209,12 @@ fn fault_of(profile: &ScannerProfile) -> Option<ProfileFault>
     if !are_paced(profile) {
         return Some(ProfileFault::Limits);
     }
+    if !are_openings(profile.openings) {
+        return Some(ProfileFault::Limits);
+    }
+    if !are_serials(profile.serials) {
+        return Some(ProfileFault::Limits);
+    }
     None
 }
 
@@ -199,7 +226,8 @@ impl ScannerProfile {
     /// - `SameInstance`: two multicast slots name one produced point of one target.
     /// - `Length`: an input, an output or configuration data have a length that is not allowed.
     /// - `Timing`: a packet interval, a timeout multiplier, an inhibit time, `open_timeout` or `retry` is out of range.
-    /// - `Limits`: `newer` is below 2 or above 2^31, or is there while a change-of-state slot has an inhibit time of 0.
+    /// - `Limits`: `newer` is below 2 or above 2^31, or is there while a change-of-state slot has an inhibit time of 0; or
+    ///   `openings` is 0 or above 48, or `serials` is 0.
     pub fn check(&self) -> Result<(), ProfileFault>
         ensures ok { IsOk result ↔ (profile_fault self.now ≡ None) }
         ensures fault { IfErr result (λ f. profile_fault self.now ≡ Some f) }

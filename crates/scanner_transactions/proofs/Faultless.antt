@@ -6,7 +6,7 @@ use Rattle.cip_types.specs.Cases.{Case, first_case}
 use Rattle.cip_events.specs.declared.profile_fault.ProfileFault.TheVariants.{Incarnation, Points, SameInstance, Length, Timing, Limits}
 use Rattle.scanner_table.specs.declared.profile.ScannerProfile.{ScannerProfile}
 use Rattle.scanner_table.specs.declared.profile.SlotConfig.{SlotConfig}
-use Rattle.scanner_table.specs.Profiles.{profile_fault, are_served, are_apart, has_lengths, has_times, keeps_time, are_paced, are_few, listens_to_group, is_inhibit}
+use Rattle.scanner_table.specs.Profiles.{profile_fault, are_served, are_apart, has_lengths, has_times, keeps_time, are_paced, are_openings, are_serials, are_few, listens_to_group, is_inhibit}
 use Rattle.cip_types.specs.declared.names.Mismatch.{Mismatch}
 use Rattle.cip_netparams.specs.Rate.{is_interval, interval_ms}
 use Rattle.cip_fwdopen.specs.declared.reply.Opened as made
@@ -31,7 +31,7 @@ few_of n is = grind (arith, nat_tests)
 pub few_slots : (profile : ScannerProfile) → profile_fault profile ≡ None → length profile.slots ≤ 64
 unfolding profile_fault
 few_slots profile is =
-    let second = few_by (profile.incarnation == 0) (not (are_served profile)) Incarnation Points ((not (are_apart profile.slots), SameInstance) ∷ (not (list_all has_lengths profile.slots), Length) ∷ (not (keeps_time profile), Timing) ∷ (not (are_paced profile.newer profile.slots), Limits) ∷ []) is in
+    let second = few_by (profile.incarnation == 0) (not (are_served profile)) Incarnation Points ((not (are_apart profile.slots), SameInstance) ∷ (not (list_all has_lengths profile.slots), Length) ∷ (not (keeps_time profile), Timing) ∷ (not (are_paced profile.newer profile.slots), Limits) ∷ (not (are_openings profile.openings), Limits) ∷ (not (are_serials profile.serials), Limits) ∷ []) is in
     few_of (length profile.slots) (both_so (are_few profile.slots) (list_all listens_to_group profile.slots) (is_so (are_served profile) second)).0
 
 pub few : (profile : ScannerProfile) → profile_fault profile ≡ None → length profile.slots ≤ 2 ^ 32

@@ -10,3 +10,4 @@ pub mod Remaining
 pub mod SlotNumbers
 pub mod Ordered
 pub mod Answering
+pub mod SessionSteps

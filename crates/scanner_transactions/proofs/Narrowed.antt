@@ -7,7 +7,7 @@ use Rattle.scanner_table.specs.declared.table.ScannerTable.{ScannerTable}
 use Rattle.scanner_table.specs.declared.table.TargetStream.{TargetStream}
 use Rattle.scanner_table.specs.Slots.{slot_at}
 use Rattle.scanner_slots.specs.declared.bounds.Bounds.{Bounds}
-use Rattle.scanner_slots.specs.Bounding.{IsBounded, IsBoundedAt, IsHinted, IsNoLater}
+use Rattle.scanner_slots.specs.Bounding.{IsBounded, IsBoundedAt, IsHinted, IsNoLater, has_target}
 use Rattle.scanner_transactions.specs.declared.undo.SlotBefore.{SlotBefore}
 use Rattle.scanner_transactions.specs.Undoing.{slot_before, undone_at, undone_slots}
 use Rattle.scanner_transactions.proofs.Found.{indexed_at, found_at}
@@ -73,7 +73,7 @@ carried next t number (before ∷ kept) slots hold more =
 same_at : (bounds : Bounds) (old new : ScannerTable) (number : ℕ) → old.profile ≡ new.profile → old.streams ≡ new.streams → slice_get old.slots number ≡ slice_get new.slots number → IsBoundedAt bounds old number → IsBoundedAt bounds new number
 same_at bounds old new number profile streams slot at indexed is =
     let here : slot_at old number ≡ slot_at new number = found_at number old.profile.slots old.slots ∙ ap (λ p. indexed_at number (slice_get p.slots number) (slice_get old.slots number)) profile ∙ ap (indexed_at number (slice_get new.profile.slots number)) slot ∙ sym (found_at number new.profile.slots new.slots) in
-    subst (λ (s : List TargetStream). IsBounded bounds s indexed) streams (at indexed (here ∙ is))
+    subst (λ (s : List TargetStream). IsBounded bounds (has_target s indexed) indexed) streams (at indexed (here ∙ is))
 
 pub narrowed_hinted : Earlier → ((bounds : Bounds) (t : ScannerTable) (number : ℕ) → IsHinted bounds t → IsBoundedAt bounds t number) → ((bounds : Bounds) (t : ScannerTable) → ((number : ℕ) → IsBoundedAt bounds t number) → IsHinted bounds t) → (bounds next : Bounds) (old new : ScannerTable) (kept : List SlotBefore) → IsNoLater next bounds → AreBoundedAt next new kept → old.profile ≡ new.profile → old.streams ≡ new.streams → old.slots ≡ undone_slots kept new.slots → IsHinted bounds old → IsHinted next new
 narrowed_hinted earlier each all bounds next old new kept le hold profile streams slots hinted =

@@ -23,7 +23,7 @@ use Rattle.scanner_table.specs.declared.slot.Slot.{Slot}
 use Rattle.scanner_table.specs.declared.table.ScannerTable.{ScannerTable}
 use Rattle.scanner_table.specs.declared.table.Session.{Session}
 use Rattle.scanner_table.specs.Requests.{opening, closing, is_large, open_fields, close_fields, next_requested, numbered, sent_frame}
-use Rattle.scanner_table.specs.Opening.{opened, opened_from, opened_within, cleared_within, can_open, has_request, has_id, id_after, serial_after}
+use Rattle.scanner_table.specs.Opening.{open_session, asking_in, opened, opened_from, opened_within, cleared_within, can_open, has_request, has_id, id_after, serial_after}
 use Rattle.scanner_table.specs.Points.{desired_slot}
 use Rattle.scanner_table.specs.Profiles.{profile_fault, has_lengths}
 use Rattle.scanner_table.specs.Slots.{IndexedSlot, slot_at, with_slot}
@@ -49,10 +49,10 @@ lengths_at profile number config sound is = all_at has_lengths profile.slots num
 
 -- OPENINGS
 
-pub requests_open : (so_far : Progress) (number next_id next_serial : ℕ) (indexed : IndexedSlot) (session : Session) (frame : Frame) (slot_change : SlotChange) → Some indexed ≡ slot_at so_far.table number → next_id ≡ id_after indexed.config so_far.table.next_id → next_serial ≡ serial_after so_far.table.next_serial → frame ≡ sent_frame (numbered session so_far.table.next_request (opening (is_large indexed.config) (open_fields indexed.config (next_requested so_far.table indexed.config)))) → slot_change ≡ opening_change so_far.table indexed.config indexed.slot → after_at (slot_changed slot_change None) number (with_request frame (record so_far { table = record so_far.table { next_id = next_id; next_serial = next_serial } })) ≡ after_at (open_requested_within session) number so_far
+pub requests_open : (so_far : Progress) (number next_id next_serial : ℕ) (indexed : IndexedSlot) (session : Session) (frame : Frame) (slot_change : SlotChange) → Some indexed ≡ slot_at so_far.table number → next_id ≡ id_after indexed.config so_far.table.next_id → next_serial ≡ serial_after so_far.table.next_serial → frame ≡ sent_frame (numbered session so_far.table.next_request (opening (is_large indexed.config) (open_fields so_far.table.profile indexed.config (next_requested so_far.table indexed.config)))) → slot_change ≡ opening_change so_far.table indexed.config indexed.slot → after_at (slot_changed slot_change None) number (with_request frame (record so_far { table = record so_far.table { next_id = next_id; next_serial = next_serial } })) ≡ after_at (open_requested_within session) number so_far
 requests_open so_far number next_id next_serial indexed session frame slot_change is ids serials sent stands =
     let before : Progress = with_request frame (record so_far { table = record so_far.table { next_id = next_id; next_serial = next_serial } }) in
-    let core : followed before (slot_changed slot_change None before.table indexed) ≡ followed so_far (open_requested_within session so_far.table indexed) = rw (ids, serials, sent, stands) (rw (append-nil (so_far.frames ++ sent_frame (numbered session so_far.table.next_request (opening (is_large indexed.config) (open_fields indexed.config (next_requested so_far.table indexed.config)))) ∷ [])) refl) in
+    let core : followed before (slot_changed slot_change None before.table indexed) ≡ followed so_far (open_requested_within session so_far.table indexed) = rw (ids, serials, sent, stands) (rw (append-nil (so_far.frames ++ sent_frame (numbered session so_far.table.next_request (opening (is_large indexed.config) (open_fields so_far.table.profile indexed.config (next_requested so_far.table indexed.config)))) ∷ [])) refl) in
     ap (λ (o : Option IndexedSlot). followed before (at_found (slot_changed slot_change None) before.table o)) (sym is)
     ∙ core
     ∙ ap (λ (o : Option IndexedSlot). followed so_far (at_found (open_requested_within session) so_far.table o)) is
@@ -123,23 +123,26 @@ clears so_far number indexed link is st tidy =
     let t = so_far.table in
     let session = session_with t indexed.config.target in
     ap (λ (o : Option IndexedSlot). followed so_far (at_found (cleared_by link) t o)) (sym is)
-    ∙ ap (λ (b : Bool). followed so_far (if b then cleared_within t indexed link session else opened_within t indexed session)) (sym tidy)
-    ∙ ap (λ (s : SlotState). followed so_far (opened_from t indexed session s)) (sym st)
+    ∙ ap (λ (b : Bool). followed so_far (if b then cleared_within t indexed link (if b then session else open_session t indexed.config.target) else opened_within t indexed (if b then session else open_session t indexed.config.target))) (sym tidy)
+    ∙ ap (λ (s : SlotState). followed so_far (opened_from t indexed (asking_in t indexed.config.target s) s)) (sym st)
     ∙ ap (λ (o : Option IndexedSlot). followed so_far (at_found opened t o)) is
 
 -- a slot in another state opens
-pub opens_there : (so_far : Progress) (number : ℕ) (indexed : IndexedSlot) (state : SlotState) → Some indexed ≡ slot_at so_far.table number → indexed.slot.state ≡ state → opened_within so_far.table indexed (session_with so_far.table indexed.config.target) ≡ opened_from so_far.table indexed (session_with so_far.table indexed.config.target) state → after_at opened_there number so_far ≡ after_at opened number so_far
+pub opens_there : (so_far : Progress) (number : ℕ) (indexed : IndexedSlot) (state : SlotState) → Some indexed ≡ slot_at so_far.table number → indexed.slot.state ≡ state → opened_within so_far.table indexed (open_session so_far.table indexed.config.target) ≡ opened_from so_far.table indexed (asking_in so_far.table indexed.config.target state) state → after_at opened_there number so_far ≡ after_at opened number so_far
 unfolding opened
 opens_there so_far number indexed state is st same =
     let t = so_far.table in
     ap (λ (o : Option IndexedSlot). followed so_far (at_found opened_there t o)) (sym is)
     ∙ ap (followed so_far) same
-    ∙ ap (λ (s : SlotState). followed so_far (opened_from t indexed (session_with t indexed.config.target) s)) (sym st)
+    ∙ ap (λ (s : SlotState). followed so_far (opened_from t indexed (asking_in t indexed.config.target s) s)) (sym st)
     ∙ ap (λ (o : Option IndexedSlot). followed so_far (at_found opened t o)) is
 
 -- without `tidy` a connection that timed out is not closed
-pub untidy_opens : (t : ScannerTable) (indexed : IndexedSlot) (session : Option Session) (link : Link) → t.profile.tidy ≡ false → opened_within t indexed session ≡ opened_from t indexed session (TimedOut link)
-untidy_opens t indexed session link is = ap (λ (b : Bool). if b then cleared_within t indexed link session else opened_within t indexed session) (sym is)
+pub untidy_opens : (t : ScannerTable) (indexed : IndexedSlot) (link : Link) → t.profile.tidy ≡ false → opened_within t indexed (open_session t indexed.config.target) ≡ opened_from t indexed (asking_in t indexed.config.target (TimedOut link)) (TimedOut link)
+untidy_opens t indexed link is =
+    let session = session_with t indexed.config.target in
+    let turn = open_session t indexed.config.target in
+    ap (λ (b : Bool). if b then cleared_within t indexed link (if b then session else turn) else opened_within t indexed (if b then session else turn)) (sym is)
 
 -- REJECTED CONNECTIONS
 

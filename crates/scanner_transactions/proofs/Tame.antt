@@ -8,10 +8,9 @@ use Rattle.scanner_table.specs.declared.slot.SlotState.TheVariants.{Idle, Openin
 use Rattle.scanner_table.specs.declared.table.ScannerTable.{ScannerTable}
 use Rattle.scanner_table.specs.declared.table.Session.{Session}
 use Rattle.scanner_table.specs.Slots.{IndexedSlot, with_slot}
-use Rattle.scanner_table.specs.Sessions.{session_with}
 use Rattle.scanner_table.specs.Effects.{Effect}
 use Rattle.conn_state.specs.declared.names.Link.{Link}
-use Rattle.scanner_table.specs.Opening.{has_request, can_open, open_requested, exhausted, opened_within, close_requested, cleared_within, opened_from, opened}
+use Rattle.scanner_table.specs.Opening.{has_request, can_open, open_requested, exhausted, opened_within, close_requested, cleared_within, opened_from, asking_session, opened}
 use Rattle.scanner_table.specs.Closing.{given_up_state}
 use Rattle.scanner_table.specs.Ticks.{expired, expired_state}
 use Rattle.scanner_transactions.specs.declared.running.SlotAction.{SlotAction}
@@ -65,7 +64,7 @@ tame_from t indexed session other = tame_within t indexed session
 
 tame_opened : IsTame opened
 unfolding opened
-tame_opened t indexed = tame_from t indexed (session_with t indexed.config.target) indexed.slot.state
+tame_opened t indexed = tame_from t indexed (asking_session t indexed) indexed.slot.state
 
 tame_given : (t : ScannerTable) (indexed : IndexedSlot) (state : SlotState) → Changes indexed.number t (given_up_state t indexed state).table
 tame_given t indexed Idle = nothing_changes indexed.number t

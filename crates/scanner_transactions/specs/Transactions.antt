@@ -28,7 +28,7 @@ use Rattle.scanner_table.specs.Closing.{left_slot, closed_within, dropped}
 use Rattle.scanner_table.specs.Replies.{answered, refused, rejected, established_slot, new_connection, judged_success, is_id_free}
 use Rattle.conn_state.specs.Answers.{answer_tests}
 use Rattle.cip_types.specs.Cases.{first_case}
-use Rattle.scanner_table.specs.Opening.{later, open_requested, opened_within, close_requested, cleared_within}
+use Rattle.scanner_table.specs.Opening.{later, open_session, open_requested, opened_within, close_requested, cleared_within}
 use Rattle.scanner_table.specs.declared.table.Stage.{Stage}
 use Rattle.scanner_table.specs.Sessions.{session_with, with_stage, without_stream}
 use Rattle.scanner_table.specs.Slots.{IndexedSlot, slot_at}
@@ -99,6 +99,10 @@ opening_change t config slot = record {
   retry_at = slot.retry_at;
 }
 
+-- this frame is sent too
+abbrev pub with_frame : Frame → Progress → Progress
+with_frame frame so_far = record so_far { frames = so_far.frames ++ frame ∷ [] }
+
 -- the next request, sent in this frame
 abbrev pub with_request : Frame → Progress → Progress
 with_request frame so_far = record so_far { frames = so_far.frames ++ frame ∷ []; table = counted so_far.table }
@@ -107,9 +111,9 @@ with_request frame so_far = record so_far { frames = so_far.frames ++ frame ∷ 
 abbrev pub freshly_started : ScannerTable → IndexedSlot → Effect
 freshly_started t indexed = started t indexed (desired_slot t indexed.slot)
 
--- the slot opens, if a session with its target is registered
+-- the slot opens, if a session with its target is registered, and it is its turn
 abbrev pub opened_there : ScannerTable → IndexedSlot → Effect
-opened_there t indexed = opened_within t indexed (session_with t indexed.config.target)
+opened_there t indexed = opened_within t indexed (open_session t indexed.config.target)
 
 -- the slot closes a connection that timed out
 abbrev pub cleared_by : Link → ScannerTable → IndexedSlot → Effect

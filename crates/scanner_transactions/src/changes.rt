@@ -5,7 +5,7 @@ ghost use Rattle.std.specs.Option.{ForSome, option_map};
 ghost use Rattle.scanner_table.specs.Effects.{state_notices};
 ghost use Rattle.scanner_table.specs.Slots.{slot_at};
 ghost use Rattle.scanner_slots.specs.Views.{view_slot};
-ghost use Rattle.scanner_transactions.specs.Transactions.{view_transaction, after_at, with_change, with_request, listed, slot_changed};
+ghost use Rattle.scanner_transactions.specs.Transactions.{view_transaction, after_at, with_change, with_frame, with_request, listed, slot_changed};
 ghost use Rattle.scanner_transactions.specs.Undoing.{Performs, kept_slot};
 
 use crate::transaction::Transaction;
@@ -111,6 +111,14 @@ impl Transaction<'_> {
             number,
             slot_change,
         )?;
+        Ok(())
+    }
+
+    /// Sends a frame that no slot waits for the reply to.
+    pub(crate) fn send_frame(&mut self, frame: Frame) -> Result<(), OutOfMemory>
+        ensures { Performs (with_frame frame) self.old result self.new }
+    {
+        self.frames.push(frame)?;
         Ok(())
     }
 

@@ -1,6 +1,6 @@
 //! How the connection of a slot ends.
 
-ghost use Rattle.std.specs.Prelude.{◌≡◌, ◌≤◌, ◌^◌, if◌then◌else◌};
+ghost use Rattle.std.specs.Prelude.{◌≡◌, ◌≤◌, ◌^◌, ◌&&◌, nat_lt, if◌then◌else◌};
 ghost use Rattle.scanner_table.specs.Slots.{slot_at};
 ghost use Rattle.scanner_table.specs.Closing.{closed, given_up, requested_link, slot_resigned, stopped_at};
 ghost use Rattle.scanner_table.specs.Opening.{exhausted};
@@ -10,7 +10,7 @@ ghost use Rattle.scanner_transactions.specs.Undoing.{GoesOn, Performs};
 use crate::changes::SlotChange;
 use crate::transaction::Transaction;
 use cip_events::{Notice, StepFault};
-use cip_types::{ConnId, OutOfMemory, Triad};
+use cip_types::{ConnId, Ms, OutOfMemory, Triad};
 use conn_state::{Link, Requested};
 use scanner_requests::{LAST_REQUEST, close_frame, later};
 use scanner_slots::session_with;
@@ -49,6 +49,14 @@ fn left_state(profile: &ScannerProfile, link: Link) -> SlotState
     }
 }
 
+/// Returns whether a slot that gives up the reply to its Forward_Close keeps the connection, to close it later: with `tidy`,
+/// before the time for the reply is over.
+fn is_kept(profile: &ScannerProfile, clock: Ms, closing: &PendingClose) -> bool
+    ensures { result ≡ (profile.now.tidy && nat_lt clock.0 closing.now.deadline.0) }
+{
+    profile.tidy && clock.0 < closing.deadline.0
+}
+
 /// Turns `OutOfMemory` into the fault of a step.
 fn faulted(outcome: Result<(), OutOfMemory>) -> Result<(), StepFault>
     ensures { result ≡ faulted outcome }
@@ -60,8 +68,8 @@ fn faulted(outcome: Result<(), OutOfMemory>) -> Result<(), StepFault>
 }
 
 impl Transaction<'_> {
-    /// Gives up the reply that a slot waits for: a slot that opens tries again after the retry time, and a slot that closes
-    /// becomes idle.
+    /// Gives up the reply that a slot waits for: a slot that opens tries again after the retry time. A slot that closes becomes
+    /// idle; with `tidy`, before the time for the reply is over, it is timed out, and closes again after the retry time.
     pub fn give_up(&mut self, number: u32) -> Result<(), OutOfMemory>
         ensures { Performs (after_at given_up number) self.old result self.new }
     {
@@ -69,11 +77,14 @@ impl Transaction<'_> {
             return Ok(());
         };
         let desired_up = indexed.slot.desired_up;
+        let again = later(self.scanner.clock, self.profile.retry);
         let (state, retry_at) = match indexed.slot.state {
             SlotState::Opening(opening) => {
                 let link = requested_link(&opening.requested);
-                let retry_at = later(self.scanner.clock, self.profile.retry);
-                (left_state(self.profile, link), retry_at)
+                (left_state(self.profile, link), again)
+            }
+            SlotState::Closing(closing) if is_kept(self.profile, self.scanner.clock, &closing) => {
+                (SlotState::TimedOut(closing.link), again)
             }
             SlotState::Closing(_) => (SlotState::Idle, indexed.slot.retry_at),
             SlotState::Idle | SlotState::Established(_) | SlotState::TimedOut(_) => {

@@ -28,5 +28,5 @@ mod undo;
 pub use expiries::{expire_all, move_on};
 pub use messages::{MessageOutcome, receive_message};
 pub use running::{give_up_overdue, lose_target, open_ready, open_target};
-pub use sessions::{cut_stream, register};
+pub use sessions::{cut_stream, register, renew_session};
 pub use transaction::Transaction;

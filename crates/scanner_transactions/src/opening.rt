@@ -14,7 +14,7 @@ use conn_state::Link;
 use scanner_requests::{
     LAST_REQUEST, can_open, id_after, later, next_requested, open_frame, serial_after,
 };
-use scanner_slots::session_with;
+use scanner_slots::{open_session, session_with};
 use scanner_table::{PendingOpen, Session, SlotState};
 
 impl Transaction<'_> {
@@ -30,7 +30,14 @@ impl Transaction<'_> {
         let multicast = indexed.config.multicast;
         let request = self.scanner.next_request;
         let requested = next_requested(self.profile, &self.scanner, indexed.config);
-        let frame = open_frame(self.alloc, indexed.config, &requested, session, request)?;
+        let frame = open_frame(
+            self.alloc,
+            self.profile,
+            indexed.config,
+            &requested,
+            session,
+            request,
+        )?;
         let opening = PendingOpen {
             request,
             requested,
@@ -67,8 +74,8 @@ impl Transaction<'_> {
         self.request_close(number, link, desired_up, session)
     }
 
-    /// Sends the Forward_Open of a slot, if the session with its target is registered. If no number is left, the slot becomes
-    /// idle.
+    /// Sends the Forward_Open of a slot, if the session with its target is registered, and it is the slot's turn. If no number
+    /// is left, the slot becomes idle.
     fn open_there(&mut self, number: u32) -> Result<(), OutOfMemory>
         ensures { Performs (after_at opened_there number) self.old result self.new }
     {
@@ -77,7 +84,7 @@ impl Transaction<'_> {
         };
         let target = indexed.config.target;
         let multicast = indexed.config.multicast;
-        let Some(session) = session_with(&self.scanner.streams, target) else {
+        let Some(session) = open_session(self.profile, &self.scanner, target) else {
             return Ok(());
         };
         if !can_open(&self.scanner, multicast) {
@@ -86,8 +93,8 @@ impl Transaction<'_> {
         self.request_open(number, session)
     }
 
-    /// Opens a slot by a Forward_Open, if the session with its target is registered. With `tidy` a connection that timed out
-    /// is closed first. If no number is left, the slot becomes idle.
+    /// Opens a slot by a Forward_Open, if the session with its target is registered, and it is the slot's turn. With `tidy` a
+    /// connection that timed out is closed first, out of turn. If no number is left, the slot becomes idle.
     ///
     /// Volume 1, chapter 3, Forward_Open service.
     pub fn open(&mut self, number: u32) -> Result<(), OutOfMemory>

@@ -4,6 +4,7 @@ ghost use Rattle.std.specs.Prelude.{◌≡◌, ◌<◌, ◌≤◌, ◌++◌, ◌
 ghost use Rattle.std.specs.Option.{ForSome};
 ghost use Rattle.cip_netparams.specs.Rate.{interval_ms};
 ghost use Rattle.conn_state.specs.Answers.{link_of};
+ghost use Rattle.scanner_table.specs.Encapsulation.{unserved};
 ghost use Rattle.scanner_transactions.specs.Transactions.{after_at, answered_by, refused_by, established_by, judged_by, occupied};
 ghost use Rattle.scanner_transactions.specs.Undoing.{Performs, kept_with_image};
 
@@ -66,6 +67,20 @@ impl Transaction<'_> {
             retry_at: later(self.scanner.clock, self.profile.retry),
         };
         self.change(number, slot_change, Some(reported))
+    }
+
+    /// Leaves the request of a slot unserved, since its target did not serve it: a slot that opens is refused with this
+    /// encapsulation status.
+    pub(crate) fn leave_unserved(&mut self, number: u32, status: u32) -> Result<(), OutOfMemory>
+        ensures { Performs (after_at (unserved status) number) self.old result self.new }
+    {
+        let Some(indexed) = self.find(number) else {
+            return Ok(());
+        };
+        let SlotState::Opening(_) = indexed.slot.state else {
+            return Ok(());
+        };
+        self.refuse(number, Reason::Encap(status))
     }
 
     /// Establishes a slot with the connection that a successful reply opens, and an image of zeros.

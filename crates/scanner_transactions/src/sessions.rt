@@ -1,6 +1,6 @@
 //! Slots at the beginning and at the end of the session with their target.
 
-ghost use Rattle.scanner_table.specs.Encapsulation.{registered, session_begun, session_failed, stream_lost};
+ghost use Rattle.scanner_table.specs.Encapsulation.{registered, registering_again, session_begun, session_failed, session_renewed, stream_lost};
 ghost use Rattle.cip_encap.specs.Message.{view_message};
 ghost use Rattle.scanner_transactions.specs.Transactions.{followed_by};
 ghost use Rattle.scanner_transactions.specs.Undoing.{Performs};
@@ -10,7 +10,7 @@ use crate::running::{lose_target, open_target};
 use cip_encap::MessageView;
 use cip_types::OutOfMemory;
 use explicit_requests::ExplicitEnd;
-use scanner_requests::is_registered;
+use scanner_requests::{is_registered, registration_frame};
 use scanner_table::{Stage, TargetStream};
 
 /// Records the session of a stream, and opens the target's slots that are ready.
@@ -61,6 +61,34 @@ pub fn cut_stream(
     ensures { Performs (followed_by (λ t. stream_lost t stream)) transaction.old result transaction.new }
 {
     transaction.cut_stream(stream.number)?;
+    lose_target(transaction, stream.peer)?;
+    transaction.end_explicit(ExplicitEnd::Over(stream.number))
+}
+
+/// Registers a session on a stream again.
+fn register_again(
+    transaction: &mut Transaction<'_>,
+    stream: TargetStream,
+) -> Result<(), OutOfMemory>
+    ensures { Performs (followed_by (λ t. registering_again t stream)) transaction.old result transaction.new }
+{
+    let frame = registration_frame(transaction.alloc, stream.number)?;
+    transaction.send_frame(frame)?;
+    transaction.set_stage(stream.number, Stage::Waiting)
+}
+
+/// Ends the session on a stream: the target's slots give up the replies that they wait for, the explicit requests of the stream
+/// end, and a new session is registered on the stream. `OutOfMemory` is the only error; the transaction must be undone then.
+///
+/// Volume 2, chapter 2, RegisterSession.
+#[tactic(auto, unfolding(scanner_table::specs::Explicit::explicit_lost))]
+pub fn renew_session(
+    transaction: &mut Transaction<'_>,
+    stream: TargetStream,
+) -> Result<(), OutOfMemory>
+    ensures { Performs (followed_by (session_renewed stream)) transaction.old result transaction.new }
+{
+    register_again(transaction, stream)?;
     lose_target(transaction, stream.peer)?;
     transaction.end_explicit(ExplicitEnd::Over(stream.number))
 }

@@ -14,7 +14,7 @@ use Rattle.cip_tables.specs.declared.table.DeviceTable.{DeviceTable}
 use Rattle.cip_tables.specs.declared.table.DeviceTable.TheVariants.{Adapter, Scanner}
 use Rattle.cip_tables.specs.Run.{table_of}
 use Rattle.cip_tables.specs.Step.{step}
-use Rattle.segment_traffic.specs.Streams.{Stream, answered}
+use Rattle.segment_world.specs.Transit.Streams.{Stream, answered}
 use Rattle.segment_world.specs.declared.act.Act.{Act}
 use Rattle.segment_world.specs.declared.act.ActFault.{ActFault}
 use Rattle.segment_world.specs.Configs.{opening_world}

@@ -19,6 +19,7 @@ use Rattle.cip_productions.specs.declared.kind.Kind.TheVariants.{ExclusiveOwner,
 use Rattle.cip_productions.specs.Kinds.{is_owner}
 use Rattle.adapter_table.specs.Checks.{is_multicast}
 use Rattle.conn_state.specs.declared.names.Requested.{Requested}
+use Rattle.scanner_table.specs.declared.profile.ScannerProfile.{ScannerProfile}
 use Rattle.scanner_table.specs.declared.profile.SlotConfig.{SlotConfig}
 use Rattle.scanner_table.specs.Profiles.{is_point_len, is_out_len, is_config, has_lengths}
 use Rattle.scanner_table.specs.Requests.{Sent, slot_params, t_o_type, o_t_size, t_o_size, is_large, inhibit_of, segment_of, slot_path, open_fields, sent_message}
@@ -139,20 +140,20 @@ pub record AsksFor (slot : SlotConfig) (request : OpenFields) : Type 0 where
 o_t_few : (slot : SlotConfig) → Lengths slot → o_t_size slot < 65536
 o_t_few slot lengths = either (λ (n : ℕ). n < 65536) (is_owner slot.kind) (slot.out_len + 6) 2 (omega (arith, lengths.output)) (omega arith)
 
-asks_back : PathReadsBack → (large : Bool) (slot : SlotConfig) (requested : Requested) → is_large slot ≡ large → HasPath slot → Lengths slot → AsksFor slot (read_back large (open_fields slot requested))
-asks_back reads true slot requested is has lengths =
+asks_back : PathReadsBack → (large : Bool) (profile : ScannerProfile) (slot : SlotConfig) (requested : Requested) → is_large slot ≡ large → HasPath slot → Lengths slot → AsksFor slot (read_back large (open_fields profile slot requested))
+asks_back reads true profile slot requested is has lengths =
     let o_t = params_back true false (o_t_size slot) (o_t_few slot lengths) in
     let t_o = params_back true slot.multicast (t_o_size slot) (omega (arith, lengths.input)) in
     record { path = reads (slot_path slot) (path_fits slot has lengths); o_t = o_t.size_is; t_o = t_o.size_is; multicast = t_o.kind_is; no_output = lengths.no_output }
-asks_back reads false slot requested is has lengths =
+asks_back reads false profile slot requested is has lengths =
     let sizes = or_parts (nat_lt 511 (o_t_size slot)) (nat_lt 511 (t_o_size slot)) is in
     let o_t = params_back false false (o_t_size slot) (small_size (o_t_size slot) sizes.0) in
     let t_o = params_back false slot.multicast (t_o_size slot) (small_size (t_o_size slot) sizes.1) in
     record { path = reads (slot_path slot) (path_fits slot has lengths); o_t = o_t.size_is; t_o = t_o.size_is; multicast = t_o.kind_is; no_output = lengths.no_output }
 
 -- a slot asks so, however large its request is
-pub slot_asks : PathReadsBack → (slot : SlotConfig) (requested : Requested) → HasPath slot → has_lengths slot ≡ true → AsksFor slot (read_back (is_large slot) (open_fields slot requested))
-slot_asks reads slot requested has is = asks_back reads (is_large slot) slot requested refl has (lengths_of slot is)
+pub slot_asks : PathReadsBack → (profile : ScannerProfile) (slot : SlotConfig) (requested : Requested) → HasPath slot → has_lengths slot ≡ true → AsksFor slot (read_back (is_large slot) (open_fields profile slot requested))
+slot_asks reads profile slot requested has is = asks_back reads (is_large slot) profile slot requested refl has (lengths_of slot is)
 
 -- ---- a frame
 

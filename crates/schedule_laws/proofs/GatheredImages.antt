@@ -31,7 +31,7 @@ use Rattle.cip_tables.specs.Run.{table_of}
 use Rattle.cip_tables.specs.Whole.{IsWholeDevice}
 use Rattle.device_laws.specs.SlotIds.{SlotsHaveTheIdsOfTheirSuccess}
 use Rattle.cip_tables.specs.Step.{DeviceNext, as_adapter, opening_table, step}
-use Rattle.segment_traffic.specs.Log.{Sent}
+use Rattle.segment_world.specs.Transit.Log.{Sent}
 use Rattle.segment_world.specs.declared.act.Act.{Act}
 use Rattle.segment_world.specs.declared.act.ActFault.{ActFault}
 use Rattle.segment_world.specs.Configs.{opening_world}

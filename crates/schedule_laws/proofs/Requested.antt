@@ -101,7 +101,7 @@ number_back n few = from_le_bytes-to_le_bytes_8 n (omega (arith, few))
 
 open_asks : PathReadsBack → (config : SlotConfig) (large : Bool) (fields : OpenFields) → HasPath config → IsSized config → IsRequestOf config large fields → AsksFor config (read_back large fields)
 open_asks reads config large fields has sized is =
-    let asks : AsksFor config (read_back (is_large config) (open_fields config is.requested)) = slot_asks reads config is.requested has sized in
+    let asks : AsksFor config (read_back (is_large config) (open_fields is.profile config is.requested)) = slot_asks reads is.profile config is.requested has sized in
     subst (λ (b : Bool). AsksFor config (read_back b fields)) (sym is.large_is) (subst (λ (f : OpenFields). AsksFor config (read_back (is_large config) f)) (sym is.fields_are) asks)
 
 request_names : PathReadsBack → (from : ℕ) (t : ScannerTable) (number : ℕ) (request : Request) → HasSlots t → RequestIsFor from t number request → HoldsAsRead (NamesSlots t (again w64 number)) request

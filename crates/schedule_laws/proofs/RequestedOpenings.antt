@@ -27,6 +27,7 @@ use Rattle.conn_state.specs.Answers.{answer_tests}
 use Rattle.conn_state.specs.declared.names.Link.{Link}
 use Rattle.conn_state.specs.declared.names.Requested.{Requested}
 use Rattle.cip_productions.specs.Kinds.{is_owner}
+use Rattle.scanner_table.specs.declared.profile.ScannerProfile.{ScannerProfile}
 use Rattle.scanner_table.specs.declared.profile.SlotConfig.{SlotConfig}
 use Rattle.scanner_table.specs.declared.slot.PendingOpen as pending
 use Rattle.scanner_table.specs.declared.slot.Slot.{Slot}
@@ -37,12 +38,12 @@ use Rattle.scanner_table.specs.declared.table.Session.{Session}
 use Rattle.scanner_table.specs.declared.table.Stage.{Stage}
 use Rattle.scanner_table.specs.declared.table.Stage.TheVariants.{Waiting, Up, Unused}
 use Rattle.scanner_table.specs.declared.table.TargetStream.{TargetStream}
-use Rattle.scanner_table.specs.Requests.{Request, registering, opening, closing, requesting, Sent, is_large, next_requested, open_fields, sent_frame}
+use Rattle.scanner_table.specs.Requests.{Request, registration, registering, opening, closing, requesting, Sent, is_large, next_requested, open_fields, sent_frame}
 use Rattle.scanner_table.specs.Closing.{idle_slot, requested_link, given_up_state, given_up, target_lost, reopened, closed, closed_within, dropped, slot_resigned, stopped_desire, stopped, stopped_at}
-use Rattle.scanner_table.specs.Effects.{Next, Effect, nothing, after, on_each, done}
+use Rattle.scanner_table.specs.Effects.{Next, Effect, nothing, after, and_then, on_each, done}
 use Rattle.scanner_table.specs.Explicit.{awaits, without_explicit, explicit_sent, explicit_request, explicit_timed_out, explicit_lost}
-use Rattle.scanner_table.specs.Encapsulation.{registering_on, stream_opened, stream_lost, cut_of, stream_cut, is_registered, session_begun, session_failed, registered, ignored, is_awaiting, replied, replied_to, reported, frame_answer, frame_of, frame}
-use Rattle.scanner_table.specs.Opening.{has_request, can_open, opening_slot, open_requested, exhausted, opened_within, close_requested, cleared_within, opened_from, opened, is_ready_slot, ready_slots, ready_opened, target_opened}
+use Rattle.scanner_table.specs.Encapsulation.{registering_on, stream_opened, stream_lost, cut_of, stream_cut, is_registered, session_begun, session_failed, registered, ends_session, session_renewed, unserved_state, unserved, unserved_at, ignored, is_awaiting, replied, replied_to, reported, frame_answer, frame_of, frame}
+use Rattle.scanner_table.specs.Opening.{has_request, can_open, opening_slot, open_requested, exhausted, opened_within, close_requested, cleared_within, opened_from, opened, is_ready_slot, ready_slots, ready_opened, target_opened, asking_session}
 use Rattle.scanner_table.specs.Points.{desired_slot, started, start_state, start_at, start, stop_of, stop}
 use Rattle.scanner_table.specs.Productions.{state_is_due, produced_table}
 use Rattle.scanner_table.specs.Replies.{is_id_free, refused, disowned, disowned_within, rejected, judged_success, open_answer, answered}
@@ -163,9 +164,10 @@ numbered_on t u goes all number place is =
 
 -- the request that a slot of this configuration sends
 pub record IsRequestOf (config : SlotConfig) (large : Bool) (fields : OpenFields) : Type 0 where
+  pub profile : ScannerProfile
   pub requested : Requested
   pub large_is : large ≡ is_large config
-  pub fields_are : fields ≡ open_fields config requested
+  pub fields_are : fields ≡ open_fields profile config requested
 
 -- the number was drawn, and the request is that of each slot that has it
 pub record IsForSlots (from : ℕ) (t : ScannerTable) (number : ℕ) (large : Bool) (fields : OpenFields) : Type 0 where
@@ -221,19 +223,20 @@ opens_then t first second one two =
 -- ---- one slot opens
 
 -- the slot that opened has the number, and no other one
-open_is_for : (t : ScannerTable) (place other : IndexedSlot) (session : Session) → Stands t place → OpeningsAreNumbered t → slot_at (open_requested t place session).table other.number ≡ Some other → opening_number other.slot.state ≡ Some t.next_request → IsRequestOf other.config (is_large place.config) (open_fields place.config (next_requested t place.config))
+open_is_for : (t : ScannerTable) (place other : IndexedSlot) (session : Session) → Stands t place → OpeningsAreNumbered t → slot_at (open_requested t place session).table other.number ≡ Some other → opening_number other.slot.state ≡ Some t.next_request → IsRequestOf other.config (is_large place.config) (open_fields t.profile place.config (next_requested t place.config))
 open_is_for t place other session stands all there has =
     let u = (open_requested t place session).table in
     let at = slot_is (open_requested t place session).table other.number other there in
     decide (other.number == place.number) refl at.stands
   where
-    decide : (b : Bool) → (other.number == place.number) ≡ b → Stands (open_requested t place session).table other → IsRequestOf other.config (is_large place.config) (open_fields place.config (next_requested t place.config))
+    decide : (b : Bool) → (other.number == place.number) ≡ b → Stands (open_requested t place session).table other → IsRequestOf other.config (is_large place.config) (open_fields t.profile place.config (next_requested t place.config))
     decide true is at =
         let same : place.config ≡ other.config = same_Some place.config other.config (sym stands.config ∙ ap (slice_get t.profile.slots) (sym (eqb-true other.number place.number is)) ∙ at.config) in
         record {
+          profile = t.profile;
           requested = next_requested t place.config;
           large_is = ap is_large same;
-          fields_are = ap (λ (c : SlotConfig). open_fields c (next_requested t place.config)) same;
+          fields_are = ap (λ (c : SlotConfig). open_fields t.profile c (next_requested t place.config)) same;
         }
     decide false is at =
         let old : Stands t other = record { config = at.config; slot = sym (get_other place.number other.number t.slots (opening_slot t place) (eqb-false other.number place.number is)) ∙ at.slot } in
@@ -266,7 +269,7 @@ from_opens t place session other stands all = within_opens t place session stand
 -- the effect of one slot, which leaves all others
 one_opens : (t : ScannerTable) (place : IndexedSlot) → Stands t place → IsClosedSlot place → OpeningsAreNumbered t → Does (Goes Draws) t place (opened t place) → OpensFor t (opened t place)
 unfolding opened
-one_opens t place stands closed_before all does = record { goes = does.leads; sent = from_opens t place (session_with t place.config.target) place.slot.state stands all }
+one_opens t place stands closed_before all does = record { goes = does.leads; sent = from_opens t place (asking_session t place) place.slot.state stands all }
 
 each_opens : (places : List IndexedSlot) (t : ScannerTable) → Each (Stands t) places → EachTwo Apart places → Each IsClosedSlot places → OpeningsAreNumbered t → OpensFor t (on_each opened places t)
 each_opens [] t stand apart closed_before all = record { goes = slots_kept.same t; sent = tt }
@@ -436,16 +439,38 @@ registered_opens t stream m all =
     either (λ (e : Effect). NextOpens t (done e)) (is_registered m) (session_begun t stream m.session) (session_failed t stream)
     (done_opens t (session_begun t stream m.session) opens.sent) (silent_opens t (session_failed t stream) refl)
 
+-- the session on a stream ends, and a new one is registered
+renewed_is : (t : ScannerTable) (stream : TargetStream) → (session_renewed stream t).sent ≡ registration stream.number ∷ []
+renewed_is t stream =
+    let none = lost_silent stream.peer (with_stage t stream.number Waiting) in
+    let rest = ended_silent stream.number (target_lost stream.peer (with_stage t stream.number Waiting)).table in
+    rw (none, rest) refl
+
+renewed_sent : (from : ℕ) (t : ScannerTable) (stream : TargetStream) → SentFrom from (session_renewed stream t)
+renewed_sent from t stream = subst (AllByRecursion (SentIsFor from (session_renewed stream t).table)) (sym (renewed_is t stream)) (tt, tt)
+
+unserved_sent : (from : ℕ) (t : ScannerTable) (stream : TargetStream) (place : IndexedSlot) (status : ℕ) (state : SlotState) → SentFrom from (and_then (unserved_state status t place state) (session_renewed stream))
+unserved_sent from t stream place status (Opening o) = renewed_sent from (refused t place (reason.Encap status)).table stream
+unserved_sent from t stream place status Idle = renewed_sent from t stream
+unserved_sent from t stream place status (Established c) = renewed_sent from t stream
+unserved_sent from t stream place status (TimedOut link) = renewed_sent from t stream
+unserved_sent from t stream place status (Closing c) = renewed_sent from t stream
+
+unserved_opens : (t : ScannerTable) (stream : TargetStream) (m : MessageFields) (found : Option IndexedSlot) → NextOpens t (unserved_at t stream m found)
+unserved_opens t stream m None = quiet t (ignored t) refl
+unserved_opens t stream m (Some place) = done_opens t (and_then (unserved m.status t place) (session_renewed stream)) (unserved_sent t.next_request t stream place m.status place.slot.state)
+
 reported_opens : (t : ScannerTable) (stream : TargetStream) (m : MessageFields) (stage : Stage) → OpeningsAreNumbered t → NextOpens t (reported t stream m stage)
 reported_opens t stream m Waiting all = either (NextOpens t) (m.context == 0) (done (registered t stream m)) (ignored t) (registered_opens t stream m all) (quiet t (ignored t) refl)
 reported_opens t stream m (Up handle) all =
-    awaited_opens t m (is_awaiting stream.peer m.context) (find (is_awaiting stream.peer m.context) (indexed_slots t)) refl all
+    let found = find (is_awaiting stream.peer m.context) (indexed_slots t) in
+    either (NextOpens t) (ends_session t m) (unserved_at t stream m found) (replied_to t m found) (unserved_opens t stream m found) (awaited_opens t m (is_awaiting stream.peer m.context) found refl all)
 reported_opens t stream m Unused all = quiet t (ignored t) refl
 
 answer_opens : (t : ScannerTable) (stream : TargetStream) (reading : Result MessageFields EncapFault) → OpeningsAreNumbered t → NextOpens t (frame_answer t stream reading)
 answer_opens t stream (Err why) all = quiet t (frame_answer t stream (Err why)) refl
 answer_opens t stream (Ok m) all =
-    message_ends (NextOpens t) t stream m (reported_opens t stream m stream.stage all) (λ pending answer none silent. quiet t (answer, without_explicit t pending) none)
+    message_ends (NextOpens t) t stream m (reported_opens t stream m stream.stage all) (done_opens t (session_renewed stream t) (renewed_sent t.next_request t stream)) (λ pending answer none silent. quiet t (answer, without_explicit t pending) none)
     (find (awaits stream.number m.context) t.explicit)
 
 frame_of_opens : (t : ScannerTable) (bytes : List ℕ) (found : Option TargetStream) → OpeningsAreNumbered t → OkOpens t (frame_of t bytes found)

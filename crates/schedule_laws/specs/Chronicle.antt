@@ -34,8 +34,8 @@ use Rattle.cip_tables.specs.declared.table.DeviceTable.{DeviceTable}
 use Rattle.cip_tables.specs.declared.table.DeviceTable.TheVariants.{Adapter, Scanner}
 use Rattle.cip_tables.specs.Step.{step}
 use Rattle.cip_tables.specs.Run.{table_of}
-use Rattle.segment_traffic.specs.Log.{Sent}
-use Rattle.segment_traffic.specs.Streams.{Stream}
+use Rattle.segment_world.specs.Transit.Log.{Sent}
+use Rattle.segment_world.specs.Transit.Streams.{Stream}
 use Rattle.segment_world.specs.declared.act.Act.{Act}
 use Rattle.segment_world.specs.declared.act.Act.TheVariants.{Local, Deliver, NextFrame, OpenStream, CutStream}
 use Rattle.segment_world.specs.declared.act.ActFault.{ActFault}

@@ -3,7 +3,7 @@
 use Rattle.std.specs.Prelude.{◌≡◌, List, map}
 use Rattle.cip_datagram.specs.Datagram.{datagram_text}
 use Rattle.cip_tables.specs.declared.table.Config.{Config}
-use Rattle.segment_traffic.specs.Log.{Sent}
+use Rattle.segment_world.specs.Transit.Log.{Sent}
 use Rattle.segment_world.specs.declared.act.Act.{Act}
 use Rattle.segment_world.specs.World.{World, node_at}
 use Rattle.device_laws.specs.Productions.{Production, AreInOrder}

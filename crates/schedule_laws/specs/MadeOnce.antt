@@ -7,7 +7,7 @@ use Rattle.scanner_table.specs.declared.table.ScannerTable.{ScannerTable}
 use Rattle.cip_types.specs.Ids.{connection_id}
 use Rattle.cip_tables.specs.declared.table.Config.{Config}
 use Rattle.cip_tables.specs.declared.table.DeviceTable.TheVariants.{Scanner}
-use Rattle.segment_traffic.specs.Streams.{QueueItem, Opening, Queued, Ending, Side, Stream}
+use Rattle.segment_world.specs.Transit.Streams.{QueueItem, Opening, Queued, Ending, Side, Stream}
 use Rattle.segment_world.specs.declared.act.Act.{Act}
 use Rattle.segment_world.specs.World.{World}
 use Rattle.device_laws.specs.Requests.{asks_id}

@@ -3,7 +3,7 @@
 use Rattle.std.specs.Prelude.{ℕ, ◌≡◌, ◌≢◌, ◌⊎◌, List, map, slice_get, Some}
 use Rattle.std.specs.List.{AllByRecursion}
 use Rattle.cip_types.specs.declared.names.Node.{Node}
-use Rattle.segment_traffic.specs.Streams.{QueueItem, Opening, Queued, Ending, Side, Stream}
+use Rattle.segment_world.specs.Transit.Streams.{QueueItem, Opening, Queued, Ending, Side, Stream}
 use Rattle.segment_world.specs.World.{World, node_at}
 
 -- the two devices of a stream

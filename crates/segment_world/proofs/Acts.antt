@@ -16,12 +16,12 @@ use Rattle.cip_events.specs.declared.event.StepFault.{StepFault}
 use Rattle.cip_events.specs.declared.event.StepFault.TheVariants as step_fault
 use Rattle.cip_tables.specs.declared.table.DeviceTable.{DeviceTable}
 use Rattle.cip_tables.specs.Step.{DeviceNext, step}
-use Rattle.segment_traffic.specs.Log.{Sent}
-use Rattle.segment_traffic.specs.declared.direction.Direction.{Direction}
-use Rattle.segment_traffic.specs.declared.direction.Direction.TheVariants.{Forth, Back}
-use Rattle.segment_traffic.specs.declared.links.Endpoints.{Endpoints}
-use Rattle.segment_traffic.specs.Fronts.{endpoints_of, is_open, front_of}
-use Rattle.segment_traffic.specs.Streams.{QueueItem, Stream, side_of, receiver, sender, with_stream, frames_sent, notices_applied, answered, cut_stream}
+use Rattle.segment_world.specs.Transit.Log.{Sent}
+use Rattle.segment_world.specs.declared.transit.direction.Direction.{Direction}
+use Rattle.segment_world.specs.declared.transit.direction.Direction.TheVariants.{Forth, Back}
+use Rattle.segment_world.specs.declared.transit.links.Endpoints.{Endpoints}
+use Rattle.segment_world.specs.Transit.Fronts.{endpoints_of, is_open, front_of}
+use Rattle.segment_world.specs.Transit.Streams.{QueueItem, Stream, side_of, receiver, sender, with_stream, frames_sent, notices_applied, answered, cut_stream}
 use Rattle.segment_world.specs.declared.act.ActFault.TheVariants.{NoSuchStream, Step}
 use Rattle.segment_world.specs.World.{World, Happened, node_at, sent_by, fan_out, event_at_device, event_at_table, after_device_step, delivered, event_of_item, without_front, taken, taken_at, cut_if, cut_at}
 use Rattle.segment_world.specs.Receptions.{receiver_in, sender_in}

@@ -13,9 +13,9 @@ use Rattle.cip_events.specs.declared.event.OutgoingDatagram.{OutgoingDatagram}
 use Rattle.cip_events.specs.declared.event.Recipient.{Recipient}
 use Rattle.cip_events.specs.declared.event.Recipient.TheVariants.{Stream, Peer}
 use Rattle.answer_sizes.specs.Sizes.{IsShortFrame, IsShortDatagram, IsSmall}
-use Rattle.segment_traffic.specs.Log.{Sent}
-use Rattle.segment_traffic.specs.Streams as streams
-use Rattle.segment_traffic.specs.Streams.{with_stream, sent_over, closed_by, frame_sent, frames_sent, notice_applied, notices_applied, answered}
+use Rattle.segment_world.specs.Transit.Log.{Sent}
+use Rattle.segment_world.specs.Transit.Streams as streams
+use Rattle.segment_world.specs.Transit.Streams.{with_stream, sent_over, closed_by, frame_sent, frames_sent, notice_applied, notices_applied, answered}
 use Rattle.segment_world.specs.declared.traffic.Traffic.{Traffic}
 use Rattle.segment_world.specs.AnswerSpace.{HasSpace}
 use Rattle.segment_world.specs.DeviceOutputs.{HasRoom, IsSent}

@@ -9,9 +9,9 @@ use Rattle.cip_events.specs.declared.event.StepFault.{StepFault}
 use Rattle.cip_tables.specs.declared.table.DeviceTable.{DeviceTable}
 use Rattle.cip_tables.specs.Step.{DeviceNext, step}
 use Rattle.cip_tables.specs.Run.{table_of, table_after}
-use Rattle.segment_traffic.specs.Log.{Sent}
-use Rattle.segment_traffic.specs.declared.direction.Direction.{Direction}
-use Rattle.segment_traffic.specs.Streams.{QueueItem, Stream, side_of, receiver, sender}
+use Rattle.segment_world.specs.Transit.Log.{Sent}
+use Rattle.segment_world.specs.declared.transit.direction.Direction.{Direction}
+use Rattle.segment_world.specs.Transit.Streams.{QueueItem, Stream, side_of, receiver, sender}
 use Rattle.segment_world.specs.declared.act.Act.{Act}
 use Rattle.segment_world.specs.declared.act.Act.TheVariants.{Local, Deliver, NextFrame, OpenStream, CutStream}
 use Rattle.segment_world.specs.declared.act.ActFault.{ActFault}

@@ -10,8 +10,8 @@ use Rattle.cip_events.specs.declared.event.Verdict.TheVariants.{Delivered}
 use Rattle.cip_tables.specs.declared.table.DeviceTable.{DeviceTable}
 use Rattle.cip_tables.specs.Step.{step}
 use Rattle.answer_sizes.specs.Sizes.{IsSmall}
-use Rattle.segment_traffic.specs.Log.{Log}
-use Rattle.segment_traffic.specs.Queues.{Queues}
+use Rattle.segment_world.specs.Transit.Log.{Log}
+use Rattle.segment_world.specs.Transit.Queues.{Queues}
 
 -- memory for 64 frames and 64 datagrams of 2,048 bytes each
 pub record HasSpace (log : Log) (queues : Queues) : Type 0 where

@@ -3,7 +3,7 @@ use Rattle.std.specs.Prelude.{◌≡◌, ◌≤◌, ◌<◌, ℕ, ◌+◌, [], �
 use Rattle.cip_events.specs.Outputs.{AnswerOutput}
 use Rattle.cip_events.specs.Outputs.AnswerOutput.{Message, Datagram, End}
 use Rattle.cip_types.specs.declared.names.Node.{Node}
-use Rattle.segment_traffic.specs.Streams.{with_stream, sent_over, closed_by}
+use Rattle.segment_world.specs.Transit.Streams.{with_stream, sent_over, closed_by}
 use Rattle.segment_world.specs.World.{sent_by}
 use Rattle.segment_world.specs.declared.traffic.Traffic.{Traffic}
 

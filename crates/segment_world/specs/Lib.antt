@@ -6,3 +6,5 @@ pub mod Receptions
 pub mod Configs
 pub mod Story
 pub mod Lemmas
+pub mod Transit
+pub mod Lives

@@ -1,8 +1,8 @@
 -- Events that devices receive over streams.
 use Rattle.std.specs.Prelude.{◌≡◌, ℕ, slice_get, Some}
-use Rattle.segment_traffic.specs.declared.direction.Direction.{Direction}
-use Rattle.segment_traffic.specs.declared.direction.Direction.TheVariants.{Forth, Back}
-use Rattle.segment_traffic.specs.declared.links.Endpoints.{Endpoints}
+use Rattle.segment_world.specs.declared.transit.direction.Direction.{Direction}
+use Rattle.segment_world.specs.declared.transit.direction.Direction.TheVariants.{Forth, Back}
+use Rattle.segment_world.specs.declared.transit.links.Endpoints.{Endpoints}
 use Rattle.segment_world.specs.declared.reception.Reception.{Reception}
 use Rattle.segment_world.specs.World.{World, event_at_device, without_front, taken_at}
 

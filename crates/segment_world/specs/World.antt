@@ -12,9 +12,9 @@ use Rattle.cip_events.specs.declared.event.OutgoingDatagram.{OutgoingDatagram}
 use Rattle.cip_events.specs.declared.event.StepFault.{StepFault}
 use Rattle.cip_tables.specs.declared.table.DeviceTable.{DeviceTable}
 use Rattle.cip_tables.specs.Step.{DeviceNext, step}
-use Rattle.segment_traffic.specs.Log.{Sent}
-use Rattle.segment_traffic.specs.declared.direction.Direction.{Direction}
-use Rattle.segment_traffic.specs.Streams.{QueueItem, Opening, Queued, Ending, Stream, side_of, receiver, sender, with_stream, answered, taken_from, fresh_stream, cut_stream}
+use Rattle.segment_world.specs.Transit.Log.{Sent}
+use Rattle.segment_world.specs.declared.transit.direction.Direction.{Direction}
+use Rattle.segment_world.specs.Transit.Streams.{QueueItem, Opening, Queued, Ending, Stream, side_of, receiver, sender, with_stream, answered, taken_from, fresh_stream, cut_stream}
 use Rattle.segment_world.specs.declared.act.Act.{Act}
 use Rattle.segment_world.specs.declared.act.Act.TheVariants.{Local, Deliver, NextFrame, OpenStream, CutStream}
 use Rattle.segment_world.specs.declared.act.Call.{Call}

@@ -6,10 +6,10 @@ ghost use Rattle.cip_events.specs.Outcomes.{Follows};
 ghost use Rattle.cip_tables.specs.Step.{step};
 ghost use Rattle.segment_world.specs.World.{event_of_call, event_of_ready};
 
+use crate::transit::Direction;
 use cip_events::{Event, Outcome, StepFault};
 use cip_tables::Device;
 use cip_types::{Items, Node, OutOfMemory};
-use segment_traffic::Direction;
 use std::alloc::Global;
 use thiserror::Error;
 

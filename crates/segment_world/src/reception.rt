@@ -2,13 +2,13 @@
 
 ghost use Rattle.std.specs.Prelude.{◌≡◌, IfOk, slice_get, slice_index_or};
 ghost use Rattle.cip_events.specs.Arrivals.{arrival_event};
-ghost use Rattle.segment_traffic.specs.Fronts.{view_front};
+ghost use Rattle.segment_world.specs.Transit.Fronts.{view_front};
 ghost use Rattle.segment_world.specs.World.{event_of_item};
 ghost use Rattle.segment_world.specs.Receptions.{receiver_in, sender_in};
 
+use crate::transit::{Direction, Endpoints, QueueFront};
 use cip_events::{Arrival, Event};
 use cip_types::{Items, Node, OutOfMemory};
-use segment_traffic::{Direction, Endpoints, QueueFront};
 use std::alloc::Global;
 
 /// An event that a device is about to receive.

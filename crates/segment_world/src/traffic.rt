@@ -2,14 +2,14 @@
 
 ghost use Rattle.std.specs.Prelude.{◌≡◌, ◌++◌, map, OnOk};
 ghost use Rattle.answer_sizes.specs.Sizes.{IsSmall};
-ghost use Rattle.segment_traffic.specs.Streams.{answered};
+ghost use Rattle.segment_world.specs.Transit.Streams.{answered};
 ghost use Rattle.segment_world.specs.AnswerSpace.{HasSpace};
 ghost use Rattle.segment_world.specs.World.{sent_by};
 
+use crate::transit::{SentLog, Streams};
 use cip_events::{Answer, OutgoingDatagram, Outlet, send_answer};
 use cip_types::limits::LONGEST_MESSAGE;
 use cip_types::{Node, OutOfMemory};
-use segment_traffic::{SentLog, Streams};
 
 /// The most datagrams of an answer.
 const MOST_DATAGRAMS: usize = 64;

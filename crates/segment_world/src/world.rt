@@ -5,7 +5,7 @@ ghost use Rattle.cip_tables.specs.Step.{AcceptsAll, config_fault};
 ghost use Rattle.segment_world.specs.World.{World as Segment, event_at_device, event_of_call, delivered, taken_at, happens, are_two, opened_if, cut_at, most_stream_numbers};
 ghost use Rattle.segment_world.specs.Follows.{ActFollows, takes_no_memory, NeverOutOfMemory};
 ghost use Rattle.std.specs.Option.{option_map};
-ghost use Rattle.segment_traffic.specs.Fronts.{endpoints_of, view_front, front_of, has_taken};
+ghost use Rattle.segment_world.specs.Transit.Fronts.{endpoints_of, view_front, front_of, has_taken};
 ghost use Rattle.segment_world.specs.Receptions.{IsReception};
 ghost use Rattle.segment_world.specs.Configs.{opening_world, with_device, world_fault, IsRefused};
 
@@ -17,10 +17,10 @@ use crate::reception::{
     Reception, arrival_of_front, node_of, node_or_zero, receiver_of, sender_of,
 };
 use crate::traffic::Traffic;
+use crate::transit::{Direction, Endpoints, QueueFront, SentLog, Streams};
 use cip_events::{Answer, Verdict};
 use cip_tables::{Config, Device, TableCopy};
 use cip_types::{Node, OutOfMemory};
-use segment_traffic::{Direction, Endpoints, QueueFront, SentLog, Streams};
 use std::alloc::Global;
 use std::marker::Model;
 

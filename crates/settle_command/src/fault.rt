@@ -4,9 +4,9 @@ ghost use Rattle.std.specs.Prelude.{◌≡◌};
 ghost use Rattle.settle_command.specs.Faults.{file_of, status_of};
 
 use cip_types::OutOfMemory;
-use regular_files::FileFault;
 use std::alloc::{AllocError, AllocFailed};
 use thiserror::Error;
+use trace_files::FileFault;
 use trace_text::TraceFault;
 
 /// Why files are not settled.

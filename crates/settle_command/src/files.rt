@@ -5,10 +5,9 @@ use cip_types::Items;
 use cip_types::limits::LONGEST_TRACE;
 use fast_device::FastDevice;
 use outcome_sums::PlacedSum;
-use regular_files::{FileFault, read_regular};
 use std::alloc::Global;
 use std::rt::Files;
-use trace_files::{FilledRecord, read_record};
+use trace_files::{FileFault, FilledRecord, read_record, read_regular};
 use trace_text::{Trace, TraceFault};
 
 /// The records: of each the index of its first file, its trace, and the sums that it has in place of outcomes.

@@ -2,8 +2,7 @@
 
 use cip_events::Event;
 use cip_types::{Node, OutOfMemory};
-use record_settling::{EventPlace, RecordsFault, byte_of};
-use stream_names::node_of;
+use record_settling::{EventPlace, RecordsFault, byte_of, node_of};
 use trace_text::Trace;
 use trace_words::{push_node, push_text};
 

@@ -17,8 +17,8 @@ use Rattle.schedule_laws.specs.Images.{GatheredInOrder, SchedulesGatherImages}
 use Rattle.schedule_laws.specs.Outputs.{AppliedInOrder}
 use Rattle.schedule_laws.specs.Lemmas.Lives.{worlds_are_lives}
 use Rattle.schedule_laws.specs.Lemmas.Stories.{chronicle_runs, story_in}
-use Rattle.schedule_search.specs.Histories.{configs_of, events_of_all}
-use Rattle.schedule_search.specs.Schedules.{Projects}
+use Rattle.settling.specs.Search.Histories.{configs_of, events_of_all}
+use Rattle.settling.specs.Search.Schedules.{Projects}
 use Rattle.settling.specs.Settlings.{AllStand}
 use Rattle.settled_laws.specs.Settled.{SchedulesHaveChronicles, IsInOrder, SettledLinesAreInOrder}
 

@@ -17,8 +17,8 @@ use Rattle.schedule_laws.specs.Order.{IsChronicle, KeepsHalfCircle, OutputsAreWr
 use Rattle.schedule_laws.specs.Producers.{IdsNameOneProducer}
 use Rattle.schedule_laws.specs.Images.{ImagesAreInOrder, ImagesWereGathered}
 use Rattle.schedule_laws.specs.Outputs.{OutputsAreInOrder}
-use Rattle.schedule_search.specs.Histories.{configs_of, events_of_all}
-use Rattle.schedule_search.specs.Schedules.{Projects}
+use Rattle.settling.specs.Search.Histories.{configs_of, events_of_all}
+use Rattle.settling.specs.Search.Schedules.{Projects}
 use Rattle.settling.specs.Settlings.{AllStand, SettlesAll}
 
 -- THE CHRONICLE

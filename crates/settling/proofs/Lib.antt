@@ -1,2 +1,13 @@
 pub mod Receiving
 pub mod Samples
+pub mod Causing
+pub mod Placing
+pub mod Ending
+pub mod Sticking
+pub mod Ways
+pub mod Opening
+pub mod Joining
+pub mod Rounds
+pub mod Counting
+pub mod SearchSamples
+pub mod WaySamples

@@ -15,15 +15,15 @@ use Rattle.cip_tables.specs.Run.{outcomes_of as outcomes_from}
 use Rattle.device_lock.specs.declared.receipt.Receipt.{Receipt}
 use Rattle.device_lock.specs.Histories.{HistoryValue}
 use Rattle.segment_world.specs.declared.act.Act.{Act}
-use Rattle.schedule_search.specs.Histories.{bytes_of, configs_of, events_of_all, start_of}
+use Rattle.settling.specs.Search.Histories.{bytes_of, configs_of, events_of_all, start_of}
 use Rattle.settling.specs.Receipts.{has_receipt, is_for, is_place, place_of, replay_of, AllGood, AreMarks, Covered, FitsAt, HasItsMarks, HasRoomForMarks, IsForeign, IsGood, IsMarked, IsMissing, IsUnmarked, LacksItsMark, mark_at, outcomes_of_all, unmarked, with_mark}
-use Rattle.schedule_search.specs.Lowest.{IsLowest}
-use Rattle.schedule_search.specs.Replays.{AreAnswered, replay}
-use Rattle.schedule_search.specs.Schedules.{Settles, history}
-use Rattle.schedule_search.specs.Searches.{AllAnswered, OpensFirst}
+use Rattle.settling.specs.Search.Lowest.{IsLowest}
+use Rattle.settling.specs.Search.Replays.{AreAnswered, replay}
+use Rattle.settling.specs.Search.Schedules.{Settles, history}
+use Rattle.settling.specs.Search.Searches.{AllAnswered, OpensFirst}
 use Rattle.settling.specs.Settlings.{AllStand, SettlesAll, Stands}
-use Rattle.schedule_search.specs.Lemmas.Cases.{some_is, none_some, same_or_not, eq_false, eq_true}
-use Rattle.schedule_search.specs.Lemmas.Listing.{length_all, length_set}
+use Rattle.settling.specs.Search.Lemmas.Cases.{some_is, none_some, same_or_not, eq_false, eq_true}
+use Rattle.settling.specs.Search.Lemmas.Listing.{length_all, length_set}
 
 -- A REPLAY IS EVENTS AND OUTCOMES
 

@@ -7,9 +7,9 @@ use Rattle.cip_tables.specs.Step.{opening_table}
 use Rattle.cip_tables.specs.Run.{outcomes_of}
 use Rattle.device_lock.specs.declared.receipt.Receipt.{Receipt}
 use Rattle.device_lock.specs.Histories.{HistoryValue, place_in}
-use Rattle.schedule_search.specs.Histories.{byte_in, bytes_of, events_of_all}
-use Rattle.schedule_search.specs.Replays.{replay}
-use Rattle.schedule_search.specs.Schedules.{history}
+use Rattle.settling.specs.Search.Histories.{byte_in, bytes_of, events_of_all}
+use Rattle.settling.specs.Search.Replays.{replay}
+use Rattle.settling.specs.Search.Schedules.{history}
 
 -- THE PLACE OF A RECEIPT: the device, and the event in its history
 

@@ -4,9 +4,9 @@ use Rattle.device_lock.specs.declared.receipt.Receipt.{Receipt}
 use Rattle.device_lock.specs.Histories.{HistoryValue}
 use Rattle.segment_world.specs.declared.act.Act.{Act}
 use Rattle.segment_world.specs.Story.{Story}
-use Rattle.schedule_search.specs.Histories.{bytes_of, events_of_all, start_of}
-use Rattle.schedule_search.specs.Schedules.{Settles, outcomes_of}
-use Rattle.schedule_search.specs.Searches.{LeftOver, OpensFirst}
+use Rattle.settling.specs.Search.Histories.{bytes_of, events_of_all, start_of}
+use Rattle.settling.specs.Search.Schedules.{Settles, outcomes_of}
+use Rattle.settling.specs.Search.Searches.{LeftOver, OpensFirst}
 use Rattle.settling.specs.declared.settled.Unsettled.{Unsettled}
 use Rattle.settling.specs.declared.settled.Unsettled.TheVariants.{Foreign, Missing, Uncaused, OutOfMemory}
 use Rattle.settling.specs.Receipts.{AllGood, Covered, IsForeign, IsMissing, place_of}

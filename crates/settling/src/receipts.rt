@@ -3,16 +3,16 @@
 ghost use Rattle.std.specs.Prelude.{◌≡◌, ◌↔◌, ◌<◌, true, false, None, Some, Ok, [], IsTrue, IfOk, IfSome, IfNone, MatchBool, length, slice_get, slice_index_or};
 ghost use Rattle.cip_tables.specs.Step.{AcceptsAll, config_fault};
 ghost use Rattle.segment_world.specs.Configs.{first_fault};
-ghost use Rattle.schedule_search.specs.Histories.{bytes_of, configs_of, events_of_all};
+ghost use Rattle.settling.specs.Search.Histories.{bytes_of, configs_of, events_of_all};
 ghost use Rattle.settling.specs.Receipts.{AllGood, AreMarks, FitsAt, HasAllMarks, HasItsMarks, HasRoomForMarks, IsForeign, IsMarked, IsUnmarked, LacksItsMark, LacksMark, device_at, outcomes_in, outcomes_of_all, place_of, unmarked};
-ghost use Rattle.schedule_search.specs.Lowest.{IsLowest};
-ghost use Rattle.schedule_search.specs.Schedules.{history};
+ghost use Rattle.settling.specs.Search.Lowest.{IsLowest};
+ghost use Rattle.settling.specs.Search.Schedules.{history};
 
 use crate::marks::Marks;
+use crate::search::{byte_of, lower_of};
 use cip_tables::{Answer, Device, Event, Outcome};
 use cip_types::{Items, OutOfMemory};
 use device_lock::{History, Receipt};
-use schedule_search::{byte_of, lower_of};
 use std::alloc::Global;
 
 // WHAT FRESH DEVICES ANSWER

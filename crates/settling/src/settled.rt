@@ -3,16 +3,16 @@
 ghost use Rattle.std.specs.Prelude.{◌≡◌, None, [], IfOk, IfErr};
 ghost use Rattle.cip_tables.specs.Step.{AcceptsAll};
 ghost use Rattle.segment_world.specs.Configs.{world_fault};
-ghost use Rattle.schedule_search.specs.Histories.{configs_of};
+ghost use Rattle.settling.specs.Search.Histories.{configs_of};
 ghost use Rattle.settling.specs.Receipts.{AllGood, AreMarks};
 ghost use Rattle.settling.specs.Settlings.{SettlesAll, WhyNot};
 
 use crate::marks::Marks;
 use crate::receipts::{first_foreign, first_missing, outcomes_of_all};
+use crate::search::{Unplaced, byte_at, find_schedule};
 use cip_tables::Device;
 use cip_types::{Items, OutOfMemory};
 use device_lock::{History, Receipt};
-use schedule_search::{Unplaced, byte_at, find_schedule};
 use segment_world::Act;
 use std::alloc::Global;
 use thiserror::Error;

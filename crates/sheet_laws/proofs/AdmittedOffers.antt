@@ -32,7 +32,8 @@ use Rattle.adapter_table.specs.Shaping.{all_pass, distinct_back}
 use Rattle.adapter_table.specs.StatedLimits.{limited, paced, limited_admission, has_no_place, has_node_enough, places_of}
 use Rattle.adapter_table.specs.Step.{adapter_table}
 use Rattle.adapter_table.specs.Rates.{has_opened_enough_at}
-use Rattle.opening_rates.specs.Rates.{has_opened_enough}
+use Rattle.adapter_table.specs.OpeningRates.Rates.{has_opened_enough}
+use Rattle.adapter_table.specs.Describing.{fixed}
 use Rattle.eds_text.specs.declared.connections.SheetConnection.{SheetConnection}
 use Rattle.eds_text.specs.Connections.{connections_of, offered, owner_of, owners_of, reader_of}
 use Rattle.eds_text.specs.Manager.{sheet_path}
@@ -264,14 +265,14 @@ module _ (profile : Profile) (none : profile_fault profile ≡ None) (kind : Kin
 
     admitted : verdict view request ≡ Ok (admitted_at request points) → limited_admission (adapter_table profile) peer request ≡ Ok (admitted_at request points)
     admitted is =
-        ap (λ v. paced (has_opened_enough_at (adapter_table profile) peer) (limited profile.limits [] peer v)) is
-        ∙ rw (no_place_lacks profile.limits.places kind served.place, no_node_has_enough profile.limits.node_connections peer nodes_hold, no_node_opened profile.limits.node_connections (record { 0 = 0 }) peer nodes_hold) refl
+        ap (λ v. paced (has_opened_enough_at (adapter_table profile) peer) (limited profile.limits [] peer (fixed profile.description request v))) is
+        ∙ rw (made.o_t_fixed, made.t_o_fixed, no_place_lacks profile.limits.places kind served.place, no_node_has_enough profile.limits.node_connections peer nodes_hold, no_node_opened profile.limits.node_connections (record { 0 = 0 }) peer nodes_hold) refl
 
     is_admitted : first_of (checks view request (Ok path) (Ok points)) ≡ None → IsAdmittedAs c (limited_admission (adapter_table profile) peer request)
     is_admitted is = subst (IsAdmittedAs c) (sym (admitted (judged_as None is))) (refl, (refl, refl))
 
     is_refused : (why : Refusal) → first_of (checks view request (Ok path) (Ok points)) ≡ Some why → limited_admission (adapter_table profile) peer request ≡ Err why
-    is_refused why is = ap (λ v. paced (has_opened_enough_at (adapter_table profile) peer) (limited profile.limits [] peer v)) (judged_as (Some why) is)
+    is_refused why is = ap (λ v. paced (has_opened_enough_at (adapter_table profile) peer) (limited profile.limits [] peer (fixed profile.description request v))) (judged_as (Some why) is)
 
 taken : (profile : Profile) (none : profile_fault profile ≡ None) (kind : Kind) (triggers : Bool) (consumed o_t_len produced t_o_len : ℕ) → IsServed profile (c profile none kind triggers consumed o_t_len produced t_o_len) → IsTaken profile (c profile none kind triggers consumed o_t_len produced t_o_len)
 taken profile none ExclusiveOwner triggers consumed o_t_len produced t_o_len served peer request fits made =

@@ -18,6 +18,7 @@ use Rattle.adapter_table.specs.Checks.{Admitted}
 use Rattle.adapter_table.specs.Profiles.{profile_fault}
 use Rattle.adapter_table.specs.StatedLimits.{limited_admission}
 use Rattle.adapter_table.specs.Step.{adapter_table}
+use Rattle.adapter_table.specs.Describing.{is_variable}
 use Rattle.eds_text.specs.declared.connections.SheetConnection.{SheetConnection}
 use Rattle.eds_text.specs.declared.offer.OfferedIntervals.{OfferedIntervals}
 use Rattle.eds_text.specs.Connections.{connections_of}
@@ -57,6 +58,9 @@ pub record IsMadeOf (profile : Profile) (c : SheetConnection) (request : OpenFie
   pub t_o_size : request.t_o_params.size ≡ c.t_o_len + 2
   pub o_t_single : request.o_t_params.redundant ≡ false
   pub t_o_single : request.t_o_params.redundant ≡ false
+  -- the sheet offers fixed sizes, which a described device asks for
+  pub o_t_fixed : is_variable profile.description request.o_t_params ≡ false
+  pub t_o_fixed : is_variable profile.description request.t_o_params ≡ false
   pub multiplier : request.multiplier ≤ 7
   pub trigger : IsSheetTrigger c.changes request.trigger
   pub path : request.path ≡ path_text (sheet_path profile.config c)

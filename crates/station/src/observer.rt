@@ -2,17 +2,16 @@
 
 ghost use Rattle.std.specs.Prelude.{◌≡◌, IfOk};
 ghost use Rattle.std.specs.List.{list_any};
-ghost use Rattle.attribute_lines.specs.Requested.{next_number};
+ghost use Rattle.station_lines.specs.Attributes.Requested.{next_number};
 ghost use Rattle.station_watch.specs.Closing.{is_marked};
 
 use crate::fault::EarlyEnd;
-use attribute_lines::{PendingAttributes, ReplyMoment};
 use cip_events::{Answer, Delivery, Event, Outcome, Verdict};
 use cip_tables::{Config, Device};
 use cip_types::{Node, OutOfMemory};
 use page_feed::{PageFeed, StationFacts, page_wait_ms};
 use port_groups::DataGroup;
-use station_lines::{EventMoment, LineSink, has_news, push_own};
+use station_lines::{EventMoment, LineSink, PendingAttributes, ReplyMoment, has_news, push_own};
 use station_record::{RecordFault, RecordSink, Recorder};
 use station_watch::{
     ClosingSlots, LinkReport, SlotWatches, Starved, StationTraffic, changes_connections,

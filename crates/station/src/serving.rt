@@ -14,13 +14,13 @@ use crate::fault::{EarlyEnd, failures_after_call, failures_after_turn};
 use crate::observer::StationObserver;
 use crate::point_lines::patience_ms;
 use crate::sessions::{sessions_of, unregister_message};
-use attribute_lines::{AttributeCall, call_event};
 use cip_tables::{Config, Device, Event};
 use cip_types::{Ms, Node, OutOfMemory};
 use port_groups::{DataGroup, GroupPort};
 use scanner_table::Session;
 use station_lines::{
-    InputLine, LineSink, Points, push_report, push_starved, push_unbound, read_line,
+    AttributeCall, InputLine, LineSink, Points, call_event, push_report, push_starved,
+    push_unbound, read_line,
 };
 use station_record::{RecordFault, RecordSink};
 use station_watch::{LinkReport, StationTraffic, closing_ms, owners_of, push_connected};

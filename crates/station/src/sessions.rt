@@ -5,12 +5,11 @@ ghost use Rattle.std.specs.List.{filter_map};
 ghost use Rattle.scanner_table.specs.Sessions.{session_on};
 ghost use Rattle.station.specs.Sessions.{adapter_session, sessions_of, unregister_text};
 
-use adapter_table::Stream;
+use adapter_table::{Stream, session_of};
 use cip_encap::{MessageView, command, write_message};
 use cip_tables::DeviceTable;
 use cip_types::OutOfMemory;
 use scanner_table::{Session, Stage, TargetStream};
-use session_streams::session_of;
 use std::alloc::Global;
 
 /// The sessions of a device, in the order of its streams. The only fault is a refused allocation.

@@ -6,8 +6,8 @@ use Rattle.cip_events.specs.declared.event.StepFault.TheVariants as fault
 use Rattle.cip_events.specs.declared.event.Verdict.{Verdict}
 use Rattle.cip_events.specs.declared.event.Verdict.TheVariants as verdict
 use Rattle.cip_events.specs.Outcomes.{Outcome}
-use Rattle.attribute_lines.specs.Calls.{attribute_call_of}
-use Rattle.attribute_lines.specs.declared.calls.AttributeCall.{AttributeCall}
+use Rattle.station_lines.specs.Attributes.Calls.{attribute_call_of}
+use Rattle.station_lines.specs.declared.attributes.calls.AttributeCall.{AttributeCall}
 use Rattle.trace_text.specs.Forms.{event_of, is_ascii}
 use Rattle.station_lines.specs.declared.calls.InputLine.{InputLine}
 use Rattle.station_lines.specs.declared.calls.InputLine.TheVariants as input

@@ -6,10 +6,10 @@ use Rattle.cip_tables.specs.declared.table.DeviceTable.{DeviceTable}
 use Rattle.cip_tables.specs.declared.table.DeviceTable.TheVariants.{Adapter, Scanner}
 use Rattle.cip_tables.specs.States.{connection_in}
 use Rattle.cip_types.specs.declared.names.Node.{Node}
-use Rattle.datagram_counts.specs.Gaps.{last_minute}
-use Rattle.datagram_counts.specs.declared.counts.DatagramCounts.{DatagramCounts}
-use Rattle.datagram_counts.specs.declared.gaps.GapMeter.{GapMeter}
-use Rattle.datagram_counts.specs.declared.gaps.GapSums.{GapSums}
+use Rattle.station_watch.specs.DatagramCounts.Gaps.{last_minute}
+use Rattle.station_watch.specs.declared.datagram_counts.counts.DatagramCounts.{DatagramCounts}
+use Rattle.station_watch.specs.declared.datagram_counts.gaps.GapMeter.{GapMeter}
+use Rattle.station_watch.specs.declared.datagram_counts.gaps.GapSums.{GapSums}
 use Rattle.station_lines.specs.declared.points.EventMoment.{EventMoment}
 use Rattle.station_lines.specs.declared.points.PointKind.{PointKind}
 use Rattle.station_lines.specs.declared.points.PointKind.TheVariants.{Output, Image}

@@ -6,3 +6,4 @@ pub mod Points
 pub mod Reasons
 pub mod Reports
 pub mod Status
+pub mod Attributes

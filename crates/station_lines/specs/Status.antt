@@ -19,7 +19,7 @@ use Rattle.station_lines.specs.declared.points.PointKind.TheVariants.{Output, Im
 use Rattle.station_lines.specs.declared.points.SlotTerms.{SlotTerms}
 use Rattle.station_lines.specs.declared.points.WatchedPoint.{WatchedPoint}
 use Rattle.station_watch.specs.Traffic.{counted_of}
-use Rattle.datagram_counts.specs.declared.counts.DatagramCounts.{DatagramCounts}
+use Rattle.station_watch.specs.declared.datagram_counts.counts.DatagramCounts.{DatagramCounts}
 use Rattle.station_watch.specs.declared.traffic.CountedConnection.{CountedConnection}
 use Rattle.station_watch.specs.declared.traffic.TrafficTotals.{TrafficTotals}
 use Rattle.trace_words.specs.Words.{node_word}

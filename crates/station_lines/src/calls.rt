@@ -4,7 +4,7 @@ ghost use Rattle.std.specs.Prelude.{◌≡◌, slice_index_or, IfOk};
 ghost use Rattle.trace_words.specs.Reader.{Finds};
 ghost use Rattle.station_lines.specs.Calls.{attribute_in, attribute_with, call_of, has_news, is_call, is_reply, is_skipped, is_status, line_of};
 
-use attribute_lines::{AttributeCall, read_attribute_call};
+use crate::attributes::{AttributeCall, read_attribute_call};
 use cip_events::{Event, Outcome, StepFault, Verdict};
 use cip_types::OutOfMemory;
 use std::alloc::Global;

@@ -11,8 +11,9 @@ use crate::status::{push_id, push_moment, push_point_head};
 use cip_tables::{ConnectionReport, Device, DeviceTable};
 use cip_types::limits::MOST_CONNECTIONS;
 use cip_types::{Node, OutOfMemory};
-use datagram_counts::{DatagramCounts, GapMeter, GapSums};
-use station_watch::{CountedConnection, SlotWait, StateNote, counted_of, wait_at};
+use station_watch::{
+    CountedConnection, DatagramCounts, GapMeter, GapSums, SlotWait, StateNote, counted_of, wait_at,
+};
 use trace_words::push_text;
 
 /// Appends the lines of the details: one of a scanner's mode, one for each connection of an adapter in the order of the openings, and

@@ -2,6 +2,7 @@
 //! points, streams, slots and its state.
 #![tactic(auto)]
 
+mod attributes;
 mod calls;
 mod details;
 mod lines;
@@ -11,6 +12,10 @@ mod reports;
 mod sink;
 mod status;
 
+pub use attributes::{
+    AttributeCall, AttributeService, AttributeType, PendingAttributes, ReplyMoment,
+    RequestedAttribute, TargetAttribute, call_event, read_attribute_call,
+};
 pub use calls::{InputLine, has_news, is_call, read_call, read_line};
 pub use lines::{CallBuffer, CallLines, InputRead, NextLine, NoLines, input_read};
 pub use points::{EventMoment, Points};

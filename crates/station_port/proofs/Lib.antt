@@ -1,0 +1,4 @@
+pub mod Messages
+mod Alone
+mod Samples
+mod InquiriesSamples

@@ -1,6 +1,6 @@
 -- How long a station's port may wait, if inquiries wait. Times are in milliseconds.
 use Rattle.std.specs.Prelude.{ℕ, Option, Some, None}
-use Rattle.inquiry_rules.specs.Holds.{inquiry_wait}
+use Rattle.station_port.specs.Inquiries.Holds.{inquiry_wait}
 use Rattle.station_port.specs.declared.finder.Finder.{Finder}
 
 -- until the first inquiry is due, at most so long; a port without sockets of inquiries holds none

@@ -1,7 +1,7 @@
 -- What a station's port does with socket address items, by its place.
 use Rattle.std.specs.Prelude.{◌==◌, not, if◌then◌else◌}
-use Rattle.item_ports.specs.declared.ports.ItemUse.{ItemUse}
-use Rattle.item_ports.specs.declared.ports.ItemUse.TheVariants.{Unused, Named, Obeyed, Honoured}
+use Rattle.station_port.specs.declared.named_ports.ports.ItemUse.{ItemUse}
+use Rattle.station_port.specs.declared.named_ports.ports.ItemUse.TheVariants.{Unused, Named, Obeyed, Honoured}
 use Rattle.station_port.specs.declared.place.StationPlace.{StationPlace}
 
 -- an adapter's

@@ -3,3 +3,7 @@ pub mod Closes
 pub mod Finding
 pub mod Items
 pub mod Reaching
+pub mod Streams
+pub mod NamedPorts
+pub mod Alarm
+pub mod Inquiries

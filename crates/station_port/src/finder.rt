@@ -2,17 +2,17 @@
 //! address at once, those that came by broadcast after a drawn delay.
 
 ghost use Rattle.std.specs.Prelude.{◌≡◌};
-ghost use Rattle.inquiry_rules.specs.Holds.{inquiry_wait};
+ghost use Rattle.station_port.specs.Inquiries.Holds.{inquiry_wait};
 
 use crate::bind::made;
 use crate::fault::{StationFault, StationSocket};
+use crate::inquiries::{Asker, InquiryGate, InquirySocket, has_length};
 use crate::place::StationPlace;
+use crate::streams::{FINDER, address_of, shared_socket};
 use cip_types::{Items, Node, OutOfMemory};
-use inquiry_rules::{Asker, InquiryGate, InquirySocket, has_length};
 use mio::net::UdpSocket;
 use mio::{Interest, Registry};
 use socket_port::{node_of, received};
-use station_streams::{FINDER, address_of, shared_socket};
 use std::alloc::Global;
 use std::net::{Net, SocketAddr};
 use udp_runner::PortFault;

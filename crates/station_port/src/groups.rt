@@ -2,13 +2,13 @@
 //! group's address then receives its datagrams, where one at the station's own address receives none.
 
 use crate::place::StationPlace;
+use crate::streams::{DATAGRAMS, shared_socket};
 use cip_types::limits::MOST_SLOTS;
 use cip_types::{Node, OutOfMemory};
 use mio::net::UdpSocket;
 use mio::{Interest, Registry};
 use port_groups::{DataGroup, has_group, is_due, is_to_add, next_try_ms};
 use socket_port::received;
-use station_streams::{DATAGRAMS, shared_socket};
 use std::alloc::Global;
 use std::net::{Net, SocketAddr};
 use udp_runner::PortFault;

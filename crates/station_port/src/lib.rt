@@ -5,15 +5,33 @@
 //! what is sent to the groups of its slots, where its host has joined them.
 #![tactic(auto)]
 
+mod alarm;
 mod bind;
 mod fault;
 mod finder;
 mod groups;
+mod inquiries;
+mod named_ports;
 mod place;
 mod sockets;
 mod station;
+mod streams;
 
+pub use alarm::{Alarm, AlarmStep, alarm_step, ns_behind, sets_anew};
 pub use bind::page_listener;
 pub use fault::{SocketCause, StationFault, StationSocket};
+pub use inquiries::{
+    Asker, HeldInquiry, InquiryBudget, InquiryGate, InquiryHold, InquirySocket, MOST_HELD,
+    MOST_IN_A_SECOND, asker_of, drawn_delay, has_length, is_broadcast, longest_delay,
+};
+pub use named_ports::{
+    ItemPorts, ItemUse, NamedPort, NamedRoute, ReplyOutcome, RequestedPort, named_destination,
+    named_port, reply_outcome, with_item, without_item,
+};
 pub use place::StationPlace;
 pub use station::StationPort;
+pub use streams::{
+    DATAGRAMS, DialOutcome, FINDER, KeptStreams, LISTENER, NopTimer, OPENINGS, Ready, STREAMS,
+    SessionAnswer, Targets, WAKER, Welcome, address_of, session_answer, shared_socket,
+    wait_for_streams,
+};

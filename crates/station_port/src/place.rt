@@ -4,9 +4,9 @@ ghost use Rattle.std.specs.Prelude.{◌≡◌, None, true};
 ghost use Rattle.port_groups.specs.GroupUse.{uses_groups};
 ghost use Rattle.station_port.specs.Items.{originator_use, target_use};
 
+use crate::named_ports::ItemUse;
 use cip_types::Node;
 use cip_types::limits::{TCP_PORT, UDP_PORT};
-use item_ports::ItemUse;
 use port_groups::uses_groups;
 
 /// The encapsulation inactivity time-out, in seconds.

@@ -3,25 +3,25 @@
 ghost use Rattle.std.specs.Prelude.{◌≡◌};
 ghost use Rattle.station_port.specs.Closes.{links_after};
 ghost use Rattle.station_port.specs.Finding.{finder_wait};
-ghost use Rattle.station_streams.specs.Waits.{streams_wait};
+ghost use Rattle.station_port.specs.Streams.Waits.{streams_wait};
 
 use crate::bind::made;
 use crate::fault::{StationFault, StationSocket};
 use crate::finder::{Finder, NextInquiry};
 use crate::groups::GroupSockets;
+use crate::named_ports::ItemPorts;
+use crate::streams::{
+    DATAGRAMS, KeptStreams, LISTENER, NopTimer, Ready, STREAMS, SessionAnswer, Targets, Welcome,
+    address_of, session_answer, wait_for_streams,
+};
 use cip_events::Arrival;
 use cip_types::limits::MOST_STREAMS;
 use cip_types::{Items, Node, OutOfMemory};
-use item_ports::ItemPorts;
 use mio::net::{TcpListener, TcpStream, UdpSocket};
 use mio::{Interest, Registry};
 use port_groups::{DataGroup, sent_port};
 use port_streams::{PollOrder, SpareBytes};
 use socket_port::{ReadOutcome, accepted, node_of, received};
-use station_streams::{
-    DATAGRAMS, KeptStreams, LISTENER, NopTimer, Ready, STREAMS, SessionAnswer, Targets, Welcome,
-    address_of, session_answer, wait_for_streams,
-};
 use std::alloc::Global;
 use std::net::{Net, SocketAddr};
 use udp_runner::{EndCause, Output, PortFault};
@@ -456,7 +456,7 @@ impl StationSockets {
         match output {
             Output::Frame { stream, bytes } => {
                 self.send_message(*stream, bytes);
-                self.targets.request(*stream);
+                self.targets.send(*stream, bytes, now_ms);
                 self.ready.streams = true;
             }
             Output::Datagram { node, bytes } => self.send_datagram(*node, bytes),

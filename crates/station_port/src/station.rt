@@ -2,20 +2,20 @@
 
 ghost use Rattle.std.specs.Prelude.{◌≡◌, IfOk};
 
+use crate::alarm::Alarm;
 use crate::bind::{datagrams, listen, made};
 use crate::fault::{StationFault, StationSocket};
 use crate::finder::Finder;
 use crate::groups::GroupSockets;
+use crate::named_ports::ItemPorts;
 use crate::place::StationPlace;
 use crate::sockets::StationSockets;
+use crate::streams::{KeptStreams, Targets, WAKER, address_of};
 use cip_events::Arrival;
 use cip_types::{Items, Node};
-use item_ports::ItemPorts;
 use mio::{Events, Poll, Waker};
-use port_alarm::Alarm;
 use port_groups::{DataGroup, GroupPort};
 use port_streams::Destination;
-use station_streams::{KeptStreams, Targets, WAKER, address_of};
 use std::alloc::Global;
 use std::net::Net;
 use std::rt::Clock as System;

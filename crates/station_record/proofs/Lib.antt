@@ -1,3 +1,6 @@
 mod Growing
 mod Repeating
 mod Samples
+mod NumberTexts
+mod ReadBack
+mod KeptStateSamples

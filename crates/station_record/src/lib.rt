@@ -4,6 +4,8 @@
 
 mod fault;
 mod files;
+mod kept_files;
+mod kept_state;
 mod recorder;
 mod shortened;
 mod sink;
@@ -11,6 +13,10 @@ mod summed;
 
 pub use fault::RecordFault;
 pub use files::{Placed, RecordFiles, file_name};
+pub use kept_files::{
+    RecordFile, RecordPlace, Start, StateFault, name_of, place_of_record, push_timestamp, stem_of,
+};
+pub use kept_state::{StationState, begin_state, push_state, read_state, reads_back};
 pub use recorder::Recorder;
 pub use shortened::repeats;
 pub use sink::RecordSink;

@@ -1,1 +1,6 @@
 pub mod Reads
+pub mod UnreadCalls
+pub mod LineWays
+pub mod RecordWays
+pub mod RecordLaw
+pub mod Written

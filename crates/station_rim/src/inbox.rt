@@ -3,9 +3,10 @@
 ghost use Rattle.std.specs.Prelude.{◌≡◌};
 ghost use Rattle.station_rim.specs.Reads.{bytes_of, is_end};
 
+use crate::unread_calls::{CallOffer, UnreadCalls};
 use cip_types::OutOfMemory;
 use mio::Waker;
-use station_lines::{CallBuffer, CallLines, InputRead, NextLine, input_read};
+use station_lines::{CallLines, InputRead, NextLine, input_read};
 use std::alloc::Global;
 use std::io::Read;
 use std::rt::Clock;
@@ -16,11 +17,10 @@ use std::time::Duration;
 /// A read takes at most so many bytes.
 const CHUNK_BYTES: usize = 4_096;
 
-/// What was read and not yet taken, the lines of a page, and what wakes the station that takes them.
+/// What was not yet taken, and what wakes the station that takes it.
 #[derive(Drop)]
-struct UnreadCalls {
-    buffer: CallBuffer,
-    offered: CallBuffer,
+struct InputWay {
+    calls: UnreadCalls,
     waker: Option<Waker>,
 }
 
@@ -28,29 +28,28 @@ struct UnreadCalls {
 #[derive(Drop)]
 pub struct SharedInput {
     alloc: Global,
-    unread: Arc<Mutex<UnreadCalls>, Global>,
+    way: Arc<Mutex<InputWay>, Global>,
 }
 
 impl SharedInput {
     /// An input of which nothing was read. OutOfMemory is the only fault.
     pub fn new(alloc: Global) -> Result<SharedInput, OutOfMemory> {
-        let unread = Mutex::new(UnreadCalls {
-            buffer: CallBuffer::new(alloc),
-            offered: CallBuffer::new(alloc),
+        let way = Mutex::new(InputWay {
+            calls: UnreadCalls::new(alloc),
             waker: None,
         });
-        match Arc::new(alloc, unread) {
-            Ok(unread) => Ok(SharedInput { alloc, unread }),
+        match Arc::new(alloc, way) {
+            Ok(way) => Ok(SharedInput { alloc, way }),
             Err(_) => Err(OutOfMemory),
         }
     }
 
     /// The same input, for another thread. OutOfMemory is the only fault.
     pub fn share(&self) -> Result<SharedInput, OutOfMemory> {
-        match Arc::try_clone(&self.unread) {
-            Ok(unread) => Ok(SharedInput {
+        match Arc::try_clone(&self.way) {
+            Ok(way) => Ok(SharedInput {
                 alloc: self.alloc,
-                unread,
+                way,
             }),
             Err(_) => Err(OutOfMemory),
         }
@@ -58,7 +57,7 @@ impl SharedInput {
 
     /// The lines of the input, for a station that this waker wakes.
     pub fn lines<R: Wait + Drop>(self, rt: R, waker: Waker) -> InputLines<R> {
-        self.unread.lock(&rt).waker = Some(waker);
+        self.way.lock(&rt).waker = Some(waker);
         InputLines { rt, input: self }
     }
 
@@ -91,12 +90,12 @@ impl SharedInput {
     /// Appends bytes once the buffer is not full, and wakes the station.
     fn push<R: Clock + Wait>(&self, rt: &R, bytes: &[u8]) -> Result<(), OutOfMemory> {
         for _ in 0..u64::MAX {
-            if !self.unread.lock(rt).buffer.is_full() {
+            if !self.way.lock(rt).calls.is_full() {
                 break;
             }
             thread::sleep(rt, Duration::from_millis(1));
         }
-        let pushed = self.unread.lock(rt).buffer.push(bytes);
+        let pushed = self.way.lock(rt).calls.push(bytes);
         self.wake(rt);
         pushed
     }
@@ -104,31 +103,25 @@ impl SharedInput {
     /// Appends a line of a page, with its LF, and wakes the station. Answers whether there was room: the page never waits
     /// here, and its lines never stand within those of the input.
     pub fn offer<R: Wait>(&self, rt: &R, line: &[u8]) -> bool {
-        let mut unread = self.unread.lock(rt);
-        let taken = !unread.offered.is_full() && unread.offered.push(line).is_ok();
-        drop(unread);
+        let offered = self.way.lock(rt).calls.offer(line);
         self.wake(rt);
-        taken
+        offered == CallOffer::Taken
     }
 
     /// Takes the next line: first those of a page. Never waits.
     pub fn next_line<R: Wait>(&self, rt: &R) -> Result<NextLine, OutOfMemory> {
-        let mut unread = self.unread.lock(rt);
-        match unread.offered.next_line(self.alloc)? {
-            NextLine::Line(line) => Ok(NextLine::Line(line)),
-            _ => unread.buffer.next_line(self.alloc),
-        }
+        self.way.lock(rt).calls.next_line(self.alloc)
     }
 
     /// Ends the input, and wakes the station.
     pub fn end<R: Wait>(&self, rt: &R) {
-        self.unread.lock(rt).buffer.end();
+        self.way.lock(rt).calls.end();
         self.wake(rt);
     }
 
     /// Wakes the station, if it waits at a port already.
     pub fn wake<R: Wait>(&self, rt: &R) {
-        if let Some(waker) = &self.unread.lock(rt).waker {
+        if let Some(waker) = &self.way.lock(rt).waker {
             let _ = waker.wake();
         }
     }

@@ -5,15 +5,21 @@
 mod draining;
 mod inbox;
 mod labelled;
+mod line_way;
 mod outlets;
+mod record_law;
 mod record_queue;
+mod record_way;
 mod rim;
 mod threads;
+mod unread_calls;
+mod written;
 
 pub use draining::{drain_lines, drain_record, report_line};
 pub use inbox::{InputLines, SharedInput};
 pub use labelled::{LabelledLines, SharedDevices};
 pub use outlets::{LineEntrance, SharedLines};
+pub use record_law::entries_are_written_in_order;
 pub use record_queue::{Entries, SharedRecord};
 pub use rim::Rim;
 pub use threads::begin_output;

@@ -1,10 +1,12 @@
 //! The lines of an output, which a thread of its own writes.
 
+use crate::line_way::LineWay;
+use crate::written::{joins, write_whole};
 use cip_types::{Items, OutOfMemory};
-use line_queue::{NoticeForm, Offer, QueueOutlet};
+use line_queue::{NoticeForm, Offer};
 use station_lines::LineSink;
 use std::alloc::Global;
-use std::io::{self, ErrorKind, Write};
+use std::io::Write;
 use std::rt::Clock;
 use std::sync::{Arc, Condvar, Mutex, Wait};
 use std::thread;
@@ -22,17 +24,10 @@ const BATCH_BYTES: usize = 4_096;
 /// that shares its processor has its time.
 const BATCHES_IN_A_ROW: u32 = 64;
 
-/// Lines on their way, and whether the writer has some in its hands.
-#[derive(Drop)]
-struct Way {
-    outlet: QueueOutlet,
-    is_busy: bool,
-}
-
 /// The way from a station to a writer. Its lock is held only while a text is put in or taken out.
 #[derive(Drop)]
 struct Channel {
-    way: Mutex<Way>,
+    way: Mutex<LineWay>,
     more: Condvar,
 }
 
@@ -47,10 +42,7 @@ impl SharedLines {
     /// No lines. OutOfMemory is the only fault.
     pub fn new(alloc: Global, form: NoticeForm) -> Result<SharedLines, OutOfMemory> {
         let channel = Channel {
-            way: Mutex::new(Way {
-                outlet: QueueOutlet::new(alloc, form, MOST_BYTES, MOST_TEXTS),
-                is_busy: false,
-            }),
+            way: Mutex::new(LineWay::new(alloc, form, MOST_BYTES, MOST_TEXTS)),
             more: Condvar::new(),
         };
         match Arc::new(alloc, channel) {
@@ -99,7 +91,7 @@ impl SharedLines {
                 }
             }
             batch.clear();
-            self.channel.way.lock(rt).is_busy = false;
+            self.channel.way.lock(rt).note_written();
         }
     }
 
@@ -108,7 +100,7 @@ impl SharedLines {
     fn gather<R: Wait + Clock>(&self, rt: &R, batch: &mut Vec<u8>) -> Option<Items<u8>> {
         for _ in 0..u64::MAX {
             let (text, is_last) = self.next(rt)?;
-            let is_gathered = fits(batch.as_slice(), text.as_slice())
+            let is_gathered = joins(BATCH_BYTES, batch.len(), text.as_slice().len())
                 && batch.extend_from_slice(text.as_slice()).is_ok();
             if !is_gathered {
                 return Some(text);
@@ -126,13 +118,11 @@ impl SharedLines {
         let mut way = self
             .channel
             .more
-            .wait_while(rt, way, |way| way.outlet.is_idle());
-        let taken = way.outlet.take();
-        let is_last = way.outlet.is_idle();
-        way.is_busy = true;
+            .wait_while(rt, way, |way| way.is_waiting());
+        let taken = way.take();
         drop(way);
         match taken {
-            Ok(text) => Some((text?, is_last)),
+            Ok(taken) => taken,
             Err(OutOfMemory) => {
                 thread::sleep(rt, Duration::from_millis(1));
                 None
@@ -142,40 +132,13 @@ impl SharedLines {
 
     /// Who offered state last has ended, and offers none again.
     pub fn release<R: Wait>(&self, rt: &R) {
-        self.channel.way.lock(rt).outlet.release();
+        self.channel.way.lock(rt).release();
     }
 
     /// Whether each line was written.
     pub fn is_drained<R: Wait>(&self, rt: &R) -> bool {
-        let way = self.channel.way.lock(rt);
-        way.outlet.is_idle() && !way.is_busy
+        self.channel.way.lock(rt).is_drained()
     }
-}
-
-/// Whether a text is written together with those of a batch. A long one is written by itself.
-fn fits(batch: &[u8], text: &[u8]) -> bool {
-    batch.len().saturating_add(text.len()) <= BATCH_BYTES
-}
-
-/// Writes a text, and hands it on. A stream that takes nothing now, since another program has made it non-blocking, is tried
-/// again a millisecond later.
-fn write_whole<R: Clock, W: Write>(rt: &R, out: &mut W, text: &[u8]) -> io::Result<()> {
-    let mut rest = text;
-    for _ in 0..u64::MAX {
-        if rest.is_empty() {
-            break;
-        }
-        match out.write(rest) {
-            Ok(0) => return Err(io::Error::from(ErrorKind::WriteZero)),
-            Ok(count) => rest = &rest[count..],
-            Err(error) => match error.kind() {
-                ErrorKind::Interrupted => {}
-                ErrorKind::WouldBlock => thread::sleep(rt, Duration::from_millis(1)),
-                _ => return Err(error),
-            },
-        }
-    }
-    out.flush()
 }
 
 /// The end of a way at which a station puts lines in. It waits for no reader.
@@ -187,13 +150,13 @@ pub struct LineEntrance<R: Wait + Drop> {
 
 impl<R: Wait + Drop> LineSink for LineEntrance<R> {
     fn line(&mut self, text: &[u8]) {
-        let _ = self.lines.channel.way.lock(&self.rt).outlet.offer(text);
+        let _ = self.lines.channel.way.lock(&self.rt).offer(text);
         self.lines.channel.more.notify_one();
     }
 
     fn state(&mut self, text: &[u8]) -> bool {
         let mut way = self.lines.channel.way.lock(&self.rt);
-        let offered = way.outlet.offer_state(text);
+        let offered = way.offer_state(text);
         drop(way);
         self.lines.channel.more.notify_one();
         matches!(offered, Offer::Taken)

@@ -1,8 +1,9 @@
 //! The record of a station, which a thread of its own writes.
 
+use crate::record_way::{PutFault, RecordWay};
+use crate::written::{gathers, joins};
 use cip_types::{Items, OutOfMemory};
-use line_queue::LineQueue;
-use station_files::{RecordFile, RecordPlace};
+use station_record::{RecordFile, RecordPlace};
 use std::alloc::Global;
 use std::fs::File;
 use std::io::{self, ErrorKind, Write};
@@ -20,14 +21,11 @@ const MOST_ENTRIES: usize = 65_536;
 /// station that shares its processor has its time.
 const BATCH_BYTES: usize = 65_536;
 
-/// Entries on their way, where they go, and what the writer does.
+/// Entries on their way, and where they go.
 #[derive(Drop)]
 struct Way {
-    queue: LineQueue,
+    record: RecordWay,
     place: Option<RecordPlace>,
-    is_busy: bool,
-    has_failed: bool,
-    has_ended: bool,
 }
 
 /// The way from a station to the writer of its record. Its lock is held only while an entry is put in or taken out.
@@ -49,11 +47,8 @@ impl SharedRecord {
     pub fn new(alloc: Global) -> Result<SharedRecord, OutOfMemory> {
         let channel = Channel {
             way: Mutex::new(Way {
-                queue: LineQueue::new(alloc, MOST_BYTES, MOST_ENTRIES),
+                record: RecordWay::new(alloc, MOST_BYTES, MOST_ENTRIES),
                 place: None,
-                is_busy: false,
-                has_failed: false,
-                has_ended: false,
             }),
             more: Condvar::new(),
         };
@@ -87,7 +82,7 @@ impl SharedRecord {
 
     /// No entry is put in from now on: the writer ends once those on their way are written.
     pub fn end<R: Wait>(&self, rt: &R) {
-        self.channel.way.lock(rt).has_ended = true;
+        self.channel.way.lock(rt).record.end();
         self.channel.more.notify_one();
     }
 
@@ -99,9 +94,9 @@ impl SharedRecord {
             let Some((entry, is_last)) = self.next(rt) else {
                 return;
             };
-            let is_gathered = is_gathered(batch.as_slice(), entry.as_slice())
+            let is_gathered = joins(BATCH_BYTES, batch.len(), entry.as_slice().len())
                 && batch.extend_from_slice(entry.as_slice()).is_ok();
-            if is_gathered && !is_last && batch.len() < BATCH_BYTES {
+            if gathers(BATCH_BYTES, is_gathered, is_last, batch.len()) {
                 continue;
             }
             let mut written = self.write(rt, &mut file, batch.as_slice());
@@ -109,18 +104,11 @@ impl SharedRecord {
             if !is_gathered && written.is_ok() {
                 written = self.write(rt, &mut file, entry.as_slice());
             }
-            self.note(rt, written.is_err());
+            self.channel.way.lock(rt).record.note(written.is_err());
             if !is_last {
                 thread::sleep(rt, Duration::from_millis(1));
             }
         }
-    }
-
-    /// Notes that what was taken is written or discarded, and whether that failed.
-    fn note<R: Wait>(&self, rt: &R, has_failed: bool) {
-        let mut way = self.channel.way.lock(rt);
-        way.is_busy = false;
-        way.has_failed |= has_failed;
     }
 
     /// Waits for the next entry, and takes it: whether it is the last one for now. None if the record has ended, and each entry
@@ -130,10 +118,8 @@ impl SharedRecord {
         let mut way = self
             .channel
             .more
-            .wait_while(rt, way, |way| way.queue.is_empty() && !way.has_ended);
-        let entry = way.queue.pop()?;
-        way.is_busy = true;
-        Some((entry, way.queue.is_empty()))
+            .wait_while(rt, way, |way| way.record.is_waiting());
+        way.record.take()
     }
 
     /// Writes entries, unless one could not be written before.
@@ -149,7 +135,7 @@ impl SharedRecord {
                 *file = Some(RecordFile::begin(rt, self.alloc, place)?);
             }
         }
-        if piece.is_empty() || self.channel.way.lock(rt).has_failed {
+        if piece.is_empty() || self.has_failed(rt) {
             return Ok(());
         }
         match file {
@@ -160,19 +146,13 @@ impl SharedRecord {
 
     /// Whether each entry was written or discarded.
     pub fn is_drained<R: Wait>(&self, rt: &R) -> bool {
-        let way = self.channel.way.lock(rt);
-        way.queue.is_empty() && !way.is_busy
+        self.channel.way.lock(rt).record.is_drained()
     }
 
     /// Whether an entry could not be written.
     pub fn has_failed<R: Wait>(&self, rt: &R) -> bool {
-        self.channel.way.lock(rt).has_failed
+        self.channel.way.lock(rt).record.has_failed()
     }
-}
-
-/// Whether an entry is written together with those that are gathered. A long one is written by itself.
-fn is_gathered(batch: &[u8], entry: &[u8]) -> bool {
-    batch.len().saturating_add(entry.len()) <= BATCH_BYTES
 }
 
 /// The end of a way at which a recorder puts entries in: each write is an entry, which is taken whole or refused.
@@ -184,15 +164,11 @@ pub struct Entries<R: Wait + Drop> {
 
 impl<R: Wait + Drop> Write for Entries<R> {
     fn write(&mut self, entry: &[u8]) -> io::Result<usize> {
-        let mut way = self.record.channel.way.lock(&self.rt);
-        if way.has_failed {
-            return Err(io::Error::from(ErrorKind::BrokenPipe));
-        }
-        let pushed = way.queue.push(entry);
-        drop(way);
+        let put = self.record.channel.way.lock(&self.rt).record.put(entry);
         self.record.channel.more.notify_one();
-        match pushed {
+        match put {
             Ok(()) => Ok(entry.len()),
+            Err(PutFault::Failed) => Err(io::Error::from(ErrorKind::BrokenPipe)),
             Err(_) => Err(io::Error::from(ErrorKind::WriteZero)),
         }
     }

@@ -1,1 +1,3 @@
 pub mod Settings
+pub mod Unservable
+pub mod Opening

@@ -2,9 +2,17 @@
 #![tactic(auto)]
 
 mod describing;
+mod opening;
 mod place;
 mod targets;
+mod unservable;
 
 pub use describing::with_description;
+pub use opening::{
+    OpenedPort, SocketPlace, UnusableProfile, head_of, incarnation_of, is_scanner, names_in,
+    open_port, profile_in, recorder_in, socket_place, start_in, unread_profile, with_incarnation,
+    with_serials,
+};
 pub use place::{adapter_place, ending_of, rates_of, scanner_place};
 pub use targets::targets_of;
+pub use unservable::{StationDefect, station_defect};

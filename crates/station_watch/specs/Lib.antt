@@ -5,3 +5,4 @@ pub mod Peers
 pub mod Slots
 pub mod Traffic
 pub mod Waits
+pub mod DatagramCounts

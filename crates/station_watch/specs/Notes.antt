@@ -4,7 +4,7 @@ use Rattle.cip_types.specs.declared.names.Node.{Node}
 use Rattle.cip_events.specs.declared.event.Reason.{Reason}
 use Rattle.cip_events.specs.declared.slot_phase.SlotPhase.TheVariants as phase
 use Rattle.cip_events.specs.Phases.{phase_number}
-use Rattle.datagram_counts.specs.Counts.{with_more}
+use Rattle.station_watch.specs.DatagramCounts.Counts.{with_more}
 use Rattle.udp_runner.specs.declared.report.PortReport.{PortReport}
 use Rattle.udp_runner.specs.declared.report.PortReport.TheVariants as report
 use Rattle.udp_runner.specs.declared.report.RefusalCause.{RefusalCause}

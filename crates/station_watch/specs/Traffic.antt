@@ -23,9 +23,9 @@ use Rattle.cip_tables.specs.States.{connection_in, slot_in}
 use Rattle.scanner_table.specs.declared.profile.SlotConfig.{SlotConfig}
 use Rattle.scanner_table.specs.declared.report.SlotReport.{SlotReport}
 use Rattle.scanner_table.specs.declared.report.SlotReport.TheVariants as slot
-use Rattle.datagram_counts.specs.Counts.{counted, is_accepted, missed, no_counts, sent_counts, with_more}
-use Rattle.datagram_counts.specs.Gaps.{came, fresh_meter}
-use Rattle.datagram_counts.specs.declared.gaps.GapMeter.{GapMeter}
+use Rattle.station_watch.specs.DatagramCounts.Counts.{counted, is_accepted, missed, no_counts, sent_counts, with_more}
+use Rattle.station_watch.specs.DatagramCounts.Gaps.{came, fresh_meter}
+use Rattle.station_watch.specs.declared.datagram_counts.gaps.GapMeter.{GapMeter}
 use Rattle.udp_runner.specs.declared.report.PortReport.{PortReport}
 use Rattle.station_watch.specs.Groups.{u32_behind}
 use Rattle.station_watch.specs.Notes.{changed_note, note_since, opened_note, refused_note, stream_after, timed_out_note}

@@ -3,6 +3,7 @@
 #![tactic(auto)]
 
 mod closing;
+mod datagram_counts;
 mod groups;
 mod notes;
 mod peers;
@@ -11,6 +12,9 @@ mod traffic;
 mod waits;
 
 pub use closing::{ClosingSlots, close_end, closing_ms, waits_on};
+pub use datagram_counts::{
+    DatagramCounts, GapMeter, GapSums, GapWindow, counted, is_accepted, missed, sent_counts,
+};
 pub use notes::{StateNote, StreamRefusal};
 pub use peers::{changes_connections, owners_of, push_connected};
 pub use slots::{LinkReport, SlotWatches, Starved, StarvedCause};

@@ -3,6 +3,7 @@
 ghost use Rattle.std.specs.Prelude.{◌≡◌, ◌++◌, find, map, IfOk, OnOk};
 ghost use Rattle.station_watch.specs.Traffic.{accepted_at, after_datagram, after_event, after_notice, after_notices, applied_by, arrived, begun, counted_at_place, counted_in, counted_of, counted_one, current, ended_note, entry_of, entry_or, fresh_slot, fresh_traffic, goes_to, has_id, id_of_slot, is_for, is_from, is_id, is_sent_as, lost_by, lost_of, marked, noted, opened_by, opened_slot, received_datagram, refused_slot, reported, sends_of, sends_of_slot, sent_each, sent_one, sent_through, sent_totals, slot_changed, slot_id, totals_after, with_refusal, with_slot};
 
+use crate::datagram_counts::{DatagramCounts, GapMeter, counted, is_accepted, missed, sent_counts};
 use crate::groups::{datagram_id, datagram_sequence};
 use crate::notes::{StateNote, StreamRefusal, stream_after};
 use crate::peers::{changes_connections, is_node};
@@ -11,7 +12,6 @@ use cip_events::{Answer, Delivery, Event, Notice, OutgoingDatagram, Reason, Slot
 use cip_tables::{Config, Device, SlotConfig, SlotReport};
 use cip_types::limits::MOST_CONNECTIONS;
 use cip_types::{Node, OutOfMemory};
-use datagram_counts::{DatagramCounts, GapMeter, counted, is_accepted, missed, sent_counts};
 use std::alloc::Global;
 use std::marker::Model;
 use udp_runner::PortReport;

@@ -115,6 +115,14 @@ stream_in state = None
 abbrev pub stream_of : TargetLink → Option ℕ
 stream_of link = stream_in link.state
 
+-- a link over whose stream RegisterSession was sent at this time: an open stream waits for its session again
+abbrev pub again_in : ℕ → ℕ → TargetLink → LinkState → TargetLink
+again_in session now link (Open stream) = record link { state = Registering stream (later now session); waits = true }
+again_in session now link state = record link { waits = true }
+
+abbrev pub again_link : ℕ → ℕ → TargetLink → TargetLink
+again_link session now link = again_in session now link link.state
+
 -- a link over whose stream a request was sent, and one over whose stream a message came since
 abbrev pub requested_link : TargetLink → TargetLink
 requested_link link = record link { waits = true }

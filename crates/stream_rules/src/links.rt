@@ -2,7 +2,7 @@
 //! tried again.
 
 ghost use Rattle.std.specs.Prelude.{◌≡◌, ◌<◌, replicate, position, slice_set, IfOk};
-ghost use Rattle.stream_rules.specs.Links.{requested_link, at_stream, at_target, dropped_link, received_link, opening_link, failed_link, given_up_link, is_due, is_late, is_of, is_registering, is_unregistered, link_at, lost_link, new_link, refused_link, registering_link, registered_link, registers_on, renewed_link, renewed_stream, retry_at, stream_of, succeeded_link, wait_after, wait_of};
+ghost use Rattle.stream_rules.specs.Links.{again_link, requested_link, at_stream, at_target, dropped_link, received_link, opening_link, failed_link, given_up_link, is_due, is_late, is_of, is_registering, is_unregistered, link_at, lost_link, new_link, refused_link, registering_link, registered_link, registers_on, renewed_link, renewed_stream, retry_at, stream_of, succeeded_link, wait_after, wait_of};
 
 use cip_types::OutOfMemory;
 use std::alloc::Global;
@@ -208,6 +208,17 @@ impl TargetLinks {
         }
     }
 
+    /// RegisterSession was sent over the stream of this number: on an open stream the session is waited for again, as on a new
+    /// one. Takes no memory.
+    pub fn register_over(&mut self, stream: u16, now_ms: u64)
+        ensures { self.new ≡ at_stream self.old stream (again_link self.old.session_ms now_ms) }
+    {
+        if let Some(target) = self.target_of(stream) {
+            let link = self.link(target).registering_again(self.session_ms, now_ms);
+            self.put(target, link);
+        }
+    }
+
     /// A message came over the stream of this number. Takes no memory.
     pub fn receive_over(&mut self, stream: u16)
         ensures { self.new ≡ at_stream self.old stream received_link }
@@ -406,6 +417,23 @@ impl TargetLink {
         TargetLink {
             waits: true,
             ..self
+        }
+    }
+
+    /// The link after RegisterSession was sent over its stream.
+    fn registering_again(self, session_ms: u64, now_ms: u64) -> TargetLink
+        ensures { result ≡ again_link session_ms now_ms self }
+    {
+        match self.state {
+            LinkState::Open { stream } => TargetLink {
+                state: LinkState::Registering {
+                    stream,
+                    until_ms: now_ms.saturating_add(session_ms),
+                },
+                waits: true,
+                ..self
+            },
+            _ => self.requested(),
         }
     }
 

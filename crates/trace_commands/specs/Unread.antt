@@ -2,8 +2,8 @@
 use Rattle.std.specs.Prelude.{ℕ, Bool, true, false}
 use Rattle.std.specs.declared.io.ErrorKind.{ErrorKind}
 use Rattle.std.specs.declared.io.ErrorKind.TheVariants as kind
-use Rattle.regular_files.specs.declared.fault.FileFault.{FileFault}
-use Rattle.regular_files.specs.declared.fault.FileFault.TheVariants as file
+use Rattle.trace_files.specs.declared.regular.fault.FileFault.{FileFault}
+use Rattle.trace_files.specs.declared.regular.fault.FileFault.TheVariants as file
 use Rattle.trace_commands.specs.declared.fault.TracesFault.{TracesFault}
 use Rattle.trace_commands.specs.declared.fault.TracesFault.TheVariants as traces
 

@@ -8,8 +8,7 @@ use std::fs::File;
 use std::io::Write;
 use std::mem;
 use std::rt::Files;
-use trace_files::{Filling, TraceReader};
-use trace_pcap::CaptureLines;
+use trace_files::{CaptureLines, Filling, TraceReader};
 use trace_stepper::write_text;
 
 /// The packets are written once they have so many bytes.

@@ -4,10 +4,10 @@ ghost use Rattle.std.specs.Prelude.{◌≡◌};
 ghost use Rattle.trace_commands.specs.Unread.{broken_fault, traces_status, unread_fault};
 
 use cip_types::OutOfMemory;
-use regular_files::FileFault;
 use std::alloc::{AllocError, AllocFailed};
 use std::io::ErrorKind;
 use thiserror::Error;
+use trace_files::FileFault;
 use trace_stepper::{NotTaken, StepperFault};
 use trace_text::TraceFault;
 

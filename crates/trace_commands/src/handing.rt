@@ -1,11 +1,10 @@
 //! The lines of files, which are read as one text, one behind another.
 
 use crate::fault::{TracesFault, broken, unread};
-use regular_files::open_regular;
 use std::fs::File;
 use std::io::BufReader;
 use std::rt::Files;
-use trace_files::{LinePart, read_line_part};
+use trace_files::{LinePart, open_regular, read_line_part};
 
 /// Takes the lines of files.
 pub(crate) trait LineTaker {

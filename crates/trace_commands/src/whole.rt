@@ -5,14 +5,13 @@ use cip_types::OutOfMemory;
 use cip_types::limits::LONGEST_TRACE;
 use fast_device::FastDevice;
 use point_names::{Names, ReadNames, read_names};
-use regular_files::read_regular;
 use std::alloc::Global;
 use std::fs::File;
 use std::io::Write;
 use std::rt::Files;
 use trace_explain::explain_trace;
 use trace_faults::explain_fault;
-use trace_files::{FilledRecord, read_record};
+use trace_files::{FilledRecord, read_record, read_regular};
 use trace_stepper::write_text;
 use trace_text::{Trace, TraceFault, read_trace};
 

@@ -3,6 +3,7 @@
 use crate::datagrams::push_datagram;
 use crate::events::{is_target, push_name};
 use crate::frames::push_message;
+use crate::router::{push_data, push_id, push_object, push_reply, push_triad};
 use cip_events::{
     Answer, Delivery, Event, Frame, Notice, Outcome, OutgoingDatagram, Recipient, SlotPhase,
     StepFault, Unanswered, Verdict,
@@ -10,7 +11,6 @@ use cip_events::{
 use cip_tables::Config;
 use cip_types::{Fault, Node, OutOfMemory};
 use point_names::{Named, Names};
-use router_words::{push_data, push_id, push_object, push_reply, push_triad};
 use status_words::{push_encap, push_fault, push_general, push_reason};
 use std::alloc::Global;
 use trace_words::{push_bytes, push_node, push_nodes, push_text};

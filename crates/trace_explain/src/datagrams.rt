@@ -1,8 +1,8 @@
 //! Class 1 datagrams in words.
 
+use crate::router::{push_data, push_id};
 use cip_datagram::{DatagramFault, read_datagram, read_header};
 use cip_types::OutOfMemory;
-use router_words::{push_data, push_id};
 use std::alloc::Global;
 use trace_words::push_text;
 

@@ -2,11 +2,11 @@
 
 use crate::datagrams::push_datagram;
 use crate::frames::push_message;
+use crate::router::{push_data, push_request};
 use cip_events::Event;
 use cip_tables::Config;
 use cip_types::{Node, OutOfMemory};
 use point_names::{Named, Names};
-use router_words::{push_data, push_request};
 use status_words::push_general;
 use std::alloc::Global;
 use trace_words::{push_node, push_text};

@@ -1,12 +1,12 @@
 //! Encapsulation messages in words.
 
 use crate::identities::push_identity;
+use crate::router::{push_data, push_id, push_reply, push_request};
 use cip_encap::{MessageView, read_connected_items, read_items, read_message};
 use cip_router::Command;
 use cip_tables::Config;
 use cip_types::OutOfMemory;
-use identity_reading::read_identity_reply;
-use router_words::{push_data, push_id, push_reply, push_request};
+use identity_search::read_identity_reply;
 use status_words::encap_words;
 use std::alloc::Global;
 use trace_words::push_text;

@@ -1,8 +1,8 @@
 //! Which device answers, in words.
 
+use crate::router::push_name;
 use cip_types::OutOfMemory;
-use identity_reading::FoundIdentity;
-use router_words::push_name;
+use identity_search::FoundIdentity;
 use trace_words::push_node;
 
 /// The identity in a reply to ListIdentity, behind the message's command.

@@ -1,2 +1,3 @@
 pub mod Lexical
 pub mod Reasons
+pub mod ProfileFaults

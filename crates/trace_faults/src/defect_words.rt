@@ -1,5 +1,6 @@
 //! The defects of profiles in words: what is wrong, its value, and what is allowed.
 
+use crate::profile_faults::{Defect, LineName, PacketDirection, WaitingTime, WordPlace};
 use adapter_table::{LARGEST_CLASS, LONGEST_INACTIVITY, MOST_OWN_CLASSES, PHYSICAL_ADDRESS};
 use cip_productions::Kind;
 use cip_types::limits::{
@@ -7,7 +8,7 @@ use cip_types::limits::{
 };
 use cip_types::{Node, OutOfMemory};
 use list_identity::LONGEST_NAME;
-use profile_faults::{Defect, LineName, PacketDirection, WaitingTime, WordPlace};
+use scanner_table::MOST_WAITING_OPENINGS;
 use trace_lines::StatedNumber;
 use trace_words::{push_node, push_text};
 
@@ -58,6 +59,7 @@ pub fn push_defect(
             point,
         } => push_group(out, (slot, other), (target, point), earlier),
         Defect::Waiting(wait, ms) => push_waiting(out, wait, ms),
+        Defect::Openings(_) | Defect::NoSerial => push_opening(out, defect),
         Defect::NameLen(_) | Defect::AddressLen(_) | Defect::Inactivity(_) => {
             push_described(out, defect)
         }
@@ -66,6 +68,21 @@ pub fn push_defect(
             push_class(out, defect)
         }
         _ => push_count(out, defect),
+    }
+}
+
+/// What is said of a scanner's openings that is none.
+fn push_opening(out: &mut String, defect: Defect) -> Result<(), OutOfMemory> {
+    match defect {
+        Defect::Openings(most) => Ok(write!(
+            out,
+            "the most openings at one time are {most}, and they are 1 to {MOST_WAITING_OPENINGS}"
+        )?),
+        Defect::NoSerial => push_text(
+            out,
+            "the first serial number is 0, and a serial number is 1 to 65,535",
+        ),
+        _ => Ok(()),
     }
 }
 

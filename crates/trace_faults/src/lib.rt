@@ -3,14 +3,19 @@
 #![tactic(auto)]
 
 mod defect_words;
-mod faults;
 mod lexical;
 mod profile_draft;
+mod profile_faults;
 mod profile_words;
 mod reasons;
+mod text_faults;
 mod text_lines;
 
-pub use faults::explain_fault;
 pub use lexical::{Character, bad_character};
 pub use profile_draft::line_number;
+pub use profile_faults::{
+    Defect, LineName, PacketDirection, ProfileReason, WaitingTime, WordPlace, adapter_reason,
+    config_reason, scanner_reason,
+};
 pub use reasons::{BadWord, LineReason, WordReason, reason_of};
+pub use text_faults::explain_fault;

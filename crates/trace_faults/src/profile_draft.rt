@@ -1,8 +1,8 @@
 //! The profile at the front of a text, and the lines that it is in.
 
+use crate::profile_faults::LineName;
 use cip_tables::Config;
 use cip_types::OutOfMemory;
-use profile_faults::LineName;
 use std::alloc::Global;
 use std::str;
 use trace_lines::limit_named;
@@ -21,6 +21,8 @@ fn name_of(word: &str) -> Option<LineName> {
         "heartbeat" => Some(LineName::Heartbeat),
         "scanner" => Some(LineName::Scanner),
         "tidy" => Some(LineName::Tidy),
+        "openings" => Some(LineName::Openings),
+        "serials" => Some(LineName::Serials),
         "slot" => Some(LineName::Slot),
         _ => limit_named(word).map(LineName::Limit),
     }

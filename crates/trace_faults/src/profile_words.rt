@@ -2,9 +2,9 @@
 
 use crate::defect_words::push_defect;
 use crate::profile_draft::{line_number, profile_of};
+use crate::profile_faults::{Defect, LineName, ProfileReason, WordPlace, config_reason};
 use cip_events::ProfileFault;
 use cip_types::OutOfMemory;
-use profile_faults::{Defect, LineName, ProfileReason, WordPlace, config_reason};
 use std::alloc::Global;
 
 /// The first defect of the profile at the front of a text. None if the text has no profile, or a valid one. OutOfMemory

@@ -25,13 +25,16 @@ use Rattle.trace_words.specs.Words.{number_of, node_of, bytes_of, instance_of, i
 use Rattle.trace_words.specs.Reader.{Reader, ◌>>=◌, next_word, gives}
 use Rattle.trace_lines.specs.declared.forms.Rate.{Rate}
 use Rattle.trace_lines.specs.declared.forms.ScannerLine.{ScannerLine}
+use Rattle.trace_lines.specs.declared.forms.ScannerTerms.{ScannerTerms}
+use Rattle.trace_lines.specs.declared.forms.TermLine.TheVariants as term
 use Rattle.trace_lines.specs.Kinds.{kind_of, multicast_of, trigger_of, key_of_bytes, key_of, key_with, kind_word, multicast_word, instance_word, key_word}
 use Rattle.trace_lines.specs.declared.limit_lines.LimitLine.TheVariants as limit
 use Rattle.trace_lines.specs.Limits.{limit_text}
-use Rattle.trace_lines.specs.Slots.{rate_reader, slot_reader, rate_words, slot_words, scanner_words, tidy_text, scanner_text}
+use Rattle.trace_lines.specs.Slots.{rate_reader, slot_reader, rate_words, slot_words, scanner_words, tidy_text, openings_text, serials_text, terms_of, terms_text, scanner_text}
 use Rattle.trace_text.specs.declared.builder.TraceBuilder.TheVariants.{Empty, Slots}
 use Rattle.trace_text.specs.declared.forms.TraceLine.TheVariants as line
 use Rattle.trace_text.specs.Forms.{line_reader}
+use Rattle.trace_text.specs.Reading.{no_terms}
 use Rattle.trace_laws.specs.TraceBack.{KeyFits, SlotFits, ScannerFits}
 use Rattle.trace_laws.proofs.WordLaws.{node_back, bytes_back}
 use Rattle.trace_laws.proofs.CleanWords.{decimal_clean, node_clean, bytes_clean}
@@ -257,25 +260,40 @@ scanner_clean profile fits =
 
 -- ONE AFTER THE OTHER
 
-slots_read : (scanner : ScannerLine) (newer : Option ℕ) (tidy : Bool) (before slots : List SlotConfig) → All SlotFits slots → Reads (Slots scanner newer tidy before) (flat_map (λ slot. line_text (slot_words slot)) slots) (Slots scanner newer tidy (before ++ slots))
-slots_read scanner newer tidy before [] fit = subst (λ all. Reads (Slots scanner newer tidy before) [] (Slots scanner newer tidy all)) (sym (append-nil before)) (reads_none (Slots scanner newer tidy before))
-slots_read scanner newer tidy before (slot ∷ slots) fit =
+slots_read : (scanner : ScannerLine) (newer : Option ℕ) (terms : ScannerTerms) (before slots : List SlotConfig) → All SlotFits slots → Reads (Slots scanner newer terms before) (flat_map (λ slot. line_text (slot_words slot)) slots) (Slots scanner newer terms (before ++ slots))
+slots_read scanner newer terms before [] fit = subst (λ all. Reads (Slots scanner newer terms before) [] (Slots scanner newer terms all)) (sym (append-nil before)) (reads_none (Slots scanner newer terms before))
+slots_read scanner newer terms before (slot ∷ slots) fit =
     let fits : SlotFits slot = first_of SlotFits slot slots fit in
-    let one : Reads (Slots scanner newer tidy before) (line_text (slot_words slot)) (Slots scanner newer tidy (before ++ slot ∷ [])) = line_reads _ _ (codes "slot") (behind_slot slot) (line.Slot slot) refl refl (slot_clean slot fits) (slot_line_read slot fits) refl in
-    let more : Reads (Slots scanner newer tidy (before ++ slot ∷ [])) (flat_map (λ s. line_text (slot_words s)) slots) (Slots scanner newer tidy (before ++ slot ∷ slots)) = subst (λ all. Reads (Slots scanner newer tidy (before ++ slot ∷ [])) (flat_map (λ s. line_text (slot_words s)) slots) (Slots scanner newer tidy all)) (append_assoc before (slot ∷ []) slots) (slots_read scanner newer tidy (before ++ slot ∷ []) slots (rest_of SlotFits slot slots fit)) in
+    let one : Reads (Slots scanner newer terms before) (line_text (slot_words slot)) (Slots scanner newer terms (before ++ slot ∷ [])) = line_reads _ _ (codes "slot") (behind_slot slot) (line.Slot slot) refl refl (slot_clean slot fits) (slot_line_read slot fits) refl in
+    let more : Reads (Slots scanner newer terms (before ++ slot ∷ [])) (flat_map (λ s. line_text (slot_words s)) slots) (Slots scanner newer terms (before ++ slot ∷ slots)) = subst (λ all. Reads (Slots scanner newer terms (before ++ slot ∷ [])) (flat_map (λ s. line_text (slot_words s)) slots) (Slots scanner newer terms all)) (append_assoc before (slot ∷ []) slots) (slots_read scanner newer terms (before ++ slot ∷ []) slots (rest_of SlotFits slot slots fit)) in
     reads_both _ _ _ _ _ one more
 
 -- the line of the limit on numbers, if there is one
-newer_read : (scanner : ScannerLine) (newer : Option ℕ) → IfSome newer (λ within. within < 2 ^ 32) → Reads (Slots scanner None false []) (limit_text (option_map limit.Newer newer)) (Slots scanner newer false [])
-newer_read scanner None fit = reads_none (Slots scanner None false [])
-newer_read scanner (Some within) fit = limit_reads (Slots scanner None false []) (Slots scanner (Some within) false []) (limit.Newer within) fit refl
+newer_read : (scanner : ScannerLine) (newer : Option ℕ) → IfSome newer (λ within. within < 2 ^ 32) → Reads (Slots scanner None no_terms []) (limit_text (option_map limit.Newer newer)) (Slots scanner newer no_terms [])
+newer_read scanner None fit = reads_none (Slots scanner None no_terms [])
+newer_read scanner (Some within) fit = limit_reads (Slots scanner None no_terms []) (Slots scanner (Some within) no_terms []) (limit.Newer within) fit refl
 
 -- the line of a tidy scanner
-tidy_read : (scanner : ScannerLine) (newer : Option ℕ) (tidy : Bool) → Reads (Slots scanner newer false []) (tidy_text tidy) (Slots scanner newer tidy [])
-tidy_read scanner newer true = line_reads (Slots scanner newer false []) (Slots scanner newer true []) (codes "tidy") [] line.Tidy refl refl refl refl refl
-tidy_read scanner newer false = reads_none (Slots scanner newer false [])
+tidy_read : (scanner : ScannerLine) (newer : Option ℕ) (tidy : Bool) → Reads (Slots scanner newer no_terms []) (tidy_text tidy) (Slots scanner newer (record { tidy = tidy; openings = None; serials = None }) [])
+tidy_read scanner newer true = line_reads (Slots scanner newer no_terms []) (Slots scanner newer (record { tidy = true; openings = None; serials = None }) []) (codes "tidy") [] (line.Term term.Tidy) refl refl refl refl refl
+tidy_read scanner newer false = reads_none (Slots scanner newer no_terms [])
 
-pub scanner_read : (profile : ScannerProfile) → ScannerFits profile → Reads Empty (scanner_text profile) (Slots (scanner_line profile) profile.newer profile.tidy profile.slots)
+-- the lines of the most openings and of the first serial number, if they are stated
+openings_read : (scanner : ScannerLine) (newer : Option ℕ) (tidy : Bool) (openings : Option ℕ) → IfSome openings (λ most. most < 2 ^ 8) → Reads (Slots scanner newer (record { tidy = tidy; openings = None; serials = None }) []) (openings_text openings) (Slots scanner newer (record { tidy = tidy; openings = openings; serials = None }) [])
+openings_read scanner newer tidy None fit = reads_none (Slots scanner newer (record { tidy = tidy; openings = None; serials = None }) [])
+openings_read scanner newer tidy (Some most) fit =
+    line_reads (Slots scanner newer (record { tidy = tidy; openings = None; serials = None }) []) (Slots scanner newer (record { tidy = tidy; openings = Some most; serials = None }) []) (codes "openings") (decimal most ∷ []) (line.Term (term.Openings most)) refl refl (and_both _ _ (c8 most fit) refl) (rw (n8 most fit) refl) refl
+
+serials_read : (scanner : ScannerLine) (newer : Option ℕ) (tidy : Bool) (openings serials : Option ℕ) → IfSome serials (λ first. first < 2 ^ 16) → Reads (Slots scanner newer (record { tidy = tidy; openings = openings; serials = None }) []) (serials_text serials) (Slots scanner newer (record { tidy = tidy; openings = openings; serials = serials }) [])
+serials_read scanner newer tidy openings None fit = reads_none (Slots scanner newer (record { tidy = tidy; openings = openings; serials = None }) [])
+serials_read scanner newer tidy openings (Some first) fit =
+    line_reads (Slots scanner newer (record { tidy = tidy; openings = openings; serials = None }) []) (Slots scanner newer (record { tidy = tidy; openings = openings; serials = Some first }) []) (codes "serials") (decimal first ∷ []) (line.Term (term.Serials first)) refl refl (and_both _ _ (c16 first fit) refl) (rw (n16 first fit) refl) refl
+
+terms_read : (scanner : ScannerLine) (newer : Option ℕ) (tidy : Bool) (openings serials : Option ℕ) → IfSome openings (λ most. most < 2 ^ 8) → IfSome serials (λ first. first < 2 ^ 16) → Reads (Slots scanner newer no_terms []) (terms_text (record { tidy = tidy; openings = openings; serials = serials })) (Slots scanner newer (record { tidy = tidy; openings = openings; serials = serials }) [])
+terms_read scanner newer tidy openings serials few short =
+    reads_both _ _ _ _ _ (tidy_read scanner newer tidy) (reads_both _ _ _ _ _ (openings_read scanner newer tidy openings few) (serials_read scanner newer tidy openings serials short))
+
+pub scanner_read : (profile : ScannerProfile) → ScannerFits profile → Reads Empty (scanner_text profile) (Slots (scanner_line profile) profile.newer (terms_of profile) profile.slots)
 scanner_read profile fits =
-    let one : Reads Empty (line_text (scanner_words profile)) (Slots (scanner_line profile) None false []) = line_reads _ _ (codes "scanner") (drop 1 (scanner_words profile)) (line.Scanner (scanner_line profile)) refl refl (scanner_clean profile fits) (scanner_line_read profile fits) refl in
-    reads_both _ _ _ _ _ one (reads_both _ _ _ _ _ (newer_read (scanner_line profile) profile.newer fits.newer_fits) (reads_both _ _ _ _ _ (tidy_read (scanner_line profile) profile.newer profile.tidy) (slots_read (scanner_line profile) profile.newer profile.tidy [] profile.slots fits.slots_fit)))
+    let one : Reads Empty (line_text (scanner_words profile)) (Slots (scanner_line profile) None no_terms []) = line_reads _ _ (codes "scanner") (drop 1 (scanner_words profile)) (line.Scanner (scanner_line profile)) refl refl (scanner_clean profile fits) (scanner_line_read profile fits) refl in
+    reads_both _ _ _ _ _ one (reads_both _ _ _ _ _ (newer_read (scanner_line profile) profile.newer fits.newer_fits) (reads_both _ _ _ _ _ (terms_read (scanner_line profile) profile.newer profile.tidy profile.openings profile.serials fits.openings_fit fits.serials_fit) (slots_read (scanner_line profile) profile.newer (terms_of profile) [] profile.slots fits.slots_fit)))

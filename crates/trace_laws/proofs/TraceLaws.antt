@@ -18,7 +18,7 @@ use Rattle.trace_text.specs.Written.{event_words, recorded_text, entries_text, t
 use Rattle.trace_words.specs.Words.{line_text}
 use Rattle.scanner_table.specs.declared.profile.ScannerProfile.{ScannerProfile}
 use Rattle.scanner_table.specs.Profiles as scanner
-use Rattle.trace_lines.specs.Slots.{scanner_text}
+use Rattle.trace_lines.specs.Slots.{terms_of, scanner_text}
 use Rattle.trace_laws.specs.TraceBack.{ProfileFits, ScannerFits, OutcomeFits, EntryFits}
 use Rattle.trace_laws.proofs.ProfileLaws.{profile_read}
 use Rattle.trace_laws.proofs.EventLaws.{event_read, event_reads}
@@ -90,30 +90,30 @@ unfolding trace_text
 scanner_spelled profile events = refl
 
 -- a scanner without events
-slots_parsed : (profile : ScannerProfile) (number : ℕ) → scanner.profile_fault profile ≡ None → parsed number (Slots (scanner_line profile) profile.newer profile.tidy profile.slots) ≡ Ok (record { config = config.Scanner profile; events = [] })
+slots_parsed : (profile : ScannerProfile) (number : ℕ) → scanner.profile_fault profile ≡ None → parsed number (Slots (scanner_line profile) profile.newer (terms_of profile) profile.slots) ≡ Ok (record { config = config.Scanner profile; events = [] })
 slots_parsed profile number is = good (record { config = config.Scanner profile; events = [] }) (config.Scanner profile) is
 
-no_events : (profile : ScannerProfile) (front : List ℕ) → Reads Empty front (Slots (scanner_line profile) profile.newer profile.tidy profile.slots) → scanner.profile_fault profile ≡ None → parsed_from 1 (Ok Empty) (parts_of (front ++ [])) ≡ Ok (record { config = config.Scanner profile; events = [] })
+no_events : (profile : ScannerProfile) (front : List ℕ) → Reads Empty front (Slots (scanner_line profile) profile.newer (terms_of profile) profile.slots) → scanner.profile_fault profile ≡ None → parsed_from 1 (Ok Empty) (parts_of (front ++ [])) ≡ Ok (record { config = config.Scanner profile; events = [] })
 no_events profile front reads is =
     let step = reads.leads [] 1 in
     step.1 ∙ slots_parsed profile step.0 is
 
 -- the first event of a scanner ends its profile
 first_entry : (profile : ScannerProfile) (event : Event) (recorded : Option Outcome) (events : List Entry) → 1 + length ((event, recorded) ∷ events) < 2 ^ 64 → All EntryFits ((event, recorded) ∷ events)
-    → (entries : List Entry) × ((last : Option Entry) × (Reads (Slots (scanner_line profile) profile.newer profile.tidy profile.slots) (entries_text 1 ((event, recorded) ∷ events)) (Events (config.Scanner profile) entries last) × (so_far entries last ≡ (event, recorded) ∷ events)))
+    → (entries : List Entry) × ((last : Option Entry) × (Reads (Slots (scanner_line profile) profile.newer (terms_of profile) profile.slots) (entries_text 1 ((event, recorded) ∷ events)) (Events (config.Scanner profile) entries last) × (so_far entries last ≡ (event, recorded) ∷ events)))
 first_entry profile event recorded events few fit =
     let fits : EntryFits (event, recorded) = first_of EntryFits (event, recorded) events fit in
-    let one : Reads (Slots (scanner_line profile) profile.newer profile.tidy profile.slots) (line_text (event_words event)) (Events (config.Scanner profile) [] (Some (event, None))) = event_reads (Slots (scanner_line profile) profile.newer profile.tidy profile.slots) (Events (config.Scanner profile) [] (Some (event, None))) event fits.0 refl in
+    let one : Reads (Slots (scanner_line profile) profile.newer (terms_of profile) profile.slots) (line_text (event_words event)) (Events (config.Scanner profile) [] (Some (event, None))) = event_reads (Slots (scanner_line profile) profile.newer (terms_of profile) profile.slots) (Events (config.Scanner profile) [] (Some (event, None))) event fits.0 refl in
     let two : Reads (Events (config.Scanner profile) [] (Some (event, None))) (recorded_text 1 recorded) (Events (config.Scanner profile) [] (Some (event, recorded))) = recorded_read (config.Scanner profile) [] event 1 recorded (omega arith) refl fits.1 in
     let fewer : 2 + length events < 2 ^ 64 = omega (arith, few) in
     let (entries, (last, (reads, all))) = entries_read (config.Scanner profile) [] (Some (event, recorded)) 2 events refl fewer (rest_of EntryFits (event, recorded) events fit) in
     (entries, (last, (reads_both _ _ _ _ _ one (reads_both _ _ _ _ _ two reads), all)))
 
-scanner_events : (profile : ScannerProfile) (front : List ℕ) (events : List Entry) → Reads Empty front (Slots (scanner_line profile) profile.newer profile.tidy profile.slots) → scanner.profile_fault profile ≡ None → 1 + length events < 2 ^ 64 → All EntryFits events → parsed_from 1 (Ok Empty) (parts_of (front ++ entries_text 1 events)) ≡ Ok (record { config = config.Scanner profile; events = events })
+scanner_events : (profile : ScannerProfile) (front : List ℕ) (events : List Entry) → Reads Empty front (Slots (scanner_line profile) profile.newer (terms_of profile) profile.slots) → scanner.profile_fault profile ≡ None → 1 + length events < 2 ^ 64 → All EntryFits events → parsed_from 1 (Ok Empty) (parts_of (front ++ entries_text 1 events)) ≡ Ok (record { config = config.Scanner profile; events = events })
 scanner_events profile front [] reads is few fit = no_events profile front reads is
 scanner_events profile front ((event, recorded) ∷ events) reads is few fit =
     let (entries, (last, (more, all))) = first_entry profile event recorded events few fit in
-    led (config.Scanner profile) (front ++ entries_text 1 ((event, recorded) ∷ events)) entries ((event, recorded) ∷ events) last (reads_both Empty (Slots (scanner_line profile) profile.newer profile.tidy profile.slots) (Events (config.Scanner profile) entries last) front (entries_text 1 ((event, recorded) ∷ events)) reads more) is all
+    led (config.Scanner profile) (front ++ entries_text 1 ((event, recorded) ∷ events)) entries ((event, recorded) ∷ events) last (reads_both Empty (Slots (scanner_line profile) profile.newer (terms_of profile) profile.slots) (Events (config.Scanner profile) entries last) front (entries_text 1 ((event, recorded) ∷ events)) reads more) is all
 
 pub scanner_trace_back : (profile : ScannerProfile) (events : List Entry) → ScannerFits profile → scanner.profile_fault profile ≡ None → All EntryFits events → length events < 2 ^ 64 - 1 → trace_reading (trace_text (record { config = config.Scanner profile; events = events })) ≡ Ok (record { config = config.Scanner profile; events = events })
 scanner_trace_back profile events fits is fit few =

@@ -105,6 +105,8 @@ pub record ScannerFits (profile : ScannerProfile) : Type 0 where
   pub open_timeout_fits : profile.open_timeout < 2 ^ 64
   pub retry_fits : profile.retry < 2 ^ 64
   pub newer_fits : IfSome profile.newer (λ within. within < 2 ^ 32)
+  pub openings_fit : IfSome profile.openings (λ most. most < 2 ^ 8)
+  pub serials_fit : IfSome profile.serials (λ first. first < 2 ^ 16)
   pub slots_fit : All SlotFits profile.slots
 
 -- EVENTS

@@ -9,9 +9,10 @@ use Rattle.cip_netparams.specs.declared.Trigger.TheVariants.{Cyclic, ChangeOfSta
 use Rattle.cip_productions.specs.declared.kind.Kind.TheVariants.{ExclusiveOwner, InputOnly, ListenOnly}
 use Rattle.scanner_table.specs.declared.profile.SlotConfig.{SlotConfig}
 use Rattle.trace_lines.specs.declared.forms.ScannerLine.{ScannerLine}
+use Rattle.trace_lines.specs.declared.forms.TermLine.TheVariants.{Openings, Serials}
 use Rattle.trace_words.specs.Words.{words_of, number_of, node_of, bytes_of, instance_of, line_text}
 use Rattle.trace_lines.specs.Kinds.{kind_of, multicast_of, trigger_of, key_of_bytes}
-use Rattle.trace_lines.specs.Slots.{scanner_reader, slot_reader, scanner_with, slot_words, scanner_text}
+use Rattle.trace_lines.specs.Slots.{scanner_reader, openings_reader, serials_reader, slot_reader, scanner_with, slot_words, scanner_text}
 
 -- ---- slots
 
@@ -108,14 +109,23 @@ unfolding number_of node_of read_ipv4 read_octet read_number
 scanners_are_read = refl
 
 scanners_are_written :
-    scanner_text (scanner_with scanner None false (owner ∷ listener ∷ []))
+    scanner_text (scanner_with scanner None (record { tidy = false; openings = None; serials = None }) (owner ∷ listener ∷ []))
     ≡ codes "scanner 32 192.168.1.20 1 305419896 2000 70000\nslot 192.168.1.10 exclusive 151 150 100 4 6 10000 20000 2 p2p - -\nslot 192.168.1.10 listen - 153 100 0 6 10000 20000 2 multicast - -\n"
 unfolding digits
 scanners_are_written = refl
 
--- the limit on numbers and `tidy` go before the slots
+-- the limit on numbers and what is said of openings go before the slots
 limits_are_written :
-    scanner_text (scanner_with scanner (Some 8) true (listener ∷ []))
-    ≡ codes "scanner 32 192.168.1.20 1 305419896 2000 70000\nnewer 8\ntidy\nslot 192.168.1.10 listen - 153 100 0 6 10000 20000 2 multicast - -\n"
+    scanner_text (scanner_with scanner (Some 8) (record { tidy = true; openings = Some 1; serials = Some 65535 }) (listener ∷ []))
+    ≡ codes "scanner 32 192.168.1.20 1 305419896 2000 70000\nnewer 8\ntidy\nopenings 1\nserials 65535\nslot 192.168.1.10 listen - 153 100 0 6 10000 20000 2 multicast - -\n"
 unfolding digits
 limits_are_written = refl
+
+-- an opening number of a byte, and a serial number of two
+terms_are_read : (option_map (λ got. got.0) (openings_reader (words_of (codes "48"))) ≡ Some (Openings 48)) × (option_map (λ got. got.0) (serials_reader (words_of (codes "65535"))) ≡ Some (Serials 65535))
+unfolding number_of read_number
+terms_are_read = (refl, refl)
+
+terms_are_short : (openings_reader (words_of (codes "256")) ≡ None) × (serials_reader (words_of (codes "65536")) ≡ None)
+unfolding number_of read_number
+terms_are_short = (refl, refl)

@@ -1,14 +1,17 @@
 -- The lines of a scanner's profile: how they are read behind their keywords, and how they are written. Their last two
 -- words, the trigger and the inhibit time of the target, are left out if it produces cyclically without inhibit time.
-use Rattle.std.specs.Prelude.{ℕ, ◌==◌, if◌then◌else◌, Bool, true, false, List, [], ◌∷◌, ◌++◌, codes, flat_map, option_map, Option, Some}
+use Rattle.std.specs.Prelude.{ℕ, ◌==◌, if◌then◌else◌, Bool, true, false, List, [], ◌∷◌, ◌++◌, codes, flat_map, option_map, Option, Some, None}
 use Rattle.cip_netparams.specs.declared.Trigger.{Trigger}
 use Rattle.cip_netparams.specs.declared.Trigger.TheVariants.{Cyclic, ChangeOfState}
 use Rattle.scanner_table.specs.declared.profile.SlotConfig.{SlotConfig}
 use Rattle.scanner_table.specs.declared.profile.ScannerProfile.{ScannerProfile}
 use Rattle.trace_lines.specs.declared.forms.Rate.{Rate}
 use Rattle.trace_lines.specs.declared.forms.ScannerLine.{ScannerLine}
+use Rattle.trace_lines.specs.declared.forms.ScannerTerms.{ScannerTerms}
+use Rattle.trace_lines.specs.declared.forms.TermLine.{TermLine}
+use Rattle.trace_lines.specs.declared.forms.TermLine.TheVariants.{Openings, Serials}
 use Rattle.trace_lines.specs.declared.limit_lines.LimitLine.TheVariants.{Newer}
-use Rattle.trace_lines.specs.declared.shapes.TheConstants.{SCANNER, SLOT, RATE}
+use Rattle.trace_lines.specs.declared.shapes.TheConstants.{SCANNER, OPENINGS, SERIALS, SLOT, RATE}
 use Rattle.trace_lines.specs.Limits.{limit_text}
 use Rattle.trace_words.specs.Words.{line_text}
 use Rattle.trace_words.specs.Reader.{Reader, gives, ends, ◌>>=◌}
@@ -19,6 +22,14 @@ use Rattle.trace_lines.specs.Shapes.{shaped, spelled}
 -- incarnation, address, vendor number, serial number, the open timeout and the retry delay
 abbrev pub scanner_reader : Reader ScannerLine
 scanner_reader = shaped SCANNER (λ incarnation node vendor serial open_timeout retry. ends (record { incarnation = incarnation; node = node; vendor = vendor; serial = serial; open_timeout = open_timeout; retry = retry }))
+
+-- the most openings that wait for replies of one target at one time
+abbrev pub openings_reader : Reader TermLine
+openings_reader = shaped OPENINGS (λ most. ends (Openings most))
+
+-- the connection serial number of the first opening
+abbrev pub serials_reader : Reader TermLine
+serials_reader = shaped SERIALS (λ first. ends (Serials first))
 
 -- the trigger of the target's productions, and the least time between two of them at a change
 abbrev pub stated_rate : Reader Rate
@@ -50,8 +61,8 @@ slot_reader = shaped SLOT (λ target kind config consumed produced out_len in_le
 }))
 
 -- the profile with the values of its lines
-abbrev pub scanner_with : ScannerLine → Option ℕ → Bool → List SlotConfig → ScannerProfile
-scanner_with scanner newer tidy slots = record {
+abbrev pub scanner_with : ScannerLine → Option ℕ → ScannerTerms → List SlotConfig → ScannerProfile
+scanner_with scanner newer terms slots = record {
   incarnation = scanner.incarnation;
   node = scanner.node;
   vendor = scanner.vendor;
@@ -59,7 +70,9 @@ scanner_with scanner newer tidy slots = record {
   open_timeout = scanner.open_timeout;
   retry = scanner.retry;
   newer = newer;
-  tidy = tidy;
+  tidy = terms.tidy;
+  openings = terms.openings;
+  serials = terms.serials;
   slots = slots;
 }
 
@@ -84,6 +97,29 @@ abbrev pub tidy_text : Bool → List ℕ
 tidy_text true = line_text (codes "tidy" ∷ [])
 tidy_text false = []
 
--- the lines of the limit on numbers and of `tidy`, if there are such, go before the slots
+-- the line of the most openings that wait at one time, if it is stated
+abbrev pub openings_words : ℕ → List (List ℕ)
+openings_words most = spelled (codes "openings" ∷ []) OPENINGS most
+
+abbrev pub openings_text : Option ℕ → List ℕ
+openings_text None = []
+openings_text (Some most) = line_text (openings_words most)
+
+-- the line of the first serial number, if it is stated
+abbrev pub serials_words : ℕ → List (List ℕ)
+serials_words first = spelled (codes "serials" ∷ []) SERIALS first
+
+abbrev pub serials_text : Option ℕ → List ℕ
+serials_text None = []
+serials_text (Some first) = line_text (serials_words first)
+
+-- what the profile says of openings
+abbrev pub terms_of : ScannerProfile → ScannerTerms
+terms_of profile = record { tidy = profile.tidy; openings = profile.openings; serials = profile.serials }
+
+abbrev pub terms_text : ScannerTerms → List ℕ
+terms_text terms = tidy_text terms.tidy ++ (openings_text terms.openings ++ serials_text terms.serials)
+
+-- the lines of the limit on numbers and of openings, if there are such, go before the slots
 abbrev pub scanner_text : ScannerProfile → List ℕ
-scanner_text profile = line_text (scanner_words profile) ++ (limit_text (option_map Newer profile.newer) ++ (tidy_text profile.tidy ++ slots_text profile))
+scanner_text profile = line_text (scanner_words profile) ++ (limit_text (option_map Newer profile.newer) ++ (terms_text (terms_of profile) ++ slots_text profile))

@@ -36,6 +36,25 @@ pub struct ScannerLine {
     pub retry: u64,
 }
 
+/// What the lines of a scanner's profile say of its openings.
+#[derive(Clone, Copy)]
+pub struct ScannerTerms {
+    /// Whether the scanner closes each connection that its targets may have and no slot has.
+    pub tidy: bool,
+    /// The most openings that wait for replies of one target at one time, if it is stated.
+    pub openings: Option<u8>,
+    /// The connection serial number of the first opening, if it is stated.
+    pub serials: Option<u16>,
+}
+
+/// One of these lines.
+#[derive(Clone, Copy)]
+pub enum TermLine {
+    Tidy,
+    Openings(u8),
+    Serials(u16),
+}
+
 /// The trigger of a target's productions, and the least number of milliseconds between two of them at a change.
 #[derive(Clone, Copy)]
 pub struct Rate {
@@ -76,10 +95,10 @@ pub fn profile_with(
 pub fn scanner_with(
     scanner: ScannerLine,
     newer: Option<u32>,
-    tidy: bool,
+    terms: ScannerTerms,
     slots: Items<SlotConfig>,
 ) -> ScannerProfile
-    ensures { result ≡ scanner_with scanner newer tidy slots }
+    ensures { result ≡ scanner_with scanner newer terms slots }
 {
     ScannerProfile {
         incarnation: scanner.incarnation,
@@ -89,7 +108,9 @@ pub fn scanner_with(
         open_timeout: scanner.open_timeout,
         retry: scanner.retry,
         newer,
-        tidy,
+        tidy: terms.tidy,
+        openings: terms.openings,
+        serials: terms.serials,
         slots,
     }
 }

@@ -10,7 +10,10 @@ mod slot_lines;
 mod written_profiles;
 mod written_slots;
 
-pub use forms::{AdapterLine, HeartbeatLine, Rate, ScannerLine, profile_with, scanner_with};
+pub use forms::{
+    AdapterLine, HeartbeatLine, Rate, ScannerLine, ScannerTerms, TermLine, profile_with,
+    scanner_with,
+};
 pub use limit_lines::{
     LIMITS, LimitLine, LimitName, LimitNumber, NumberRange, StatedNumber, bad_number, limit_named,
     read_limit, stated_line, with_limit,
@@ -25,6 +28,6 @@ pub use shapes::{
     REPLIED, SCANNER, SEND, SLOT, STREAM, Shape, VALUE, WRITE, WordKind, part_shape_of, shape_of,
     skip_word,
 };
-pub use slot_lines::{read_scanner, read_slot};
+pub use slot_lines::{read_openings, read_scanner, read_serials, read_slot};
 pub use written_profiles::push_profile;
 pub use written_slots::push_scanner;

@@ -153,6 +153,12 @@ pub const WRITE: [WordKind; 2] = [WordKind::U32, WordKind::Hex];
 /// A point, milliseconds, a slot, microseconds, a limit of sequence numbers, or a class.
 pub const NUMBER: [WordKind; 1] = [WordKind::U32];
 
+/// The most openings of a scanner that wait for replies of one target at one time.
+pub const OPENINGS: [WordKind; 1] = [WordKind::U8];
+
+/// The connection serial number of a scanner's first opening.
+pub const SERIALS: [WordKind; 1] = [WordKind::U16];
+
 /// Whether an application runs.
 pub const MODE: [WordKind; 1] = [WordKind::Mode];
 
@@ -194,6 +200,8 @@ pub fn shape_of(first: &str) -> Option<Shape>
         "heartbeat" => Some((&HEARTBEAT, &[])),
         "scanner" => Some((&SCANNER, &[])),
         "tidy" => Some((&[], &[])),
+        "openings" => Some((&OPENINGS, &[])),
+        "serials" => Some((&SERIALS, &[])),
         "slot" => Some((&SLOT, &RATE)),
         "request" | "datagram" | "inquiry" => Some((&FROM_NODE, &[])),
         "explicit" => Some((&EXPLICIT, &[])),

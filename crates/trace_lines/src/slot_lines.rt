@@ -3,9 +3,9 @@
 ghost use Rattle.std.specs.Prelude.{◌≡◌};
 ghost use Rattle.trace_words.specs.Reader.{unread_words, Takes, next_word};
 ghost use Rattle.trace_lines.specs.Kinds.{key_of_bytes, key_of};
-ghost use Rattle.trace_lines.specs.Slots.{scanner_reader, stated_rate, slot_reader};
+ghost use Rattle.trace_lines.specs.Slots.{scanner_reader, openings_reader, serials_reader, stated_rate, slot_reader};
 
-use crate::forms::{Rate, ScannerLine};
+use crate::forms::{Rate, ScannerLine, TermLine};
 use crate::names::{read_kind, read_multicast, read_trigger};
 use cip_epath::ElectronicKey;
 use cip_netparams::Trigger;
@@ -26,6 +26,22 @@ pub fn read_scanner(words: &mut Words<'_>) -> Result<ScannerLine, TextFault>
         retry: words.u64()?,
     };
     words.last(line)
+}
+
+/// What follows `openings`: `N`.
+pub fn read_openings(words: &mut Words<'_>) -> Result<TermLine, TextFault>
+    ensures { Takes (openings_reader (unread_words words.old)) result (unread_words words.new) }
+{
+    let most = words.u8()?;
+    words.last(TermLine::Openings(most))
+}
+
+/// What follows `serials`: `FROM`.
+pub fn read_serials(words: &mut Words<'_>) -> Result<TermLine, TextFault>
+    ensures { Takes (serials_reader (unread_words words.old)) result (unread_words words.new) }
+{
+    let first = words.u16()?;
+    words.last(TermLine::Serials(first))
 }
 
 /// What follows `slot`: `TARGET KIND CONFIG CONSUMED PRODUCED OUTLEN INLEN ORPI TRPI MULT p2p|multicast KEY DATA`,

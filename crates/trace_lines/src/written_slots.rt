@@ -4,7 +4,7 @@ ghost use Rattle.std.specs.Prelude.{◌≡◌, ◌++◌, OnOk, string_bytes, fla
 ghost use Rattle.std.specs.List.{join_with_byte};
 ghost use Rattle.trace_words.specs.Words.{line_text};
 ghost use Rattle.trace_lines.specs.Kinds.{multicast_word, key_word};
-ghost use Rattle.trace_lines.specs.Slots.{slot_words, scanner_words, tidy_text, scanner_text};
+ghost use Rattle.trace_lines.specs.Slots.{slot_words, scanner_words, tidy_text, openings_text, serials_text, terms_of, terms_text, scanner_text};
 
 use crate::limit_lines::push_newer;
 use crate::names::kind_name;
@@ -20,7 +20,7 @@ pub fn push_scanner(out: &mut String, profile: &ScannerProfile) -> Result<(), Ou
 {
     push_first(out, profile)?;
     push_newer(out, profile.newer)?;
-    push_tidy(out, profile.tidy)?;
+    push_terms(out, profile)?;
     push_slots(out, profile.slots.as_slice())?;
     Ok(())
 }
@@ -36,6 +36,34 @@ fn push_first(out: &mut String, profile: &ScannerProfile) -> Result<(), OutOfMem
         profile.vendor, profile.serial, profile.open_timeout, profile.retry
     )?;
     Ok(())
+}
+
+/// Appends the lines of what the profile says of openings.
+fn push_terms(out: &mut String, profile: &ScannerProfile) -> Result<(), OutOfMemory>
+    ensures { OnOk result (string_bytes out.new ≡ string_bytes out.old ++ terms_text (terms_of profile.now)) }
+{
+    push_tidy(out, profile.tidy)?;
+    push_openings(out, profile.openings)?;
+    push_serials(out, profile.serials)?;
+    Ok(())
+}
+
+fn push_openings(out: &mut String, openings: Option<u8>) -> Result<(), OutOfMemory>
+    ensures { OnOk result (string_bytes out.new ≡ string_bytes out.old ++ openings_text openings) }
+{
+    match openings {
+        Some(most) => Ok(write!(out, "openings {most}\n")?),
+        None => Ok(()),
+    }
+}
+
+fn push_serials(out: &mut String, serials: Option<u16>) -> Result<(), OutOfMemory>
+    ensures { OnOk result (string_bytes out.new ≡ string_bytes out.old ++ serials_text serials) }
+{
+    match serials {
+        Some(first) => Ok(write!(out, "serials {first}\n")?),
+        None => Ok(()),
+    }
 }
 
 fn push_tidy(out: &mut String, tidy: bool) -> Result<(), OutOfMemory>

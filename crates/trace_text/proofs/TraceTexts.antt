@@ -126,7 +126,7 @@ whole_or_not (Points adapter outputs inputs) = inl (λ number. refl)
 whole_or_not (Configured adapter outputs inputs point) = inl (λ number. refl)
 whole_or_not (Stated front) = inl (λ number. refl)
 whole_or_not (Objects front objects) = inl (λ number. refl)
-whole_or_not (Slots scanner newer tidy slots) = inr (record { config = config.Scanner (scanner_with scanner newer tidy slots); events = [] }, (sym (append-nil _), λ number. refl))
+whole_or_not (Slots scanner newer terms slots) = inr (record { config = config.Scanner (scanner_with scanner newer terms slots); events = [] }, (sym (append-nil _), λ number. refl))
 whole_or_not (Events made_of entries None) = inr (record { config = made_of; events = entries ++ [] }, (refl, λ number. refl))
 whole_or_not (Events made_of entries (Some last)) = inr (record { config = made_of; events = entries ++ last ∷ [] }, (refl, λ number. refl))
 

@@ -24,12 +24,15 @@ use Rattle.cip_tables.specs.declared.table.Config.TheVariants as config
 use Rattle.trace_lines.specs.declared.forms.AdapterLine.{AdapterLine}
 use Rattle.trace_lines.specs.declared.forms.HeartbeatLine.{HeartbeatLine}
 use Rattle.trace_lines.specs.declared.forms.ScannerLine.{ScannerLine}
+use Rattle.trace_lines.specs.declared.forms.ScannerTerms.{ScannerTerms}
+use Rattle.trace_lines.specs.declared.forms.TermLine.{TermLine}
+use Rattle.trace_lines.specs.declared.forms.TermLine.TheVariants as term
 use Rattle.trace_lines.specs.declared.limit_lines.LimitLine.{LimitLine}
 use Rattle.trace_lines.specs.declared.limit_lines.LimitLine.TheVariants as limit
 use Rattle.trace_lines.specs.LimitLemmas.{Steps, limit_added, limit_steps}
 use Rattle.trace_lines.specs.Limits.{with_limit, limit_lines}
 use Rattle.trace_lines.specs.Profiles.{profile_with}
-use Rattle.trace_lines.specs.Slots.{scanner_with}
+use Rattle.trace_lines.specs.Slots.{terms_of, scanner_with}
 use Rattle.trace_outcomes.specs.declared.part.Part.{Part}
 use Rattle.trace_outcomes.specs.declared.part.Part.TheVariants as part
 use Rattle.trace_text.specs.Recorded.{recorded_with}
@@ -39,8 +42,8 @@ use Rattle.trace_text.specs.declared.builder.TraceBuilder.TheVariants.{Empty, Po
 use Rattle.trace_text.specs.declared.forms.TraceLine.{TraceLine}
 use Rattle.trace_text.specs.declared.forms.TraceLine.TheVariants as line
 use Rattle.trace_text.specs.declared.trace.Trace.{Trace}
-use Rattle.trace_text.specs.Reading.{Entry, front_of, with_stated, with_newer, with_tidy, builder_with, parsed, judged_by}
-use Rattle.trace_text.specs.Texts.{adapter_line_of, heartbeat_line_of, scanner_line_of, tidy_lines, config_values, outcome_parts, recorded_parts, entry_values, entries_values, trace_values}
+use Rattle.trace_text.specs.Reading.{Entry, front_of, with_stated, no_terms, none_stated, with_newer, with_line, with_term, builder_with, parsed, judged_by}
+use Rattle.trace_text.specs.Texts.{adapter_line_of, heartbeat_line_of, scanner_line_of, term_lines, config_values, outcome_parts, recorded_parts, entry_values, entries_values, trace_values}
 
 -- LISTS AND OPTIONS
 
@@ -81,7 +84,7 @@ so_far (Points adapter outputs inputs) = line.Adapter adapter ∷ (map line.Outp
 so_far (Configured adapter outputs inputs point) = line.Adapter adapter ∷ (map line.Output outputs ++ (map line.Input inputs ++ line.Config point ∷ []))
 so_far (Stated front) = line.Adapter front.adapter ∷ (map line.Output front.outputs ++ (map line.Input front.inputs ++ (map line.Config (option_to_list front.config) ++ (map line.Description (option_to_list front.description) ++ map line.Limit (limit_lines front.limits)))))
 so_far (Objects front objects) = line.Adapter front.adapter ∷ (map line.Output front.outputs ++ (map line.Input front.inputs ++ (map line.Config (option_to_list front.config) ++ (map line.Description (option_to_list front.description) ++ (map line.Limit (limit_lines front.limits) ++ map line.Object objects)))))
-so_far (Slots scanner newer tidy slots) = line.Scanner scanner ∷ (map line.Limit (option_to_list (option_map limit.Newer newer)) ++ (tidy_lines tidy ++ map line.Slot slots))
+so_far (Slots scanner newer terms slots) = line.Scanner scanner ∷ (map line.Limit (option_to_list (option_map limit.Newer newer)) ++ (map line.Term (term_lines terms) ++ map line.Slot slots))
 so_far (Events made_of entries last) = config_values made_of ++ entries_values 1 (entries ++ option_to_list last)
 
 so_far_is : (one other : TraceBuilder) → Some one ≡ Some other → so_far other ≡ so_far one
@@ -203,28 +206,59 @@ behind_stated front last = stated_last front.adapter (map line.Output front.outp
 behind_objects : (front : ProfileFront) (objects : List ℕ) (last : TraceLine) → line.Adapter front.adapter ∷ (map line.Output front.outputs ++ (map line.Input front.inputs ++ (map line.Config (option_to_list front.config) ++ (map line.Description (option_to_list front.description) ++ (map line.Limit (limit_lines front.limits) ++ (map line.Object objects ++ last ∷ [])))))) ≡ so_far (Objects front objects) ++ last ∷ []
 behind_objects front objects last = objects_last front.adapter (map line.Output front.outputs) (map line.Input front.inputs) (map line.Config (option_to_list front.config)) (map line.Description (option_to_list front.description)) (map line.Limit (limit_lines front.limits)) (map line.Object objects) last
 
-newer_here : (scanner : ScannerLine) (newer : Option ℕ) (tidy : Bool) (slots : List SlotConfig) (within : ℕ) → (is_none newer && (not tidy && eqb (length slots) 0)) ≡ true → so_far (Slots scanner (Some within) tidy slots) ≡ so_far (Slots scanner newer tidy slots) ++ line.Limit (limit.Newer within) ∷ []
-newer_here scanner (Some other) tidy slots within first = absurd (cc)
-newer_here scanner None true slots within first = absurd (cc)
-newer_here scanner None false [] within first = refl
-newer_here scanner None false (slot ∷ slots) within first = absurd (let none = no_elements (slot ∷ slots) (is_zero (length (slot ∷ slots)) first) in cc)
+newer_here : (scanner : ScannerLine) (newer : Option ℕ) (tidy : Bool) (openings serials : Option ℕ) (slots : List SlotConfig) (within : ℕ) → (is_none newer && (not tidy && ((is_none openings && is_none serials) && eqb (length slots) 0))) ≡ true → so_far (Slots scanner (Some within) (record { tidy = tidy; openings = openings; serials = serials }) slots) ≡ so_far (Slots scanner newer (record { tidy = tidy; openings = openings; serials = serials }) slots) ++ line.Limit (limit.Newer within) ∷ []
+newer_here scanner (Some other) tidy openings serials slots within first = absurd (cc)
+newer_here scanner None true openings serials slots within first = absurd (cc)
+newer_here scanner None false (Some most) serials slots within first = absurd (cc)
+newer_here scanner None false None (Some from) slots within first = absurd (cc)
+newer_here scanner None false None None [] within first = refl
+newer_here scanner None false None None (slot ∷ slots) within first = absurd (let none = no_elements (slot ∷ slots) (is_zero (length (slot ∷ slots)) first) in cc)
 
-newer_added : (scanner : ScannerLine) (newer : Option ℕ) (tidy : Bool) (slots : List SlotConfig) (value : LimitLine) (next : TraceBuilder) → with_newer scanner newer tidy slots value ≡ Some next → so_far next ≡ so_far (Slots scanner newer tidy slots) ++ line.Limit value ∷ []
-newer_added scanner newer tidy slots (limit.Newer within) next is =
-    let pair = passed (is_none newer && (not tidy && eqb (length slots) 0)) (Some (Slots scanner (Some within) tidy slots)) next is in
-    so_far_is _ _ pair.1 ∙ newer_here scanner newer tidy slots within pair.0
-newer_added scanner newer tidy slots other next is = absurd (cc)
+newer_added : (scanner : ScannerLine) (newer : Option ℕ) (terms : ScannerTerms) (slots : List SlotConfig) (value : LimitLine) (next : TraceBuilder) → with_newer scanner newer terms slots value ≡ Some next → so_far next ≡ so_far (Slots scanner newer terms slots) ++ line.Limit value ∷ []
+newer_added scanner newer terms slots (limit.Newer within) next is =
+    let pair = passed (is_none newer && (not terms.tidy && (none_stated terms && eqb (length slots) 0))) (Some (Slots scanner (Some within) terms slots)) next is in
+    so_far_is _ _ pair.1 ∙ newer_here scanner newer terms.tidy terms.openings terms.serials slots within pair.0
+newer_added scanner newer terms slots other next is = absurd (cc)
 
-tidy_here : (scanner : ScannerLine) (newer : Option ℕ) (tidy : Bool) (slots : List SlotConfig) → (not tidy && eqb (length slots) 0) ≡ true → so_far (Slots scanner newer true slots) ≡ so_far (Slots scanner newer tidy slots) ++ line.Tidy ∷ []
-tidy_here scanner newer true slots first = absurd (cc)
-tidy_here scanner None false [] first = refl
-tidy_here scanner (Some within) false [] first = refl
-tidy_here scanner newer false (slot ∷ slots) first = absurd (let none = no_elements (slot ∷ slots) (is_zero (length (slot ∷ slots)) first) in cc)
+-- what is said of openings, with one line more
+line_is : (one other : ScannerTerms) → Some one ≡ Some other → term_lines other ≡ term_lines one
+line_is one other is = ap term_lines (sym (some_is one other is))
 
-tidy_added : (scanner : ScannerLine) (newer : Option ℕ) (tidy : Bool) (slots : List SlotConfig) (next : TraceBuilder) → with_tidy scanner newer tidy slots ≡ Some next → so_far next ≡ so_far (Slots scanner newer tidy slots) ++ line.Tidy ∷ []
-tidy_added scanner newer tidy slots next is =
-    let pair = passed (not tidy && eqb (length slots) 0) (Some (Slots scanner newer true slots)) next is in
-    so_far_is _ _ pair.1 ∙ tidy_here scanner newer tidy slots pair.0
+line_added : (tidy : Bool) (openings serials : Option ℕ) (said : TermLine) (more : ScannerTerms) → with_line (record { tidy = tidy; openings = openings; serials = serials }) said ≡ Some more → term_lines more ≡ term_lines (record { tidy = tidy; openings = openings; serials = serials }) ++ said ∷ []
+line_added false None None term.Tidy more is = line_is _ more is
+line_added true None None (term.Openings most) more is = line_is _ more is
+line_added false None None (term.Openings most) more is = line_is _ more is
+line_added true None None (term.Serials first) more is = line_is _ more is
+line_added false None None (term.Serials first) more is = line_is _ more is
+line_added true (Some most) None (term.Serials first) more is = line_is _ more is
+line_added false (Some most) None (term.Serials first) more is = line_is _ more is
+line_added true openings serials term.Tidy more is = absurd (cc)
+line_added false (Some other) serials term.Tidy more is = absurd (cc)
+line_added false None (Some other) term.Tidy more is = absurd (cc)
+line_added tidy (Some other) serials (term.Openings most) more is = absurd (cc)
+line_added tidy None (Some other) (term.Openings most) more is = absurd (cc)
+line_added tidy openings (Some other) (term.Serials first) more is = absurd (cc)
+
+-- the lines of openings, before all slots
+terms_last : (scanner : TraceLine) (limits terms : List TraceLine) (last : TraceLine) → scanner ∷ (limits ++ ((terms ++ last ∷ []) ++ [])) ≡ (scanner ∷ (limits ++ (terms ++ []))) ++ last ∷ []
+terms_last scanner limits terms last =
+    ap (λ t. scanner ∷ (limits ++ t)) (append-nil (terms ++ last ∷ []) ∙ ap (λ t. t ++ last ∷ []) (sym (append-nil terms)))
+    ∙ ap (λ t. scanner ∷ t) (sym (append_assoc limits (terms ++ []) (last ∷ [])))
+
+term_here : (scanner : ScannerLine) (newer : Option ℕ) (terms more : ScannerTerms) (slots : List SlotConfig) (said : TermLine) → slots ≡ [] → term_lines more ≡ term_lines terms ++ said ∷ [] → so_far (Slots scanner newer more slots) ≡ so_far (Slots scanner newer terms slots) ++ line.Term said ∷ []
+term_here scanner newer terms more slots said none is =
+    let limits = map line.Limit (option_to_list (option_map limit.Newer newer)) in
+    ap (λ l. so_far (Slots scanner newer more l)) none
+    ∙ ap (λ t. line.Scanner scanner ∷ (limits ++ (t ++ []))) (ap (map line.Term) is ∙ map-append line.Term (term_lines terms) (said ∷ []))
+    ∙ terms_last (line.Scanner scanner) limits (map line.Term (term_lines terms)) (line.Term said)
+    ∙ ap (λ l. so_far (Slots scanner newer terms l) ++ line.Term said ∷ []) (sym none)
+
+term_added : (scanner : ScannerLine) (newer : Option ℕ) (terms : ScannerTerms) (slots : List SlotConfig) (said : TermLine) (next : TraceBuilder) → with_term scanner newer terms slots said ≡ Some next → so_far next ≡ so_far (Slots scanner newer terms slots) ++ line.Term said ∷ []
+term_added scanner newer terms slots said next is =
+    let pair = passed (eqb (length slots) 0) (option_map (λ more. Slots scanner newer more slots) (with_line terms said)) next is in
+    let (more, (from, made)) = mapped_from (λ more. Slots scanner newer more slots) (with_line terms said) next pair.1 in
+    ap so_far (sym made)
+    ∙ term_here scanner newer terms more slots said (no_elements slots (is_zero (length slots) pair.0)) (line_added terms.tidy terms.openings terms.serials said more from)
 
 limit_added_to : (front : ProfileFront) (limit : LimitLine) (next : TraceBuilder) → with_stated front limit ≡ Some next → so_far next ≡ so_far (Stated front) ++ line.Limit limit ∷ []
 limit_added_to front limit next is =
@@ -258,15 +292,15 @@ added (Stated front) (line.Object value) next is = so_far_is _ _ is ∙ behind_s
 added (Stated front) (line.Heartbeat value) next is = so_far_is _ _ is ∙ append-nil _ ∙ behind_stated front (line.Heartbeat value)
 added (Objects front objects) (line.Object value) next is = so_far_is _ _ is ∙ object_added_to front objects value
 added (Objects front objects) (line.Heartbeat value) next is = so_far_is _ _ is ∙ append-nil _ ∙ behind_objects front objects (line.Heartbeat value)
-added (Slots scanner newer tidy slots) (line.Limit value) next is = newer_added scanner newer tidy slots value next is
-added (Slots scanner newer tidy slots) line.Tidy next is = tidy_added scanner newer tidy slots next is
-added (Slots scanner newer tidy slots) (line.Slot value) next is =
+added (Slots scanner newer terms slots) (line.Limit value) next is = newer_added scanner newer terms slots value next is
+added (Slots scanner newer terms slots) (line.Term said) next is = term_added scanner newer terms slots said next is
+added (Slots scanner newer terms slots) (line.Slot value) next is =
     let limits = map line.Limit (option_to_list (option_map limit.Newer newer)) in
     so_far_is _ _ is
-    ∙ ap (λ t. line.Scanner scanner ∷ (limits ++ (tidy_lines tidy ++ t))) (map-append line.Slot slots (value ∷ []))
-    ∙ ap (λ t. line.Scanner scanner ∷ (limits ++ t)) (sym (append_assoc (tidy_lines tidy) (map line.Slot slots) (line.Slot value ∷ [])))
-    ∙ ap (λ t. line.Scanner scanner ∷ t) (sym (append_assoc limits (tidy_lines tidy ++ map line.Slot slots) (line.Slot value ∷ [])))
-added (Slots scanner newer tidy slots) (line.Event value) next is = so_far_is _ _ is
+    ∙ ap (λ t. line.Scanner scanner ∷ (limits ++ (map line.Term (term_lines terms) ++ t))) (map-append line.Slot slots (value ∷ []))
+    ∙ ap (λ t. line.Scanner scanner ∷ (limits ++ t)) (sym (append_assoc (map line.Term (term_lines terms)) (map line.Slot slots) (line.Slot value ∷ [])))
+    ∙ ap (λ t. line.Scanner scanner ∷ t) (sym (append_assoc limits (map line.Term (term_lines terms) ++ map line.Slot slots) (line.Slot value ∷ [])))
+added (Slots scanner newer terms slots) (line.Event value) next is = so_far_is _ _ is
 added (Events made_of entries None) (line.Event value) next is = so_far_is _ _ is ∙ event_added made_of (entries ++ []) value
 added (Events made_of entries (Some (event, recorded))) (line.Event value) next is = so_far_is _ _ is ∙ event_added made_of (entries ++ (event, recorded) ∷ []) value
 added (Events made_of entries (Some (event, recorded))) (line.Recorded number value) next is = part_added made_of entries event recorded number value next is
@@ -302,7 +336,7 @@ run_adds builder (Some value ∷ lines) end is =
 -- WHAT IS READ CAN BE COMPLETED
 
 abbrev no_scanner : ScannerProfile
-no_scanner = record { incarnation = 0; node = record { 0 = 0 }; vendor = 0; serial = 0; open_timeout = 0; retry = 0; newer = None; tidy = false; slots = [] }
+no_scanner = record { incarnation = 0; node = record { 0 = 0 }; vendor = 0; serial = 0; open_timeout = 0; retry = 0; newer = None; tidy = false; openings = None; serials = None; slots = [] }
 
 abbrev no_points : HeartbeatLine
 no_points = record { input_only = 0; listen_only = 0 }
@@ -321,7 +355,7 @@ completed (Stated front) =
     (record { config = config.Adapter (whole_of front [] no_points); events = [] }, (line.Heartbeat no_points ∷ [], sym (added (Stated front) (line.Heartbeat no_points) _ refl)))
 completed (Objects front objects) =
     (record { config = config.Adapter (whole_of front objects no_points); events = [] }, (line.Heartbeat no_points ∷ [], sym (added (Objects front objects) (line.Heartbeat no_points) _ refl)))
-completed (Slots scanner newer tidy slots) = (record { config = config.Scanner (scanner_with scanner newer tidy slots); events = [] }, ([], refl))
+completed (Slots scanner newer terms slots) = (record { config = config.Scanner (scanner_with scanner newer terms slots); events = [] }, ([], refl))
 completed (Events made_of entries last) = (record { config = made_of; events = entries ++ option_to_list last }, ([], append-nil _))
 
 -- THE LINES OF A TRACE LEAD TO IT
@@ -402,24 +436,30 @@ adapter_run profile =
     (both_run (Points (adapter_line_of profile) profile.outputs []) (Points (adapter_line_of profile) profile.outputs profile.inputs) (map line.Input profile.inputs) _ _ (inputs_run (adapter_line_of profile) profile.outputs [] profile.inputs)
     (ends_run (adapter_line_of profile) profile.outputs profile.inputs profile.config profile.description profile.limits profile.objects (heartbeat_line_of profile)))
 
-slots_run : (scanner : ScannerLine) (newer : Option ℕ) (tidy : Bool) (before slots : List SlotConfig) → run (Slots scanner newer tidy before) (map Some (map line.Slot slots)) ≡ Some (Slots scanner newer tidy (before ++ slots))
-slots_run scanner newer tidy before [] = ap (λ t. Some (Slots scanner newer tidy t)) (sym (append-nil before))
-slots_run scanner newer tidy before (slot ∷ slots) = slots_run scanner newer tidy (before ++ slot ∷ []) slots ∙ ap (λ t. Some (Slots scanner newer tidy t)) (append_assoc before (slot ∷ []) slots)
+slots_run : (scanner : ScannerLine) (newer : Option ℕ) (terms : ScannerTerms) (before slots : List SlotConfig) → run (Slots scanner newer terms before) (map Some (map line.Slot slots)) ≡ Some (Slots scanner newer terms (before ++ slots))
+slots_run scanner newer terms before [] = ap (λ t. Some (Slots scanner newer terms t)) (sym (append-nil before))
+slots_run scanner newer terms before (slot ∷ slots) = slots_run scanner newer terms (before ++ slot ∷ []) slots ∙ ap (λ t. Some (Slots scanner newer terms t)) (append_assoc before (slot ∷ []) slots)
 
-slot_limit_run : (scanner : ScannerLine) (newer : Option ℕ) → run (Slots scanner None false []) (map Some (map line.Limit (option_to_list (option_map limit.Newer newer)))) ≡ Some (Slots scanner newer false [])
+slot_limit_run : (scanner : ScannerLine) (newer : Option ℕ) → run (Slots scanner None no_terms []) (map Some (map line.Limit (option_to_list (option_map limit.Newer newer)))) ≡ Some (Slots scanner newer no_terms [])
 slot_limit_run scanner None = refl
 slot_limit_run scanner (Some within) = refl
 
-tidy_run : (scanner : ScannerLine) (newer : Option ℕ) (tidy : Bool) → run (Slots scanner newer false []) (map Some (tidy_lines tidy)) ≡ Some (Slots scanner newer tidy [])
-tidy_run scanner newer true = refl
-tidy_run scanner newer false = refl
+terms_run : (scanner : ScannerLine) (newer : Option ℕ) (tidy : Bool) (openings serials : Option ℕ) → run (Slots scanner newer no_terms []) (map Some (map line.Term (term_lines (record { tidy = tidy; openings = openings; serials = serials })))) ≡ Some (Slots scanner newer (record { tidy = tidy; openings = openings; serials = serials }) [])
+terms_run scanner newer true None None = refl
+terms_run scanner newer true None (Some first) = refl
+terms_run scanner newer true (Some most) None = refl
+terms_run scanner newer true (Some most) (Some first) = refl
+terms_run scanner newer false None None = refl
+terms_run scanner newer false None (Some first) = refl
+terms_run scanner newer false (Some most) None = refl
+terms_run scanner newer false (Some most) (Some first) = refl
 
-scanner_run : (profile : ScannerProfile) → run Empty (map Some (config_values (config.Scanner profile))) ≡ Some (Slots (scanner_line_of profile) profile.newer profile.tidy profile.slots)
+scanner_run : (profile : ScannerProfile) → run Empty (map Some (config_values (config.Scanner profile))) ≡ Some (Slots (scanner_line_of profile) profile.newer (terms_of profile) profile.slots)
 scanner_run profile =
-    both_run (Slots (scanner_line_of profile) None false []) (Slots (scanner_line_of profile) profile.newer false []) (map line.Limit (option_to_list (option_map limit.Newer profile.newer))) (tidy_lines profile.tidy ++ map line.Slot profile.slots) _
+    both_run (Slots (scanner_line_of profile) None no_terms []) (Slots (scanner_line_of profile) profile.newer no_terms []) (map line.Limit (option_to_list (option_map limit.Newer profile.newer))) (map line.Term (term_lines (terms_of profile)) ++ map line.Slot profile.slots) _
     (slot_limit_run (scanner_line_of profile) profile.newer)
-    (both_run (Slots (scanner_line_of profile) profile.newer false []) (Slots (scanner_line_of profile) profile.newer profile.tidy []) (tidy_lines profile.tidy) (map line.Slot profile.slots) _
-    (tidy_run (scanner_line_of profile) profile.newer profile.tidy) (slots_run (scanner_line_of profile) profile.newer profile.tidy [] profile.slots))
+    (both_run (Slots (scanner_line_of profile) profile.newer no_terms []) (Slots (scanner_line_of profile) profile.newer (terms_of profile) []) (map line.Term (term_lines (terms_of profile))) (map line.Slot profile.slots) _
+    (terms_run (scanner_line_of profile) profile.newer profile.tidy profile.openings profile.serials) (slots_run (scanner_line_of profile) profile.newer (terms_of profile) [] profile.slots))
 
 abbrev answer_of : Verdict → List Frame → List OutgoingDatagram → List Notice → Answer
 answer_of verdict frames datagrams notices = record { frames = frames; datagrams = datagrams; verdict = verdict; notices = notices }
@@ -500,10 +540,10 @@ of_entries made_of values entries last n events all begun number are =
 pub trace_run : (made_of : Config) (events : List Entry) → TraceRun made_of events
 trace_run (config.Adapter profile) events = of_entries (config.Adapter profile) (config_values (config.Adapter profile)) [] None 1 events events (adapter_run profile) refl refl
 trace_run (config.Scanner profile) [] =
-    (Slots (scanner_line_of profile) profile.newer profile.tidy profile.slots, (ap (λ t. run Empty (map Some t)) (append-nil (config_values (config.Scanner profile))) ∙ scanner_run profile, λ place. refl))
+    (Slots (scanner_line_of profile) profile.newer (terms_of profile) profile.slots, (ap (λ t. run Empty (map Some t)) (append-nil (config_values (config.Scanner profile))) ∙ scanner_run profile, λ place. refl))
 trace_run (config.Scanner profile) ((event, recorded) ∷ events) =
-    let slots : run Empty (map Some (config_values (config.Scanner profile))) ≡ Some (Slots (scanner_line_of profile) profile.newer profile.tidy profile.slots) = scanner_run profile in
-    let one : run (Slots (scanner_line_of profile) profile.newer profile.tidy profile.slots) (map Some (entry_values 1 (event, recorded))) ≡ Some (Events (config.Scanner profile) [] (Some (event, recorded))) = recorded_run (config.Scanner profile) [] event 1 refl recorded in
-    let front : run Empty (map Some (config_values (config.Scanner profile) ++ entry_values 1 (event, recorded))) ≡ Some (Events (config.Scanner profile) [] (Some (event, recorded))) = both_run Empty (Slots (scanner_line_of profile) profile.newer profile.tidy profile.slots) (config_values (config.Scanner profile)) (entry_values 1 (event, recorded)) _ slots one in
+    let slots : run Empty (map Some (config_values (config.Scanner profile))) ≡ Some (Slots (scanner_line_of profile) profile.newer (terms_of profile) profile.slots) = scanner_run profile in
+    let one : run (Slots (scanner_line_of profile) profile.newer (terms_of profile) profile.slots) (map Some (entry_values 1 (event, recorded))) ≡ Some (Events (config.Scanner profile) [] (Some (event, recorded))) = recorded_run (config.Scanner profile) [] event 1 refl recorded in
+    let front : run Empty (map Some (config_values (config.Scanner profile) ++ entry_values 1 (event, recorded))) ≡ Some (Events (config.Scanner profile) [] (Some (event, recorded))) = both_run Empty (Slots (scanner_line_of profile) profile.newer (terms_of profile) profile.slots) (config_values (config.Scanner profile)) (entry_values 1 (event, recorded)) _ slots one in
     let (end, (runs, ends)) = of_entries (config.Scanner profile) (config_values (config.Scanner profile) ++ entry_values 1 (event, recorded)) [] (Some (event, recorded)) 2 events ((event, recorded) ∷ events) front refl refl in
     (end, (ap (λ t. run Empty (map Some t)) (sym (append_assoc (config_values (config.Scanner profile)) (entry_values 1 (event, recorded)) (entries_values 2 events))) ∙ runs, ends))

@@ -9,9 +9,10 @@ use Rattle.trace_text.specs.declared.forms.TraceLine.TheVariants as line
 use Rattle.trace_words.specs.Words.{words_of, number_of}
 use Rattle.trace_words.specs.Reader.{Reader, next_word, ends, refuses, Meanings, meaning, mapped, ◌>>=◌}
 use Rattle.trace_lines.specs.Profiles.{adapter_reader, output_reader, point_reader, description_reader, object_reader, heartbeat_reader}
+use Rattle.trace_lines.specs.declared.forms.TermLine.TheVariants as term
 use Rattle.trace_lines.specs.declared.limit_lines.LimitName.{LimitName}
 use Rattle.trace_lines.specs.Limits.{limit_named, limit_reader}
-use Rattle.trace_lines.specs.Slots.{scanner_reader, slot_reader}
+use Rattle.trace_lines.specs.Slots.{scanner_reader, openings_reader, serials_reader, slot_reader}
 use Rattle.trace_lines.specs.declared.shapes.TheConstants.{FROM_NODE, EXPLICIT, ANSWER, STREAM, FRAME, CUT, WRITE, NUMBER, MODE}
 use Rattle.trace_outcomes.specs.Parts.{part_reader}
 use Rattle.trace_lines.specs.Shapes.{shaped}
@@ -37,7 +38,9 @@ profile_meanings =
     ∷ (codes "object", mapped line.Object object_reader)
     ∷ (codes "heartbeat", mapped line.Heartbeat heartbeat_reader)
     ∷ (codes "scanner", mapped line.Scanner scanner_reader)
-    ∷ (codes "tidy", ends line.Tidy)
+    ∷ (codes "tidy", ends (line.Term term.Tidy))
+    ∷ (codes "openings", mapped line.Term openings_reader)
+    ∷ (codes "serials", mapped line.Term serials_reader)
     ∷ (codes "slot", mapped line.Slot slot_reader)
     ∷ []
 

@@ -16,6 +16,9 @@ use Rattle.cip_events.specs.Outcomes.{Outcome}
 use Rattle.scanner_table.specs.declared.profile.SlotConfig.{SlotConfig}
 use Rattle.trace_lines.specs.declared.forms.AdapterLine.{AdapterLine}
 use Rattle.trace_lines.specs.declared.forms.ScannerLine.{ScannerLine}
+use Rattle.trace_lines.specs.declared.forms.ScannerTerms.{ScannerTerms}
+use Rattle.trace_lines.specs.declared.forms.TermLine.{TermLine}
+use Rattle.trace_lines.specs.declared.forms.TermLine.TheVariants as term
 use Rattle.trace_lines.specs.declared.forms.HeartbeatLine.{HeartbeatLine}
 use Rattle.trace_lines.specs.declared.limit_lines.LimitLine.{LimitLine}
 use Rattle.trace_lines.specs.declared.limit_lines.LimitLine.TheVariants.{Newer}
@@ -69,14 +72,29 @@ with_object front objects class = Some (Objects front (objects ++ class ∷ []))
 abbrev pub with_profile : ProfileFront → List ℕ → HeartbeatLine → Option TraceBuilder
 with_profile front objects heartbeat = Some (Events (config.Adapter (profile_with front.adapter front.outputs front.inputs front.config front.description front.limits objects heartbeat)) [] None)
 
--- a scanner's limit on numbers, which comes once, before `tidy` and all slots
-abbrev pub with_newer : ScannerLine → Option ℕ → Bool → List SlotConfig → LimitLine → Option TraceBuilder
-with_newer scanner newer tidy slots (Newer within) = if is_none newer && (not tidy && length slots == 0) then Some (Slots scanner (Some within) tidy slots) else None
-with_newer scanner newer tidy slots other = None
+-- nothing is said of openings
+abbrev pub no_terms : ScannerTerms
+no_terms = record { tidy = false; openings = None; serials = None }
 
--- a scanner is tidy, which comes once and before all slots
-abbrev pub with_tidy : ScannerLine → Option ℕ → Bool → List SlotConfig → Option TraceBuilder
-with_tidy scanner newer tidy slots = if not tidy && length slots == 0 then Some (Slots scanner newer true slots) else None
+-- neither the most openings nor the first serial number is stated
+abbrev pub none_stated : ScannerTerms → Bool
+none_stated terms = is_none terms.openings && is_none terms.serials
+
+-- a scanner's limit on numbers, which comes once, before what is said of openings and before all slots
+abbrev pub with_newer : ScannerLine → Option ℕ → ScannerTerms → List SlotConfig → LimitLine → Option TraceBuilder
+with_newer scanner newer terms slots (Newer within) =
+    if is_none newer && (not terms.tidy && (none_stated terms && length slots == 0)) then Some (Slots scanner (Some within) terms slots) else None
+with_newer scanner newer terms slots other = None
+
+-- one line more of what is said of openings: each comes once, in this order
+abbrev pub with_line : ScannerTerms → TermLine → Option ScannerTerms
+with_line terms term.Tidy = if not terms.tidy && none_stated terms then Some (record terms { tidy = true }) else None
+with_line terms (term.Openings most) = if none_stated terms then Some (record terms { openings = Some most }) else None
+with_line terms (term.Serials first) = if is_none terms.serials then Some (record terms { serials = Some first }) else None
+
+-- these lines come before all slots
+abbrev pub with_term : ScannerLine → Option ℕ → ScannerTerms → List SlotConfig → TermLine → Option TraceBuilder
+with_term scanner newer terms slots said = if length slots == 0 then option_map (λ more. Slots scanner newer more slots) (with_line terms said) else None
 
 -- a part of the outcome of the event that came last, whose number it has
 abbrev pub with_part : Config → List Entry → Entry → ℕ → Part → Option TraceBuilder
@@ -85,7 +103,7 @@ with_part made_of entries last number parsed = if number == length entries + 1 t
 -- the part that was read so far, with one line more; None if the line is not allowed there
 abbrev pub builder_with : TraceBuilder → TraceLine → Option TraceBuilder
 builder_with Empty (line.Adapter adapter) = Some (Points adapter [] [])
-builder_with Empty (line.Scanner scanner) = Some (Slots scanner None false [])
+builder_with Empty (line.Scanner scanner) = Some (Slots scanner None no_terms [])
 builder_with (Points adapter outputs inputs) (line.Output output) = with_output adapter outputs inputs output
 builder_with (Points adapter outputs inputs) (line.Input input) = Some (Points adapter outputs (inputs ++ input ∷ []))
 builder_with (Points adapter outputs inputs) (line.Config point) = Some (Configured adapter outputs inputs point)
@@ -102,10 +120,10 @@ builder_with (Stated front) (line.Object class) = with_object front [] class
 builder_with (Stated front) (line.Heartbeat heartbeat) = with_profile front [] heartbeat
 builder_with (Objects front objects) (line.Object class) = with_object front objects class
 builder_with (Objects front objects) (line.Heartbeat heartbeat) = with_profile front objects heartbeat
-builder_with (Slots scanner newer tidy slots) (line.Limit limit) = with_newer scanner newer tidy slots limit
-builder_with (Slots scanner newer tidy slots) line.Tidy = with_tidy scanner newer tidy slots
-builder_with (Slots scanner newer tidy slots) (line.Slot slot) = Some (Slots scanner newer tidy (slots ++ slot ∷ []))
-builder_with (Slots scanner newer tidy slots) (line.Event event) = Some (Events (config.Scanner (scanner_with scanner newer tidy slots)) [] (Some (event, None)))
+builder_with (Slots scanner newer terms slots) (line.Limit limit) = with_newer scanner newer terms slots limit
+builder_with (Slots scanner newer terms slots) (line.Term said) = with_term scanner newer terms slots said
+builder_with (Slots scanner newer terms slots) (line.Slot slot) = Some (Slots scanner newer terms (slots ++ slot ∷ []))
+builder_with (Slots scanner newer terms slots) (line.Event event) = Some (Events (config.Scanner (scanner_with scanner newer terms slots)) [] (Some (event, None)))
 builder_with (Events made_of entries last) (line.Event event) = Some (Events made_of (entries ++ option_to_list last) (Some (event, None)))
 builder_with (Events made_of entries (Some last)) (line.Recorded number parsed) = with_part made_of entries last number parsed
 builder_with builder parsed = None
@@ -145,13 +163,13 @@ judged_by made_of entries = judged (record { config = made_of; events = entries 
 
 -- the configuration of the device whose lines were read; None if one is missing
 abbrev pub config_of : TraceBuilder → Option Config
-config_of (Slots scanner newer tidy slots) = Some (config.Scanner (scanner_with scanner newer tidy slots))
+config_of (Slots scanner newer terms slots) = Some (config.Scanner (scanner_with scanner newer terms slots))
 config_of (Events made_of entries last) = Some made_of
 config_of builder = None
 
 -- the trace at the end of the text; the end is a bad line if the profile is not complete
 abbrev pub parsed : ℕ → TraceBuilder → Result Trace TraceFault
-parsed number (Slots scanner newer tidy slots) = judged_by (config.Scanner (scanner_with scanner newer tidy slots)) []
+parsed number (Slots scanner newer terms slots) = judged_by (config.Scanner (scanner_with scanner newer terms slots)) []
 parsed number (Events made_of entries last) = judged_by made_of (entries ++ option_to_list last)
 parsed number builder = Err (fault.BadLine number)
 

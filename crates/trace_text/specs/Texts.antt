@@ -13,7 +13,11 @@ use Rattle.cip_tables.specs.Step.{config_fault}
 use Rattle.trace_lines.specs.declared.forms.AdapterLine.{AdapterLine}
 use Rattle.trace_lines.specs.declared.forms.HeartbeatLine.{HeartbeatLine}
 use Rattle.trace_lines.specs.declared.forms.ScannerLine.{ScannerLine}
+use Rattle.trace_lines.specs.declared.forms.ScannerTerms.{ScannerTerms}
+use Rattle.trace_lines.specs.declared.forms.TermLine.{TermLine}
+use Rattle.trace_lines.specs.declared.forms.TermLine.TheVariants as term
 use Rattle.trace_lines.specs.declared.limit_lines.LimitLine.TheVariants.{Newer}
+use Rattle.trace_lines.specs.Slots.{terms_of}
 use Rattle.trace_lines.specs.Limits.{limit_lines}
 use Rattle.trace_outcomes.specs.declared.part.Part.{Part}
 use Rattle.trace_outcomes.specs.declared.part.Part.TheVariants as part
@@ -39,12 +43,16 @@ abbrev pub scanner_line_of : ScannerProfile → ScannerLine
 scanner_line_of profile = record { incarnation = profile.incarnation; node = profile.node; vendor = profile.vendor; serial = profile.serial; open_timeout = profile.open_timeout; retry = profile.retry }
 
 -- the line of a scanner that is tidy
-abbrev pub tidy_lines : Bool → List TraceLine
-tidy_lines true = line.Tidy ∷ []
+abbrev pub tidy_lines : Bool → List TermLine
+tidy_lines true = term.Tidy ∷ []
 tidy_lines false = []
 
+-- the lines of what is said of openings
+abbrev pub term_lines : ScannerTerms → List TermLine
+term_lines terms = tidy_lines terms.tidy ++ (map term.Openings (option_to_list terms.openings) ++ map term.Serials (option_to_list terms.serials))
+
 -- a profile: an adapter's outputs, inputs, configuration, description, limits, own classes and heartbeats, or a scanner's
--- limit on numbers, whether it is tidy, and its slots
+-- limit on numbers, what it says of openings, and its slots
 abbrev pub config_values : Config → List TraceLine
 config_values (config.Adapter profile) =
     line.Adapter (adapter_line_of profile)
@@ -57,7 +65,7 @@ config_values (config.Adapter profile) =
     ++ line.Heartbeat (heartbeat_line_of profile) ∷ []))))))
 config_values (config.Scanner profile) =
     line.Scanner (scanner_line_of profile)
-    ∷ (map line.Limit (option_to_list (option_map Newer profile.newer)) ++ (tidy_lines profile.tidy ++ map line.Slot profile.slots))
+    ∷ (map line.Limit (option_to_list (option_map Newer profile.newer)) ++ (map line.Term (term_lines (terms_of profile)) ++ map line.Slot profile.slots))
 
 -- an outcome: the verdict, the frames, the datagrams and the notices, or the fault
 abbrev pub outcome_parts : Outcome → List Part

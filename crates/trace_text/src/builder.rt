@@ -3,7 +3,7 @@
 ghost use Rattle.std.specs.Prelude.{◌≡◌, ◌==◌, ◌+◌, [], length, ◌++◌, OnOk, option_to_list, Some};
 ghost use Rattle.trace_words.specs.Reader.{Finds};
 ghost use Rattle.cip_tables.specs.declared.table.Config.{Config};
-ghost use Rattle.trace_text.specs.Reading.{front_of, with_stated, with_object, with_profile, with_newer, with_tidy, builder_with, Leaves};
+ghost use Rattle.trace_text.specs.Reading.{front_of, with_stated, with_object, with_profile, none_stated, with_newer, with_line, with_term, builder_with, Leaves};
 
 use crate::forms::TraceLine;
 use crate::kept::Recorded;
@@ -15,7 +15,8 @@ use scanner_table::SlotConfig;
 use std::alloc::Global;
 use std::mem;
 use trace_lines::{
-    AdapterLine, HeartbeatLine, LimitLine, ScannerLine, profile_with, scanner_with, with_limit,
+    AdapterLine, HeartbeatLine, LimitLine, ScannerLine, ScannerTerms, TermLine, profile_with,
+    scanner_with, with_limit,
 };
 use trace_outcomes::Part;
 use trace_words::TextFault;
@@ -30,6 +31,13 @@ pub struct ProfileFront {
     pub description: Option<Description>,
     pub limits: MakerLimits,
 }
+
+/// Nothing is said of openings.
+const NO_TERMS: ScannerTerms = ScannerTerms {
+    tidy: false,
+    openings: None,
+    serials: None,
+};
 
 /// The part of a trace in the lines so far.
 #[derive(Drop)]
@@ -53,11 +61,11 @@ pub enum TraceBuilder {
     Stated(ProfileFront),
     /// A profile up to the classes of its maker's own objects.
     Objects(ProfileFront, Items<u32>),
-    /// A scanner's profile up to its slots, with the limit on numbers, if it has one, and whether it is tidy.
+    /// A scanner's profile up to its slots, with the limit on numbers, if it has one, and what it says of openings.
     Slots {
         scanner: ScannerLine,
         newer: Option<u32>,
-        tidy: bool,
+        terms: ScannerTerms,
         slots: Items<SlotConfig>,
     },
     /// The configuration of a device, and events with their recorded outcomes. The last outcome may get more parts.
@@ -115,9 +123,9 @@ fn builder_with(
         TraceBuilder::Slots {
             scanner,
             newer,
-            tidy,
+            terms,
             slots,
-        } => after_slots(alloc, scanner, newer, tidy, slots, parsed),
+        } => after_slots(alloc, scanner, newer, terms, slots, parsed),
         TraceBuilder::Events {
             config,
             entries,
@@ -138,7 +146,7 @@ fn after_nothing(alloc: Global, parsed: TraceLine) -> Result<TraceBuilder, TextF
         TraceLine::Scanner(scanner) => Ok(TraceBuilder::Slots {
             scanner,
             newer: None,
-            tidy: false,
+            terms: NO_TERMS,
             slots: Items::new(alloc),
         }),
         _ => Err(TextFault::Bad),
@@ -328,68 +336,102 @@ fn after_slots(
     alloc: Global,
     scanner: ScannerLine,
     newer: Option<u32>,
-    tidy: bool,
+    terms: ScannerTerms,
     slots: Items<SlotConfig>,
     parsed: TraceLine,
 ) -> Result<TraceBuilder, TextFault>
-    ensures { Finds (builder_with (TraceBuilder.Slots scanner newer tidy slots) parsed) result }
+    ensures { Finds (builder_with (TraceBuilder.Slots scanner newer terms slots) parsed) result }
 {
     match parsed {
-        TraceLine::Limit(limit) => with_newer(scanner, newer, tidy, slots, limit),
-        TraceLine::Tidy => with_tidy(scanner, newer, tidy, slots),
+        TraceLine::Limit(limit) => with_newer(scanner, newer, terms, slots, limit),
+        TraceLine::Term(said) => with_term(scanner, newer, terms, slots, said),
         TraceLine::Slot(slot) => Ok(TraceBuilder::Slots {
             scanner,
             newer,
-            tidy,
+            terms,
             slots: with_item(slots, slot)?,
         }),
         TraceLine::Event(event) => {
-            let config = Config::Scanner(scanner_with(scanner, newer, tidy, slots));
+            let config = Config::Scanner(scanner_with(scanner, newer, terms, slots));
             Ok(after_profile(alloc, config, Some((event, None))))
         }
         _ => Err(TextFault::Bad),
     }
 }
 
-/// The limit on numbers, before `tidy` and all slots, and once.
+/// Whether neither the most openings nor the first serial number is stated.
+fn none_stated(terms: ScannerTerms) -> bool
+    ensures { result ≡ none_stated terms }
+{
+    terms.openings.is_none() && terms.serials.is_none()
+}
+
+/// The limit on numbers, before what is said of openings and all slots, and once.
 fn with_newer(
     scanner: ScannerLine,
     newer: Option<u32>,
-    tidy: bool,
+    terms: ScannerTerms,
     slots: Items<SlotConfig>,
     limit: LimitLine,
 ) -> Result<TraceBuilder, TextFault>
-    ensures { Finds (with_newer scanner newer tidy slots limit) result }
+    ensures { Finds (with_newer scanner newer terms slots limit) result }
 {
+    let may_come = newer.is_none()
+        && !terms.tidy
+        && none_stated(terms)
+        && slots.as_slice().is_empty();
     match limit {
-        LimitLine::Newer(within) if newer.is_none() && !tidy && slots.as_slice().is_empty() => {
-            Ok(TraceBuilder::Slots {
-                scanner,
-                newer: Some(within),
-                tidy,
-                slots,
-            })
-        }
+        LimitLine::Newer(within) if may_come => Ok(TraceBuilder::Slots {
+            scanner,
+            newer: Some(within),
+            terms,
+            slots,
+        }),
         _ => Err(TextFault::Bad),
     }
 }
 
-/// A scanner is tidy, before all slots and once.
-fn with_tidy(
+/// What is said of openings, with one line more. None if the line has come before, or one behind it.
+fn with_line(terms: ScannerTerms, said: TermLine) -> Option<ScannerTerms>
+    ensures { result ≡ with_line terms said }
+{
+    match said {
+        TermLine::Tidy if !terms.tidy && none_stated(terms) => Some(ScannerTerms {
+            tidy: true,
+            ..terms
+        }),
+        TermLine::Openings(most) if none_stated(terms) => Some(ScannerTerms {
+            openings: Some(most),
+            ..terms
+        }),
+        TermLine::Serials(first) if terms.serials.is_none() => Some(ScannerTerms {
+            serials: Some(first),
+            ..terms
+        }),
+        TermLine::Tidy | TermLine::Openings(_) | TermLine::Serials(_) => None,
+    }
+}
+
+/// A line of what is said of openings, before all slots.
+fn with_term(
     scanner: ScannerLine,
     newer: Option<u32>,
-    tidy: bool,
+    terms: ScannerTerms,
     slots: Items<SlotConfig>,
+    said: TermLine,
 ) -> Result<TraceBuilder, TextFault>
-    ensures { Finds (with_tidy scanner newer tidy slots) result }
+    ensures { Finds (with_term scanner newer terms slots said) result }
 {
-    if tidy || !slots.as_slice().is_empty() {
+    if !slots.as_slice().is_empty() {
         return Err(TextFault::Bad);
     }
+    let Some(terms) = with_line(terms, said) else {
+        return Err(TextFault::Bad);
+    };
     Ok(TraceBuilder::Slots {
         scanner,
         newer,
-        tidy: true,
+        terms,
         slots,
     })
 }

@@ -3,7 +3,7 @@
 use adapter_table::Description;
 use cip_tables::{Event, InputPoint, OutputPoint};
 use scanner_table::SlotConfig;
-use trace_lines::{AdapterLine, HeartbeatLine, LimitLine, ScannerLine};
+use trace_lines::{AdapterLine, HeartbeatLine, LimitLine, ScannerLine, TermLine};
 use trace_outcomes::Part;
 
 /// The value of a line, whatever its position.
@@ -19,8 +19,8 @@ pub enum TraceLine {
     Object(u32),
     Heartbeat(HeartbeatLine),
     Scanner(ScannerLine),
-    /// A scanner closes each connection that its targets may have and no slot has.
-    Tidy,
+    /// What a scanner's profile says of its openings.
+    Term(TermLine),
     Slot(SlotConfig),
     Event(Event),
     /// A part of the outcome of the event of this number, from 1.

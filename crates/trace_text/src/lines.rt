@@ -10,8 +10,8 @@ use cip_tables::Event;
 use std::alloc::Global;
 use std::str;
 use trace_lines::{
-    limit_named, read_adapter, read_description, read_heartbeat, read_limit, read_mode,
-    read_object, read_output, read_point, read_scanner, read_slot,
+    TermLine, limit_named, read_adapter, read_description, read_heartbeat, read_limit, read_mode,
+    read_object, read_openings, read_output, read_point, read_scanner, read_serials, read_slot,
 };
 use trace_outcomes::read_part;
 use trace_words::{TextFault, Words, read_u64};
@@ -189,7 +189,9 @@ fn read_profile_line(
         "object" => read_object(words).map(TraceLine::Object),
         "heartbeat" => read_heartbeat(words).map(TraceLine::Heartbeat),
         "scanner" => read_scanner(words).map(TraceLine::Scanner),
-        "tidy" => words.last(TraceLine::Tidy),
+        "tidy" => words.last(TraceLine::Term(TermLine::Tidy)),
+        "openings" => read_openings(words).map(TraceLine::Term),
+        "serials" => read_serials(words).map(TraceLine::Term),
         "slot" => read_slot(alloc, words).map(TraceLine::Slot),
         _ => read_limit_or_part(alloc, words, word),
     }

@@ -149,9 +149,9 @@ pub fn config_of(builder: TraceBuilder) -> Option<Config>
         TraceBuilder::Slots {
             scanner,
             newer,
-            tidy,
+            terms,
             slots,
-        } => Some(Config::Scanner(scanner_with(scanner, newer, tidy, slots))),
+        } => Some(Config::Scanner(scanner_with(scanner, newer, terms, slots))),
         TraceBuilder::Events { config, .. } => Some(config),
         _ => None,
     }
@@ -165,10 +165,10 @@ fn parsed(alloc: Global, builder: TraceBuilder, number: u64) -> Result<Trace, Tr
         TraceBuilder::Slots {
             scanner,
             newer,
-            tidy,
+            terms,
             slots,
         } => judged(Trace {
-            config: Config::Scanner(scanner_with(scanner, newer, tidy, slots)),
+            config: Config::Scanner(scanner_with(scanner, newer, terms, slots)),
             events: Items::new(alloc),
         }),
         TraceBuilder::Events {

@@ -1,7 +1,7 @@
 -- Why a story is not played to its end, and the status of the program then.
 use Rattle.std.specs.Prelude.{ℕ}
-use Rattle.regular_files.specs.declared.fault.FileFault.{FileFault}
-use Rattle.regular_files.specs.declared.fault.FileFault.TheVariants as file
+use Rattle.trace_files.specs.declared.regular.fault.FileFault.{FileFault}
+use Rattle.trace_files.specs.declared.regular.fault.FileFault.TheVariants as file
 use Rattle.world_command.specs.declared.failure.WorldFailure.{WorldFailure}
 use Rattle.world_command.specs.declared.failure.WorldFailure.TheVariants as failure
 

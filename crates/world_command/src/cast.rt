@@ -1,15 +1,15 @@
 //! A story, read: its devices, and the value of each of its lines.
 
 use crate::failure::{WorldFailure, unread_profile};
+use crate::story::{StoryDevice, StoryLine, StoryName, StoryReadFault, read_line};
 use cip_tables::Config;
 use cip_types::OutOfMemory;
 use cip_types::limits::LONGEST_TRACE;
-use regular_files::read_regular;
 use segment_world::world_fault;
 use std::alloc::Global;
 use std::rt::Files;
+use trace_files::read_regular;
 use trace_text::{Trace, TraceFault, read_trace};
-use world_story::{StoryDevice, StoryLine, StoryName, StoryReadFault, read_line};
 
 /// The devices of a story, and the value of each of its lines.
 #[derive(Drop)]

@@ -5,15 +5,15 @@ ghost use Rattle.cip_tables.specs.Step.{AcceptsAll};
 use crate::cast::{Cast, cast_of};
 use crate::failure::{WorldFailure, unread_story};
 use crate::played::PlayedWorld;
+use crate::story::StoryLine;
 use cip_tables::Device;
 use cip_types::limits::LONGEST_TRACE;
 use fast_device::FastDevice;
 use plain_engine::PlainDevice;
-use regular_files::read_regular;
 use std::alloc::Global;
 use std::io::{BufWriter, Write};
 use std::rt::Files;
-use world_story::StoryLine;
+use trace_files::read_regular;
 
 /// The end of a line.
 const LINE_END: &[u8] = b"\n";

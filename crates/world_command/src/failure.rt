@@ -3,13 +3,13 @@
 ghost use Rattle.std.specs.Prelude.{◌≡◌};
 ghost use Rattle.world_command.specs.Failures.{status_of, unread_profile, unread_story};
 
+use crate::story::StoryLineFault;
 use cip_types::OutOfMemory;
-use regular_files::FileFault;
 use segment_world::WorldFault;
 use std::alloc::{AllocError, AllocFailed};
 use thiserror::Error;
+use trace_files::FileFault;
 use trace_text::TraceFault;
-use world_story::StoryLineFault;
 
 /// Why a story is not played to its end. Lines are numbered from 1.
 #[derive(Clone, Copy, Debug, PartialEq, Eq, Error)]

@@ -2,15 +2,14 @@
 
 ghost use Rattle.cip_tables.specs.Step.{AcceptsAll};
 
+use crate::story::{StoryAct, StoryName};
 use cip_events::{Answer, Event, Outcome, StepFault};
 use cip_tables::{Config, Device};
 use cip_types::OutOfMemory;
-use segment_lives::{Plant, RestartFault};
-use segment_world::{Act, ActFault, Call, Direction, WorldFault, receiver_of};
+use segment_world::{Act, ActFault, Call, Direction, Plant, RestartFault, WorldFault, receiver_of};
 use std::alloc::Global;
 use std::fmt::Display;
 use trace_outcomes::write_outcome;
-use world_story::{StoryAct, StoryName};
 
 /// The devices of a story on their network, how many events each has had, and the lines of its acts so far.
 #[derive(Drop)]

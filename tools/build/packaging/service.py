@@ -12,6 +12,8 @@ SERVES_WITHIN_MS, STARTS = 50, 20  # of so many starts the best one is judged
 DRAWN_USER = "61184"  # the first one of those that systemd draws (DynamicUser)
 ADDRESS, PRIORITY, OF_TEST = "127.0.0.10", 20, 30
 ANSWER_S, END_S = 60, 12
+# What a station keeps, and how far on the connection serial numbers of the next start begin: 257 of 65,535 numbers before those of another start.
+KEPT, SERIALS_ON = ("incarnation", "serial", "serials"), 257 * 128
 # What a station's unit has to say: a user and a folder of its own, no privilege, a start at boot and after a failure.
 SAID = {
     "StateDirectory": "eip/%i", "StateDirectoryMode": "0700", "UMask": "0077", "CapabilityBoundingSet": "", "NoNewPrivileges": "yes",
@@ -58,15 +60,16 @@ class Unit:
 # WHAT IS SEEN OF A STATION
 
 def state_of(room, name):
-    """The incarnation of the last start and the serial number; nothing if there is no state."""
-    numbers = [word for word in room.run(f"cat {room.states}/{name}/state", True)[1].split() if word.isdigit()]
-    return (int(numbers[0]), *numbers[1:]) if len(numbers) > 1 else ()
+    """Of the last start the incarnation, the device's serial number and the first connection serial number; nothing if there is no state."""
+    words = room.run(f"cat {room.states}/{name}/state", True)[1].split()
+    kept = dict(zip(words[::2], words[1::2]))
+    return tuple(int(kept[it]) for it in KEPT) if sorted(kept) == sorted(KEPT) and all(it.isdigit() for it in kept.values()) else ()
 
 
 def follow(states):
-    """Whether each incarnation follows the last one, and nothing else changes."""
-    return len(states) > 1 and all(states) and len({it[1:] for it in states}) == 1 and all(
-        second[0] == first[0] % 255 + 1 for first, second in zip(states, states[1:]))
+    """Whether each start follows the one before it: the next incarnation, the same device, serial numbers half a circle away."""
+    return len(states) > 1 and all(states) and all(
+        second == (first[0] % 255 + 1, first[1], (first[2] - 1 + SERIALS_ON) % 65535 + 1) for first, second in zip(states, states[1:]))
 
 
 def stations_in(room):
@@ -149,7 +152,7 @@ def as_the_unit_says(bench, room, text, profile):
         bench.judge(min(times) < SERVES_WITHIN_MS, said)
     else:
         bench.left_out(f"a start within {SERVES_WITHIN_MS} ms, on a machine that gives no real-time priority: {said}")
-    bench.judge(follow(states), f"the incarnations follow one another, and the serial number stays: {states}", str(states))
+    bench.judge(follow(states), f"incarnations and connection serial numbers follow one another, and the serial number stays: {states}", str(states))
 
 
 # STARTED BY THE SYSTEM
@@ -176,7 +179,7 @@ def by_the_system(bench, room, commands):
         bench.judge(False, "the system starts again", str(fault))
     finally:
         system.close()
-    bench.judge(follow(states), f"of each start the incarnation follows, and the serial number stays: {states}", str(states))
+    bench.judge(follow(states), f"of each start incarnation and connection serial numbers follow, and the serial number stays: {states}", str(states))
 
 
 def enabled_and_serves(bench, system, what, states):

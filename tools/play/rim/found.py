@@ -1,8 +1,9 @@
 """How a station is found and read: by a browser that shares no code with it, by a broadcast, and under a flood of inquiries."""
 
-import contextlib, os, socket, struct, sys, time
-from rim.host import Station, Wrong, free_hosts, free_port, last, need, run, sure, usual, wait
+import contextlib, os, shutil, socket, struct, subprocess, sys, time
+from rim.host import Station, Wrong, free_hosts, free_port, holds, last, need, run, sure, usual, wait
 from rim.peers import Originator
+from rim.plants import Plant
 
 TOP = os.path.dirname(os.path.dirname(os.path.dirname(os.path.dirname(os.path.realpath(__file__)))))
 INQUIRY = struct.pack("<HHIIQI", 0x63, 0, 0, 0, 1, 0)  # its sender context names 1 ms, which counts as 500
@@ -18,27 +19,49 @@ DESCRIBED = (
 )
 
 
-def read(bench, *options):
-    """What a browser says of the adapter."""
-    words = [sys.executable, f"{TOP}/tools/peers/browser.py", bench.address["adapter"], "--node", bench.address["adapter"], "--patience", "20"]
-    return run(*bench.network.at("peer"), *words, *options, preexec_fn=None)
+def ask(bench, host, profile, *options, at="peer"):
+    """What a browser finds at a device of this profile: how it ends, and its last line."""
+    words = [sys.executable, f"{TOP}/tools/peers/browser.py", host, "--own", bench.address[at], "--patience", "20"]
+    done = run(*bench.network.at(at), *words, "--profile", bench.file(f"{profile}.profile"), *options, preexec_fn=None)
+    need(done.returncode == 0, f"a browser asks a device of {profile}.profile: {done.stdout.decode()[-2000:]}{done.stderr.decode()[-2000:]}")
+    return last(done)
 
 
 def run_browser(bench):
-    """A browser reads a station that its options describe, and one that its profile describes."""
+    """A browser asks a station that its options describe, one that its profile describes, and a device of a plant."""
     adapter = bench.adapter("--serial", "7", "--name", "Line 3", "--inactivity", "90", log="browsed")
-    done = read(bench, "--serial", "7", "--name", "Line 3", "--inactivity", "90", "--identity", "1,12,7,2,3", "--status", "30",
-                "--link", "100,15,000000000000", "--point", "150=4", "--point", "100=4")
-    sure(done.returncode == 0, f"a browser reads a station that its options describe: {last(done)}")
+    said = ask(bench, bench.address["adapter"], "adapter", "--serial", "7", "--name", "Line 3", "--inactivity", "90", "--only", "25", "31.2", "31.4", "31.8", "7.2")
+    holds(f"a browser asks a station that its options describe: {said}")
     need(adapter.end() == 0, "the adapter ends with status 0")
-    bench.write("described.profile", DESCRIBED.format(**bench.address))
+    bench.write("described.profile", DESCRIBED)
     adapter = bench.adapter("--record", bench.file("described.trace"), profile="described", log="described")
-    done = read(bench, "--serial", "305419896", "--name", "Pump", "--inactivity", "60", "--identity", "7,12,9,4,5", "--status", "30",
-                "--link", "1000,13,02a1b2c3d4e5", "--mask", "255.255.255.0", "--point", "150=4", "--point", "100=6", "--point", "151=2")
-    sure(done.returncode == 0, f"a browser reads a station that its profile describes: {last(done)}")
+    holds(f"a browser asks a station that its profile describes: {ask(bench, bench.address['adapter'], 'described')}")
     need(adapter.end() == 0, "the adapter ends with status 0")
     bench.replay_alone("described")
+    dissect(bench, "described", bench.address["adapter"])
+    node = bench.network.extra[0]
+    bench.write_exactly("island.profile", DESCRIBED.format(adapter=node))
+    plant = Plant(bench, "device island island.profile\n", log="browsed-plant")
+    wait(lambda: any("adapter at" in line for line in plant.said()), "a plant has a device")
+    holds(f"a browser asks a device of a plant: {ask(bench, node, 'island', at='owner')}")
+    need(plant.end() == 0, "the plant ends with status 0")
     bench.clear()
+
+
+def dissect(bench, name, node):
+    """tshark, if it is there, knows each message that a device sends, and finds none of them malformed."""
+    if not shutil.which("tshark"):
+        holds("(no dissection: it takes tshark)")
+        return
+    file, pcap = bench.file(f"{name}.pcap"), run(bench.program, "pcap", bench.file(f"{name}.trace"))
+    need(pcap.returncode == 0, "the record becomes a capture file")
+    with open(file, "wb") as out:
+        out.write(pcap.stdout)
+    sent = f"ip.src == {node} && (udp || tcp.len > 0)"
+    words = "-T", "fields", "-e", "frame.number", "-e", "enip.command"
+    all_, bad = (run("tshark", "-r", file, "-Y", it, *words, stdin=subprocess.DEVNULL) for it in (sent, f"{sent} && (_ws.malformed || !(enip || cipio))"))
+    need(not bad.returncode and not bad.stdout, f"tshark says {(bad.stdout or bad.stderr).decode()[:400]}")
+    sure(len(all_.stdout.splitlines()) > 1000, f"tshark knows {len(all_.stdout.splitlines())} messages of the device, and finds none malformed")
 
 
 def run_inquiries(bench):

@@ -103,16 +103,16 @@ def run_counting(bench):
         adapter.kill()
     with open(state) as file:
         text = file.read()
-    found = re.fullmatch(r"incarnation (\d+)\nserial (\d+)\n", text)
+    found = re.fullmatch(r"incarnation (\d+)\nserial (\d+)\nserials (\d+)\n", text)
     need(found and int(found[1]) == seen[-1] and int(found[2]) > 0, f"the state file: {text!r}")
     need(seen == [seen[0], seen[0] + 1, seen[0] + 2], f"three starts: {seen}")
     sure(not os.path.exists(state + ".new"), f"three starts that were killed have the incarnations {seen}")
-    bench.write("adapter.profile.state", f"incarnation 255\nserial {found[2]}\n")
+    bench.write("adapter.profile.state", f"incarnation 255\nserial {found[2]}\nserials 32640\n")
     adapter = bench.adapter("--record", bench.file("count.trace"), log="count")
     need(adapter.end() == 0, "the adapter ends with status 0")
     with open(state) as file:
         text = file.read()
-    sure((incarnation_of(bench.file("count.trace")), text) == (1, f"incarnation 1\nserial {found[2]}\n"), "255 is followed by 1")
+    sure((incarnation_of(bench.file("count.trace")), text) == (1, f"incarnation 1\nserial {found[2]}\nserials 1\n"), "255 is followed by 1")
     elsewhere = bench.file("elsewhere.state")
     adapter = bench.adapter("--state", elsewhere, log="count")
     need(adapter.end() == 0, "the adapter ends with status 0")
@@ -129,7 +129,8 @@ def run_bad_states(bench):
     os.mkdir(bench.file("folder.state"))
     bad = {"a folder": (bench.file("folder.state"), 3), "no folder": (bench.file("none/a.state"), 6)}
     for what, text in [("an empty file", ""), ("incarnation 0", "incarnation 0\nserial 1\n"), ("256", "incarnation 256\nserial 1\n"),
-                       ("half a file", "incarnation 7\n"), ("other words", "count 3\n"), ("more lines", "incarnation 7\nserial 1\nx\n")]:
+                       ("half a file", "incarnation 7\n"), ("other words", "count 3\n"), ("more lines", "incarnation 7\nserial 1\nx\n"),
+                       ("serials 0", "incarnation 7\nserial 1\nserials 0\n"), ("65536", "incarnation 7\nserial 1\nserials 65536\n")]:
         bad[what] = (bench.write(f"bad{len(bad)}.state", text), 3)
     for what, (path, status) in bad.items():
         words = [bench.program, "adapter", bench.file("adapter.profile"), "--state", path, "--seconds", "1"]

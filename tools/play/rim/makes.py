@@ -1,7 +1,7 @@
 """Targets of other makes, which tools/peers/target.py plays: they refuse, answer late or otherwise than was asked, forget sessions, name
 another port, send a long reply. A scanner leaves no connection behind at them, and keeps those that are well."""
 
-import random, socket, struct, sys, threading, time
+import random, re, socket, struct, sys, threading, time
 from rim.host import PRESENT, TOP, Station, holds, need, run, sure, wait
 from rim.peers import Ending
 
@@ -351,20 +351,20 @@ def run_never_closed(bench):
 
 
 def run_makes_sessions(bench):
-    """Status 0064 leads to a new session. A scanner keeps the old one so far, so this part runs by its name alone."""
-    if not bench.args.only:
-        return holds("(run_makes_sessions: not tried: a scanner keeps a session that its target has forgotten)")
+    """Status 0064 leads to a new session over the same stream, or over a new one if the target refuses that, or does not answer."""
     made = Running(bench)
     scanner = begin(bench, "sessions")
-    for _ in range(3):
-        wait(lambda: are_established(scanner), "the scanner is established")
+    for mood in ("serve", "serve", "refuse", "never"):
+        wait(lambda: are_established(scanner), "the scanner is established", 10)
         time.sleep(0.5)
-        before = made.counts["register"]
+        registered, streams = made.counts["register"], made.counts["stream"]
+        made.moods.registers.append(mood)
         made.forget_sessions()
         made.forget_connections()
-        wait(lambda: made.counts["register"] > before, lambda: f"its sessions are forgotten: it registers a new one: {dict(made.counts)}", 20)
-    wait(lambda: are_established(scanner), "the scanner is established")
-    sure(made.counts["bad session"] <= 9, f"a target that forgets its sessions is asked for a new one: {made.counts['bad session']} requests of a dead one")
+        wait(lambda: made.counts["register"] > registered, lambda: f"its sessions are forgotten: it registers a new one: {dict(made.counts)}", 20)
+        wait(lambda: are_established(scanner), f"a registration that the target may {mood}: the scanner is established again", 20)
+        need((made.counts["stream"] == streams) == (mood == "serve"), f"a registration that the target may {mood}: {made.counts['stream'] - streams} new streams")
+    sure(made.counts["bad session"] <= 8, f"a target that forgets its sessions is asked for a new one: {made.counts['bad session']} requests of a dead one")
     leaves_none(scanner, made, "forgotten sessions")
     bench.clear()
 
@@ -386,7 +386,7 @@ def run_life(bench, seed):
     """Acts on a scanner of three slots and its target. One life of two ends as soon as there is a session, the others when all slots are
     established. A seed makes the same acts, and the machine their times."""
     rand, made, what = random.Random(seed), Running(bench, places=32), f"--seed {seed}"
-    scanner = begin(bench, "random", slots=SLOTS)
+    scanner = begin(bench, "random", slots=SLOTS, tidy=rand.choice(["", "openings 1\n", "openings 2\n"]))
     for _ in range(ACTS):
         act_at_random(rand, scanner, made)
         time.sleep(rand.random() * 0.1)
@@ -433,21 +433,90 @@ def run_makes_slow(bench):
     scanner = begin(bench, "slow", slots=8, tidy="tidy\nopenings 1\n", open_ms=2000)
     seconds = wait(lambda: are_established(scanner, 8), lambda: f"all slots are established: {made.points()}", 20)
     need(made.counts["open"] == len(made.connections) == 8, f"each by its first request: {dict(made.counts)}")
+    need({it.granted_ms for it in made.connections} == {2000}, f"each says the open time-out: {[it.granted_ms for it in made.connections]}")
     leaves_none(scanner, made, "a slow target")
     holds(f"a target that takes 700 ms for each open opens eight slots within {seconds:.1f} s, each by its first request")
     bench.clear()
+
+
+@needs("openings 1")
+def run_makes_places(bench):
+    """Openings that are not answered give their place on, each after its own time; stops and cuts leave none behind."""
+    made = Running(bench)
+    made.moods.opens.extend(["deaf", ("late", 1.0), ("refuse", 0x0110)])
+    scanner = begin(bench, "places", slots=4, tidy="openings 1\n")
+    wait(lambda: are_established(scanner, 4), lambda: f"all slots are established: {made.points()}", 20)
+    for _ in range(3):
+        made.drop_streams()
+        scanner.call("stop 1", "stop 3", "start 1", "start 3")
+        time.sleep(0.2)
+    wait(lambda: scanner.call("start 1", "start 3") or time.sleep(0.5) or are_established(scanner, 4), lambda: f"again: {made.points()}", 20)
+    wait(lambda: made.points() == [150, 151, 152, 153], lambda: f"the target has the connections of the slots alone: {made.points()}", LEFT_S)
+    leaves_none(scanner, made, "one opening at a time")
+    holds("with one opening at a time, slots that are not answered, answered late, refused, stopped and cut off leave none behind")
+    bench.clear()
+
+
+def lives(bench, made, name, count, options):
+    """The serial numbers of so many lives that are killed when their connections are open."""
+    for life in range(count):
+        scanner = begin(bench, name, kind="input", options=options)
+        wait(lambda: are_established(scanner) and len(made.connections) == life + 1, "the scanner is established")
+        scanner.kill()
+    return [it.serial() for it in made.connections]
 
 
 @needs("serials 1")
 def run_makes_serials(bench):
     """The triads of a life that was killed do not come again."""
     made = Running(bench)
-    for _ in range(4):
-        scanner = begin(bench, "serials", kind="input")
-        wait(lambda: are_established(scanner), "the scanner is established")
+    serials = lives(bench, made, "serials", 4, ("--state", bench.file("serials.state")))
+    steps = {(after - before) % 65535 for before, after in zip(serials, serials[1:])}
+    need(steps == {257 * 128 % 65535}, f"each life begins half the circle behind the last one: {serials}")
+    made.forget_connections()
+    drawn = lives(bench, made, "uncounted", 4, ())
+    need(made.counts["refused 0100"] == 0 and len(set(serials)) == len(set(drawn)) == 4, f"four lives have four serial numbers: {serials}, {drawn}")
+    bench.write_exactly("old.state", "incarnation 7\nserial 9\n")
+    made.forget_connections()
+    lives(bench, made, "old", 1, ("--state", bench.file("old.state")))
+    with open(bench.file("old.state")) as file:
+        text = file.read()
+    need(re.fullmatch(r"incarnation 32\nserial 9\nserials \d+\n", text), f"a state without the line goes on with one: {text!r}")
+    holds(f"lives that were killed go on with other serial numbers: {serials}; {drawn}")
+    bench.clear()
+
+
+@needs("serials 1")
+def run_makes_copies(bench):
+    """Two stations of one profile whose serial number is 0 are two originators."""
+    made = Running(bench)
+    text = profile(bench, 1, "", kind="input").replace(" 1 101 ", " 1 0 ")
+    path = bench.write_exactly("copy.profile", text)
+    for copy in range(2):
+        state = bench.file(f"copy{copy}.state")
+        scanner = Station(bench, "owner", "scanner", path, "--incarnation", "32", "--state", state, log=f"copy{copy}")
+        scanner.call("start 0")
+        wait(lambda: are_established(scanner) and len(made.connections) == copy + 1, "the scanner is established")
         scanner.kill()
-    serials = [it.serial() for it in made.connections]
-    sure(made.counts["refused 0100"] == 0 and len(set(serials)) == 4, f"four lives that were killed have four serial numbers: {serials}")
+    originators = {struct.unpack("<I", it.triad[4:8])[0] for it in made.connections}
+    sure(len(originators) == 2 and 0 not in originators, f"two stations of one profile are two originators: {sorted(originators)}")
+    bench.clear()
+
+
+@needs("openings 1")
+def run_makes_intervals(bench):
+    """A scanner asks for O->T intervals of whole milliseconds, and keeps them."""
+    made = Running(bench)
+    for asked, kept in ((2500, 2000), (500, 1000), (20_999, 20_000)):
+        scanner = begin(bench, f"interval_{asked}", o_t_us=asked)
+        wait(lambda: are_established(scanner), "the scanner is established")
+        need(made.connections[0].o_t_us == kept, f"of {asked} us it asks for {made.connections[0].o_t_us}")
+        came, begun = made.connections[0].received, time.monotonic()
+        time.sleep(2)
+        rate = (made.connections[0].received - came) / (time.monotonic() - begun) * kept / 1e6
+        need(rate > 0.9 or kept < 20_000, f"of an interval of {kept} us {rate:.2f} datagrams come in each")
+        leaves_none(scanner, made, f"an interval of {asked} us")
+    holds("intervals that are no whole milliseconds are asked for as whole ones, and kept")
     bench.clear()
 
 

@@ -6,19 +6,19 @@ ghost use Rattle.cip_events.specs.Outcomes.{Follows};
 ghost use Rattle.cip_events.specs.declared.event.Answer.{Answer};
 ghost use Rattle.cip_events.specs.declared.event.Verdict.TheVariants as verdict;
 ghost use Rattle.adapter_replies.specs.Routes.{view_request_header};
-ghost use Rattle.adapter_table.specs.Encapsulation.{framed, send_unit_data, unit_replied};
+ghost use Rattle.adapter_table.specs.Encapsulation.{framed, outside_session, send_unit_data, unit_replied};
 ghost use Rattle.cip_encap.specs.Connected.{view_connected};
 ghost use Rattle.messaging.specs.Changes.{repeated};
 ghost use Rattle.adapter_table.specs.Messages.{with_messages};
 
 use super::Adapter;
 use adapter_replies::{ConnectionRoute, RequestHeader, Route, repeated_answer};
+use adapter_table::{Description, has_session};
 use cip_encap::{ConnectedPacket, read_connected_items};
 use cip_tables::{Answer, Delivery, EncapStatus, Outcome, Stream, Verdict};
 use cip_types::OutOfMemory;
 use connection_list::ConnectionTable;
 use messaging::Class3Connection;
-use session_streams::has_session;
 
 /// Whether a message, behind its sequence count, is longer than the connection's O->T size.
 fn is_too_long(class3: &Class3Connection, bytes: &[u8]) -> bool
@@ -26,6 +26,17 @@ fn is_too_long(class3: &Class3Connection, bytes: &[u8]) -> bool
 {
     let size = class3.o_t_size as usize;
     size < 2 || size - 2 < bytes.len()
+}
+
+/// The status of a message outside its session: a described device names the session, any other refuses the message as an
+/// unknown command.
+fn outside_session(description: &Option<Description>) -> EncapStatus
+    ensures { result ≡ outside_session description.now }
+{
+    match description {
+        Some(_) => EncapStatus::InvalidSession,
+        None => EncapStatus::InvalidCommand,
+    }
 }
 
 impl<T: ConnectionTable> Adapter<T> {
@@ -88,7 +99,8 @@ impl<T: ConnectionTable> Adapter<T> {
             (send_unit_data self.old stream.now request_header.session body.now))) self.old result self.new }
     {
         if !has_session(stream, request_header.session) {
-            return self.refuse_frame(stream.number, request_header, EncapStatus::InvalidCommand);
+            let why = outside_session(&self.state.profile().description);
+            return self.refuse_frame(stream.number, request_header, why);
         }
         let Ok(packet) = read_connected_items(body) else {
             return self.refuse_frame(stream.number, request_header, EncapStatus::IncorrectData);

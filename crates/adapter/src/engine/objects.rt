@@ -6,19 +6,22 @@ ghost use Rattle.adapter_replies.specs.Messages.{object_fields, object_notices};
 ghost use Rattle.adapter_replies.specs.Routes.{kept_text, routed_answer};
 ghost use Rattle.adapter_replies.specs.Serving.{finished};
 ghost use Rattle.cip_events.specs.Outcomes.{Follows};
-ghost use Rattle.adapter_table.specs.Objects.{object_answer};
+ghost use Rattle.adapter_table.specs.Objects.{connection_count, object_answer};
+ghost use Rattle.adapter_table.specs.Rows.{kind_count};
 ghost use Rattle.adapter_table.specs.Inquiries.{inquiry_reply, inquired};
 ghost use Rattle.adapter_table.specs.Requests.{served_object};
-ghost use Rattle.adapter_objects.specs.Few.{FewSaid};
+ghost use Rattle.adapter_table.specs.Lemmas.ObjectSizes.{FewSaid};
 ghost use Rattle.adapter_objects.specs.Views.{view_answer};
 
 use super::Adapter;
 use adapter_objects::{
-    ObjectAnswer, ObjectRequest, assembly_answer, described_answer, has_inquiry_length,
+    ConnectionFacts, ObjectAnswer, ObjectRequest, assembly_answer, described_answer,
+    has_inquiry_length,
 };
 use adapter_replies::{Route, inquiry_answer, object_notices, object_reply, reply_and_text};
 use cip_epath::class::ASSEMBLY;
 use cip_events::Recipient;
+use cip_productions::Kind;
 use cip_tables::{Answer, Outcome, Status, Verdict};
 use cip_types::{Node, OutOfMemory};
 use connection_list::ConnectionTable;
@@ -26,6 +29,29 @@ use connection_list::ConnectionTable;
 // OBJECTS
 
 impl<T: ConnectionTable> Adapter<T> {
+    /// How many established connections of an application type there are: at most 64.
+    #[tactic(auto, using(adapter_table::specs::Lemmas::ObjectSizes::kind_few))]
+    fn kind_count(&self, kind: Kind) -> usize
+        ensures value { result ≡ kind_count self.now.rows kind }
+        ensures few { result ≤ 64 }
+    {
+        // Gives the prover that there are few connections.
+        self.state.is_whole();
+        self.state.connections().kind_count(kind)
+    }
+
+    /// How many connections there are: the established ones of class 1, and those of class 3.
+    fn connection_count(&self) -> usize
+        ensures { result ≡ connection_count self.now.rows self.now.messaging }
+    {
+        // Gives the prover that there are few connections of class 3.
+        self.state.is_whole();
+        let class3 = self.state.messaging().class3_connections().len();
+        let listeners = self.kind_count(Kind::ListenOnly) + class3;
+        let readers = self.kind_count(Kind::InputOnly) + listeners;
+        self.kind_count(Kind::ExclusiveOwner) + readers
+    }
+
     /// What the device answers to a service of another object than an assembly. Without a description it has none.
     fn described_answer(
         &self,
@@ -42,11 +68,14 @@ impl<T: ConnectionTable> Adapter<T> {
         let Some(description) = &self.state.profile().description else {
             return Ok(ObjectAnswer::Denied(Status::PathDestination));
         };
-        let io = self.state.connections().io_state();
+        let facts = ConnectionFacts {
+            io: self.state.connections().io_state(),
+            count: self.connection_count(),
+        };
         described_answer(
             self.state.alloc(),
             self.state.assemblies(),
-            io,
+            facts,
             description,
             class,
             instance,

@@ -3,27 +3,26 @@
 ghost use Rattle.std.specs.Prelude.{◌≡◌, [], Ok, IfOk, ◌∷◌};
 ghost use Rattle.cip_events.specs.Outcomes.{Follows};
 ghost use Rattle.adapter_replies.specs.Routes.{view_request_header, view_frame_reply, IsWritableFrame, framed_answer};
-ghost use Rattle.adapter_table.specs.Encapsulation.{framed, frame, frame_answer, stream_answer, wrong_length_answer, refusal, handled, session_begun, register_session, unregister_session, send_rr_data};
+ghost use Rattle.adapter_table.specs.Encapsulation.{framed, frame, frame_answer, frame_for, stream_answer, wrong_length_answer, refusal, handled, session_begun, register_session, unregister_session, send_rr_data};
 ghost use Rattle.cip_events.specs.declared.event.Notice.TheVariants.{StreamClosed};
 ghost use Rattle.cip_events.specs.declared.event.Verdict.TheVariants.{Done};
 ghost use Rattle.adapter_table.specs.Streams.{stream_cut, ended_notices, without_stream};
 ghost use Rattle.adapter_table.specs.Lemmas.RequestLemmas.{IsOpenStream};
 ghost use Rattle.adapter_table.specs.Inquiries.{inquiry_reply};
 ghost use Rattle.cip_router.specs.Commands.{command_of};
-ghost use Rattle.cip_router.specs.Frames.{frame_reading};
 
 use super::Adapter;
 use adapter_replies::{
     FrameReply, FrameView, RequestHeader, Route, cut_answer, ended_answer, frame_answer,
-    inquiry_answer, is_protocol, read_frame,
+    inquiry_answer, is_protocol, read_frame_for,
 };
+use adapter_table::{has_session, register_stream, session_of};
 use cip_encap::read_items;
 use cip_events::Recipient;
 use cip_tables::{Answer, Command, EncapStatus, Outcome, StepFault, Stream, Verdict};
 use cip_types::OutOfMemory;
 use connection_list::ConnectionTable;
 use open_streams::{drop_stream, find_stream};
-use session_streams::{has_session, register_stream, session_of};
 
 // STREAMS
 
@@ -212,10 +211,11 @@ impl<T: ConnectionTable> Adapter<T> {
     /// The bytes of a frame that is no inquiry.
     fn command(&mut self, stream: &Stream, bytes: &[u8]) -> Outcome
         requires { IsOpenStream self.old stream.now }
-        ensures { Follows (Ok (frame_answer self.old stream.now (frame_reading bytes.now)))
+        ensures { Follows (Ok (frame_answer self.old stream.now
+            (frame_for self.old.profile.description bytes.now)))
             self.old result self.new }
     {
-        match read_frame(bytes) {
+        match read_frame_for(&self.state.profile().description, bytes) {
             FrameView::NoHeader => Ok(Answer::plain(self.state.alloc(), Verdict::BadFrame)),
             FrameView::BadLength(request_header) => self.wrong_length(
                 stream.number,

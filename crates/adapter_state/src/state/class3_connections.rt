@@ -119,10 +119,7 @@ impl<T: ConnectionTable> AdapterState<T> {
     {
         match admit_class3(&self.class3_view(stream.peer, request.triad), request) {
             Ok(times) => self.open_class3(route, stream, service, request, times),
-            Err(why) => {
-                let reply = Reply::Refused(service.code(), why.fault(), Some(request.triad));
-                Ok(self.reply(route, reply)?)
-            }
+            Err(why) => self.refuse_open(route, service, request, why),
         }
     }
 

@@ -7,7 +7,7 @@ ghost use Rattle.cip_fwdopen.specs.Services.{is_large_open};
 ghost use Rattle.adapter_table.specs.Checks.{Gives, config_bytes, view_admission, drawn_ids};
 ghost use Rattle.adapter_table.specs.StatedLimits.{limited_admission};
 ghost use Rattle.adapter_table.specs.Opening.{opened_row, opened_production, opened_state, opened_t_o_id, configured};
-ghost use Rattle.adapter_table.specs.Requests.{admitted_open, served_open};
+ghost use Rattle.adapter_table.specs.Requests.{admitted_open, refused_open, served_open};
 ghost use Rattle.adapter_replies.specs.Routes.{peer_of, routed};
 ghost use Rattle.adapter_replies.specs.Serving.{IsOpenRoute, opening_served, stream_opening};
 ghost use Rattle.adapter_table.specs.MessagesSound.{IsCarried};
@@ -19,7 +19,7 @@ use adapter_replies::{
     Route, address_of, opened_address, opened_reply, opening_notices, reply_answer,
 };
 use adapter_table::laws::{admitted_requests_fit, tables_are_whole};
-use app_rules::{View, admit};
+use app_rules::{View, admit, opening_fault};
 use assembly_set::AssemblySet;
 use cip_fwdopen::{OpenRequest, OpenService};
 use cip_netparams::is_message_trigger;
@@ -159,6 +159,22 @@ impl<T: ConnectionTable> AdapterState<T> {
         Ok(answer)
     }
 
+    /// A Forward_Open that is refused, with its triad.
+    pub(super) fn refuse_open(
+        &mut self,
+        route: Route,
+        service: OpenService,
+        request: &OpenRequest<&[u8]>,
+        why: Refusal,
+    ) -> Outcome
+        ensures { Follows (Ok (routed self.old route (Some (refused_open self.old (is_large_open service)
+            (view_open request.now) why)))) self.old result self.new }
+    {
+        let fault = opening_fault(&self.assemblies.profile().description, request, why);
+        let reply = Reply::Refused(service.code(), fault, Some(request.triad));
+        Ok(self.reply(route, reply)?)
+    }
+
     /// A Forward_Open of a connection of class 1.
     #[tactic(auto, unfolding(adapter_table::specs::Requests::served_open))]
     fn forward_open_class1(
@@ -173,10 +189,7 @@ impl<T: ConnectionTable> AdapterState<T> {
     {
         match self.judge(route.peer(), request) {
             Ok(admitted) => self.open(route, service, request, &admitted),
-            Err(why) => {
-                let reply = Reply::Refused(service.code(), why.fault(), Some(request.triad));
-                Ok(self.reply(route, reply)?)
-            }
+            Err(why) => self.refuse_open(route, service, request, why),
         }
     }
 

@@ -10,12 +10,12 @@ ghost use Rattle.cip_tables.specs.Wakes.{IsQuietFor, due_in};
 use super::AdapterState;
 use adapter_table::{
     AnyConnection, Class3Report, ConnectionReport, ConsumerCounts, class3_report, report_of,
+    session_of,
 };
 use cip_tables::{DeviceTotals, Kind, Stream, StreamReport};
 use cip_types::limits::{IDS_PER_INCARNATION, LONGEST_TICK_MS};
 use cip_types::{Ms, Triad};
 use connection_list::ConnectionTable;
-use session_streams::session_of;
 
 impl<T: ConnectionTable> AdapterState<T> {
     /// The established exclusive owner of an output. Takes no memory.

@@ -6,11 +6,11 @@ ghost use Rattle.adapter_table.specs.Streams.{stream_opened, without_stream, reg
 
 use super::AdapterState;
 use adapter_table::laws::tables_are_whole;
+use adapter_table::{is_taken, register_stream};
 use cip_tables::{Answer, Outcome, StepFault, Stream, Verdict};
 use cip_types::Node;
 use connection_list::ConnectionTable;
 use open_streams::{add_stream, drop_stream};
-use session_streams::{is_taken, register_stream};
 
 impl<T: ConnectionTable> AdapterState<T> {
     /// A peer opens a stream.

@@ -30,7 +30,7 @@ use Rattle.messaging.specs.declared.table.Messaging.{Messaging}
 use Rattle.messaging.specs.Class3Connections.{has_class3_triad, has_class3_id, is_class3, repeats_last}
 use Rattle.messaging.specs.Changes.{longest_answer, has_request_number, lacks_room}
 use Rattle.adapter_table.specs.Connections.{Row}
-use Rattle.opening_rates.specs.declared.rates.NodeOpenings.{NodeOpenings}
+use Rattle.adapter_table.specs.declared.opening_rates.rates.NodeOpenings.{NodeOpenings}
 use Rattle.adapter_table.specs.declared.table.Stream.{Stream}
 use Rattle.adapter_table.specs.declared.table.AdapterTable.{AdapterTable}
 use Rattle.adapter_table.specs.Rates.{with_openings}
@@ -51,8 +51,8 @@ use Rattle.adapter_table.specs.Requests.{Next, Served, open_service, served_open
 use Rattle.cip_events.specs.Answers.{plain_answer}
 use Rattle.adapter_table.specs.Streams.{is_stream, is_taken, with_stream, without_stream, has_session, registered_table, stream_opened, cut_of, stream_cut}
 use Rattle.cip_router.specs.Commands.{command_of, is_silent}
-use Rattle.cip_router.specs.Frames.{RequestHeader, FrameFields, without_header, wrong_length, whole, frame_reading, protocol_text}
-use Rattle.adapter_table.specs.Encapsulation.{Handled, refusal, session_begun, register_session, request_replied, request_handled, packet_replied, message_replied, message_served, message_executed, message_found, unit_replied, handled, framed, frame_answer, stream_answer, frame_of, frame}
+use Rattle.cip_router.specs.Frames.{RequestHeader, FrameFields, without_header, wrong_length, whole, protocol_text}
+use Rattle.adapter_table.specs.Encapsulation.{Handled, refusal, session_begun, register_session, request_replied, request_handled, packet_replied, message_replied, message_served, message_executed, message_found, unit_replied, handled, framed, frame_for, frame_answer, stream_answer, frame_of, frame}
 use Rattle.adapter_table.specs.Inquiries.{inquiry_reply}
 use Rattle.adapter_table.specs.Lemmas.LimitLemmas.{limited_is}
 use Rattle.adapter_table.specs.Lemmas.MessageLemmas.{found_any, same_number, fitted_short, goes_closed, goes_repeated, goes_executed, goes_referred, goes_referred_over, goes_answered, goes_opened}
@@ -276,7 +276,7 @@ does_frame R does t stream (wrong_length request_header) opens = does_misfit (is
 does_frame R does t stream (whole request_header body) opens = handled_does R does t stream request_header body (command_of request_header.command) opens
 
 does_message : (R : AdapterTable → AdapterTable → Type 0) → LimitedDo R → (t : AdapterTable) (stream : Stream) (bytes : List ℕ) (inquiry : Option (List ℕ)) → IsOpenStream t stream → R t (stream_answer t stream bytes inquiry).1
-does_message R does t stream bytes None opens = does_frame R does t stream (frame_reading bytes) opens
+does_message R does t stream bytes None opens = does_frame R does t stream (frame_for t.profile.description bytes) opens
 does_message R does t stream bytes (Some text) opens = does.stays t
 
 both_hold : (a b : Bool) → a ≡ true → b ≡ true → (a && b) ≡ true

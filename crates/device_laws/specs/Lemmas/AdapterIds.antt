@@ -8,7 +8,7 @@ use Rattle.std.specs.Str.{bytes_eq}
 use Rattle.adapter_table.specs.Lemmas.CheckLemmas.{draws_some}
 use Rattle.cip_types.specs.declared.names.Ms.{Ms}
 use Rattle.cip_types.specs.declared.names.Node.{Node}
-use Rattle.cip_types.specs.Fields.{fields_text}
+use Rattle.cip_types.specs.Fields.{fields_text, fields_at}
 use Rattle.cip_types.specs.Order.{in_order}
 use Rattle.cip_datagram.specs.declared.datagram.DatagramFault.{DatagramFault}
 use Rattle.cip_datagram.specs.Datagram.{DatagramFields}
@@ -90,7 +90,7 @@ use Rattle.adapter_table.specs.Productions as productions
 use Rattle.adapter_table.specs.Productions.{state_producer, producer_in, producers, production_of, is_due, due_producers, produced_state, produced_row, produces_on_change, producers_on_change, changed_state, changed_row}
 use Rattle.adapter_table.specs.Requests.{Next, Served, judged_open, admitted_open, served_open, close_of, served_close, end_of, served_end, router_refusal, object_served, served_object, served}
 use Rattle.adapter_table.specs.Streams.{is_stream, is_taken, with_stream, without_stream, has_session, registered_table, stream_opened, cut_of, stream_cut}
-use Rattle.adapter_table.specs.Encapsulation.{Handled, refusal, unanswered, session_begun, session_ended, register_session, request_replied, request_handled, packet_replied, unit_replied, handled, reply_frames, framed, frame_answer, stream_answer, frame_of, frame}
+use Rattle.adapter_table.specs.Encapsulation.{Handled, refusal, unanswered, session_begun, session_ended, register_session, request_replied, request_handled, packet_replied, unit_replied, handled, reply_frames, framed, frame_answer, stream_answer, frame_of, frame, outside_session}
 use Rattle.adapter_table.specs.Ticks.{has_expired, expired_row, expired_rows, clocked_table, expired_table, produced_table, advanced, late_frames, aged_next, tick}
 use Rattle.adapter_table.specs.Step.{written_table, changed_table, written, write_of, write, adapter_step}
 use Rattle.answer_sizes.specs.Sizes.{IsShortFrame, IsSmall}
@@ -102,6 +102,8 @@ use Rattle.device_laws.specs.Lemmas.ConnectedTexts.{connected_bad}
 use Rattle.device_laws.specs.Lemmas.MessageSteps.{IsItemless, IsOfMessages, unit_of, respond_holds}
 use Rattle.device_laws.specs.Lemmas.InquiryTexts.{IsPlainText, plain_services, plain_ids, inquiry_plain}
 use Rattle.adapter_table.specs.Lemmas.PassiveLemmas.{passive_holds}
+use Rattle.adapter_table.specs.Lemmas.FrameLemmas.{answer_has}
+use Rattle.adapter_table.specs.Describing.{is_variable, fixed, opening_fault}
 
 abbrev pub RowsHold : (P Q : ℕ → Type 0) → List Row → Type 0
 RowsHold P Q rows = AllByRecursion (RowIds P Q) rows
@@ -169,6 +171,15 @@ unfolding verdict
 admission_holds P Q t request rows =
     judged_holds P request (points_of (view_of t request.triad) request (result_ok (path_reading request.path))) _ (points_hold P Q t request (result_ok (path_reading request.path)) rows)
 
+fixed_step : (P : ℕ → Type 0) (a b : Bool) (admitted : Admitted) → GroupHolds P admitted.group → AdmittedHolds P (cond a (Err refused_as.ConsumedSize) (cond b (Err refused_as.ProducedSize) (Ok admitted)))
+fixed_step P true b admitted holds = tt
+fixed_step P false true admitted holds = tt
+fixed_step P false false admitted holds = holds
+
+fixed_holds : (P : ℕ → Type 0) (t : AdapterTable) (request : OpenFields) (said : Result Admitted Refusal) → AdmittedHolds P said → AdmittedHolds P (fixed t.profile.description request said)
+fixed_holds P t request (Err why) holds = tt
+fixed_holds P t request (Ok admitted) holds = fixed_step P (is_variable t.profile.description request.o_t_params) (is_variable t.profile.description request.t_o_params) admitted holds
+
 limited_step : (P : ℕ → Type 0) (b : Bool) (admitted : Admitted) → GroupHolds P admitted.group → AdmittedHolds P (cond b (Err refused_as.OutOfConnections) (Ok admitted))
 limited_step P true admitted holds = tt
 limited_step P false admitted holds = holds
@@ -216,7 +227,7 @@ HasDrawn P Q t to = IdsFromTo P t.profile.incarnation t.next_id to × FromTo Q t
 
 open_holds : (P Q : ℕ → Type 0) → Cuts P → (t : AdapterTable) (peer : Node) (large : Bool) (request : OpenFields) (said : Result Admitted Refusal) (to : ℕ) → (judged_open t peer large request said).table.next_id ≤ to → HasDrawn P Q t to → AdmittedHolds P said → P request.t_o_id.0 → RowsHold P Q t.rows → ServedHolds P Q (judged_open t peer large request said)
 unfolding admitted_open opened_table opened_row
-open_holds P Q cuts t peer large request (Err why) to below drawn joins requested rows = (refused_ids P _ (refusal_fault why) (Some request.triad) refl, rows)
+open_holds P Q cuts t peer large request (Err why) to below drawn joins requested rows = (refused_ids P _ (opening_fault t.profile.description request why) (Some request.triad) refl, rows)
 open_holds P Q cuts t peer large request (Ok admitted) to below drawn joins requested rows =
     let one = draws_some admitted.multicast admitted.group in
     let o_t = drawn.0 t.next_id (omega arith) (omega (arith, below, one)) in
@@ -261,13 +272,13 @@ served_holds P Q cuts t peer (closing request) to below drawn ids rows = end_hol
 served_holds P Q cuts t peer (object service class instance attribute body) to below drawn ids rows = object_holds P Q t service (object_answer t service class instance attribute body) rows
 served_holds P Q cuts t peer (opening large request) to below drawn ids rows =
     open_holds P Q cuts t peer large request (limited_admission t peer request) to below drawn
-    (paced_holds P (has_opened_enough_at t peer) _ (limited_holds P t.profile.limits t.rows peer (admission t request) (admission_holds P Q t request rows))) ids rows
+    (paced_holds P (has_opened_enough_at t peer) _ (limited_holds P t.profile.limits t.rows peer _ (fixed_holds P t request (admission t request) (admission_holds P Q t request rows)))) ids rows
 
 -- ---- what is replied over a stream
 
 class3_holds : (P Q : ℕ → Type 0) → Cuts P → (t : AdapterTable) (stream : Stream) (large : Bool) (request : OpenFields) (c : Check) (to : ℕ) → (judged_class3 t stream large request c).table.next_id ≤ to → HasDrawn P Q t to → P request.t_o_id.0 → RowsHold P Q t.rows → ServedHolds P Q (judged_class3 t stream large request c)
 unfolding messages_table opened_class3
-class3_holds P Q cuts t stream large request (Some why) to below drawn requested rows = (refused_ids P _ (refusal_fault why) (Some request.triad) refl, rows)
+class3_holds P Q cuts t stream large request (Some why) to below drawn requested rows = (refused_ids P _ (opening_fault t.profile.description request why) (Some request.triad) refl, rows)
 class3_holds P Q cuts t stream large request None to below drawn requested rows =
     let o_t = drawn.0 t.next_id (omega arith) (omega (arith, below)) in
     (opened_ids P large _ (cuts _ o_t) (cuts _ requested), rows)
@@ -349,7 +360,7 @@ handled_holds P Q cuts to t stream request_header body command.UnregisterSession
 handled_holds P Q cuts to t stream request_header body command.SendRrData drawn ids rows =
     either (HandledHolds P Q to) (has_session stream request_header.session) _ _ (packet_holds P Q cuts to t stream request_header.context (packet_reading body) drawn ids rows) (λ below. (tt, rows))
 handled_holds P Q cuts to t stream request_header body command.SendUnitData drawn ids rows =
-    either (HandledHolds P Q to) (has_session stream request_header.session) (unit_replied t stream (connected_reading body)) (refusal t encap.InvalidCommand)
+    either (HandledHolds P Q to) (has_session stream request_header.session) (unit_replied t stream (connected_reading body)) (refusal t (outside_session t.profile.description))
     (of_messages P Q to t (unit_replied t stream (connected_reading body)) (unit_of t stream (connected_reading body)) rows) (λ below. (tt, rows))
 handled_holds P Q cuts to t stream request_header body _ drawn ids rows = λ below. (tt, rows)
 
@@ -422,9 +433,14 @@ OkHolds P Q to (Err fault) = Unit {0}
 inquiry_holds : (P Q : ℕ → Type 0) (to : Recipient) (t : AdapterTable) (text : List ℕ) → IsPlainText text → RowsHold P Q t.rows → AnswerIds P (frame_alone to text) × RowsHold P Q t.rows
 inquiry_holds P Q to t text plain rows = (record { frames = (plain_ids P text plain, tt); datagrams = tt }, rows)
 
-stream_holds : ItemsReadBack → (P Q : ℕ → Type 0) → Cuts P → (to : ℕ) (t : AdapterTable) (stream : Stream) (bytes : List ℕ) (reply : Option (List ℕ)) → IfSome reply IsPlainText → HasDrawn P Q t to → FrameIds P bytes → RowsHold P Q t.rows → NextHolds P Q to (stream_answer t stream bytes reply)
+read_holds : ItemsReadBack → (P Q : ℕ → Type 0) → Cuts P → (to : ℕ) (t : AdapterTable) (stream : Stream) (bytes : List ℕ) → HasDrawn P Q t to → FrameIds P bytes → RowsHold P Q t.rows → NextHolds P Q to (frame_answer t stream (frame_reading bytes))
 unfolding frame_reading
-stream_holds back P Q cuts to t stream bytes None plain drawn ids rows = message_holds back P Q cuts to t stream _ (message_reading bytes) drawn ids rows
+read_holds back P Q cuts to t stream bytes drawn ids rows = message_holds back P Q cuts to t stream _ (message_reading bytes) drawn ids rows
+
+stream_holds : ItemsReadBack → (P Q : ℕ → Type 0) → Cuts P → (to : ℕ) (t : AdapterTable) (stream : Stream) (bytes : List ℕ) (reply : Option (List ℕ)) → IfSome reply IsPlainText → HasDrawn P Q t to → FrameIds P bytes → RowsHold P Q t.rows → NextHolds P Q to (stream_answer t stream bytes reply)
+stream_holds back P Q cuts to t stream bytes None plain drawn ids rows =
+    answer_has (NextHolds P Q to) t stream bytes (read_holds back P Q cuts to t stream bytes drawn ids rows) (wrong_length_holds back P Q to t stream (fields_at header_widths bytes) rows)
+    (λ below small. (record { frames = tt; datagrams = tt }, rows))
 stream_holds back P Q cuts to t stream bytes (Some text) plain drawn ids rows = λ below small. inquiry_holds P Q (OverStream stream.number) t text plain rows
 
 inquired_holds : (P Q : ℕ → Type 0) (to : ℕ) (t : AdapterTable) (peer : Node) (reply : Option (List ℕ)) → IfSome reply IsPlainText → RowsHold P Q t.rows → NextHolds P Q to (inquired_by t peer reply)

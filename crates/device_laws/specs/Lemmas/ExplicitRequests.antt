@@ -16,7 +16,7 @@ use Rattle.scanner_table.specs.declared.table.ScannerTable.{ScannerTable}
 use Rattle.scanner_table.specs.declared.table.Session.{Session}
 use Rattle.scanner_table.specs.declared.table.TargetStream.{TargetStream}
 use Rattle.scanner_table.specs.Effects.{Next, done}
-use Rattle.scanner_table.specs.Encapsulation.{message_answer, reported}
+use Rattle.scanner_table.specs.Encapsulation.{ends_session, session_renewed, message_answer, reported}
 use Rattle.scanner_table.specs.Explicit.{service_of, is_for_slots, is_barred, connects_to, has_explicit_length, explicit_sent, explicit_within, explicit_sized, explicit_request, explicit_reply, explicit_answered, without_explicit}
 use Rattle.scanner_table.specs.Requests.{Request, registering, opening, closing, requesting, Sent}
 use Rattle.scanner_table.specs.Sessions.{session_with}
@@ -122,7 +122,11 @@ answered_ends : (Q : Next → Type 0) (t : ScannerTable) → Ends Q t → (pendi
 answered_ends Q t ends pending (Ok reply) = ends pending (explicit_answered t pending (Ok reply)).0 refl refl
 answered_ends Q t ends pending (Err why) = ends pending (explicit_answered t pending (Err why)).0 refl refl
 
--- what holds of a message that is none's, and of one that ends a request, holds of each message
-pub message_ends : (Q : Next → Type 0) (t : ScannerTable) (stream : TargetStream) (m : MessageFields) → Q (reported t stream m stream.stage) → Ends Q t → (found : Option PendingExplicit) → Q (message_answer t stream m found)
-message_ends Q t stream m reports ends None = reports
-message_ends Q t stream m reports ends (Some pending) = answered_ends Q t ends pending (explicit_reply pending.service m)
+ends_step : (b : Bool) (Q : Next → Type 0) (t : ScannerTable) (stream : TargetStream) → Q (done (session_renewed stream t)) → Ends Q t → (pending : PendingExplicit) (reply : Result RouterReplyFields Unanswered) → Q (cond b (done (session_renewed stream t)) (explicit_answered t pending reply))
+ends_step true Q t stream renews ends pending reply = renews
+ends_step false Q t stream renews ends pending reply = answered_ends Q t ends pending reply
+
+-- what holds of a message that is none's, of one that ends the session, and of one that ends a request, holds of each message
+pub message_ends : (Q : Next → Type 0) (t : ScannerTable) (stream : TargetStream) (m : MessageFields) → Q (reported t stream m stream.stage) → Q (done (session_renewed stream t)) → Ends Q t → (found : Option PendingExplicit) → Q (message_answer t stream m found)
+message_ends Q t stream m reports renews ends None = reports
+message_ends Q t stream m reports renews ends (Some pending) = ends_step (ends_session t m) Q t stream renews ends pending (explicit_reply pending.service m)

@@ -5,9 +5,10 @@ use Rattle.std.specs.Option.{IfSome}
 use Rattle.std.specs.Str.{bytes_eq}
 use Rattle.cip_types.specs.declared.names.Node.{Node}
 use Rattle.cip_types.specs.Texts.{Tailed}
+use Rattle.cip_types.specs.Fields.{fields_at}
 use Rattle.cip_encap.specs.declared.message.EncapFault.{EncapFault}
 use Rattle.cip_encap.specs.declared.packet.ItemFault.{ItemFault}
-use Rattle.cip_encap.specs.Message.{MessageFields}
+use Rattle.cip_encap.specs.Message.{MessageFields, header_widths}
 use Rattle.cip_encap.specs.ConnectedReading.{connected_reading}
 use Rattle.cip_encap.specs.Packet.{PacketFields}
 use Rattle.cip_encap.specs.PacketReading.{packet_reading}
@@ -36,7 +37,7 @@ use Rattle.adapter_table.specs.Messages.{messages_table}
 use Rattle.adapter_table.specs.Own.{OwnRequest, own_of, cannot_ask}
 use Rattle.adapter_table.specs.Closing.{stays, without_triad, closed_table}
 use Rattle.adapter_table.specs.Connections.{Row}
-use Rattle.adapter_table.specs.Encapsulation.{Handled, refusal, unanswered, session_begun, session_ended, register_session, request_replied, request_handled, packet_replied, unit_replied, handled, framed, frame_answer, stream_answer, frame_of}
+use Rattle.adapter_table.specs.Encapsulation.{Handled, refusal, unanswered, session_begun, session_ended, register_session, request_replied, request_handled, packet_replied, unit_replied, handled, framed, frame_answer, stream_answer, frame_of, outside_session}
 use Rattle.adapter_table.specs.Inquiries.{inquiry_reply}
 use Rattle.adapter_table.specs.Objects.{ObjectAnswer, object_answer}
 use Rattle.adapter_table.specs.Objects as objects
@@ -46,6 +47,7 @@ use Rattle.adapter_table.specs.Rows.{has_triad}
 use Rattle.adapter_table.specs.StatedLimits.{limited_admission, is_wrong_closer, is_wrong_ender}
 use Rattle.adapter_table.specs.Streams.{without_stream, has_session, registered_table}
 use Rattle.adapter_table.specs.Lemmas.LimitLemmas.{limited_is}
+use Rattle.adapter_table.specs.Lemmas.FrameLemmas.{answer_has}
 use Rattle.device_laws.specs.Lemmas.Lists.{all_both, all_filtered}
 use Rattle.device_laws.specs.Lemmas.MessageSteps.{IsOfMessages, unit_of}
 use Rattle.device_laws.specs.Lemmas.Texts.{either}
@@ -157,7 +159,7 @@ handled_rows O t stream echo body command.UnregisterSession makes rows =
     either (HandledRows O) (has_session stream echo.session) (session_ended t stream) (unanswered t) (without_rows O t stream.number rows) rows
 handled_rows O t stream echo body command.SendRrData makes rows = either (HandledRows O) (has_session stream echo.session) _ _ (packet_rows O t stream echo.context (packet_reading body) makes rows) rows
 handled_rows O t stream echo body command.SendUnitData makes rows =
-    either (HandledRows O) (has_session stream echo.session) (unit_replied t stream (connected_reading body)) (refusal t encap.InvalidCommand)
+    either (HandledRows O) (has_session stream echo.session) (unit_replied t stream (connected_reading body)) (refusal t (outside_session t.profile.description))
     (unit_rows O t (unit_replied t stream (connected_reading body)) (unit_of t stream (connected_reading body)) rows) rows
 handled_rows O t stream echo body command.Other makes rows = rows
 
@@ -176,9 +178,13 @@ message_rows : (O : Row → Type 0) (t : AdapterTable) (stream : Stream) (header
 message_rows O t stream header (Err why) makes rows = wrong_length_rows O t stream header rows
 message_rows O t stream header (Ok m) makes rows = handled_rows O t stream (request_header_of m) m.payload (command_of m.command) (makes m refl) rows
 
-stream_rows : (O : Row → Type 0) (t : AdapterTable) (stream : Stream) (bytes : List ℕ) (reply : Option (List ℕ)) → MessageMakes O t (message_reading bytes) → RowsAre O t → NextRows O (stream_answer t stream bytes reply)
+read_rows : (O : Row → Type 0) (t : AdapterTable) (stream : Stream) (bytes : List ℕ) → MessageMakes O t (message_reading bytes) → RowsAre O t → NextRows O (frame_answer t stream (frame_reading bytes))
 unfolding frame_reading
-stream_rows O t stream bytes None makes rows = message_rows O t stream _ (message_reading bytes) makes rows
+read_rows O t stream bytes makes rows = message_rows O t stream _ (message_reading bytes) makes rows
+
+stream_rows : (O : Row → Type 0) (t : AdapterTable) (stream : Stream) (bytes : List ℕ) (reply : Option (List ℕ)) → MessageMakes O t (message_reading bytes) → RowsAre O t → NextRows O (stream_answer t stream bytes reply)
+stream_rows O t stream bytes None makes rows =
+    answer_has (NextRows O) t stream bytes (read_rows O t stream bytes makes rows) (wrong_length_rows O t stream (fields_at header_widths bytes) rows) rows
 stream_rows O t stream bytes (Some text) makes rows = rows
 
 pub frame_rows : (O : Row → Type 0) (t : AdapterTable) (bytes : List ℕ) (found : Option Stream) → MessageMakes O t (message_reading bytes) → RowsAre O t → IfOk (frame_of t bytes found) (NextRows O)

@@ -32,7 +32,7 @@ use Rattle.scanner_table.specs.Effects.{nothing, and_then, changed, done}
 use Rattle.scanner_table.specs.Opening.{has_request, ready_opened, target_opened}
 use Rattle.scanner_table.specs.Replies.{open_answer, is_id_free, failed_slot, refused, disowned, disowned_within, rejected, judged_success, answered}
 use Rattle.scanner_table.specs.Closing.{given_up, target_lost}
-use Rattle.scanner_table.specs.Encapsulation.{registering_on, ignored, stream_opened, cut_of, stream_cut, is_registered, session_begun, session_failed, registered, is_awaiting, replied, replied_to, reported, frame_answer, frame_of, frame}
+use Rattle.scanner_table.specs.Encapsulation.{registering_on, ignored, stream_opened, cut_of, stream_cut, is_registered, session_begun, session_failed, registered, ends_session, session_renewed, unserved_state, unserved, unserved_at, is_awaiting, replied, replied_to, reported, frame_answer, frame_of, frame}
 use Rattle.scanner_table.specs.declared.explicit.PendingExplicit.{PendingExplicit}
 use Rattle.scanner_table.specs.Explicit.{awaits, without_explicit, explicit_sent, explicit_request, explicit_timed_out, explicit_lost}
 use Rattle.scanner_table.specs.Ticks.{clocked_table, all_expired, all_given_up, advanced}
@@ -150,19 +150,37 @@ replied_to_leads : (R : ScannerTable → ScannerTable → Type 0) (t : ScannerTa
 replied_to_leads R t kept m p None is = kept.slots.same t
 replied_to_leads R t kept m p (Some place) is = replied_leads R t kept place m place.slot.state refl (each_found (Stands t) p (indexed_slots t) place is (each_stands t))
 
+-- the session on a stream ends, and a new one is registered
+renewed_leads : (R : ScannerTable → ScannerTable → Type 0) → KeptQuietly R → (t : ScannerTable) (stream : TargetStream) → R t (session_renewed stream t).table
+renewed_leads R kept t stream =
+    let now = with_stage t stream.number Waiting in
+    let lost = (target_lost stream.peer now).table in
+    kept.slots.after t lost (explicit_lost stream.number lost).table (kept.slots.after t now lost (kept.streams t now.streams) (lost_leads R kept.slots stream.peer now)) (ended_leads R kept stream.number lost)
+
+unserved_leads : (R : ScannerTable → ScannerTable → Type 0) → Kept R → (t : ScannerTable) (place : IndexedSlot) (status : ℕ) (state : SlotState) → Stands t place → R t (unserved_state status t place state).table
+unserved_leads R kept t place status (Opening o) stands = failed_leads R kept t place stands
+unserved_leads R kept t place status other stands = kept.same t
+
+answered_at_leads : (b : Bool) (R : ScannerTable → ScannerTable → Type 0) (t : ScannerTable) → KeptQuietly R → (stream : TargetStream) (m : MessageFields) (p : IndexedSlot → Bool) (found : Option IndexedSlot) → find p (indexed_slots t) ≡ found → R t (cond b (unserved_at t stream m found) (replied_to t m found)).1
+answered_at_leads true R t kept stream m p None is = kept.slots.same t
+answered_at_leads true R t kept stream m p (Some place) is =
+    let u = (unserved m.status t place).table in
+    kept.slots.after t u (session_renewed stream u).table (unserved_leads R kept.slots t place m.status place.slot.state (each_found (Stands t) p (indexed_slots t) place is (each_stands t))) (renewed_leads R kept u stream)
+answered_at_leads false R t kept stream m p found is = replied_to_leads R t kept m p found is
+
 first_step : (b : Bool) (R : ScannerTable → ScannerTable → Type 0) (t : ScannerTable) → KeptQuietly R → (stream : TargetStream) (m : MessageFields) → R t (cond b (done (registered t stream m)) (ignored t)).1
 first_step true R t kept stream m = session_step (is_registered m) R kept t stream m.session
 first_step false R t kept stream m = kept.slots.same t
 
 reported_leads : (R : ScannerTable → ScannerTable → Type 0) (t : ScannerTable) → KeptQuietly R → (stream : TargetStream) (m : MessageFields) (stage : Stage) → R t (reported t stream m stage).1
 reported_leads R t kept stream m Waiting = first_step (m.context == 0) R t kept stream m
-reported_leads R t kept stream m (Up handle) = replied_to_leads R t kept m (is_awaiting stream.peer m.context) (find (is_awaiting stream.peer m.context) (indexed_slots t)) refl
+reported_leads R t kept stream m (Up handle) = answered_at_leads (ends_session t m) R t kept stream m (is_awaiting stream.peer m.context) (find (is_awaiting stream.peer m.context) (indexed_slots t)) refl
 reported_leads R t kept stream m Unused = kept.slots.same t
 
 frame_answer_leads : (R : ScannerTable → ScannerTable → Type 0) (t : ScannerTable) → KeptQuietly R → (stream : TargetStream) (reading : Result MessageFields EncapFault) → R t (frame_answer t stream reading).1
 frame_answer_leads R t kept stream (Err why) = kept.slots.same t
 frame_answer_leads R t kept stream (Ok m) =
-    message_ends (λ next. R t next.1) t stream m (reported_leads R t kept stream m stream.stage)
+    message_ends (λ next. R t next.1) t stream m (reported_leads R t kept stream m stream.stage) (renewed_leads R kept t stream)
     (λ pending answer silent quiet. kept.explicit t (without_explicit t pending).explicit t.next_request (omega arith)) (find (awaits stream.number m.context) t.explicit)
 
 frame_of_leads : (R : ScannerTable → ScannerTable → Type 0) (t : ScannerTable) → KeptQuietly R → (bytes : List ℕ) (found : Option TargetStream) → Leads R t (frame_of t bytes found)

@@ -31,7 +31,8 @@ use Rattle.cip_types.specs.Ids.{connection_id}
 use Rattle.scanner_table.specs.Requests.{Request, registering, opening, closing, requesting, Sent, manager_text, sent_message, sent_frame, id_or_zero}
 use Rattle.scanner_table.specs.Replies.{disowned}
 use Rattle.scanner_table.specs.Effects.{Next, Effect, after, done}
-use Rattle.scanner_table.specs.Encapsulation.{registering_on, stream_opened}
+use Rattle.scanner_table.specs.declared.table.TargetStream.{TargetStream}
+use Rattle.scanner_table.specs.Encapsulation.{registering_on, registering_again, stream_opened}
 use Rattle.scanner_table.specs.Explicit.{explicit_sent}
 use Rattle.scanner_table.specs.Opening.{open_requested, close_requested}
 use Rattle.scanner_table.specs.Sessions.{is_taken}
@@ -235,6 +236,9 @@ closed_asks id t place link desired_up session = record { profile = refl; ids = 
 disowned_asks : (id : ℕ) (t : ScannerTable) (config : SlotConfig) (triad : Triad) (session : Session) → Asks id t (disowned t config triad session)
 disowned_asks id t config triad session = record { profile = refl; ids = omega arith; requested = λ byte below. record { fits = (tt, tt); count = omega arith } }
 
+registering_again_asks : (id : ℕ) (t : ScannerTable) (stream : TargetStream) → Asks id t (registering_again t stream)
+registering_again_asks id t stream = record { profile = refl; ids = omega arith; requested = λ byte below. record { fits = (tt, tt); count = omega arith } }
+
 explicit_asks : (id : ℕ) (t : ScannerTable) (session : Session) (number : ℕ) (bytes : List ℕ) → IsExplicit bytes → Asks id t (explicit_sent t session number bytes)
 explicit_asks id t session number bytes explicit = record { profile = refl; ids = omega arith; requested = λ byte below. record { fits = (explicit, tt); count = omega arith } }
 
@@ -245,6 +249,7 @@ effects_ask id some = record {
   opens = λ t place session is. requested_asks id some t place session;
   closes = λ t place link desired_up session is. closed_asks id t place link desired_up session;
   disowns = λ t config triad session is. disowned_asks id t config triad session;
+  registers = λ t stream is_open. registering_again_asks id t stream;
   requests = λ t target session number bytes goes. explicit_asks id t session number bytes goes.explicit;
 }
 

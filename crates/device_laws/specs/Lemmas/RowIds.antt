@@ -11,9 +11,10 @@ use Rattle.cip_datagram.specs.Datagram.{DatagramFields}
 use Rattle.cip_datagram.specs.Reading.{datagram_reading}
 use Rattle.cip_encap.specs.declared.message.EncapFault.{EncapFault}
 use Rattle.cip_encap.specs.declared.packet.ItemFault.{ItemFault}
-use Rattle.cip_encap.specs.Message.{MessageFields}
+use Rattle.cip_encap.specs.Message.{MessageFields, header_widths}
 use Rattle.cip_encap.specs.Reading.{message_reading}
 use Rattle.cip_types.specs.Texts.{Tailed}
+use Rattle.cip_types.specs.Fields.{fields_at}
 use Rattle.cip_encap.specs.ConnectedReading.{connected_reading}
 use Rattle.cip_encap.specs.Packet.{PacketFields}
 use Rattle.cip_encap.specs.PacketReading.{packet_reading}
@@ -46,7 +47,7 @@ use Rattle.adapter_table.specs.declared.profile.InputPoint.{InputPoint}
 use Rattle.adapter_table.specs.Connections.{Row}
 use Rattle.adapter_table.specs.declared.row.State.{State}
 use Rattle.adapter_table.specs.declared.row.State.TheVariants.{Established, TimedOut}
-use Rattle.opening_rates.specs.declared.rates.NodeOpenings.{NodeOpenings}
+use Rattle.adapter_table.specs.declared.opening_rates.rates.NodeOpenings.{NodeOpenings}
 use Rattle.adapter_table.specs.declared.table.AdapterTable.{AdapterTable}
 use Rattle.adapter_table.specs.Rates.{with_openings}
 use Rattle.adapter_table.specs.declared.table.Stream.{Stream}
@@ -57,7 +58,7 @@ use Rattle.adapter_table.specs.Own.{OwnRequest, own_of, cannot_ask}
 use Rattle.adapter_table.specs.StatedLimits.{limited_admission, is_wrong_closer, is_wrong_ender}
 use Rattle.adapter_table.specs.Closing.{stays, without_triad, closed_table}
 use Rattle.adapter_table.specs.Datagrams.{is_for, accepted_row, accepted_if_for, row_delivery, accepted_table, delivered, found_datagram, datagram_of, received}
-use Rattle.adapter_table.specs.Encapsulation.{Handled, refusal, unanswered, session_begun, session_ended, register_session, request_replied, request_handled, packet_replied, unit_replied, handled, framed, frame_answer, stream_answer, frame_of, frame}
+use Rattle.adapter_table.specs.Encapsulation.{Handled, refusal, unanswered, session_begun, session_ended, register_session, request_replied, request_handled, packet_replied, unit_replied, handled, framed, frame_answer, stream_answer, frame_of, frame, outside_session, frame_for}
 use Rattle.adapter_table.specs.Newest.{was_opened_as}
 use Rattle.adapter_table.specs.Opening.{opened_row, opened_table}
 use Rattle.adapter_table.specs.Objects.{ObjectAnswer, object_answer}
@@ -80,6 +81,7 @@ use Rattle.device_laws.specs.Lemmas.Admissions.{opening_produced}
 use Rattle.device_laws.specs.Lemmas.Serving.{new_row_found}
 use Rattle.adapter_table.specs.Lemmas.LimitLemmas.{limited_is}
 use Rattle.adapter_table.specs.Lemmas.PassiveLemmas.{passive_holds}
+use Rattle.adapter_table.specs.Lemmas.FrameLemmas.{answer_has}
 
 -- ---- a list and its elements
 
@@ -317,7 +319,7 @@ handled_after O t stream echo body command.UnregisterSession asks drawn =
 handled_after O t stream echo body command.SendRrData asks drawn =
     either (HandledAfter O t stream.peer) (has_session stream echo.session) _ _ (packet_after O t stream echo.context (packet_reading body) asks drawn) (stays_so O t stream.peer)
 handled_after O t stream echo body command.SendUnitData asks drawn =
-    either (HandledAfter O t stream.peer) (has_session stream echo.session) (unit_replied t stream (connected_reading body)) (refusal t encap.InvalidCommand)
+    either (HandledAfter O t stream.peer) (has_session stream echo.session) (unit_replied t stream (connected_reading body)) (refusal t (outside_session t.profile.description))
     (unit_after O t stream.peer (unit_replied t stream (connected_reading body)) (unit_of t stream (connected_reading body))) (stays_so O t stream.peer)
 handled_after O t stream echo body command.Other asks drawn = stays_so O t stream.peer
 
@@ -337,9 +339,13 @@ message_after : (O : OpenFields → Type 0) (t : AdapterTable) (stream : Stream)
 message_after O t stream header (Err why) asks drawn = misfit_after O t stream header
 message_after O t stream header (Ok m) asks drawn = handled_after O t stream (request_header_of m) m.payload (command_of m.command) (asks m refl) drawn
 
-frame_after : (O : OpenFields → Type 0) (t : AdapterTable) (stream : Stream) (bytes : List ℕ) → MessageRequests O (message_reading bytes) → IdsAreDrawn t.profile t.next_id t.rows → NextAfter O t stream.peer (frame_answer t stream (frame_reading bytes))
+read_after : (O : OpenFields → Type 0) (t : AdapterTable) (stream : Stream) (bytes : List ℕ) → MessageRequests O (message_reading bytes) → IdsAreDrawn t.profile t.next_id t.rows → NextAfter O t stream.peer (frame_answer t stream (frame_reading bytes))
 unfolding frame_reading
-frame_after O t stream bytes asks drawn = message_after O t stream _ (message_reading bytes) asks drawn
+read_after O t stream bytes asks drawn = message_after O t stream _ (message_reading bytes) asks drawn
+
+frame_after : (O : OpenFields → Type 0) (t : AdapterTable) (stream : Stream) (bytes : List ℕ) → MessageRequests O (message_reading bytes) → IdsAreDrawn t.profile t.next_id t.rows → NextAfter O t stream.peer (frame_answer t stream (frame_for t.profile.description bytes))
+frame_after O t stream bytes asks drawn =
+    answer_has (NextAfter O t stream.peer) t stream bytes (read_after O t stream bytes asks drawn) (misfit_after O t stream (fields_at header_widths bytes)) (stays_so O t stream.peer)
 
 -- a frame that opens a connection can be read as the request to open it
 frame_requests : (bytes : List ℕ) → MessageRequests (IsOpening bytes) (message_reading bytes)
@@ -366,11 +372,11 @@ table_stays t happens = rows_stay t t happens (were_there t) refl
 stream_came : (t : AdapterTable) (number : ℕ) (bytes : List ℕ) (stream : Stream) (reply : Option (List ℕ)) → find (is_stream number) t.streams ≡ Some stream → IdsAreDrawn t.profile t.next_id t.rows → Came t (stream_answer t stream bytes reply).1 (event.Frame number bytes)
 stream_came t number bytes stream (Some text) is drawn = table_stays t (event.Frame number bytes)
 stream_came t number bytes stream None is drawn =
-    let next = (frame_answer t stream (frame_reading bytes)).1 in
+    let next = (frame_answer t stream (frame_for t.profile.description bytes)).1 in
     let goes : TableAfter (IsOpening bytes) t stream.peer next = frame_after (IsOpening bytes) t stream bytes (frame_requests bytes) drawn in
     record { rows = all_more (RowAfter (IsOpening bytes) t next stream.peer) (RowCame t next (event.Frame number bytes)) news next.rows goes.rows; streams = old_streams t (event.Frame number bytes) next.streams goes.streams }
   where
-    news : (row : Row) → RowAfter (IsOpening bytes) t (frame_answer t stream (frame_reading bytes)).1 stream.peer row → RowCame t (frame_answer t stream (frame_reading bytes)).1 (event.Frame number bytes) row
+    news : (row : Row) → RowAfter (IsOpening bytes) t (frame_answer t stream (frame_for t.profile.description bytes)).1 stream.peer row → RowCame t (frame_answer t stream (frame_for t.profile.description bytes)).1 (event.Frame number bytes) row
     news row (inl was) = inl was
     news row (inr new) = inr (record { stream = stream; found = is; new = new.new; request = new.request; requested = new.so; produced = new.produced })
 

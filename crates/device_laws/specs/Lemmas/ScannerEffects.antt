@@ -1,7 +1,7 @@
 -- What an event of a scanner does: its answer has the frames of one effect, which opens slots, closes one, sends an explicit request
 -- or sends nothing. So a
 -- relation between a table and an effect holds of each step, if it holds of these and of one effect after another.
-use Rattle.std.proofs.Common.{◌≡◌, ◌⊎◌, inl, inr, ℕ, ◌+◌, ◌==◌, nat_lt, Bool, false, cond, List, [], ◌∷◌, map, filter, find, Option, Some, None, Result, Ok, Err, IfOk, refl}
+use Rattle.std.proofs.Common.{◌≡◌, ◌⊎◌, inl, inr, ℕ, ◌+◌, ◌==◌, nat_lt, Bool, true, false, cond, List, [], ◌∷◌, map, filter, find, Option, Some, None, Result, Ok, Err, IfOk, refl, sym, ◌∙◌, ap}
 use Rattle.std.specs.List.{list_any, AllByRecursion}
 use Rattle.cip_types.specs.Cases.{first_case}
 use Rattle.cip_types.specs.declared.names.Mismatch.{Mismatch}
@@ -35,11 +35,11 @@ use Rattle.scanner_table.specs.declared.table.Stage.{Stage}
 use Rattle.scanner_table.specs.declared.table.Stage.TheVariants.{Waiting, Up, Unused}
 use Rattle.scanner_table.specs.declared.table.TargetStream.{TargetStream}
 use Rattle.scanner_table.specs.Requests.{Sent, is_large, sent_frame}
-use Rattle.scanner_table.specs.Closing.{requested_link, left_state, idle_slot, given_up_state, given_up, target_lost, reopened, closed, left_slot, closed_within, dropped, slot_resigned, stopped, stopped_at}
-use Rattle.scanner_table.specs.Effects.{Next, Effect, after, on_each, changed, done}
-use Rattle.scanner_table.specs.Encapsulation.{registering_on, stream_opened, cut_of, stream_cut, is_registered, session_begun, session_failed, registered, ignored, is_awaiting, replied, replied_to, reported, frame_answer, frame_of, frame}
+use Rattle.scanner_table.specs.Closing.{requested_link, left_state, idle_slot, unclosed_slot, given_up_state, given_up, target_lost, reopened, closed, left_slot, closed_within, dropped, slot_resigned, stopped, stopped_at}
+use Rattle.scanner_table.specs.Effects.{Next, Effect, after, and_then, on_each, changed, done}
+use Rattle.scanner_table.specs.Encapsulation.{registering_on, stream_opened, cut_of, stream_cut, is_registered, session_begun, session_failed, registered, ends_session, registering_again, session_renewed, unserved_state, unserved, unserved_at, ignored, is_awaiting, replied, replied_to, reported, frame_answer, frame_of, frame}
 use Rattle.scanner_table.specs.Explicit.{awaits, explicit_sent, explicit_request, explicit_timed_out, explicit_lost}
-use Rattle.scanner_table.specs.Opening.{has_request, can_open, open_requested, exhausted, opened_within, close_requested, cleared_within, opened_from, opened, resigned, ready_slots, ready_opened, target_opened}
+use Rattle.scanner_table.specs.Opening.{has_request, can_open, open_requested, exhausted, opened_within, close_requested, cleared_within, opened_from, has_place, open_session, asking_in, asking_session, opened, resigned, ready_slots, ready_opened, target_opened}
 use Rattle.scanner_table.specs.Points.{desired_slot, started, start_state, start_at, start, stop_of, stop}
 use Rattle.scanner_table.specs.Productions.{produced_table}
 use Rattle.scanner_table.specs.Replies.{is_id_free, new_connection, established_slot, failed_slot, refused, disowned, disowned_within, rejected, judged_success, open_answer, answered}
@@ -47,6 +47,9 @@ use Rattle.scanner_table.specs.Sessions.{is_stream, is_taken, without_stream, st
 use Rattle.scanner_table.specs.Slots.{IndexedSlot, indexed_slots, is_with, slot_at, with_slot}
 use Rattle.scanner_table.specs.Step.{scanner_step}
 use Rattle.scanner_table.specs.Ticks.{expired_slots, expired_state, expired, all_expired, is_overdue, all_given_up, clocked_table, advanced, moved_on, ticked, tick}
+use Rattle.base_lemmas.specs.Booleans.{or_true}
+use Rattle.base_lemmas.specs.Numbers.{number_same}
+use Rattle.std.proofs.lemmas.Option.{same_Some}
 use Rattle.device_laws.specs.Lemmas.ExplicitRequests.{GoesOut, explicit_holds, message_ends, SendsIfExplicit}
 use Rattle.device_laws.specs.Lemmas.Lists.{all_both}
 use Rattle.device_laws.specs.Lemmas.Texts.{either}
@@ -62,6 +65,10 @@ pub record IsLike (t u : ScannerTable) : Type 0 where
   pub next_id : u.next_id ≡ t.next_id
   pub streams : SameStreams t u
 
+-- the table has the stream, in whatever stage
+abbrev pub IsOpen : TargetStream → ScannerTable → Type 0
+IsOpen stream t = list_any (is_stream stream.number) t.streams ≡ true
+
 -- an effect without a request
 abbrev pub silent : List Notice → ScannerTable → Effect
 silent notices table = record { sent = []; notices = notices; table = table }
@@ -72,6 +79,7 @@ pub record EffectsDo (R : ScannerTable → Effect → Type 0) : Type 0 where
   pub opens : (t : ScannerTable) (place : IndexedSlot) (session : Session) → session_with t place.config.target ≡ Some session → R t (open_requested t place session)
   pub closes : (t : ScannerTable) (place : IndexedSlot) (link : Link) (desired_up : Bool) (session : Session) → session_with t place.config.target ≡ Some session → R t (close_requested t place link desired_up session)
   pub disowns : (t : ScannerTable) (config : SlotConfig) (triad : Triad) (session : Session) → session_with t config.target ≡ Some session → R t (disowned t config triad session)
+  pub registers : (t : ScannerTable) (stream : TargetStream) → IsOpen stream t → R t (registering_again t stream)
   pub requests : (t : ScannerTable) (target : Node) (session : Session) (number : ℕ) (bytes : List ℕ) → GoesOut t target bytes session → R t (explicit_sent t session number bytes)
 
 abbrev Relation : Type 1
@@ -97,34 +105,53 @@ each_does R does effect all [] t = nothing_does R does t
 each_does R does effect all (place ∷ places) t =
     does.next t (effect t place) (on_each effect places (effect t place).table) (all t place) (each_does R does effect all places (effect t place).table)
 
-within_does : (R : Relation) → EffectsDo R → (t : ScannerTable) (place : IndexedSlot) (session : Option Session) → session_with t place.config.target ≡ session → R t (opened_within t place session)
+-- the session in which a slot asks its target, if it may ask, is the one that is registered
+abbrev pub IsOfTarget : ScannerTable → Node → Option Session → Type 0
+IsOfTarget t target asking = (session : Session) → asking ≡ Some session → session_with t target ≡ Some session
+
+turn_asks : (b : Bool) (t : ScannerTable) (target : Node) → IsOfTarget t target (cond b (session_with t target) None)
+turn_asks true t target session is = is
+turn_asks false t target session is = absurd cc
+
+either_asks : (b : Bool) (t : ScannerTable) (target : Node) → IsOfTarget t target (cond b (session_with t target) (open_session t target))
+either_asks true t target session is = is
+either_asks false t target session is = turn_asks (has_place t target) t target session is
+
+pub asks_in : (t : ScannerTable) (target : Node) (state : SlotState) → IsOfTarget t target (asking_in t target state)
+asks_in t target (TimedOut link) = either_asks t.profile.tidy t target
+asks_in t target Idle = turn_asks (has_place t target) t target
+asks_in t target (Opening o) = turn_asks (has_place t target) t target
+asks_in t target (Established c) = turn_asks (has_place t target) t target
+asks_in t target (Closing c) = turn_asks (has_place t target) t target
+
+within_does : (R : Relation) → EffectsDo R → (t : ScannerTable) (place : IndexedSlot) (session : Option Session) → IsOfTarget t place.config.target session → R t (opened_within t place session)
 within_does R does t place None is = nothing_does R does t
 within_does R does t place (Some session) is =
-    either (R t) (can_open t place.config) (open_requested t place session) (exhausted t place) (does.opens t place session is) (changed_does R does t place (resigned place.slot) (notice.NoIds place.number ∷ []))
+    either (R t) (can_open t place.config) (open_requested t place session) (exhausted t place) (does.opens t place session (is session refl)) (changed_does R does t place (resigned place.slot) (notice.NoIds place.number ∷ []))
 
 close_does : (R : Relation) → EffectsDo R → (t : ScannerTable) (place : IndexedSlot) (link : Link) (desired_up : Bool) (session : Session) → session_with t place.config.target ≡ Some session → R t (cond (has_request t) (close_requested t place link desired_up session) (exhausted t place))
 close_does R does t place link desired_up session is =
     either (R t) (has_request t) (close_requested t place link desired_up session) (exhausted t place) (does.closes t place link desired_up session is) (changed_does R does t place (resigned place.slot) (notice.NoIds place.number ∷ []))
 
-cleared_does : (R : Relation) → EffectsDo R → (t : ScannerTable) (place : IndexedSlot) (link : Link) (session : Option Session) → session_with t place.config.target ≡ session → R t (cleared_within t place link session)
+cleared_does : (R : Relation) → EffectsDo R → (t : ScannerTable) (place : IndexedSlot) (link : Link) (session : Option Session) → IsOfTarget t place.config.target session → R t (cleared_within t place link session)
 cleared_does R does t place link None is = nothing_does R does t
-cleared_does R does t place link (Some session) is = close_does R does t place link place.slot.desired_up session is
+cleared_does R does t place link (Some session) is = close_does R does t place link place.slot.desired_up session (is session refl)
 
-from_does : (R : Relation) → EffectsDo R → (t : ScannerTable) (place : IndexedSlot) (session : Option Session) (state : SlotState) → session_with t place.config.target ≡ session → R t (opened_from t place session state)
+from_does : (R : Relation) → EffectsDo R → (t : ScannerTable) (place : IndexedSlot) (session : Option Session) (state : SlotState) → IsOfTarget t place.config.target session → R t (opened_from t place session state)
 from_does R does t place session (TimedOut link) is =
     either (R t) t.profile.tidy (cleared_within t place link session) (opened_within t place session) (cleared_does R does t place link session is) (within_does R does t place session is)
 from_does R does t place session other is = within_does R does t place session is
 
 opened_does : (R : Relation) → EffectsDo R → (t : ScannerTable) (place : IndexedSlot) → R t (opened t place)
 unfolding opened
-opened_does R does t place = from_does R does t place (session_with t place.config.target) place.slot.state refl
+opened_does R does t place = from_does R does t place (asking_session t place) place.slot.state (asks_in t place.config.target place.slot.state)
 
 given_does : (R : Relation) → EffectsDo R → (t : ScannerTable) (place : IndexedSlot) (state : SlotState) → R t (given_up_state t place state)
 given_does R does t place Idle = nothing_does R does t
 given_does R does t place (Opening o) = changed_does R does t place (failed_slot t (left_state t (requested_link o.requested)) place.slot) []
 given_does R does t place (Established c) = nothing_does R does t
 given_does R does t place (TimedOut link) = nothing_does R does t
-given_does R does t place (Closing c) = changed_does R does t place (idle_slot place.slot) []
+given_does R does t place (Closing c) = changed_does R does t place (unclosed_slot t c place.slot) []
 
 expired_does : (R : Relation) → EffectsDo R → (t : ScannerTable) (place : IndexedSlot) (state : SlotState) → R t (expired_state t place state)
 expired_does R does t place Idle = nothing_does R does t
@@ -193,7 +220,7 @@ reopened_does R does t place =
     does.next t (changed t place (idle_slot place.slot) []) (reopened now u) (changed_does R does t place (idle_slot place.slot) [])
     (either (R u) place.slot.desired_up (opened u now) (silent [] u) (opened_does R does u now) (nothing_does R does u))
 
-staged_same : (number : ℕ) (stage : Stage) (n : ℕ) (streams : List TargetStream) → list_any (is_stream n) (map (staged_stream number stage) streams) ≡ list_any (is_stream n) streams
+pub staged_same : (number : ℕ) (stage : Stage) (n : ℕ) (streams : List TargetStream) → list_any (is_stream n) (map (staged_stream number stage) streams) ≡ list_any (is_stream n) streams
 staged_same number stage n [] = refl
 staged_same number stage n (s ∷ streams) =
     let one : is_stream n (staged_stream number stage s) ≡ is_stream n s = either (λ (x : TargetStream). is_stream n x ≡ is_stream n s) (is_stream number s) (record s { stage = stage }) s refl refl in
@@ -244,20 +271,63 @@ awaited_does : (R : Relation) → EffectsDo R → (t : ScannerTable) (m : Messag
 awaited_does R does t m None = inl refl
 awaited_does R does t m (Some place) = replied_does R does t place m place.slot.state
 
-reported_does : (R : Relation) → EffectsDo R → (t : ScannerTable) (stream : TargetStream) (m : MessageFields) (stage : Stage) → NextDoes R t (reported t stream m stage)
-reported_does R does t stream m Waiting =
+lost_does : (R : Relation) → EffectsDo R → (target : Node) (t : ScannerTable) → R t (target_lost target t)
+unfolding target_lost
+lost_does R does target t = each_does R does given_up (λ u place. given_does R does u place place.slot.state) (filter (is_with target) (indexed_slots t)) t
+
+explicit_lost_does : (R : Relation) → EffectsDo R → (stream : ℕ) (t : ScannerTable) → R t (explicit_lost stream t)
+unfolding explicit_lost
+explicit_lost_does R does stream t = does.stays t (explicit_lost stream t).table (explicit_lost stream t).notices (record { profile = refl; next_id = refl; streams = λ n. refl })
+
+-- the session on an open stream ends, and a new one is registered
+renewed_does : (R : Relation) → EffectsDo R → (t : ScannerTable) (stream : TargetStream) → IsOpen stream t → R t (session_renewed stream t)
+renewed_does R does t stream is_open =
+    let first = registering_again t stream in
+    let second = target_lost stream.peer first.table in
+    does.next t (after first second) (explicit_lost stream.number second.table) (does.next t first second (does.registers t stream is_open) (lost_does R does stream.peer first.table)) (explicit_lost_does R does stream.number second.table)
+
+-- behind a slot that is not served
+unserved_does : (R : Relation) → EffectsDo R → (t : ScannerTable) (stream : TargetStream) (place : IndexedSlot) (status : ℕ) (state : SlotState) → IsOpen stream t → R t (and_then (unserved_state status t place state) (session_renewed stream))
+unserved_does R does t stream place status (Opening o) is_open =
+    let first = refused t place (reason.Encap status) in
+    does.next t first (session_renewed stream first.table) (changed_does R does t place (failed_slot t Idle place.slot) (notice.Refused place.number (reason.Encap status) ∷ [])) (renewed_does R does first.table stream is_open)
+unserved_does R does t stream place status Idle is_open = does.next t (silent [] t) (session_renewed stream t) (nothing_does R does t) (renewed_does R does t stream is_open)
+unserved_does R does t stream place status (Established c) is_open = does.next t (silent [] t) (session_renewed stream t) (nothing_does R does t) (renewed_does R does t stream is_open)
+unserved_does R does t stream place status (TimedOut link) is_open = does.next t (silent [] t) (session_renewed stream t) (nothing_does R does t) (renewed_does R does t stream is_open)
+unserved_does R does t stream place status (Closing c) is_open = does.next t (silent [] t) (session_renewed stream t) (nothing_does R does t) (renewed_does R does t stream is_open)
+
+unserved_at_does : (R : Relation) → EffectsDo R → (t : ScannerTable) (stream : TargetStream) (m : MessageFields) (found : Option IndexedSlot) → IsOpen stream t → NextDoes R t (unserved_at t stream m found)
+unserved_at_does R does t stream m None is_open = inl refl
+unserved_at_does R does t stream m (Some place) is_open = done_does R t (and_then (unserved m.status t place) (session_renewed stream)) (unserved_does R does t stream place m.status place.slot.state is_open)
+
+reported_does : (R : Relation) → EffectsDo R → (t : ScannerTable) (stream : TargetStream) (m : MessageFields) (stage : Stage) → IsOpen stream t → NextDoes R t (reported t stream m stage)
+reported_does R does t stream m Waiting is_open =
     either (NextDoes R t) (m.context == 0) (done (registered t stream m)) (ignored t) (done_does R t (registered t stream m) (registered_does R does t stream m)) (inl refl)
-reported_does R does t stream m (Up handle) = awaited_does R does t m (find (is_awaiting stream.peer m.context) (indexed_slots t))
-reported_does R does t stream m Unused = inl refl
+reported_does R does t stream m (Up handle) is_open =
+    let found = find (is_awaiting stream.peer m.context) (indexed_slots t) in
+    either (NextDoes R t) (ends_session t m) (unserved_at t stream m found) (replied_to t m found) (unserved_at_does R does t stream m found is_open) (awaited_does R does t m found)
+reported_does R does t stream m Unused is_open = inl refl
 
-answer_does : (R : Relation) → EffectsDo R → (t : ScannerTable) (stream : TargetStream) (reading : Result MessageFields EncapFault) → NextDoes R t (frame_answer t stream reading)
-answer_does R does t stream (Err why) = inl refl
-answer_does R does t stream (Ok m) =
-    message_ends (NextDoes R t) t stream m (reported_does R does t stream m stream.stage) (λ pending answer none quiet. inl none) (find (awaits stream.number m.context) t.explicit)
+answer_does : (R : Relation) → EffectsDo R → (t : ScannerTable) (stream : TargetStream) (reading : Result MessageFields EncapFault) → IsOpen stream t → NextDoes R t (frame_answer t stream reading)
+answer_does R does t stream (Err why) is_open = inl refl
+answer_does R does t stream (Ok m) is_open =
+    message_ends (NextDoes R t) t stream m (reported_does R does t stream m stream.stage is_open) (done_does R t (session_renewed stream t) (renewed_does R does t stream is_open)) (λ pending answer none quiet. inl none) (find (awaits stream.number m.context) t.explicit)
 
-frame_of_does : (R : Relation) → EffectsDo R → (t : ScannerTable) (bytes : List ℕ) (found : Option TargetStream) → OkDoes R t (frame_of t bytes found)
-frame_of_does R does t bytes None = tt
-frame_of_does R does t bytes (Some stream) = answer_does R does t stream (message_reading bytes)
+found_step : (b : Bool) (first stream : TargetStream) (streams : List TargetStream) (rest : Option TargetStream) → cond b (Some first) rest ≡ Some stream → (rest ≡ Some stream → list_any (is_stream stream.number) streams ≡ true) → list_any (is_stream stream.number) (first ∷ streams) ≡ true
+found_step true first stream streams rest is more =
+    let same = same_Some first stream is in
+    let here : is_stream stream.number first ≡ true = ap (λ (s : TargetStream). is_stream s.number first) (sym same) ∙ number_same first.number in
+    rw here refl
+found_step false first stream streams rest is more = let there = more is in rw there (or_true (is_stream stream.number first))
+
+-- a stream that a lookup found is open
+found_open : (test : TargetStream → Bool) (streams : List TargetStream) (stream : TargetStream) → find test streams ≡ Some stream → list_any (is_stream stream.number) streams ≡ true
+found_open test [] stream is = absurd (let e = is in cc)
+found_open test (first ∷ streams) stream is = found_step (test first) first stream streams (find test streams) is (λ rest. found_open test streams stream rest)
+
+frame_of_does : (R : Relation) → EffectsDo R → (t : ScannerTable) (bytes : List ℕ) (test : TargetStream → Bool) (found : Option TargetStream) → find test t.streams ≡ found → OkDoes R t (frame_of t bytes found)
+frame_of_does R does t bytes test None is = tt
+frame_of_does R does t bytes test (Some stream) is = answer_does R does t stream (message_reading bytes) (found_open test t.streams stream is)
 
 -- slots that give up replies send nothing
 abbrev SendsNone : Effect → Type 0
@@ -360,7 +430,7 @@ EventDoes R t other = OkDoes R t (scanner_step t other)
 pub event_does : (R : Relation) → EffectsDo R → (t : ScannerTable) (happens : Event) → EventDoes R t happens
 unfolding frame stream_cut start stop
 event_does R does t (event.StreamOpened number peer) = tt
-event_does R does t (event.Frame number bytes) = frame_of_does R does t bytes (find (is_stream number) t.streams)
+event_does R does t (event.Frame number bytes) = frame_of_does R does t bytes (is_stream number) (find (is_stream number) t.streams) refl
 event_does R does t (event.StreamCut number) = cut_does R t (find (is_stream number) t.streams)
 event_does R does t (event.Tick ms) = tick_does R does t ms
 event_does R does t (event.Start number) = start_at_does R does t (slot_at t number)
@@ -386,6 +456,7 @@ any_effects = record {
   opens = λ t place session is. (tt, tt);
   closes = λ t place link desired_up session is. (tt, tt);
   disowns = λ t config triad session is. (tt, tt);
+  registers = λ t stream is_open. (tt, tt);
   requests = λ t target session number bytes goes. (goes.explicit, tt);
 }
 

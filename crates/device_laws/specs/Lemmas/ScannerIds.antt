@@ -36,6 +36,8 @@ use Rattle.scanner_table.specs.declared.slot.SlotState.{SlotState}
 use Rattle.scanner_table.specs.declared.slot.SlotState.TheVariants.{Idle, Opening, Established, TimedOut, Closing}
 use Rattle.scanner_table.specs.declared.table.ScannerTable.{ScannerTable}
 use Rattle.scanner_table.specs.declared.table.Session.{Session}
+use Rattle.cip_events.specs.declared.event.Reason.TheVariants as reason
+use Rattle.cip_events.specs.declared.event.Notice.TheVariants as notice
 use Rattle.scanner_table.specs.declared.table.Stage.{Stage}
 use Rattle.scanner_table.specs.declared.table.Stage.TheVariants.{Waiting, Up, Unused}
 use Rattle.scanner_table.specs.declared.table.TargetStream.{TargetStream}
@@ -45,11 +47,11 @@ use Rattle.scanner_table.specs.Closing.{requested_link, idle_slot, target_lost, 
 use Rattle.scanner_table.specs.Datagrams.{accepts_at, is_for, accepted_connection, accepted_table, delivered, accepted, sized, connected, state_received, received_at, received_as, received}
 use Rattle.scanner_table.specs.Effects.{Next, Effect, nothing, and_then, changed, done}
 use Rattle.scanner_table.specs.Explicit.{awaits, explicit_sent, explicit_request, explicit_timed_out, explicit_lost}
-use Rattle.scanner_table.specs.Encapsulation.{registering_on, stream_opened, stream_lost, cut_of, stream_cut, is_registered, session_begun, session_failed, registered, ignored, waits_for, is_awaiting, replied, replied_to, reported, frame_answer, frame_of, frame}
+use Rattle.scanner_table.specs.Encapsulation.{registering_on, stream_opened, stream_lost, cut_of, stream_cut, is_registered, session_begun, session_failed, registered, ends_session, registering_again, session_renewed, unserved_state, unserved, unserved_at, ignored, waits_for, is_awaiting, replied, replied_to, reported, frame_answer, frame_of, frame}
 use Rattle.scanner_table.specs.Opening.{opened, resigned}
 use Rattle.scanner_table.specs.Points.{write_length, write_at, write, output_written, output_slot, same_mode, moded_slot, moded_table, mode, desired_slot, started, start_state, start_at, start, stop_of, stop}
 use Rattle.scanner_table.specs.Productions.{written_state, state_production, slot_production, state_is_due, is_due, by_due, due_slots, due_productions, produced_state, produced_slot, produced_table}
-use Rattle.scanner_table.specs.Replies.{open_answer, answered}
+use Rattle.scanner_table.specs.Replies.{failed_slot, refused, open_answer, answered}
 use Rattle.scanner_table.specs.Sessions.{is_stream, is_taken, without_stream, with_stage, session_with}
 use Rattle.scanner_table.specs.Slots.{IndexedSlot, indexed_slots, is_numbered, slot_at, is_with, with_slot}
 use Rattle.scanner_table.specs.Step.{scanner_step}
@@ -61,7 +63,7 @@ use Rattle.device_laws.specs.Lemmas.Lists.{all_both, all_filtered, all_found, al
 use Rattle.device_laws.specs.Lemmas.Texts.{either, Cuts, message_ids, packet_ids, datagram_id}
 use Rattle.device_laws.specs.Lemmas.Payloads.{request_ids, close_request_ids}
 use Rattle.device_laws.specs.Lemmas.AdapterIds.{plain_protocol, few_bytes}
-use Rattle.device_laws.specs.Lemmas.Slots.{OfSlots, SlotHolds, SlotsHold, IsSlotOf, all_slots, with_slot_holds, mapped_indexed, mapped_slots, Kept, RequestId, SentId, RequestIdsHold, EffectHolds, same_counts, changed_counts, changed_holds, both_hold, closing_holds, left_holds, opened_holds, target_holds, lost_holds, advanced_holds, SaysSo, answered_holds}
+use Rattle.device_laws.specs.Lemmas.Slots.{Counts, OfSlots, SlotHolds, SlotsHold, IsSlotOf, all_slots, with_slot_holds, mapped_indexed, mapped_slots, Kept, RequestId, SentId, RequestIdsHold, EffectHolds, same_counts, changed_counts, changed_holds, both_hold, closing_holds, left_holds, opened_holds, target_holds, lost_holds, advanced_holds, SaysSo, answered_holds}
 use Rattle.scanner_table.specs.Lemmas.Moves.{link_in}
 use Rattle.scanner_table.specs.Lemmas.PassiveLemmas.{passive_holds}
 
@@ -167,25 +169,6 @@ registered_holds back G P cuts to t happens kept requested_ids stream m slots =
     (λ below. target_holds G P t to happens kept requested_ids stream.peer (with_stage t stream.number (Up m.session)) (record { profile = refl; ids = omega arith; requests = omega arith }) below slots)
     (λ below. record { slots = slots; sent = tt }))
 
-reported_holds : ItemsReadBack → (G : OfSlots) (P : ℕ → Type 0) → Cuts P → (to : ℕ) (t : ScannerTable) (happens : Event) → Kept G t to happens → RequestIdsHold P t to → (stream : TargetStream) (m : MessageFields) (stage : Stage) → ComesBy t happens stream m → SlotsHold G t → NextHolds G P to (reported t stream m stage)
-reported_holds back G P cuts to t happens kept requested_ids stream m Waiting by slots =
-    either (NextHolds G P to) (m.context == 0) (done (registered t stream m)) (ignored t) (registered_holds back G P cuts to t happens kept requested_ids stream m slots) (λ below small. (record { frames = tt; datagrams = tt }, slots))
-reported_holds back G P cuts to t happens kept requested_ids stream m (Up handle) by slots =
-    awaited_holds back G P cuts to t happens kept requested_ids stream m (find (is_awaiting stream.peer m.context) (indexed_slots t)) refl (found_slot G t (is_awaiting stream.peer m.context) slots) by slots
-reported_holds back G P cuts to t happens kept requested_ids stream m Unused by slots = λ below small. (record { frames = tt; datagrams = tt }, slots)
-
-message_holds : ItemsReadBack → (G : OfSlots) (P : ℕ → Type 0) → Cuts P → (to : ℕ) (t : ScannerTable) (number : ℕ) (bytes : List ℕ) → Kept G t to (event.Frame number bytes) → RequestIdsHold P t to → (stream : TargetStream) (reading : Result MessageFields EncapFault) → message_reading bytes ≡ reading → find (is_stream number) t.streams ≡ Some stream → SlotsHold G t → NextHolds G P to (frame_answer t stream reading)
-message_holds back G P cuts to t number bytes kept requested_ids stream (Err why) reads found slots = λ below small. (record { frames = tt; datagrams = tt }, slots)
-message_holds back G P cuts to t number bytes kept requested_ids stream (Ok m) reads found slots =
-    message_ends (NextHolds G P to) t stream m
-    (reported_holds back G P cuts to t (event.Frame number bytes) kept requested_ids stream m stream.stage (record { number = number; bytes = bytes; is = refl; found = found; reads = reads }) slots)
-    (λ pending answer silent quiet below small. (record { frames = subst (AllByRecursion (HasFrameIds P)) (sym silent) tt; datagrams = subst (AllByRecursion (HasDatagramId P)) (sym quiet) tt }, slots))
-    (find (awaits stream.number m.context) t.explicit)
-
-frame_holds : ItemsReadBack → (G : OfSlots) (P : ℕ → Type 0) → Cuts P → (to : ℕ) (t : ScannerTable) (number : ℕ) (bytes : List ℕ) → Kept G t to (event.Frame number bytes) → RequestIdsHold P t to → (found : Option TargetStream) → find (is_stream number) t.streams ≡ found → SlotsHold G t → OkHolds G P to (frame_of t bytes found)
-frame_holds back G P cuts to t number bytes kept requested_ids None is slots = tt
-frame_holds back G P cuts to t number bytes kept requested_ids (Some stream) is slots = message_holds back G P cuts to t number bytes kept requested_ids stream (message_reading bytes) refl is slots
-
 -- an effect behind another one, which keeps slots and sends nothing
 silent_after : (G : OfSlots) (P : ℕ → Type 0) (first : Effect) (next : ScannerTable → Effect) → ((now : ScannerTable) → SlotsHold G now → EffectHolds G P (next now)) → EffectHolds G P first → EffectHolds G P (and_then first next)
 silent_after G P first next keeps holds =
@@ -199,6 +182,55 @@ ended_holds G P stream now slots = record { slots = slots; sent = tt }
 ended_below : (stream to : ℕ) (now : ScannerTable) → (explicit_lost stream now).table.next_id ≤ to → now.next_id ≤ to
 unfolding explicit_lost
 ended_below stream to now below = below
+
+-- the session on a stream ends, and a new one is registered
+renewed_holds : (G : OfSlots) (P : ℕ → Type 0) (to : ℕ) (t : ScannerTable) (happens : Event) → Kept G t to happens → (stream : TargetStream) (now : ScannerTable) → Counts t now → (session_renewed stream now).table.next_id ≤ to → SlotsHold G now → EffectHolds G P (session_renewed stream now)
+renewed_holds G P to t happens kept stream now counts below slots =
+    let staged = with_stage now stream.number Waiting in
+    let lost = target_lost stream.peer staged in
+    silent_after G P (and_then (registering_again now stream) (target_lost stream.peer)) (explicit_lost stream.number)
+    (λ u whole. ended_holds G P stream.number u whole)
+    (both_hold G P (registering_again now stream) lost (record { slots = slots; sent = (tt, tt) })
+    (lost_holds G P t to happens kept stream.peer staged (record { profile = counts.profile; ids = counts.ids; requests = counts.requests }) (ended_below stream.number to lost.table below) slots))
+
+-- behind a slot that is not served
+unserved_holds : (G : OfSlots) (P : ℕ → Type 0) (to : ℕ) (t : ScannerTable) (happens : Event) → Kept G t to happens → (stream : TargetStream) (indexed : IndexedSlot) (status : ℕ) (state : SlotState) → slice_get t.profile.slots indexed.number ≡ Some indexed.config → SlotsHold G t → (and_then (unserved_state status t indexed state) (session_renewed stream)).table.next_id ≤ to → EffectHolds G P (and_then (unserved_state status t indexed state) (session_renewed stream))
+unserved_holds G P to t happens kept stream indexed status (Opening o) there slots below =
+    let slot = failed_slot t Idle indexed.slot in
+    let first = refused t indexed (reason.Encap status) in
+    let one = changed_holds G P t t indexed slot (notice.Refused indexed.number (reason.Encap status) ∷ []) (same_counts t) there (kept.rests indexed.number indexed.config) slots in
+    both_hold G P first (session_renewed stream first.table) one (renewed_holds G P to t happens kept stream first.table (changed_counts t indexed slot) below one.slots)
+unserved_holds G P to t happens kept stream indexed status Idle there slots below = both_hold G P (nothing t) (session_renewed stream t) (record { slots = slots; sent = tt }) (renewed_holds G P to t happens kept stream t (same_counts t) below slots)
+unserved_holds G P to t happens kept stream indexed status (Established c) there slots below = both_hold G P (nothing t) (session_renewed stream t) (record { slots = slots; sent = tt }) (renewed_holds G P to t happens kept stream t (same_counts t) below slots)
+unserved_holds G P to t happens kept stream indexed status (TimedOut link) there slots below = both_hold G P (nothing t) (session_renewed stream t) (record { slots = slots; sent = tt }) (renewed_holds G P to t happens kept stream t (same_counts t) below slots)
+unserved_holds G P to t happens kept stream indexed status (Closing c) there slots below = both_hold G P (nothing t) (session_renewed stream t) (record { slots = slots; sent = tt }) (renewed_holds G P to t happens kept stream t (same_counts t) below slots)
+
+unserved_at_holds : ItemsReadBack → (G : OfSlots) (P : ℕ → Type 0) → Cuts P → (to : ℕ) (t : ScannerTable) (happens : Event) → Kept G t to happens → (stream : TargetStream) (m : MessageFields) (found : Option IndexedSlot) → IfSome found (IsSlotOf G t.profile.slots) → SlotsHold G t → NextHolds G P to (unserved_at t stream m found)
+unserved_at_holds back G P cuts to t happens kept stream m None is_slot slots = λ below small. (record { frames = tt; datagrams = tt }, slots)
+unserved_at_holds back G P cuts to t happens kept stream m (Some indexed) is_slot slots =
+    done_holds back G P cuts to (and_then (unserved m.status t indexed) (session_renewed stream)) (λ below. unserved_holds G P to t happens kept stream indexed m.status indexed.slot.state is_slot.there slots below)
+
+reported_holds : ItemsReadBack → (G : OfSlots) (P : ℕ → Type 0) → Cuts P → (to : ℕ) (t : ScannerTable) (happens : Event) → Kept G t to happens → RequestIdsHold P t to → (stream : TargetStream) (m : MessageFields) (stage : Stage) → ComesBy t happens stream m → SlotsHold G t → NextHolds G P to (reported t stream m stage)
+reported_holds back G P cuts to t happens kept requested_ids stream m Waiting by slots =
+    either (NextHolds G P to) (m.context == 0) (done (registered t stream m)) (ignored t) (registered_holds back G P cuts to t happens kept requested_ids stream m slots) (λ below small. (record { frames = tt; datagrams = tt }, slots))
+reported_holds back G P cuts to t happens kept requested_ids stream m (Up handle) by slots =
+    let found = find (is_awaiting stream.peer m.context) (indexed_slots t) in
+    either (NextHolds G P to) (ends_session t m) (unserved_at t stream m found) (replied_to t m found) (unserved_at_holds back G P cuts to t happens kept stream m found (found_slot G t (is_awaiting stream.peer m.context) slots) slots)
+    (awaited_holds back G P cuts to t happens kept requested_ids stream m found refl (found_slot G t (is_awaiting stream.peer m.context) slots) by slots)
+reported_holds back G P cuts to t happens kept requested_ids stream m Unused by slots = λ below small. (record { frames = tt; datagrams = tt }, slots)
+
+message_holds : ItemsReadBack → (G : OfSlots) (P : ℕ → Type 0) → Cuts P → (to : ℕ) (t : ScannerTable) (number : ℕ) (bytes : List ℕ) → Kept G t to (event.Frame number bytes) → RequestIdsHold P t to → (stream : TargetStream) (reading : Result MessageFields EncapFault) → message_reading bytes ≡ reading → find (is_stream number) t.streams ≡ Some stream → SlotsHold G t → NextHolds G P to (frame_answer t stream reading)
+message_holds back G P cuts to t number bytes kept requested_ids stream (Err why) reads found slots = λ below small. (record { frames = tt; datagrams = tt }, slots)
+message_holds back G P cuts to t number bytes kept requested_ids stream (Ok m) reads found slots =
+    message_ends (NextHolds G P to) t stream m
+    (reported_holds back G P cuts to t (event.Frame number bytes) kept requested_ids stream m stream.stage (record { number = number; bytes = bytes; is = refl; found = found; reads = reads }) slots)
+    (done_holds back G P cuts to (session_renewed stream t) (λ below. renewed_holds G P to t (event.Frame number bytes) kept stream t (same_counts t) below slots))
+    (λ pending answer silent quiet below small. (record { frames = subst (AllByRecursion (HasFrameIds P)) (sym silent) tt; datagrams = subst (AllByRecursion (HasDatagramId P)) (sym quiet) tt }, slots))
+    (find (awaits stream.number m.context) t.explicit)
+
+frame_holds : ItemsReadBack → (G : OfSlots) (P : ℕ → Type 0) → Cuts P → (to : ℕ) (t : ScannerTable) (number : ℕ) (bytes : List ℕ) → Kept G t to (event.Frame number bytes) → RequestIdsHold P t to → (found : Option TargetStream) → find (is_stream number) t.streams ≡ found → SlotsHold G t → OkHolds G P to (frame_of t bytes found)
+frame_holds back G P cuts to t number bytes kept requested_ids None is slots = tt
+frame_holds back G P cuts to t number bytes kept requested_ids (Some stream) is slots = message_holds back G P cuts to t number bytes kept requested_ids stream (message_reading bytes) refl is slots
 
 timed_out_holds : (G : OfSlots) (P : ℕ → Type 0) (now : ScannerTable) → SlotsHold G now → EffectHolds G P (explicit_timed_out now)
 unfolding explicit_timed_out

@@ -1,6 +1,6 @@
 -- A property of each slot of a scanner, by its number, its configuration and its state, and how a step keeps it: slots
 -- become idle, open, are established by replies, go on, time out and close.
-use Rattle.std.proofs.Common.{◌≡◌, ◌≤◌, ◌<◌, ℕ, zero, suc, ◌+◌, not, Bool, true, false, cond, List, [], ◌∷◌, map, filter, slice_get, slice_set, Option, Some, None, Result, Ok, Err, refl, sym, ◌∙◌, ap, subst, arith}
+use Rattle.std.proofs.Common.{◌≡◌, ◌≤◌, ◌<◌, ℕ, zero, suc, ◌+◌, ◌&&◌, not, Bool, true, false, cond, List, [], ◌∷◌, map, filter, slice_get, slice_set, Option, Some, None, Result, Ok, Err, refl, sym, ◌∙◌, ap, subst, arith}
 use Rattle.std.specs.List.{AllByRecursion}
 use Rattle.std.proofs.lemmas.Bool.{and_parts}
 use Rattle.std.proofs.lemmas.Option.{same_Some}
@@ -32,8 +32,8 @@ use Rattle.scanner_table.specs.declared.table.Session.{Session}
 use Rattle.scanner_table.specs.Slots.{IndexedSlot, indexed_from, indexed_slots, is_with, with_slot}
 use Rattle.scanner_table.specs.Requests.{Request, registering, opening, closing, requesting, Sent, next_t_o_id, next_requested, id_or_zero}
 use Rattle.scanner_table.specs.Effects.{Effect, nothing, after, and_then, on_each, changed, counted}
-use Rattle.scanner_table.specs.Opening.{has_request, closing_slot, close_requested, cleared_within, opened_from, can_open, drawn, opening_slot, resigned, exhausted, open_requested, opened_within, opened, is_ready_slot, ready_slots, ready_opened, target_opened}
-use Rattle.scanner_table.specs.Closing.{requested_link, left_state, idle_slot, given_up_state, given_up, target_lost}
+use Rattle.scanner_table.specs.Opening.{has_request, closing_slot, close_requested, cleared_within, opened_from, can_open, drawn, opening_slot, resigned, exhausted, open_requested, opened_within, opened, is_ready_slot, ready_slots, ready_opened, target_opened, asking_session}
+use Rattle.scanner_table.specs.Closing.{requested_link, left_state, idle_slot, is_close_in_time, unclosed_slot, given_up_state, given_up, target_lost}
 use Rattle.scanner_table.specs.Replies.{is_id_free, new_connection, established_slot, failed_slot, refused, disowned, disowned_within, rejected, judged_success, answered}
 use Rattle.scanner_table.specs.Lemmas.Moves.{link_in}
 use Rattle.scanner_table.specs.Sessions.{session_with}
@@ -175,11 +175,11 @@ from_counts t indexed session other = within_counts t indexed session
 
 opened_counts : (t : ScannerTable) (indexed : IndexedSlot) → Counts t (opened t indexed).table
 unfolding opened
-opened_counts t indexed = from_counts t indexed (session_with t indexed.config.target) indexed.slot.state
+opened_counts t indexed = from_counts t indexed (asking_session t indexed) indexed.slot.state
 
 given_counts : (t : ScannerTable) (indexed : IndexedSlot) (state : SlotState) → Counts t (given_up_state t indexed state).table
 given_counts t indexed (Opening o) = changed_counts t indexed (failed_slot t (left_state t (requested_link o.requested)) indexed.slot)
-given_counts t indexed (Closing c) = changed_counts t indexed (idle_slot indexed.slot)
+given_counts t indexed (Closing c) = changed_counts t indexed (unclosed_slot t c indexed.slot)
 given_counts t indexed Idle = same_counts t
 given_counts t indexed (Established c) = same_counts t
 given_counts t indexed (TimedOut link) = same_counts t
@@ -259,7 +259,7 @@ from_holds G P old to happens kept requested_ids now indexed session other is co
 pub opened_holds : (G : OfSlots) (P : ℕ → Type 0) (old : ScannerTable) (to : ℕ) (happens : Event) → Kept G old to happens → RequestIdsHold P old to → AllKeep G P old to opened
 unfolding opened
 opened_holds G P old to happens kept requested_ids now indexed counts below holds is_slot =
-    from_holds G P old to happens kept requested_ids now indexed (session_with now indexed.config.target) indexed.slot.state refl counts below holds is_slot
+    from_holds G P old to happens kept requested_ids now indexed (asking_session now indexed) indexed.slot.state refl counts below holds is_slot
 
 slots_now : (G : OfSlots) (old now : ScannerTable) → Counts old now → SlotsHold G now → AllByRecursion (IsSlotOf G old.profile.slots) (indexed_slots now)
 slots_now G old now counts holds = subst (λ (p : ScannerProfile). AllByRecursion (IsSlotOf G p.slots) (indexed_slots now)) counts.profile (all_slots G now holds)
@@ -288,7 +288,10 @@ given_holds : (G : OfSlots) (P : ℕ → Type 0) (old : ScannerTable) (to : ℕ)
 given_holds G P old to happens kept now indexed (Opening o) is counts holds is_slot =
     changed_holds G P old now indexed (failed_slot now (left_state now (requested_link o.requested)) indexed.slot) [] counts is_slot.there
     (left_holds G old to happens kept now indexed (requested_link o.requested) (Opening o) refl (subst (G indexed.number indexed.config) is is_slot.holds)) holds
-given_holds G P old to happens kept now indexed (Closing c) is counts holds is_slot = changed_holds G P old now indexed (idle_slot indexed.slot) [] counts is_slot.there (kept.rests indexed.number indexed.config) holds
+given_holds G P old to happens kept now indexed (Closing c) is counts holds is_slot =
+    changed_holds G P old now indexed (unclosed_slot now c indexed.slot) [] counts is_slot.there
+    (either (λ (slot : Slot). G indexed.number indexed.config slot.state) (now.profile.tidy && is_close_in_time now c) (failed_slot now (TimedOut c.link) indexed.slot) (idle_slot indexed.slot)
+    (kept.times_out indexed.number indexed.config c.link (Closing c) refl (subst (G indexed.number indexed.config) is is_slot.holds)) (kept.rests indexed.number indexed.config)) holds
 given_holds G P old to happens kept now indexed Idle is counts holds is_slot = record { slots = holds; sent = tt }
 given_holds G P old to happens kept now indexed (Established c) is counts holds is_slot = record { slots = holds; sent = tt }
 given_holds G P old to happens kept now indexed (TimedOut link) is counts holds is_slot = record { slots = holds; sent = tt }

@@ -36,6 +36,7 @@ use Rattle.scanner_table.specs.declared.explicit.PendingExplicit.{PendingExplici
 use Rattle.conn_state.specs.declared.names.Link.{Link}
 use Rattle.cip_types.specs.declared.names.Triad.{Triad}
 use Rattle.scanner_table.specs.declared.slot.SlotConnection.{SlotConnection}
+use Rattle.scanner_table.specs.declared.slot.PendingClose as closing_slots
 use Rattle.scanner_table.specs.declared.slot.PendingOpen as opening
 use Rattle.scanner_table.specs.declared.slot.Slot.{Slot}
 use Rattle.scanner_table.specs.declared.slot.SlotState.{SlotState}
@@ -50,11 +51,11 @@ use Rattle.scanner_table.specs.Slots.{IndexedSlot, indexed_slots, slot_at, is_nu
 use Rattle.scanner_table.specs.Sessions.{session_with, is_stream, is_taken, with_stream, without_stream, with_stage}
 use Rattle.scanner_table.specs.Requests.{is_large}
 use Rattle.scanner_table.specs.Effects.{Next, Effect, nothing, and_then, on_each, counted, changed, done}
-use Rattle.scanner_table.specs.Opening.{has_request, can_open, drawn, opening_slot, resigned, exhausted, open_requested, opened_within, closing_slot, close_requested, cleared_within, opened_from, opened, is_ready_slot, ready_slots, ready_opened, target_opened}
+use Rattle.scanner_table.specs.Opening.{has_request, can_open, drawn, opening_slot, resigned, exhausted, open_requested, opened_within, closing_slot, close_requested, cleared_within, opened_from, asking_session, opened, is_ready_slot, ready_slots, ready_opened, target_opened}
 use Rattle.scanner_table.specs.Replies.{open_answer, is_id_free, new_connection, established_slot, failed_slot, refused, disowned, disowned_within, rejected, judged_success, answered}
-use Rattle.scanner_table.specs.Closing.{requested_link, idle_slot, given_up_state, given_up, target_lost, closed, slot_resigned, closed_within, stopped, stopped_at}
+use Rattle.scanner_table.specs.Closing.{requested_link, idle_slot, is_close_in_time, given_up_state, given_up, target_lost, closed, slot_resigned, closed_within, stopped, stopped_at}
 use Rattle.scanner_table.specs.Explicit.{is_request, is_over, is_late, others, awaits, has_explicit_length, is_barred, connects_to, explicit_sent, explicit_within, explicit_request, explicit_reply, explicit_ended, explicit_answered, without_explicit, explicit_timed_out, explicit_lost}
-use Rattle.scanner_table.specs.Encapsulation.{registering_on, ignored, stream_opened, message_answer, cut_of, stream_cut, is_registered, session_begun, session_failed, registered, is_awaiting, replied, replied_to, reported, frame_answer, frame_of, frame}
+use Rattle.scanner_table.specs.Encapsulation.{registering_on, ignored, stream_opened, message_answer, cut_of, stream_cut, is_registered, session_begun, session_failed, registered, ends_session, session_renewed, is_awaiting, replied, replied_to, unserved_state, unserved, unserved_at, reported, frame_answer, frame_of, frame}
 use Rattle.cip_productions.specs.Window.{since_accepted, is_within}
 use Rattle.scanner_table.specs.Datagrams.{is_for, slot_pace, accepts_at, accepted_table, accepted, sized, delivered, state_received, received_at, received_as, received}
 use Rattle.scanner_table.specs.Points.{output_slot, output_written, write_at, write, same_mode, moded_table, mode, desired_slot, started, start_state, start_at, start, stop_of, stop}
@@ -72,13 +73,13 @@ pub record BecomesIdle (old new : Slot) : Type 0 where
   pub output : new.output ≡ old.output
   pub image : new.image ≡ old.image
 
--- the connection that the slot has, or asked for
+-- the connection that the slot has, asked for or closes
 abbrev pub link_in : SlotState → Option Link
 link_in Idle = None
 link_in (Opening o) = Some (requested_link o.requested)
 link_in (Established c) = Some c.link
 link_in (TimedOut link) = Some link
-link_in (Closing c) = None
+link_in (Closing c) = Some c.link
 
 -- the slot keeps its connection as timed out; its bytes stay
 pub record BecomesTimedOut (link : Link) (old new : Slot) : Type 0 where
@@ -216,7 +217,7 @@ from_does R kept t indexed session other is stands closed_before = within_does R
 
 pub opened_does : (R : ScannerTable → ScannerTable → Type 0) → Kept R → (t : ScannerTable) (indexed : IndexedSlot) → Stands t indexed → IsClosedSlot indexed → Does R t indexed (opened t indexed)
 unfolding opened
-opened_does R kept t indexed stands closed_before = from_does R kept t indexed (session_with t indexed.config.target) indexed.slot.state refl stands closed_before
+opened_does R kept t indexed stands closed_before = from_does R kept t indexed (asking_session t indexed) indexed.slot.state refl stands closed_before
 
 -- ---- effects on slots, one after another
 
@@ -274,12 +275,17 @@ unanswered_step true R kept t indexed o is stands =
     does_time_out R kept t indexed (requested_link o.requested) (failed_slot t (TimedOut (requested_link o.requested)) indexed.slot) stands (ap link_in is) (record { state = refl; output = refl; image = refl })
 unanswered_step false R kept t indexed o is stands = does_failed R kept t indexed [] stands
 
+-- a Forward_Close is not answered
+unclosed_step : (b : Bool) (R : ScannerTable → ScannerTable → Type 0) → Kept R → (t : ScannerTable) (indexed : IndexedSlot) (c : closing_slots.PendingClose) → indexed.slot.state ≡ Closing c → Stands t indexed → Does R t indexed (changed t indexed (cond b (failed_slot t (TimedOut c.link) indexed.slot) (idle_slot indexed.slot)) [])
+unclosed_step true R kept t indexed c is stands = does_time_out R kept t indexed c.link (failed_slot t (TimedOut c.link) indexed.slot) stands (ap link_in is) (record { state = refl; output = refl; image = refl })
+unclosed_step false R kept t indexed c is stands = does_clear R kept t indexed stands
+
 given_state_does : (R : ScannerTable → ScannerTable → Type 0) → Kept R → (t : ScannerTable) (indexed : IndexedSlot) (state : SlotState) → indexed.slot.state ≡ state → Stands t indexed → Does R t indexed (given_up_state t indexed state)
 given_state_does R kept t indexed Idle is stands = does_nothing R kept t indexed
 given_state_does R kept t indexed (Opening o) is stands = unanswered_step t.profile.tidy R kept t indexed o is stands
 given_state_does R kept t indexed (Established c) is stands = does_nothing R kept t indexed
 given_state_does R kept t indexed (TimedOut link) is stands = does_nothing R kept t indexed
-given_state_does R kept t indexed (Closing c) is stands = does_clear R kept t indexed stands
+given_state_does R kept t indexed (Closing c) is stands = unclosed_step (t.profile.tidy && is_close_in_time t c) R kept t indexed c is stands
 
 pub given_does : (R : ScannerTable → ScannerTable → Type 0) → Kept R → DoesAt R Any given_up
 given_does R kept t indexed stands any = given_state_does R kept t indexed indexed.slot.state refl stands
@@ -535,13 +541,32 @@ replied_to_leads : (R C : ScannerTable → ScannerTable → Type 0) (t : Scanner
 replied_to_leads R C t either m p None is = stays_leads R C t either
 replied_to_leads R C t either m p (Some indexed) is = replied_leads R C t either indexed m indexed.slot.state refl (each_found (Stands t) p (indexed_slots t) indexed is (each_stands t))
 
+-- the session on a stream ends, and a new one is registered
+renewed_leads : (R : ScannerTable → ScannerTable → Type 0) → KeptWidely R → (t : ScannerTable) (stream : TargetStream) → R t (session_renewed stream t).table
+renewed_leads R kept t stream =
+    let now = with_stage t stream.number Waiting in
+    let lost = (target_lost stream.peer now).table in
+    kept.slots.after t lost (explicit_lost stream.number lost).table (kept.slots.after t now lost (kept.streams t now.streams) (lost_leads R kept.slots stream.peer now)) (explicit_lost_leads R kept stream.number lost)
+
+unserved_leads : (R : ScannerTable → ScannerTable → Type 0) → Kept R → (t : ScannerTable) (indexed : IndexedSlot) (status : ℕ) (state : SlotState) → Stands t indexed → R t (unserved_state status t indexed state).table
+unserved_leads R kept t indexed status (Opening o) stands = (does_failed R kept t indexed (notice.Refused indexed.number (reason.Encap status) ∷ []) stands).leads
+unserved_leads R kept t indexed status other stands = kept.same t
+
+answered_at_leads : (b : Bool) (R C : ScannerTable → ScannerTable → Type 0) (t : ScannerTable) → OrEstablished R C t → (stream : TargetStream) (m : MessageFields) (p : IndexedSlot → Bool) (found : Option IndexedSlot) → find p (indexed_slots t) ≡ found → C t (cond b (unserved_at t stream m found) (replied_to t m found)).1
+answered_at_leads true R C t either stream m p None is = stays_leads R C t either
+answered_at_leads true R C t either stream m p (Some indexed) is =
+    let u = (unserved m.status t indexed).table in
+    either.weaker (session_renewed stream u).table
+    (either.kept.slots.after t u (session_renewed stream u).table (unserved_leads R either.kept.slots t indexed m.status indexed.slot.state (each_found (Stands t) p (indexed_slots t) indexed is (each_stands t))) (renewed_leads R either.kept u stream))
+answered_at_leads false R C t either stream m p found is = replied_to_leads R C t either m p found is
+
 first_step : (b : Bool) (R C : ScannerTable → ScannerTable → Type 0) (t : ScannerTable) → OrEstablished R C t → (stream : TargetStream) (m : MessageFields) → C t (cond b (done (registered t stream m)) (ignored t)).1
 first_step true R C t either stream m = either.weaker _ (session_step (is_registered m) R either.kept t stream m.session)
 first_step false R C t either stream m = stays_leads R C t either
 
 reported_leads : (R C : ScannerTable → ScannerTable → Type 0) (t : ScannerTable) → OrEstablished R C t → (stream : TargetStream) (m : MessageFields) (stage : Stage) → C t (reported t stream m stage).1
 reported_leads R C t either stream m Waiting = first_step (m.context == 0) R C t either stream m
-reported_leads R C t either stream m (Up handle) = replied_to_leads R C t either m (is_awaiting stream.peer m.context) (find (is_awaiting stream.peer m.context) (indexed_slots t)) refl
+reported_leads R C t either stream m (Up handle) = answered_at_leads (ends_session t m) R C t either stream m (is_awaiting stream.peer m.context) (find (is_awaiting stream.peer m.context) (indexed_slots t)) refl
 reported_leads R C t either stream m Unused = stays_leads R C t either
 
 -- a pending request is pending no more
@@ -552,9 +577,13 @@ explicit_answered_leads : (R C : ScannerTable → ScannerTable → Type 0) (t : 
 explicit_answered_leads R C t either pending (Ok reply) = removed_leads R C t either pending
 explicit_answered_leads R C t either pending (Err why) = removed_leads R C t either pending
 
+explicit_ends_leads : (b : Bool) (R C : ScannerTable → ScannerTable → Type 0) (t : ScannerTable) → OrEstablished R C t → (stream : TargetStream) (m : MessageFields) (pending : PendingExplicit) (reply : Result RouterReplyFields Unanswered) → C t (cond b (done (session_renewed stream t)) (explicit_answered t pending reply)).1
+explicit_ends_leads true R C t either stream m pending reply = either.weaker (session_renewed stream t).table (renewed_leads R either.kept t stream)
+explicit_ends_leads false R C t either stream m pending reply = explicit_answered_leads R C t either pending reply
+
 message_leads : (R C : ScannerTable → ScannerTable → Type 0) (t : ScannerTable) → OrEstablished R C t → (stream : TargetStream) (m : MessageFields) (found : Option PendingExplicit) → C t (message_answer t stream m found).1
 message_leads R C t either stream m None = reported_leads R C t either stream m stream.stage
-message_leads R C t either stream m (Some pending) = explicit_answered_leads R C t either pending (explicit_reply pending.service m)
+message_leads R C t either stream m (Some pending) = explicit_ends_leads (ends_session t m) R C t either stream m pending (explicit_reply pending.service m)
 
 frame_answer_leads : (R C : ScannerTable → ScannerTable → Type 0) (t : ScannerTable) → OrEstablished R C t → (stream : TargetStream) (reading : Result MessageFields EncapFault) → C t (frame_answer t stream reading).1
 frame_answer_leads R C t either stream (Err why) = stays_leads R C t either

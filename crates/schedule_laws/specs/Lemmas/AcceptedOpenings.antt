@@ -23,7 +23,7 @@ use Rattle.scanner_table.specs.Replies.{state_consumes}
 use Rattle.scanner_table.specs.Slots.{IndexedSlot, indexed_slots, is_with}
 use Rattle.cip_tables.specs.declared.table.DeviceTable.{DeviceTable}
 use Rattle.cip_tables.specs.declared.table.DeviceTable.TheVariants.{Adapter, Scanner}
-use Rattle.segment_traffic.specs.Log.{Sent}
+use Rattle.segment_world.specs.Transit.Log.{Sent}
 use Rattle.segment_world.specs.declared.act.Act.{Act}
 use Rattle.segment_world.specs.World.{World, ReportedEvent, node_at, happens}
 use Rattle.device_laws.specs.Lemmas.Lists.{all_both, all_more}

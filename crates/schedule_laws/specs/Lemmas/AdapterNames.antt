@@ -35,7 +35,7 @@ use Rattle.scanner_table.specs.declared.profile.ScannerProfile.{ScannerProfile}
 use Rattle.cip_tables.specs.declared.table.DeviceTable.{DeviceTable}
 use Rattle.cip_tables.specs.declared.table.DeviceTable.TheVariants.{Adapter, Scanner}
 use Rattle.segment_world.specs.World.{World, node_at}
-use Rattle.segment_traffic.specs.Streams.{Stream}
+use Rattle.segment_world.specs.Transit.Streams.{Stream}
 use Rattle.device_laws.specs.Lemmas.Lists.{all_more}
 use Rattle.device_laws.specs.Lemmas.Texts.{same_again}
 use Rattle.device_laws.specs.Ids.{RequestIds}

@@ -31,7 +31,7 @@ use Rattle.scanner_table.specs.Replies.{reply_answer}
 use Rattle.scanner_table.specs.Slots.{indexed_slots}
 use Rattle.cip_tables.specs.declared.table.DeviceTable.{DeviceTable}
 use Rattle.cip_tables.specs.declared.table.DeviceTable.TheVariants.{Adapter, Scanner}
-use Rattle.segment_traffic.specs.Streams.{QueueItem, Opening as Opens, Queued, Ending, Stream}
+use Rattle.segment_world.specs.Transit.Streams.{QueueItem, Opening as Opens, Queued, Ending, Stream}
 use Rattle.device_laws.specs.Ids.{RequestIds, ReplyIds, PacketIds, MessageIds, FrameIds, ReadId, DatagramId, RowIds, EventIds, WayIds, AnsweredIds, RequestedId, StateIds}
 use Rattle.device_laws.specs.Carrying.{Passes, SlotIds, TableIds, AnswerPasses}
 use Rattle.device_laws.specs.Lemmas.Payloads.{own_ids}

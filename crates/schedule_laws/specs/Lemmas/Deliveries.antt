@@ -27,14 +27,14 @@ use Rattle.device_laws.specs.Newest as slots
 use Rattle.cip_tables.specs.declared.table.DeviceTable.{DeviceTable}
 use Rattle.cip_tables.specs.declared.table.DeviceTable.TheVariants.{Adapter, Scanner}
 use Rattle.cip_tables.specs.Step.{is_datagram}
-use Rattle.segment_traffic.specs.Log.{Sent}
+use Rattle.segment_world.specs.Transit.Log.{Sent}
 use Rattle.segment_world.specs.declared.act.Act.{Act}
 use Rattle.segment_world.specs.declared.act.Act.TheVariants.{Local, Deliver, NextFrame, OpenStream, CutStream}
 use Rattle.segment_world.specs.declared.act.Call.{Call}
 use Rattle.segment_world.specs.World.{World, ReportedEvent, Happened, event_of_call, event_of_item, without_front, delivered, taken, taken_at, opened_if, cut_if, cut_at, happens}
-use Rattle.segment_traffic.specs.declared.direction.Direction.{Direction}
-use Rattle.segment_traffic.specs.Streams.{QueueItem, Stream, side_of}
-use Rattle.segment_traffic.specs.Streams as item
+use Rattle.segment_world.specs.declared.transit.direction.Direction.{Direction}
+use Rattle.segment_world.specs.Transit.Streams.{QueueItem, Stream, side_of}
+use Rattle.segment_world.specs.Transit.Streams as item
 use Rattle.device_laws.specs.Productions.{Production, IsNumbered}
 use Rattle.schedule_laws.specs.Chronicle.{Acceptance, row_number, state_number, slot_number, names_in, names, accepted_by_verdict, accepted_by_act}
 use Rattle.schedule_laws.specs.Lemmas.ActEvents.{first_event, event_is_at_device}

@@ -14,10 +14,10 @@ use Rattle.cip_events.specs.declared.event.StepFault.{StepFault}
 use Rattle.cip_types.specs.declared.names.Node.{Node}
 use Rattle.cip_tables.specs.declared.table.DeviceTable.{DeviceTable}
 use Rattle.cip_tables.specs.Step.{DeviceNext, step}
-use Rattle.segment_traffic.specs.Log.{Sent}
-use Rattle.segment_traffic.specs.declared.direction.Direction.{Direction}
-use Rattle.segment_traffic.specs.declared.direction.Direction.TheVariants.{Forth, Back}
-use Rattle.segment_traffic.specs.Streams.{QueueItem, Opening, Queued, Ending, Side, Stream, side_of, receiver, sender, way_from, changed, with_stream, queued, sent_along, sent_over, frame_sent, frames_sent, ended_side, cut_stream, closed_along, closed_by, notice_applied, notices_applied, answered, without_first, taken_from, fresh_stream}
+use Rattle.segment_world.specs.Transit.Log.{Sent}
+use Rattle.segment_world.specs.declared.transit.direction.Direction.{Direction}
+use Rattle.segment_world.specs.declared.transit.direction.Direction.TheVariants.{Forth, Back}
+use Rattle.segment_world.specs.Transit.Streams.{QueueItem, Opening, Queued, Ending, Side, Stream, side_of, receiver, sender, way_from, changed, with_stream, queued, sent_along, sent_over, frame_sent, frames_sent, ended_side, cut_stream, closed_along, closed_by, notice_applied, notices_applied, answered, without_first, taken_from, fresh_stream}
 use Rattle.segment_world.specs.declared.act.Act.{Act}
 use Rattle.segment_world.specs.declared.act.Act.TheVariants.{Local, Deliver, NextFrame, OpenStream, CutStream}
 use Rattle.segment_world.specs.declared.act.Call.{Call}

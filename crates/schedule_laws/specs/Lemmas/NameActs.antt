@@ -21,7 +21,7 @@ use Rattle.cip_tables.specs.declared.table.DeviceTable.{DeviceTable}
 use Rattle.cip_tables.specs.declared.table.DeviceTable.TheVariants.{Adapter, Scanner}
 use Rattle.cip_tables.specs.Step.{DeviceNext, as_adapter, as_scanner, step}
 use Rattle.segment_world.specs.World.{World, ReportedEvent, happens}
-use Rattle.segment_traffic.specs.Streams.{Stream, answered}
+use Rattle.segment_world.specs.Transit.Streams.{Stream, answered}
 use Rattle.device_laws.specs.Ids.{RowIds}
 use Rattle.device_laws.specs.Carrying.{Passes as Passing}
 use Rattle.device_laws.specs.Lemmas.Lists.{all_both, all_more}

@@ -18,7 +18,7 @@ use Rattle.cip_tables.specs.declared.table.DeviceTable.{DeviceTable}
 use Rattle.cip_tables.specs.declared.table.DeviceTable.TheVariants.{Adapter, Scanner}
 use Rattle.cip_tables.specs.Step.{step}
 use Rattle.cip_tables.specs.Whole.{IsWholeDevice}
-use Rattle.segment_traffic.specs.Log.{Sent}
+use Rattle.segment_world.specs.Transit.Log.{Sent}
 use Rattle.segment_world.specs.declared.act.Act.{Act}
 use Rattle.segment_world.specs.declared.act.ActFault.{ActFault}
 use Rattle.segment_world.specs.World.{World, ReportedEvent, Happened, node_at, happens}

@@ -9,13 +9,13 @@ use Rattle.cip_datagram.specs.Datagram.{datagram_text}
 use Rattle.cip_events.specs.declared.event.StepFault.{StepFault}
 use Rattle.cip_tables.specs.declared.table.DeviceTable.{DeviceTable}
 use Rattle.cip_tables.specs.Step.{DeviceNext}
-use Rattle.segment_traffic.specs.Log.{Sent}
+use Rattle.segment_world.specs.Transit.Log.{Sent}
 use Rattle.segment_world.specs.declared.act.Act.{Act}
 use Rattle.segment_world.specs.declared.act.ActFault.{ActFault}
 use Rattle.segment_world.specs.World.{World, ReportedEvent, Happened, node_at, sent_by, happens}
 use Rattle.segment_world.specs.Story.{Story, runs, begins, goes_on as story_goes_on}
-use Rattle.segment_traffic.specs.Streams.{Stream, QueueItem}
-use Rattle.segment_traffic.specs.Streams as item
+use Rattle.segment_world.specs.Transit.Streams.{Stream, QueueItem}
+use Rattle.segment_world.specs.Transit.Streams as item
 use Rattle.schedule_laws.specs.Ids.{IdsAreDrawn, SchedulesKeepIdsDrawn, StreamsHold, ItemHolds}
 use Rattle.schedule_laws.specs.Lemmas.Moves.{Came, Rests, Moves, act_moves}
 use Rattle.device_laws.specs.Made.{AnswersSendWhatIsMade, makes}

@@ -7,12 +7,12 @@ use Rattle.cip_events.specs.declared.event.OutgoingDatagram.{OutgoingDatagram}
 use Rattle.cip_events.specs.declared.event.StepFault.{StepFault}
 use Rattle.cip_tables.specs.declared.table.DeviceTable.{DeviceTable}
 use Rattle.cip_tables.specs.Step.{DeviceNext, step}
-use Rattle.segment_traffic.specs.Log.{Sent}
+use Rattle.segment_world.specs.Transit.Log.{Sent}
 use Rattle.segment_world.specs.declared.act.Act.{Act}
 use Rattle.segment_world.specs.declared.act.Act.TheVariants.{Local, Deliver, NextFrame, OpenStream, CutStream}
 use Rattle.segment_world.specs.World.{World, ReportedEvent, sent_by, node_at, event_at_table, after_device_step, event_of_call, delivered, taken, taken_at, opened_if, cut_if, cut_at, happens}
-use Rattle.segment_traffic.specs.declared.direction.Direction.{Direction}
-use Rattle.segment_traffic.specs.Streams.{QueueItem, Stream, side_of}
+use Rattle.segment_world.specs.declared.transit.direction.Direction.{Direction}
+use Rattle.segment_world.specs.Transit.Streams.{QueueItem, Stream, side_of}
 use Rattle.device_laws.specs.Made.{Made, AnswersSendWhatIsMade, makes, bytes_sent, made_text}
 use Rattle.device_laws.specs.Productions.{Production, numbered, produced_more}
 use Rattle.schedule_laws.specs.Indexes.{sent_of}

@@ -5,7 +5,7 @@ use Rattle.cip_tables.specs.declared.table.Config.{Config}
 use Rattle.cip_tables.specs.Step.{config_fault}
 use Rattle.device_lock.specs.declared.receipt.Receipt.{Receipt}
 use Rattle.segment_world.specs.Configs.{world_fault}
-use Rattle.schedule_search.specs.Histories.{config_in, configs_of}
+use Rattle.settling.specs.Search.Histories.{config_in, configs_of}
 use Rattle.line_threads.specs.Accounts.{HasItsReceipts}
 use Rattle.line_threads.specs.Lines.{Apart, ReportsScripts, byte_of}
 use Rattle.line_threads.proofs.Comparing.{own_is_scripts}

@@ -1,6 +1,6 @@
 use Rattle.std.proofs.Common.{◌≡◌}
 use Rattle.std.specs.Prelude.{All}
-use Rattle.schedule_search.specs.Histories.{configs_of}
+use Rattle.settling.specs.Search.Histories.{configs_of}
 use Rattle.line_threads.specs.Accounts.{HasItsReceipts}
 use Rattle.line_threads.proofs.line_device.close_devices.Given as goal
 

@@ -1,10 +1,10 @@
 use Rattle.std.proofs.Common.{◌≡◌, ℕ, List, length, subst, ap, sym, ◌∙◌}
 use Rattle.cip_events.specs.declared.event.Event.{Event}
-use Rattle.schedule_search.specs.Histories.{bytes_of, events_of_all}
+use Rattle.settling.specs.Search.Histories.{bytes_of, events_of_all}
 use Rattle.settling.specs.Receipts.{HasAllMarks, HasItsMarks, LacksItsMark, LacksMark}
-use Rattle.schedule_search.specs.Schedules.{history}
-use Rattle.schedule_search.specs.Lemmas.Listing.{history_at}
-use Rattle.schedule_search.specs.Lemmas.Lowering.{lowest_done, lowest_found}
+use Rattle.settling.specs.Search.Schedules.{history}
+use Rattle.settling.specs.Search.Lemmas.Listing.{history_at}
+use Rattle.settling.specs.Search.Lemmas.Lowering.{lowest_done, lowest_found}
 use Rattle.settling.proofs.receipts.first_missing.Goals as goal
 use Rattle.settling.proofs.receipts.first_missing.Goals.{in-Some, in_default}
 

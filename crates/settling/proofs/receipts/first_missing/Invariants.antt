@@ -1,5 +1,5 @@
-use Rattle.schedule_search.specs.Histories.{bytes_of, events_of_all}
-use Rattle.schedule_search.specs.Lowest.{IsLowest}
+use Rattle.settling.specs.Search.Histories.{bytes_of, events_of_all}
+use Rattle.settling.specs.Search.Lowest.{IsLowest}
 use Rattle.settling.specs.Receipts.{HasItsMarks, LacksItsMark}
 use Rattle.settling.proofs.receipts.first_missing.Given as goal
 

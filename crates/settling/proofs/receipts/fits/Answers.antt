@@ -3,9 +3,9 @@ use Rattle.std.proofs.lemmas.Bool.{false≢true}
 use Rattle.cip_events.specs.Outcomes.{Outcome}
 use Rattle.device_lock.specs.declared.receipt.Receipt.{Receipt}
 use Rattle.device_lock.specs.Histories.{HistoryValue}
-use Rattle.schedule_search.specs.Histories.{events_of_all}
+use Rattle.settling.specs.Search.Histories.{events_of_all}
 use Rattle.settling.specs.Receipts.{FitsAt, outcomes_of_all}
-use Rattle.schedule_search.specs.Schedules.{history}
+use Rattle.settling.specs.Search.Schedules.{history}
 use Rattle.settling.proofs.Receiving.{fits_same}
 use Rattle.settling.proofs.receipts.fits.Goals as goal
 

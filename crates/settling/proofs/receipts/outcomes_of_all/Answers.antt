@@ -1,4 +1,4 @@
-use Rattle.schedule_search.specs.Lemmas.Listing.{valid_at}
+use Rattle.settling.specs.Search.Lemmas.Listing.{valid_at}
 use Rattle.settling.proofs.receipts.outcomes_of_all.Goals as goal
 
 pub outcomes_of-requires-clause-valid : goal.outcomes_of-requires-clause-valid

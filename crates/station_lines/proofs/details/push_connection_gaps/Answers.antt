@@ -1,7 +1,7 @@
 use Rattle.std.specs.Prelude.{codes}
 use Rattle.station_lines.specs.Details.{entry_text}
 use Rattle.station_lines.specs.Status.{id_text, moment_text}
-use Rattle.attribute_lines.specs.Lemmas.Appended.{four}
+use Rattle.station_lines.specs.Attributes.Lemmas.Appended.{four}
 use Rattle.station_lines.proofs.details.push_connection_gaps.Goals as goal
 
 pub returns : goal.returns

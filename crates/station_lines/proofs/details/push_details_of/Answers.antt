@@ -1,5 +1,5 @@
 use Rattle.station_lines.specs.Details.{gaps_lines, mode_line, points_details}
-use Rattle.attribute_lines.specs.Lemmas.Appended.{three}
+use Rattle.station_lines.specs.Attributes.Lemmas.Appended.{three}
 use Rattle.station_lines.proofs.details.push_details_of.Goals as goal
 
 pub returns : goal.returns

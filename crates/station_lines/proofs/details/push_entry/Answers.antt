@@ -1,6 +1,6 @@
 use Rattle.std.specs.Prelude.{codes}
 use Rattle.station_lines.specs.Details.{gaps_text, minute_text, since_text, time_outs_text}
-use Rattle.attribute_lines.specs.Lemmas.Appended.{four}
+use Rattle.station_lines.specs.Attributes.Lemmas.Appended.{four}
 use Rattle.station_lines.proofs.details.push_entry.Goals as goal
 
 pub returns : goal.returns

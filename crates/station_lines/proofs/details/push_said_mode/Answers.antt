@@ -1,7 +1,7 @@
 use Rattle.std.specs.Prelude.{codes}
 use Rattle.station_lines.specs.Details.{mode_name}
 use Rattle.station_lines.specs.Status.{moment_text}
-use Rattle.attribute_lines.specs.Lemmas.Appended.{four}
+use Rattle.station_lines.specs.Attributes.Lemmas.Appended.{four}
 use Rattle.station_lines.proofs.details.push_said_mode.Goals as goal
 
 pub returns : goal.returns

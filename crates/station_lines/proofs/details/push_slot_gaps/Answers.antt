@@ -1,7 +1,7 @@
 use Rattle.std.specs.Prelude.{codes}
 use Rattle.station_lines.specs.Details.{count_text, entry_text}
 use Rattle.station_lines.specs.Status.{moment_text}
-use Rattle.attribute_lines.specs.Lemmas.Appended.{three}
+use Rattle.station_lines.specs.Attributes.Lemmas.Appended.{three}
 use Rattle.station_lines.proofs.details.push_slot_gaps.Goals as goal
 
 pub returns : goal.returns

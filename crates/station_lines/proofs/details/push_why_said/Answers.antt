@@ -1,7 +1,7 @@
 use Rattle.std.specs.Prelude.{codes}
 use Rattle.station_lines.specs.Reasons.{why_text}
 use Rattle.station_lines.specs.Status.{point_head}
-use Rattle.attribute_lines.specs.Lemmas.Appended.{three}
+use Rattle.station_lines.specs.Attributes.Lemmas.Appended.{three}
 use Rattle.station_lines.proofs.details.push_why_said.Goals as goal
 
 pub returns : goal.returns

@@ -1,6 +1,6 @@
 use Rattle.std.specs.Prelude.{◌/◌, codes}
 use Rattle.station_lines.specs.Reasons.{tenths_text}
-use Rattle.attribute_lines.specs.Lemmas.Appended.{three}
+use Rattle.station_lines.specs.Attributes.Lemmas.Appended.{three}
 use Rattle.station_lines.proofs.reasons.push_next.Goals as goal
 
 pub returns : goal.returns

@@ -1,6 +1,6 @@
 use Rattle.std.specs.Prelude.{codes}
 use Rattle.status_words.specs.Reasons.{reason_text}
-use Rattle.attribute_lines.specs.Lemmas.Appended.{three}
+use Rattle.station_lines.specs.Attributes.Lemmas.Appended.{three}
 use Rattle.station_lines.proofs.reasons.push_refused_for.Goals as goal
 
 pub returns : goal.returns

@@ -1,7 +1,7 @@
 use Rattle.std.specs.Prelude.{◌-◌, codes}
 use Rattle.trace_words.specs.Words.{node_word}
 use Rattle.station_lines.specs.Reasons.{next_text, stream_words}
-use Rattle.attribute_lines.specs.Lemmas.Appended.{five}
+use Rattle.station_lines.specs.Attributes.Lemmas.Appended.{five}
 use Rattle.station_lines.proofs.reasons.push_stream_refusal.Goals as goal
 
 pub returns : goal.returns

@@ -1,6 +1,6 @@
 use Rattle.std.specs.Prelude.{codes}
 use Rattle.station_lines.specs.Reports.{ending_text, stream_text}
-use Rattle.attribute_lines.specs.Lemmas.Appended.{four}
+use Rattle.station_lines.specs.Attributes.Lemmas.Appended.{four}
 use Rattle.station_lines.proofs.reports.push_ended.Goals as goal
 
 pub returns : goal.returns

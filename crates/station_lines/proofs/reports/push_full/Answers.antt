@@ -1,6 +1,6 @@
 use Rattle.std.specs.Prelude.{codes}
 use Rattle.trace_words.specs.Words.{node_word}
-use Rattle.attribute_lines.specs.Lemmas.Appended.{three}
+use Rattle.station_lines.specs.Attributes.Lemmas.Appended.{three}
 use Rattle.station_lines.proofs.reports.push_full.Goals as goal
 
 pub returns : goal.returns

@@ -2,7 +2,7 @@ use Rattle.std.specs.Prelude.{codes}
 use Rattle.trace_words.specs.Words.{node_word}
 use Rattle.station_lines.specs.Reasons.{stream_words}
 use Rattle.station_lines.specs.Reports.{retry_text}
-use Rattle.attribute_lines.specs.Lemmas.Appended.{four}
+use Rattle.station_lines.specs.Attributes.Lemmas.Appended.{four}
 use Rattle.station_lines.proofs.reports.push_not_opened.Goals as goal
 
 pub returns : goal.returns

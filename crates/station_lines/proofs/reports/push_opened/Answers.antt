@@ -1,6 +1,6 @@
 use Rattle.std.specs.Prelude.{codes}
 use Rattle.station_lines.specs.Reports.{stream_text}
-use Rattle.attribute_lines.specs.Lemmas.Appended.{two}
+use Rattle.station_lines.specs.Attributes.Lemmas.Appended.{two}
 use Rattle.station_lines.proofs.reports.push_opened.Goals as goal
 
 pub returns : goal.returns

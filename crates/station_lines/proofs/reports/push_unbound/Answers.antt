@@ -1,7 +1,7 @@
 use Rattle.std.specs.Prelude.{codes}
 use Rattle.trace_words.specs.Words.{node_word}
 use Rattle.station_lines.specs.Reports.{unbound_port_text}
-use Rattle.attribute_lines.specs.Lemmas.Appended.{three}
+use Rattle.station_lines.specs.Attributes.Lemmas.Appended.{three}
 use Rattle.station_lines.proofs.reports.push_unbound.Goals as goal
 
 pub returns : goal.returns

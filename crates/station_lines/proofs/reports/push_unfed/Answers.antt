@@ -1,7 +1,7 @@
 use Rattle.std.specs.Prelude.{codes, decimal}
 use Rattle.trace_words.specs.Words.{node_word}
 use Rattle.station_lines.specs.Reports.{remedy_text}
-use Rattle.attribute_lines.specs.Lemmas.Appended.{behind_two}
+use Rattle.station_lines.specs.Attributes.Lemmas.Appended.{behind_two}
 use Rattle.station_lines.proofs.reports.push_unfed.Goals as goal
 
 pub returns : goal.returns

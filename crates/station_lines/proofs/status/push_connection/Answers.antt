@@ -1,6 +1,6 @@
 use Rattle.station_lines.specs.Status.{age_text, connection_head, counts_text, purpose_text}
 use Rattle.trace_words.specs.Words.{node_word}
-use Rattle.attribute_lines.specs.Lemmas.Appended.{five}
+use Rattle.station_lines.specs.Attributes.Lemmas.Appended.{five}
 use Rattle.station_lines.proofs.status.push_connection.Goals as goal
 
 pub returns : goal.returns

@@ -1,6 +1,6 @@
 use Rattle.cip_tables.specs.States.{totals_of}
 use Rattle.station_lines.specs.Status.{connection_lines, points_status, totals_line}
-use Rattle.attribute_lines.specs.Lemmas.Appended.{three}
+use Rattle.station_lines.specs.Attributes.Lemmas.Appended.{three}
 use Rattle.station_lines.proofs.status.push_lines.Goals as goal
 
 pub returns : goal.returns

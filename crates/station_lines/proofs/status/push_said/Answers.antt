@@ -1,7 +1,7 @@
 use Rattle.std.specs.Prelude.{codes}
 use Rattle.trace_outcomes.specs.WrittenOutcomes.{verdict_words}
 use Rattle.station_lines.specs.Status.{moment_text}
-use Rattle.attribute_lines.specs.Lemmas.Appended.{three}
+use Rattle.station_lines.specs.Attributes.Lemmas.Appended.{three}
 use Rattle.station_lines.proofs.status.push_said.Goals as goal
 
 pub returns : goal.returns

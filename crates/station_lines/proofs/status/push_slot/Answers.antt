@@ -1,6 +1,6 @@
 use Rattle.std.specs.Prelude.{codes}
 use Rattle.station_lines.specs.Status.{counts_text, point_head, slot_state, terms_text}
-use Rattle.attribute_lines.specs.Lemmas.Appended.{four}
+use Rattle.station_lines.specs.Attributes.Lemmas.Appended.{four}
 use Rattle.station_lines.proofs.status.push_slot.Goals as goal
 
 pub returns : goal.returns

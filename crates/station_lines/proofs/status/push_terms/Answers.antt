@@ -1,7 +1,7 @@
 use Rattle.std.specs.Prelude.{codes}
 use Rattle.trace_words.specs.Words.{node_word}
 use Rattle.station_lines.specs.Status.{config_text, slot_kind_text}
-use Rattle.attribute_lines.specs.Lemmas.Appended.{four}
+use Rattle.station_lines.specs.Attributes.Lemmas.Appended.{four}
 use Rattle.station_lines.proofs.status.push_terms.Goals as goal
 
 pub returns : goal.returns

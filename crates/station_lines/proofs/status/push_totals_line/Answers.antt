@@ -1,5 +1,5 @@
 use Rattle.station_lines.specs.Status.{moment_text, traffic_text, use_text}
-use Rattle.attribute_lines.specs.Lemmas.Appended.{three}
+use Rattle.station_lines.specs.Attributes.Lemmas.Appended.{three}
 use Rattle.station_lines.proofs.status.push_totals_line.Goals as goal
 
 pub returns : goal.returns

@@ -13,7 +13,7 @@ returns-clause-quiet c ms early short before =
     let t = table_in c.args.self.now in
     let clock : Ms = record { 0 = t.clock.0 + ms } in
     let bounds = all_bounds c.first_due-due.result in
-    let hinted = c.first_due-due.ensures.hinted in
+    let hinted = c.first_due-due.ensures.timed in
     let lasts : clock.0 < c.first_due-due.result.0 = omega arith in
     let awaits : clock.0 < explicit_due c.deref.result.now = omega (arith, c.first_deadline-late.ensures) in
     let none = c.later_deadlines_end_nothing.ensures (at_time t clock) (subst (λ (l : List PendingExplicit). clock.0 < explicit_due l) c.deref.ensures.value awaits) in

@@ -1,7 +1,6 @@
 use Rattle.std.proofs.Common.{◌≡◌, refl, subst}
 use Rattle.std.specs.Result.{IfOk}
 use Rattle.scanner_table.specs.Opening.{opened}
-use Rattle.scanner_table.specs.Sessions.{session_with}
 use Rattle.scanner_table.specs.declared.slot.SlotState.TheVariants.{Idle, Opening, Established, TimedOut, Closing}
 use Rattle.scanner_slots.specs.Views.{view_slot}
 use Rattle.scanner_transactions.specs.Transactions.{Progress, view_transaction}
@@ -25,7 +24,7 @@ returns-in-TimedOut-2 c =
     let so_far : Progress = view_transaction c.args.self.now in
     let indexed = view_slot c.in-Some.indexed in
     record {
-      effect = subst (λ (d : Progress). IfOk c.open_there.result (λ x. view_transaction c.open_there.new.self ≡ d)) (opens_there so_far c.args.number indexed (TimedOut c.in-TimedOut-2.field-0) (c.in-Some.ensures.found) c.in-TimedOut-2.is (untidy_opens so_far.table indexed (session_with so_far.table indexed.config.target) c.in-TimedOut-2.field-0 c.if-tidy.false)) c.open_there.ensures.effect;
+      effect = subst (λ (d : Progress). IfOk c.open_there.result (λ x. view_transaction c.open_there.new.self ≡ d)) (opens_there so_far c.args.number indexed (TimedOut c.in-TimedOut-2.field-0) (c.in-Some.ensures.found) c.in-TimedOut-2.is (untidy_opens so_far.table indexed c.in-TimedOut-2.field-0 c.if-tidy.false)) c.open_there.ensures.effect;
       kept = c.open_there.ensures.kept;
     }
 

@@ -15,8 +15,11 @@ use Rattle.scanner_transactions.proofs.transaction.Transaction.request_open.Goal
 pub next_requested-requested-requires : goal.next_requested-requested-requires
 next_requested-requested-requires c = (left_for (view_transaction c.args.self.now).table c.args.number (view_slot c.in-Some.indexed) (c.in-Some.ensures.found) c.requires.left).1
 
-pub open_frame-requires : goal.open_frame-requires
-open_frame-requires c = lengths_at c.args.self.now.profile.now c.args.number c.in-Some.indexed.config.now c.args.self.now.faultless (found c.args.number c.args.self.now.profile.now.slots c.args.self.now.scanner.slots.items (view_slot c.in-Some.indexed) (c.in-Some.ensures.found)).config
+pub open_frame-requires-clause-time : goal.open_frame-requires-clause-time
+open_frame-requires-clause-time c = open_timeout_fits c.args.self.now.profile.now c.args.self.now.faultless
+
+pub open_frame-requires-clause-lengths : goal.open_frame-requires-clause-lengths
+open_frame-requires-clause-lengths c = lengths_at c.args.self.now.profile.now c.args.number c.in-Some.indexed.config.now c.args.self.now.faultless (found c.args.number c.args.self.now.profile.now.slots c.args.self.now.scanner.slots.items (view_slot c.in-Some.indexed) (c.in-Some.ensures.found)).config
 
 pub later-requires-clause-wait : goal.later-requires-clause-wait
 later-requires-clause-wait c = open_timeout_fits c.args.self.now.profile.now c.args.self.now.faultless
@@ -36,7 +39,7 @@ returns c =
     let indexed = view_slot c.in-Some.indexed in
     let drawn : c.next_requested-requested.result ≡ next_requested so_far.table indexed.config = c.next_requested-requested.ensures in
     let wait : c.later.result ≡ later so_far.table.clock so_far.table.profile.open_timeout = c.later.ensures in
-    let sent : c.in_ok-frame.frame ≡ sent_frame (numbered c.args.session so_far.table.next_request (opening (is_large indexed.config) (open_fields indexed.config (next_requested so_far.table indexed.config)))) = c.in_ok-frame.ensures ∙ ap (λ (r : Requested). sent_frame (numbered c.args.session so_far.table.next_request (opening (is_large indexed.config) (open_fields indexed.config r)))) drawn in
+    let sent : c.in_ok-frame.frame ≡ sent_frame (numbered c.args.session so_far.table.next_request (opening (is_large indexed.config) (open_fields so_far.table.profile indexed.config (next_requested so_far.table indexed.config)))) = c.in_ok-frame.ensures ∙ ap (λ (r : Requested). sent_frame (numbered c.args.session so_far.table.next_request (opening (is_large indexed.config) (open_fields so_far.table.profile indexed.config r)))) drawn in
     record {
       effect = subst (λ (d : Progress). IfOk c.send_request.result (λ x. view_transaction c.send_request.new.self ≡ d)) (requests_open so_far c.args.number c.id_after-self.result c.serial_after-self.result indexed c.args.session c.in_ok-frame.frame (record { state = Opening (record { request = so_far.table.next_request; requested = c.next_requested-requested.result; deadline = c.later.result }); desired_up = indexed.slot.desired_up; retry_at = indexed.slot.retry_at }) (c.in-Some.ensures.found) c.id_after-self.ensures c.serial_after-self.ensures sent (rw (drawn, wait) refl)) c.send_request.ensures.effect;
       kept = c.send_request.ensures.kept;

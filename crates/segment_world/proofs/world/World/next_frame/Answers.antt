@@ -1,5 +1,5 @@
 use Rattle.std.proofs.Common.{map, slice_get, Ok, Err, sym, ap, ◌∙◌}
-use Rattle.segment_traffic.specs.Streams.{with_stream, taken_from, answered}
+use Rattle.segment_world.specs.Transit.Streams.{with_stream, taken_from, answered}
 use Rattle.segment_world.specs.World.{World, event_at_device, without_front, taken_at}
 use Rattle.segment_world.proofs.Acts.{done_so, undone_so}
 use Rattle.segment_world.proofs.CameTo.{as_many}

@@ -1,7 +1,7 @@
 use Rattle.std.proofs.Common.{map, ◌≡◌, List, slice_get, slice_index_or, refl, sym, ap, ◌∙◌}
 use Rattle.std.proofs.lemmas.List.{length-map}
 use Rattle.cip_types.specs.declared.names.Node.{Node}
-use Rattle.segment_traffic.specs.Fronts.{view_front}
+use Rattle.segment_world.specs.Transit.Fronts.{view_front}
 use Rattle.segment_world.specs.World.{World, node_at}
 use Rattle.segment_world.proofs.Acts.{stands, comes_over, comes_over_possibly}
 use Rattle.segment_world.proofs.world.World.reception.Goals as goal

@@ -1,2 +1,0 @@
-pub mod Paths
-mod Samples

@@ -1,3 +1,0 @@
-pub mod Messages
-mod Alone
-mod Samples

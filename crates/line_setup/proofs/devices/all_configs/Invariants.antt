@@ -1,9 +1,0 @@
-use Rattle.std.proofs.Common.{◌≡◌, ◌+◌, length}
-use Rattle.line_setup.specs.Devices.{line_configs}
-use Rattle.line_setup.proofs.devices.all_configs.Given as goal
-
-abbrev pub invariant-loop-number : goal.invariant-loop-number
-invariant-loop-number l = record {
-  configs : l.configs.items ≡ line_configs l.number;
-  count : length l.configs.items ≡ l.number + 1;
-}

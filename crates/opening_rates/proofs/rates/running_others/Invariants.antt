@@ -1,7 +1,0 @@
-use Rattle.std.proofs.Common.{◌≡◌, ◌++◌, filter, drop}
-use Rattle.opening_rates.specs.Rates.{runs_for_another}
-use Rattle.opening_rates.proofs.rates.running_others.Given as goal
-
-abbrev pub invariant-loop-counted : goal.invariant-loop-counted
-invariant-loop-counted l =
-    l.others.items ++ filter (runs_for_another l.clock l.node) (drop l.counted-index l.openings) ≡ filter (runs_for_another l.clock l.node) l.openings

@@ -1,0 +1,2 @@
+mod ServingSamples
+mod Samples

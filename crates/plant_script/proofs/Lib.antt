@@ -1,3 +1,0 @@
-mod Rounds
-mod Samples
-mod Waits

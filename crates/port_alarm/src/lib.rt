@@ -1,8 +1,0 @@
-//! An alarm of a port: a thread of its own ends a wait of the port at a moment between two milliseconds.
-#![tactic(auto)]
-
-mod alarm;
-mod times;
-
-pub use alarm::Alarm;
-pub use times::{AlarmStep, alarm_step, ns_behind, sets_anew};

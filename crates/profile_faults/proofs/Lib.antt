@@ -1,5 +1,0 @@
-pub mod Apart
-pub mod Groups
-pub mod Named
-pub mod Placed
-pub mod PlacedWords

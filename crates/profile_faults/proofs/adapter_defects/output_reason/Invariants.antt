@@ -1,8 +1,0 @@
-use Rattle.std.proofs.Common.{◌≡◌, true, take}
-use Rattle.std.specs.List.{list_all}
-use Rattle.adapter_table.specs.Profiles.{has_output_len}
-use Rattle.profile_faults.proofs.adapter_defects.output_reason.Given as goal
-
--- those so far have a length that is allowed
-abbrev pub invariant-loop-index : goal.invariant-loop-index
-invariant-loop-index l = list_all has_output_len (take l.index l.outputs) ≡ true

@@ -1,7 +1,0 @@
-use Rattle.std.proofs.Common.{◌≡◌, ◌++◌, drop}
-use Rattle.profile_faults.specs.Instances.{placed_inputs}
-use Rattle.profile_faults.proofs.instances.push_inputs.Given as goal
-
--- those that are left go behind those so far
-abbrev pub invariant-loop-index : goal.invariant-loop-index
-invariant-loop-index l = l.points.items ++ placed_inputs l.index (drop l.index l.inputs) ≡ l.fn.points.items ++ placed_inputs 0 l.inputs

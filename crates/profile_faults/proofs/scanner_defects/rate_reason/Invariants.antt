@@ -1,8 +1,0 @@
-use Rattle.std.proofs.Common.{◌≡◌, true, take}
-use Rattle.std.specs.List.{list_all}
-use Rattle.scanner_table.specs.Profiles.{has_times}
-use Rattle.profile_faults.proofs.scanner_defects.rate_reason.Given as goal
-
--- the slots so far pass
-abbrev pub invariant-loop-index : goal.invariant-loop-index
-invariant-loop-index l = list_all has_times (take l.index l.slots) ≡ true

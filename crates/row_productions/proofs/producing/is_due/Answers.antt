@@ -1,5 +1,0 @@
-use Rattle.std.proofs.Common.{rules}
-use Rattle.row_productions.proofs.producing.is_due.Goals as goal
-
-pub returns-in-Established : goal.returns-in-Established
-returns-in-Established c = search rules

@@ -1,6 +1,0 @@
-use Rattle.std.proofs.Common.{◌≡◌, take}
-use Rattle.schedule_search.specs.Histories.{configs_of}
-use Rattle.schedule_search.proofs.search.copy_configs.Given as goal
-
-abbrev pub invariant-loop-history : goal.invariant-loop-history
-invariant-loop-history l = l.configs.items ≡ configs_of (take l.history-index l.histories)

@@ -1,6 +1,0 @@
-use Rattle.std.proofs.Common.{◌<◌, ℕ, slice_index}
-use Rattle.schedule_search.specs.Histories.{bytes_of}
-use Rattle.schedule_search.proofs.search.count_devices.Given as goal
-
-abbrev pub invariant-loop-history : goal.invariant-loop-history
-invariant-loop-history l = (i : ℕ) → i < l.history-index → slice_index (bytes_of l.histories) i < 256

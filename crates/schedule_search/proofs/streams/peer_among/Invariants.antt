@@ -1,6 +1,0 @@
-use Rattle.std.proofs.Common.{◌≡◌, drop}
-use Rattle.schedule_search.specs.Openings.{peer_in}
-use Rattle.schedule_search.proofs.streams.peer_among.Given as goal
-
-abbrev pub invariant-loop-event : goal.invariant-loop-event
-invariant-loop-event l = peer_in l.number (drop l.event-index l.events) ≡ peer_in l.number l.events

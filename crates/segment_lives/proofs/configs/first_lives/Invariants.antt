@@ -1,6 +1,0 @@
-use Rattle.std.proofs.Common.{◌≡◌, ◌++◌, drop}
-use Rattle.segment_lives.specs.Plants.{first_lives}
-use Rattle.segment_lives.proofs.configs.first_lives.Given as goal
-
-abbrev pub invariant-loop-life : goal.invariant-loop-life
-invariant-loop-life l = l.lives.items ++ first_lives l.life (drop l.life l.configs) ≡ first_lives 0 l.configs

@@ -1,5 +1,0 @@
-use Rattle.segment_lives.proofs.Playing.{devices_run}
-use Rattle.segment_lives.proofs.laws.devices_run_since_their_restart.Goals as goal
-
-pub returns : goal.returns
-returns c = devices_run c.projections_are_runs.ensures

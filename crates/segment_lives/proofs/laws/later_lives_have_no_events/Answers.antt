@@ -1,5 +1,0 @@
-use Rattle.segment_lives.proofs.Playing.{later_lives}
-use Rattle.segment_lives.proofs.laws.later_lives_have_no_events.Goals as goal
-
-pub returns : goal.returns
-returns c = later_lives

@@ -1,6 +1,0 @@
-mod Frames
-mod Live
-mod Spares
-mod Views
-mod Ways
-mod Appending

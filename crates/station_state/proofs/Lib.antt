@@ -1,3 +1,0 @@
-mod NumberTexts
-mod ReadBack
-mod Samples

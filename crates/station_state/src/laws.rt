@@ -1,8 +1,0 @@
-//! The law of a state's text.
-
-ghost use Rattle.station_state.specs.States.{ReadsBack};
-
-/// A state that is written is read as itself.
-pub fn reads_back()
-    ensures { ReadsBack }
-{}

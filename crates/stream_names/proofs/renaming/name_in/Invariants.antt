@@ -1,6 +1,0 @@
-use Rattle.std.proofs.Common.{◌≡◌, None, drop}
-use Rattle.stream_names.specs.Names.{last_name}
-use Rattle.stream_names.proofs.renaming.name_in.Given as goal
-
-abbrev pub invariant-loop-name : goal.invariant-loop-name
-invariant-loop-name l = last_name (drop l.name-index l.names) l.stream l.last ≡ last_name l.names l.stream None

@@ -1,7 +1,0 @@
-use Rattle.trace_pcap.specs.Packets.{record_header}
-use Rattle.trace_pcap.proofs.Pieces.{four}
-use Rattle.trace_pcap.proofs.packets.push_record_header.Goals as goal
-
-pub returns : goal.returns
-unfolding record_header
-returns c = four _ _ _ _ _ _ _ _ _ c.in_ok-put_u32.ensures.ok c.in_ok-put_u32-2.ensures.ok c.in_ok-put_u32-3.ensures.ok c.in_ok-put_u32-4.ensures.ok
