@@ -9,7 +9,6 @@ use cip_types::OutOfMemory;
 use command_lines::{Options, StationTask, file_of, word_from_end};
 use fast_device::FastDevice;
 use page_feed::PageFeed;
-use point_names::{Names, ReadNames};
 use port_faults::FaultyPort;
 use socket_port::SystemClock;
 use station::{Reporting, Station, StationObserver};
@@ -28,6 +27,7 @@ use std::fs::File;
 use std::random::RandomSource;
 use std::rt::{Clock, Files};
 use std::sync::Wait;
+use trace_words::{Names, ReadNames};
 
 /// Why a start has to be counted, and what to do where it cannot be.
 const UNCOUNTED: &str =

@@ -7,10 +7,10 @@ use cip_tables::Config;
 use cip_types::{Items, OutOfMemory};
 use command_lines::Options;
 use page_feed::FeedEnd;
-use point_names::Names;
 use station_rim::{SharedDevices, SharedInput, SharedLines, SharedRecord};
 use std::alloc::Global;
 use std::sync::{Arc, Condvar, Mutex, Wait};
+use trace_words::Names;
 
 /// A device that is to live.
 #[derive(Drop)]

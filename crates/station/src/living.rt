@@ -7,11 +7,10 @@ use crate::fault::EarlyEnd;
 use crate::serving::Station;
 use cip_tables::Device;
 use cip_types::{Items, OutOfMemory};
-use port_groups::GroupPort;
 use port_orders::{OrderedPort, PortOrder};
 use station_lines::LineSink;
 use station_record::RecordSink;
-use udp_runner::Clock;
+use udp_runner::{Clock, GroupPort};
 
 /// What a station does next.
 #[derive(PartialEq, Drop)]

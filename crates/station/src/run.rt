@@ -4,16 +4,14 @@ ghost use Rattle.std.specs.Prelude.{◌≡◌, false, OnOk};
 ghost use Rattle.std.specs.List.{list_any};
 ghost use Rattle.station.specs.Recorded.{Recorded};
 ghost use Rattle.station.specs.Times.{is_over, pause_ms};
-ghost use Rattle.station_watch.specs.Closing.{close_end, is_marked, waits_on};
+ghost use Rattle.station_lines.specs.Watch.Closing.{close_end, is_marked, waits_on};
 
 use crate::fault::EarlyEnd;
 use crate::serving::Station;
 use cip_tables::Device;
-use port_groups::GroupPort;
-use station_lines::{CallLines, LineSink, NextLine};
+use station_lines::{CallLines, LineSink, NextLine, close_end, waits_on};
 use station_record::RecordSink;
-use station_watch::{close_end, waits_on};
-use udp_runner::Clock;
+use udp_runner::{Clock, GroupPort};
 
 /// A station looks for lines at least so often, in milliseconds, and earlier if their source wakes the port.
 const LOOK_MS: u64 = 1_000;

@@ -152,7 +152,7 @@ books_kept : (sent : List Production) (device : ℕ) → Kept (Keeps sent device
 books_kept sent device = record {
   same = λ t ok. ok;
   after = λ t u v first next ok. next (first ok);
-  opening = opening_keeps sent device;
+  opening = λ t place stands resting in_turn. opening_keeps sent device t place stands resting;
   idling = λ t place slot stands idle ok. set_books sent device t t place slot (same_alike t) stands (none_old t place slot Idle idle.state (λ r. refl)) (idle_state sent device t.run t.next_request place.config slot idle.state) ok;
   timing_out = λ t place link slot stands is becomes ok. set_books sent device t t place slot (same_alike t) stands (none_old t place slot (TimedOut link) becomes.state (λ r. refl)) (timed_out_state sent device t.run t.next_request place.config slot link becomes.state) ok;
   closing = λ t place link desired_up stands is ok.
@@ -199,7 +199,9 @@ written_old r (Closing c) = refl
 pub written_books : (sent : List Production) (device : ℕ) (run more : Bool) (next : ℕ) (config : SlotConfig) (was now : Slot) (state : SlotState) → StateBooks sent device run next config was state → StateBooks sent device more next config now (written_state state)
 written_books sent device run more next config was now Idle ok = tt
 written_books sent device run more next config was now (Opening o) ok = ok
-written_books sent device run more next config was now (Established c) ok = (ok.0, rewritten sent (end_at device c.opening) c.production (output_data run config was) (output_data more config now) ok.1)
+written_books sent device run more next config was now (Established c) ok =
+    let new = rewritten sent (end_at device c.opening) c.production (output_data run config was) (output_data more config now) ok.1 in
+    (ok.0, record { sequence = new.sequence; count = new.count; current = new.current })
 written_books sent device run more next config was now (TimedOut link) ok = tt
 written_books sent device run more next config was now (Closing c) ok = tt
 
