@@ -4,25 +4,23 @@ use crate::failure::{Failure, NO_MEMORY};
 use crate::paging::{HostNet, PageSubject, begin_page, page_host};
 use crate::profiles::profile_of;
 use crate::program::{Surroundings, line_of};
-use cip_tables::{Config, Device};
+use cip_tables::Config;
 use cip_types::OutOfMemory;
 use command_lines::{Options, StationTask, file_of, word_from_end};
-use fast_device::FastDevice;
 use page_feed::PageFeed;
 use point_names::{Names, ReadNames};
-use port_faults::FaultyPort;
-use socket_port::SystemClock;
-use station::{Reporting, Station, StationObserver};
-use station_lines::NoLines;
+use station::{DeviceSteps, InputSteps};
+use station_lines::{CallLines, LineSink, NoLines};
 use station_port::{StationPlace, StationPort};
-use station_record::{Recorder, Start, StateFault, StationState, name_of, stem_of};
+use station_record::{Recorder, Start, StateFault, name_of, stem_of};
 use station_rim::{
     Entries, LabelledLines, LineEntrance, Rim, SharedDevices, drain_lines, drain_record,
     report_line,
 };
 use station_setup::{
-    OpenedPort, ending_of, incarnation_of, is_scanner, names_in, open_port, rates_of, recorder_in,
-    socket_place, start_in, with_description, with_incarnation, with_serials,
+    OpenStation, OpenedPort, StationOutputs, described, end_of, incarnation_of, is_scanner,
+    names_in, open_port, recorder_in, socket_place, start_in, station_of, with_incarnation,
+    with_serials,
 };
 use std::fs::File;
 use std::random::RandomSource;
@@ -177,7 +175,8 @@ fn open<R>(setting: &Stationed<'_, R>, config: Config, start: &Start) -> Result<
 where
     R: AllocGlobal + Files<File = File> + Clock + HostNet + RandomSource + Wait + Copy + Drop,
 {
-    let config = described(setting, config, &start.state())?;
+    let (alloc, name) = (setting.rt.alloc(), station_name(setting).as_bytes());
+    let config = described(alloc, config, setting.options, start.state().serial, name)?;
     let kind = if is_scanner(&config) {
         "scanner"
     } else {
@@ -192,26 +191,6 @@ where
     };
     let line = start_line(setting, kind, &opened.place, start.state().incarnation)?;
     serve(setting, &config, opened, start, line.as_str())
-}
-
-/// The configuration of a station: an adapter's has a description, so that inquiries find it.
-fn described<R>(
-    setting: &Stationed<'_, R>,
-    config: Config,
-    state: &StationState,
-) -> Result<Config, Failure>
-where
-    R: AllocGlobal,
-{
-    match config {
-        Config::Adapter(profile) => {
-            let name = station_name(setting).as_bytes();
-            let alloc = setting.rt.alloc();
-            let profile = with_description(alloc, profile, setting.options, state.serial, name)?;
-            Ok(Config::Adapter(profile))
-        }
-        Config::Scanner(profile) => Ok(Config::Scanner(profile)),
-    }
 }
 
 /// The name of a station: that of its options, or that of its profile's file.
@@ -259,45 +238,55 @@ fn serve<R>(
 where
     R: AllocGlobal + Files<File = File> + Clock + HostNet + RandomSource + Wait + Copy + Drop,
 {
-    let (rt, alloc) = (setting.rt, setting.rt.alloc());
-    let OpenedPort {
-        mut port,
-        place,
-        slots,
-    } = opened;
-    port.set_alarm(setting.shared.alarm.share()?)?;
-    seed_delays(&rt, &mut port);
-    let waker = port.waker()?;
+    let rt = setting.rt;
+    let mut opened = opened;
+    opened.port.set_alarm(setting.shared.alarm.share()?)?;
+    seed_delays(&rt, &mut opened.port);
+    let (waker, slots) = (opened.port.waker()?, opened.slots);
     let names = names_of(setting)?;
     let recorder = recorder_of(setting, config, &names)?;
     if !setting.options.quiet {
         report_line(rt, setting.rim, line.as_bytes());
     }
     let (out, err) = outputs_of(setting, &names)?;
-    let mut observer = StationObserver::new(alloc, config, recorder, out, err)?;
-    if let Some(port) = setting.options.page {
-        observer.feed(page_of(setting, config, names, port)?);
-    }
-    let device = FastDevice::new(alloc, config.copy(alloc)?)?;
-    let clock = SystemClock::new(rt);
-    let reporting = Reporting {
-        quiet: setting.options.quiet,
-        silent_s: place.inactivity_s,
+    let outputs = StationOutputs {
+        recorder,
+        out,
+        err,
+        page: page_of(setting, config, names)?,
     };
-    let port = FaultyPort::new(alloc, port, SystemClock::new(rt), rates_of(setting.options));
-    let mut station = Station::new(alloc, config, port, clock, device, observer, reporting)?;
-    let ending = ending_of(setting.options, slots);
+    let mut station = station_of(rt, setting.options, config, opened, outputs)?;
     keep(setting, start)?;
     if setting.options.no_input && !setting.options.page_writes {
-        station.run(&mut NoLines, ending)?;
+        live(setting, &mut station, NoLines, slots)?;
     } else {
-        let mut lines = setting.rim.input.share()?.lines(rt, waker);
-        station.run(&mut lines, ending)?;
+        let lines = setting.rim.input.share()?.lines(rt, waker);
+        live(setting, &mut station, lines, slots)?;
     }
     match station.record_fault() {
         Some(_) => Err(Failure::RecordEnd),
         None => Ok(()),
     }
+}
+
+/// A life of a station, whose device has no script.
+fn live<R, O, E, L>(
+    setting: &Stationed<'_, R>,
+    station: &mut OpenStation<R, O, E>,
+    lines: L,
+    slots: u32,
+) -> Result<(), Failure>
+where
+    R: AllocGlobal + Files<File = File> + Clock + HostNet + Wait + Copy + Drop,
+    O: LineSink,
+    E: LineSink,
+    L: CallLines + Drop,
+{
+    let alloc = setting.rt.alloc();
+    let end_ms = end_of(setting.options.seconds);
+    let mut steps = DeviceSteps::unscripted(alloc, InputSteps::new(alloc, lines), end_ms);
+    station.live(&mut steps, slots)?;
+    Ok(())
 }
 
 /// The two outputs of a station, whose lines have these names behind them.
@@ -339,16 +328,18 @@ where
     Ok(names)
 }
 
-/// Begins the page of a station, and answers what tells it of the device.
+/// Begins the page of a station, if it has one, and answers what tells it of the device.
 fn page_of<R>(
     setting: &Stationed<'_, R>,
     config: &Config,
     names: Names,
-    port: u16,
-) -> Result<PageFeed, Failure>
+) -> Result<Option<PageFeed>, Failure>
 where
     R: AllocGlobal + Files<File = File> + Clock + HostNet + RandomSource + Wait + Copy + Drop,
 {
+    let Some(port) = setting.options.page else {
+        return Ok(None);
+    };
     let alloc = setting.rt.alloc();
     let record = match setting.options.record_from_end {
         Some(left) => Some(word_from_end(setting.words, left)),
@@ -362,7 +353,7 @@ where
     };
     begin_page(setting.rt, setting.shared, setting.options, port, subject)?;
     let end = setting.shared.page.feed_end(0)?;
-    Ok(PageFeed::new(alloc, config.copy(alloc)?, names, end)?)
+    Ok(Some(PageFeed::new(alloc, config.copy(alloc)?, names, end)?))
 }
 
 /// Has the system draw the seed of a port's delays. Where it draws none, the port's address is the seed.

@@ -1,3 +1,7 @@
+mod Living
 mod Noting
 mod SessionEnds
 mod Turning
+mod Rounds
+mod Samples
+mod Waits

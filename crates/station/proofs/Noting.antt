@@ -29,7 +29,7 @@ watches_on notes first second third (event ∷ events) more [] others one two = 
 watches_on notes first second third (event ∷ events) more (outcome ∷ outcomes) others (mid, noted, rest) two = (mid, noted, watches_on notes mid second third events more outcomes others rest two)
 
 -- two lists of things that a station did, one behind the other
-does_on : {P C D W O E : Type 0} (contents : W → Option (List ℕ)) (s t : Bool) (coming : C → List ℕ) (tape : P → Tape) (failed : P → ℕ) (table : D → DeviceTable) (first second third : Station P C D W O E) (tasks more : List Task) → Does contents s t coming tape failed table tasks first second → Does contents s t coming tape failed table more second third → Does contents s t coming tape failed table (tasks ++ more) first third
+pub does_on : {P C D W O E : Type 0} (contents : W → Option (List ℕ)) (s t : Bool) (coming : C → List ℕ) (tape : P → Tape) (failed : P → ℕ) (table : D → DeviceTable) (first second third : Station P C D W O E) (tasks more : List Task) → Does contents s t coming tape failed table tasks first second → Does contents s t coming tape failed table more second third → Does contents s t coming tape failed table (tasks ++ more) first third
 does_on {P} {C} {D} {W} {O} {E} contents s t coming tape failed table first second third [] more one two = let At : Station P C D W O E → Type 0 = λ x. Does contents s t coming tape failed table more x third in subst At one two
 does_on contents s t coming tape failed table first second third (task ∷ tasks) more (mid, did, rest) two = (mid, did, does_on contents s t coming tape failed table mid second third tasks more rest two)
 

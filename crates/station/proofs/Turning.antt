@@ -159,15 +159,21 @@ called_record contents s t coming tape failed table event old new (Ok done) call
 called_record contents s t coming tape failed table event old new (Err fault) call drove =
     let hands = drove.handed_some in record { tasks = Call event ∷ []; does = (new, call, refl); events = hands.events; outcomes = hands.outcomes; runs = hands.runs; notes = hands.watches }
 
--- a call, and what is done behind it
-pub call_records : {P C D W O E : Type 0} (contents : W → Option (List ℕ)) (s t : Bool) (coming : C → List ℕ) (tape : P → Tape) (failed : P → ℕ) (table : D → DeviceTable) (event : Event) (old middle new : Station P C D W O E) (made : Result Unit RunFault)
+-- a call, and what is done behind it, of which the device sees nothing
+pub call_made : {P C D W O E : Type 0} (contents : W → Option (List ℕ)) (s : Bool) (tape : P → Tape) (failed : P → ℕ) (table : D → DeviceTable) (event : Event) (old middle new : Station P C D W O E) (made : Result Unit RunFault)
     → Rests s tape failed middle new
     → Drove (λ one given outcome other. Notes contents one.recorder given outcome other.recorder) s true (event ∷ []) 0 1 (seen tape failed table old.port old.device old.observer) (seen tape failed table middle.port middle.device middle.observer) (once made)
     → middle.clock ≡ old.clock
-    → Recorded contents s t coming tape failed table old new
-call_records contents s t coming tape failed table event old middle new made rests drove clock =
-    let both : Drove (Notes contents) s true (event ∷ []) 0 1 (station_seen tape failed table old) (station_seen tape failed table new) (once made) =
-    drove_then (Notes contents) s true (event ∷ []) 0 1 (station_seen tape failed table old) (station_seen tape failed table middle) (station_seen tape failed table new) (once made)
-    (drove_recorded contents s true (event ∷ []) 0 1 _ _ (once made) drove)
-    rests.kept rests.worked (ap table rests.device) rests.recorder
-    in called_record contents s t coming tape failed table event old new made (record { made = made; drove = both; clock = rests.clock ∙ clock }) both
+    → Called contents s tape failed table event old new
+call_made contents s tape failed table event old middle new made rests drove clock = record {
+  made = made;
+  drove =
+      drove_then (Notes contents) s true (event ∷ []) 0 1 (station_seen tape failed table old) (station_seen tape failed table middle) (station_seen tape failed table new) (once made)
+      (drove_recorded contents s true (event ∷ []) 0 1 _ _ (once made) drove)
+      rests.kept rests.worked (ap table rests.device) rests.recorder;
+  clock = rests.clock ∙ clock;
+}
+
+pub call_records : {P C D W O E : Type 0} (contents : W → Option (List ℕ)) (s t : Bool) (coming : C → List ℕ) (tape : P → Tape) (failed : P → ℕ) (table : D → DeviceTable) (event : Event) (old new : Station P C D W O E)
+    → Called contents s tape failed table event old new → Recorded contents s t coming tape failed table old new
+call_records contents s t coming tape failed table event old new call = called_record contents s t coming tape failed table event old new call.made call call.drove

@@ -1,7 +1,10 @@
 pub mod Ended
 pub mod Faults
+pub mod Lives
 pub mod Recorded
 pub mod Rests
 pub mod Sessions
+pub mod Sources
 pub mod Times
 pub mod Turned
+pub mod Script

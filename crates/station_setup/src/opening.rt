@@ -1,4 +1,4 @@
-//! What opens a station: its profile in a file, its device, its port at a real address, and its record.
+//! What opens a station: its profile in a file, its device, its port at a real address, and its record; and the station of these.
 
 mod devices;
 mod places;
@@ -6,6 +6,7 @@ mod ports;
 mod profiles;
 mod records;
 mod starts;
+mod stations;
 mod unserved;
 
 pub use devices::{incarnation_of, is_scanner, with_incarnation, with_serials};
@@ -14,3 +15,4 @@ pub use ports::{OpenedPort, open_port};
 pub use profiles::{UnusableProfile, names_in, profile_in, unread_profile};
 pub use records::{head_of, recorder_in};
 pub use starts::start_in;
+pub use stations::{OpenPort, OpenStation, StationOutputs, station_of};
