@@ -13,6 +13,7 @@ use Rattle.station_lines.specs.declared.calls.InputLine.TheVariants as input
 use Rattle.station_lines.specs.declared.lines.NextLine.{NextLine}
 use Rattle.station_lines.specs.declared.lines.NextLine.TheVariants as next
 use Rattle.station.specs.declared.sources.DeviceSteps.{DeviceSteps}
+use Rattle.station.specs.declared.sources.InputSteps.{InputSteps}
 use Rattle.station.specs.Times.{is_over, pause_ms}
 
 -- THE INPUT
@@ -39,11 +40,12 @@ abbrev pub count_after : ℕ → NextLine → ℕ
 count_after count (next.Line line) = counted count
 count_after count other = count
 
--- A step was typed, or none: the lines of the input are counted, and the step is that of what it had.
-pub record Types (old : ℕ) (typed : Option StationStep) (new : ℕ) : Type 0 where
+-- A step was typed, or none: the step is that of what the input had next, whose lines are counted.
+pub record Types {L : Type 0} (has : L → NextLine → L → Type 0) (old : InputSteps L) (typed : Option StationStep) (new : InputSteps L) : Type 0 where
   pub came : NextLine
-  pub is_read : typed ≡ typed_of old came
-  pub is_counted : new ≡ count_after old came
+  pub comes : has old.lines came new.lines
+  pub is_read : typed ≡ typed_of old.count came
+  pub is_counted : new.count ≡ count_after old.count came
 
 -- THE SCRIPT
 

@@ -64,7 +64,7 @@ impl<L: CallLines> InputSteps<L> {
 impl<L: CallLines> TypedSteps for InputSteps<L> {
     ghost use Rattle.station.specs.Sources.{Types};
 
-    ghost types = { λ old step new. Types old.count step new.count };
+    ghost types = { λ old step new. Types L.has old step new };
 
     fn next_typed(&mut self) -> Result<Option<StationStep>, OutOfMemory> {
         let next = self.lines.next_line()?;
