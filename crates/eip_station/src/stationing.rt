@@ -9,7 +9,7 @@ use cip_types::OutOfMemory;
 use command_lines::{Options, StationTask, file_of, word_from_end};
 use page_feed::PageFeed;
 use point_names::{Names, ReadNames};
-use station::{DeviceSteps, InputSteps};
+use station::{DeviceSteps, EarlyEnd, InputSteps, LifeEnd};
 use station_lines::{CallLines, LineSink, NoLines};
 use station_port::{StationPlace, StationPort};
 use station_record::{Recorder, Start, StateFault, name_of, stem_of};
@@ -18,14 +18,15 @@ use station_rim::{
     report_line,
 };
 use station_setup::{
-    OpenStation, OpenedPort, StationOutputs, described, end_of, incarnation_of, is_scanner,
-    names_in, open_port, recorder_in, socket_place, start_in, station_of, with_incarnation,
-    with_serials,
+    MOST_LIVES, OpenStation, OpenedPort, StationOutputs, described, end_of, incarnation_of,
+    is_scanner, names_in, open_life_port, passed_ms, recorder_in, socket_place, start_in,
+    station_of, with_incarnation, with_serials,
 };
 use std::fs::File;
 use std::random::RandomSource;
 use std::rt::{Clock, Files};
 use std::sync::Wait;
+use std::time::Instant;
 
 /// Why a start has to be counted, and what to do where it cannot be.
 const UNCOUNTED: &str =
@@ -35,7 +36,7 @@ datagram could then drive an output. --state FILE names another file; --incarnat
 /// Where the lines of an output of a station go.
 type StationLines<R> = LabelledLines<LineEntrance<R>>;
 
-/// The words of a station, its options, and what it shares with its threads.
+/// The words of a station, its options, and what it shares with its threads; and which life of it this is.
 #[derive(Clone, Copy)]
 pub struct Stationed<'a, R> {
     pub rt: R,
@@ -43,6 +44,9 @@ pub struct Stationed<'a, R> {
     pub options: &'a Options,
     pub rim: &'a Rim,
     pub shared: &'a Surroundings,
+    pub life: u32,
+    /// When the life begins, in milliseconds since the station began.
+    pub begun_ms: u64,
 }
 
 /// Runs a station to its end, and reports its failure.
@@ -61,8 +65,10 @@ where
         options: &task.options,
         rim: &shared.rim,
         shared,
+        life: 1,
+        begun_ms: 0,
     };
-    let ran = begin(&setting, task.scanner);
+    let ran = live_all(&setting, task.scanner);
     let done = with_record(&setting, ran);
     report_end(rt, words, shared, done)
 }
@@ -108,8 +114,34 @@ where
     Err(Failure::RecordEnd)
 }
 
-/// Reads the profile, begins the state, and runs the station.
-fn begin<R>(setting: &Stationed<'_, R>, scanner: bool) -> Result<(), Failure>
+/// Runs the station: a life, and behind a reset that a peer has requested the next one.
+fn live_all<R>(setting: &Stationed<'_, R>, scanner: bool) -> Result<(), Failure>
+where
+    R: AllocGlobal + Files<File = File> + Clock + HostNet + RandomSource + Wait + Copy + Drop,
+{
+    let Ok(origin) = Instant::now(&setting.rt) else {
+        return Err(Failure::from(EarlyEnd::Clock));
+    };
+    for life in 1..MOST_LIVES {
+        let setting = Stationed {
+            life,
+            begun_ms: passed_ms(&setting.rt, origin),
+            ..*setting
+        };
+        match begin(&setting, scanner)? {
+            LifeEnd::Restart { same: _ } => {}
+            _ => return Ok(()),
+        }
+        // (what is left of its record is not that of the next life)
+        if setting.options.record_from_end.is_some() && !drain_record(&setting.rt, setting.rim) {
+            return Ok(());
+        }
+    }
+    Ok(())
+}
+
+/// Reads the profile, begins the state, and lives once.
+fn begin<R>(setting: &Stationed<'_, R>, scanner: bool) -> Result<LifeEnd, Failure>
 where
     R: AllocGlobal + Files<File = File> + Clock + HostNet + RandomSource + Wait + Copy + Drop,
 {
@@ -137,7 +169,7 @@ where
         Some(left) => format!(in alloc; "{}", word_from_end(setting.words, left))?,
         None => format!(in alloc; "{}.state", file_of(setting.words))?,
     };
-    match start_in(&setting.rt, options, path.as_str(), own) {
+    match start_in(&setting.rt, options, path.as_str(), own, setting.life) {
         Ok(start) => Ok(start),
         Err(fault) => Err(reported(setting, path.as_str(), fault)),
     }
@@ -170,8 +202,8 @@ where
     failure
 }
 
-/// Opens the port of a station, begins its record, and runs it.
-fn open<R>(setting: &Stationed<'_, R>, config: Config, start: &Start) -> Result<(), Failure>
+/// Opens the port of a station, begins its record, and has it live.
+fn open<R>(setting: &Stationed<'_, R>, config: Config, start: &Start) -> Result<LifeEnd, Failure>
 where
     R: AllocGlobal + Files<File = File> + Clock + HostNet + RandomSource + Wait + Copy + Drop,
 {
@@ -182,7 +214,7 @@ where
     } else {
         "adapter"
     };
-    let opened = match open_port(setting.rt, setting.options, &config) {
+    let opened = match open_life_port(setting.rt, setting.options, &config, setting.life) {
         Ok(opened) => opened,
         Err(fault) => {
             let place = socket_place(setting.options, &config, fault);
@@ -217,24 +249,37 @@ where
     trace_words::push_node(&mut line, place.address)?;
     let (tcp, udp) = (place.tcp, place.udp);
     write!(line, ", TCP {tcp}, UDP {udp}, incarnation {incarnation}, ")?;
-    match setting.options.record_from_end {
-        Some(left) => {
-            let record = word_from_end(setting.words, left);
-            write!(line, "record {record}\n")?;
-        }
+    match record_path(setting)? {
+        Some(record) => write!(line, "record {record}\n")?,
         None => line.push_str("no record\n")?,
     }
     Ok(line)
 }
 
-/// Runs a device at a port until its time is over or the standard input ends.
+/// The file of the record, if there is one: a further life has one of its own.
+fn record_path<R>(setting: &Stationed<'_, R>) -> Result<Option<String>, OutOfMemory>
+where
+    R: AllocGlobal,
+{
+    let Some(left) = setting.options.record_from_end else {
+        return Ok(None);
+    };
+    let (alloc, path) = (setting.rt.alloc(), word_from_end(setting.words, left));
+    let life = setting.life;
+    match life {
+        1 => Ok(Some(format!(in alloc; "{path}")?)),
+        _ => Ok(Some(format!(in alloc; "{path}.life-{life}")?)),
+    }
+}
+
+/// Has a device live at a port until its time is over, the standard input ends, or a peer requests a reset.
 fn serve<R>(
     setting: &Stationed<'_, R>,
     config: &Config,
     opened: OpenedPort<R>,
     start: &Start,
     line: &str,
-) -> Result<(), Failure>
+) -> Result<LifeEnd, Failure>
 where
     R: AllocGlobal + Files<File = File> + Clock + HostNet + RandomSource + Wait + Copy + Drop,
 {
@@ -257,15 +302,15 @@ where
     };
     let mut station = station_of(rt, setting.options, config, opened, outputs)?;
     keep(setting, start)?;
-    if setting.options.no_input && !setting.options.page_writes {
-        live(setting, &mut station, NoLines, slots)?;
+    let end = if setting.options.no_input && !setting.options.page_writes {
+        live(setting, &mut station, NoLines, slots)?
     } else {
         let lines = setting.rim.input.share()?.lines(rt, waker);
-        live(setting, &mut station, lines, slots)?;
-    }
+        live(setting, &mut station, lines, slots)?
+    };
     match station.record_fault() {
         Some(_) => Err(Failure::RecordEnd),
-        None => Ok(()),
+        None => Ok(end),
     }
 }
 
@@ -275,7 +320,7 @@ fn live<R, O, E, L>(
     station: &mut OpenStation<R, O, E>,
     lines: L,
     slots: u32,
-) -> Result<(), Failure>
+) -> Result<LifeEnd, Failure>
 where
     R: AllocGlobal + Files<File = File> + Clock + HostNet + Wait + Copy + Drop,
     O: LineSink,
@@ -283,10 +328,12 @@ where
     L: CallLines + Drop,
 {
     let alloc = setting.rt.alloc();
-    let end_ms = end_of(setting.options.seconds);
+    let end_ms = match end_of(setting.options.seconds) {
+        Some(end_ms) => Some(end_ms.saturating_sub(setting.begun_ms)),
+        None => None,
+    };
     let mut steps = DeviceSteps::unscripted(alloc, InputSteps::new(alloc, lines), end_ms);
-    station.live(&mut steps, slots)?;
-    Ok(())
+    Ok(station.live(&mut steps, slots)?)
 }
 
 /// The two outputs of a station, whose lines have these names behind them.
@@ -328,7 +375,7 @@ where
     Ok(names)
 }
 
-/// Begins the page of a station, if it has one, and answers what tells it of the device.
+/// Begins the page of a station with its first life, if it has one, and answers what tells it of the device.
 fn page_of<R>(
     setting: &Stationed<'_, R>,
     config: &Config,
@@ -351,7 +398,9 @@ where
         devices: None,
         host: page_host(setting.options, setting.words),
     };
-    begin_page(setting.rt, setting.shared, setting.options, port, subject)?;
+    if setting.life == 1 {
+        begin_page(setting.rt, setting.shared, setting.options, port, subject)?;
+    }
     let end = setting.shared.page.feed_end(0)?;
     Ok(Some(PageFeed::new(alloc, config.copy(alloc)?, names, end)?))
 }
@@ -378,10 +427,9 @@ where
 {
     let rt = setting.rt;
     let alloc = rt.alloc();
-    let Some(left) = setting.options.record_from_end else {
+    let Some(path) = record_path(setting)? else {
         return Ok(Recorder::idle(alloc));
     };
-    let path = format!(in alloc; "{}", word_from_end(setting.words, left))?;
     let most = setting.options.record_bytes;
     let record = &setting.rim.record;
     Ok(recorder_in(rt, record, config, names, path, most)?)

@@ -11,27 +11,18 @@ use page_feed::PageFeed;
 use plant_rim::{DeviceFailure, DeviceSetup, NameForm, NamedLines, PlantJob, SharedPlant};
 use station::{DeviceSteps, LifeEnd, ScriptRun};
 use station_lines::LineSink;
-use station_port::StationFault;
 use station_record::Recorder;
 use station_rim::{Entries, LabelledLines, LineEntrance, SharedRecord};
 use station_setup::{
-    OpenedPort, StationOutputs, described, open_port, recorder_in, station_of, with_incarnation,
+    MOST_LIVES, OpenedPort, StationOutputs, described, open_life_port, passed_ms, recorder_in, station_of,
+    with_incarnation,
 };
 use std::alloc::Global;
 use std::fs::{self, File};
 use std::net::Net;
 use std::rt::{Clock, Files};
 use std::sync::Wait;
-use std::thread;
-use std::time::{Duration, Instant};
-
-/// The port of the next life is tried again so often, a tenth of a second apart.
-const MOST_TRIES: u32 = 50;
-
-const RETRY_MS: u64 = 100;
-
-/// A device has at most so many lives.
-const MOST_LIVES: u32 = 1_000_000;
+use std::time::Instant;
 
 /// Where the lines of a device of a plant go.
 type DeviceSink<R> = LabelledLines<NamedLines<LineEntrance<R>>>;
@@ -101,7 +92,7 @@ where
     let mut incarnation = setup.span.first;
     for life in 1..MOST_LIVES {
         let config = config_of(rt.alloc(), setup, incarnation)?;
-        let opened = opened(rt, setup, &config, life)?;
+        let opened = open_life_port(rt, &setup.options, &config, life)?;
         let begun_ms = passed_ms(&rt, origin);
         let life = Life {
             plant,
@@ -123,14 +114,6 @@ fn now<R: Clock>(rt: &R) -> Result<Instant, DeviceFailure> {
     match Instant::now(rt) {
         Ok(now) => Ok(now),
         Err(_) => Err(DeviceFailure::Early(station::EarlyEnd::Clock)),
-    }
-}
-
-/// The milliseconds since a moment. A clock that cannot be read adds none.
-fn passed_ms<R: Clock>(rt: &R, origin: Instant) -> u64 {
-    match Instant::now(rt) {
-        Ok(now) => u64::try_from(now.duration_since(origin).as_millis()).unwrap_or(0),
-        Err(_) => 0,
     }
 }
 
@@ -160,27 +143,6 @@ fn config_of(alloc: Global, setup: &DeviceSetup, incarnation: u8) -> Result<Conf
     let config = with_incarnation(setup.config.copy(alloc)?, incarnation);
     let Node(serial) = node_of(&config);
     described(alloc, config, &setup.options, serial, setup.name.as_bytes())
-}
-
-/// The port of a life. That of a later life is tried again for a while: the system may not have given up the earlier one.
-fn opened<R>(
-    rt: R,
-    setup: &DeviceSetup,
-    config: &Config,
-    life: u32,
-) -> Result<OpenedPort<R>, StationFault>
-where
-    R: AllocGlobal + Net + Clock + Copy + Drop,
-{
-    if life > 1 {
-        for _ in 0..MOST_TRIES {
-            if let Ok(opened) = open_port(rt, &setup.options, config) {
-                return Ok(opened);
-            }
-            thread::sleep(&rt, Duration::from_millis(RETRY_MS));
-        }
-    }
-    open_port(rt, &setup.options, config)
 }
 
 /// A life of a device.
@@ -285,7 +247,7 @@ impl Life<'_> {
         Ok(())
     }
 
-    /// Lives to the end. A device that loses its power closes nothing.
+    /// Lives to the end. A device that loses its power, or is reset, closes nothing.
     fn live_recorded<R>(
         &self,
         rt: R,

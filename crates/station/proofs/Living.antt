@@ -8,7 +8,7 @@ use Rattle.station.specs.declared.step.LifeEnd.{LifeEnd}
 use Rattle.station.specs.declared.step.StationStep.{StationStep}
 use Rattle.station.specs.declared.serving.Station.{Station}
 use Rattle.station.specs.Ended.{Ended}
-use Rattle.station.specs.Lives.{Aged, Closed, EndsLife, Lived, Takes, Took, TookAll, TookMany, TurnsMade, called, end_of, number_of, starts_of, stops_of, tasks_of, ticks_of, turns_of}
+use Rattle.station.specs.Lives.{Aged, Closed, EndsLife, Lived, Takes, Took, TookAll, TookMany, TurnsMade, called, end_of, ended_by, number_of, reset_end, starts_of, stops_of, tasks_of, ticks_of, turn_unless, turns_of}
 use Rattle.station.specs.Recorded.{Called, Does, Task}
 use Rattle.station.specs.Recorded.Task.{Rest, Turn}
 use Rattle.station.specs.Rests.{Rests, Unstepped}
@@ -66,26 +66,28 @@ pub if_ok : {X E : Type 0} (r : Result X E) (Q R : X → Type 0) → ((x : X) �
 if_ok (Ok x) Q R then q = then x q
 if_ok (Err fault) Q R then q = tt
 
--- a step that ends the life
+-- a step that is an end
 pub took_last : {S P C D W O E : Type 0} (contents : W → Option (List ℕ)) (s t : Bool) (coming : C → List ℕ) (tape : P → Tape) (failed : P → ℕ) (table : D → DeviceTable) (gives : S → ℕ → StationStep → S → Type 0) (taken : StationStep) (end : LifeEnd) (ms : ℕ) (from : S) (old : Station P C D W O E) (to : S) (new : Station P C D W O E)
     → ms ≡ old.observer.now_ms → gives from ms taken to → Some end ≡ end_of taken → Does contents s t coming tape failed table (tasks_of (number_of old) taken) old new
     → Took contents s t coming tape failed table gives (Some end) from old to new
 took_last contents s t coming tape failed table gives taken end ms from old to new at came ends work = record {
   taken = taken;
   comes = subst (λ (n : ℕ). gives from n taken to) at came;
-  ends = ends;
-  does = does_on contents s t coming tape failed table old new new (tasks_of (number_of old) taken) [] work refl;
+  ends = ap (ended_by new.observer.reset) ends;
+  does = subst (λ (x : Option LifeEnd). Does contents s t coming tape failed table (tasks_of (number_of old) taken ++ turn_unless x) old new) ends
+      (does_on contents s t coming tape failed table old new new (tasks_of (number_of old) taken) [] work refl);
 }
 
--- a step, and the turn behind it
+-- a step that is no end, and the turn behind it
 pub took_one : {S P C D W O E : Type 0} (contents : W → Option (List ℕ)) (s t : Bool) (coming : C → List ℕ) (tape : P → Tape) (failed : P → ℕ) (table : D → DeviceTable) (gives : S → ℕ → StationStep → S → Type 0) (taken : StationStep) (ms : ℕ) (from : S) (old middle : Station P C D W O E) (to : S) (new : Station P C D W O E)
     → ms ≡ old.observer.now_ms → gives from ms taken to → None ≡ end_of taken → Does contents s t coming tape failed table (tasks_of (number_of old) taken) old middle → Turned contents s t coming tape failed table middle new
-    → Took contents s t coming tape failed table gives None from old to new
+    → Took contents s t coming tape failed table gives (reset_end new.observer.reset) from old to new
 took_one contents s t coming tape failed table gives taken ms from old middle to new at came ends work turn = record {
   taken = taken;
   comes = subst (λ (n : ℕ). gives from n taken to) at came;
-  ends = ends;
-  does = does_on contents s t coming tape failed table old middle new (tasks_of (number_of old) taken) (Turn ∷ []) work (turned contents s t coming tape failed table middle new turn);
+  ends = ap (ended_by new.observer.reset) ends;
+  does = subst (λ (x : Option LifeEnd). Does contents s t coming tape failed table (tasks_of (number_of old) taken ++ turn_unless x) old new) ends
+      (does_on contents s t coming tape failed table old middle new (tasks_of (number_of old) taken) (Turn ∷ []) work (turned contents s t coming tape failed table middle new turn));
 }
 
 pub took_as : {S P C D W O E : Type 0} (contents : W → Option (List ℕ)) (s t : Bool) (coming : C → List ℕ) (tape : P → Tape) (failed : P → ℕ) (table : D → DeviceTable) (gives : S → ℕ → StationStep → S → Type 0) (end other : Option LifeEnd) (from : S) (old : Station P C D W O E) (to : S) (new : Station P C D W O E)

@@ -2,6 +2,7 @@ pub mod Ended
 pub mod Faults
 pub mod Lives
 pub mod Recorded
+pub mod Resets
 pub mod Rests
 pub mod Sessions
 pub mod Sources

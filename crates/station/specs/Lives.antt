@@ -1,5 +1,5 @@
 -- A life of a station's device: what is done as it begins, for each step of its source, and as it ends.
-use Rattle.std.specs.Prelude.{◌≡◌, ℕ, ◌≤◌, ◌<◌, zero, suc, Bool, false, List, [], ◌∷◌, ◌++◌, Option, Some, None}
+use Rattle.std.specs.Prelude.{◌≡◌, ℕ, ◌≤◌, ◌<◌, zero, suc, Bool, true, false, List, [], ◌∷◌, ◌++◌, Option, Some, None}
 use Rattle.std.specs.List.{list_any}
 use Rattle.station_lines.specs.Attributes.Calls.{call_event}
 use Rattle.station_lines.specs.Attributes.Requested.{next_number}
@@ -45,18 +45,29 @@ abbrev pub wait_behind : StationStep → ℕ
 wait_behind (step.Wait ms) = ms
 wait_behind other = 0
 
--- behind each step but the last one is a turn
+-- how a life ends behind a turn, if it ends with it: a reset that a peer has requested is as a loss of power
+abbrev pub reset_end : (reset : Bool) → Option LifeEnd
+reset_end false = None
+reset_end true = Some (Restart false)
+
+-- how a life ends with a step, or with the turn behind it
+abbrev pub ended_by : (reset : Bool) → Option LifeEnd → Option LifeEnd
+ended_by reset (Some end) = Some end
+ended_by reset None = reset_end reset
+
+-- behind each step that is no end is a turn
 abbrev pub turn_unless : Option LifeEnd → List Task
 turn_unless None = Turn ∷ []
 turn_unless (Some end) = []
 
 -- The source gave a step at the time of the station's clock, and it was taken: what the step says was done, and a turn was made
--- behind it. The answer says how the life ends, if it ends with the step.
+-- behind it. The answer says how the life ends, if it ends with the step or with that turn: nothing is done behind a turn in which a
+-- peer has requested a reset.
 pub record Took {S P C D W O E : Type 0} (contents : W → Option (List ℕ)) (scripted timed : Bool) (coming : C → List ℕ) (tape : P → Tape) (failed : P → ℕ) (table : D → DeviceTable) (gives : S → ℕ → StationStep → S → Type 0) (end : Option LifeEnd) (from : S) (old : Station P C D W O E) (to : S) (new : Station P C D W O E) : Type 0 where
   pub taken : StationStep
   pub comes : gives from old.observer.now_ms taken to
-  pub ends : end ≡ end_of taken
-  pub does : Does contents scripted timed coming tape failed table (tasks_of (number_of old) taken ++ turn_unless end) old new
+  pub ends : end ≡ ended_by new.observer.reset (end_of taken)
+  pub does : Does contents scripted timed coming tape failed table (tasks_of (number_of old) taken ++ turn_unless (end_of taken)) old new
 
 -- So many steps were taken, one behind another, and none of them ends the life.
 abbrev pub TookMany : {S P C D W O E : Type 0} (contents : W → Option (List ℕ)) (scripted timed : Bool) (coming : C → List ℕ) (tape : P → Tape) (failed : P → ℕ) (table : D → DeviceTable) (gives : S → ℕ → StationStep → S → Type 0) (count : ℕ) → S → Station P C D W O E → S → Station P C D W O E → Type 0

@@ -8,6 +8,7 @@ mod fault;
 mod life;
 mod observer;
 mod point_lines;
+mod resets;
 mod script;
 mod serving;
 mod sessions;

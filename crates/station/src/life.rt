@@ -2,7 +2,7 @@
 
 ghost use Rattle.std.specs.Prelude.{◌≡◌, false, IfOk, OnOk};
 ghost use Rattle.std.specs.List.{list_any};
-ghost use Rattle.station.specs.Lives.{Closed, EndsLife, Lived, Takes, Took, TookAll, TurnsMade, end_of, number_of, tasks_of, wait_behind};
+ghost use Rattle.station.specs.Lives.{Closed, EndsLife, Lived, Takes, Took, TookAll, TurnsMade, end_of, number_of, reset_end, tasks_of, wait_behind};
 ghost use Rattle.station.specs.Recorded.{Does, Recorded};
 ghost use Rattle.station.specs.Rests.{Rests};
 ghost use Rattle.station_watch.specs.Closing.{close_end, is_marked, waits_on};
@@ -73,7 +73,7 @@ impl<
         Err(EarlyEnd::Clock)
     }
 
-    /// Takes the next step. Answers how the life ends, if it ends with it.
+    /// Takes the next step. Answers how the life ends, if it ends with it, or with the turn behind it.
     fn take_step<S: StepSource>(&mut self, source: &mut S) -> Result<Option<LifeEnd>, EarlyEnd>
         ensures recorded { Recorded W.contents P.is_scripted C.is_scripted C.coming P.tape P.failed D.table
             self.old self.new }
@@ -87,7 +87,7 @@ impl<
             Some(end) => Ok(Some(end)),
             None => {
                 self.turn(wait_ms)?;
-                Ok(None)
+                Ok(self.reset_end())
             }
         }
     }
@@ -107,6 +107,18 @@ impl<
             StationStep::Order(order) => self.order(order),
             StationStep::Wait { ms: _ } => Ok(()),
             StationStep::End(end) => self.report_end(end),
+        }
+    }
+
+    /// How the life ends behind a turn, if it ends with it: a reset that a peer has requested is as a loss of power. Its reply
+    /// is the last thing that was sent, since a turn takes one message at most, behind all else.
+    fn reset_end(&self) -> Option<LifeEnd>
+        ensures { result ≡ reset_end self.now.observer.reset }
+    {
+        if self.observer.is_reset() {
+            Some(LifeEnd::Restart { same: false })
+        } else {
+            None
         }
     }
 

@@ -1,11 +1,13 @@
 //! The observer of a station's device: it records its steps, prints them, and notes what the port has to know.
 
-ghost use Rattle.std.specs.Prelude.{◌≡◌, IfOk};
+ghost use Rattle.std.specs.Prelude.{◌≡◌, ◌||◌, IfOk};
 ghost use Rattle.std.specs.List.{list_any};
+ghost use Rattle.station.specs.Resets.{is_reset};
 ghost use Rattle.station_lines.specs.Attributes.Requested.{next_number};
 ghost use Rattle.station_watch.specs.Closing.{is_marked};
 
 use crate::fault::EarlyEnd;
+use crate::resets::requests_reset;
 use cip_events::{Answer, Delivery, Event, Outcome, Verdict};
 use cip_tables::{Config, Device};
 use cip_types::{Node, OutOfMemory};
@@ -32,6 +34,8 @@ pub struct StationObserver<W, O, E> {
     closing: ClosingSlots,
     /// Whether the connections of an adapter may have changed since the port was told of them.
     reconnected: bool,
+    /// Whether a peer has requested a reset, and the device has granted it.
+    reset: bool,
     slots: SlotWatches,
     traffic: StationTraffic,
     requested: PendingAttributes,
@@ -62,6 +66,7 @@ impl<W: RecordSink + Drop, O: LineSink, E: LineSink> StationObserver<W, O, E> {
             now_ms: 0,
             closing: ClosingSlots::none(alloc)?,
             reconnected: false,
+            reset: false,
             slots: SlotWatches::of(alloc, config)?,
             traffic: StationTraffic::of(alloc, config)?,
             requested: PendingAttributes::none(alloc),
@@ -150,6 +155,13 @@ impl<W: RecordSink + Drop, O: LineSink, E: LineSink> StationObserver<W, O, E> {
         ensures { result ≡ list_any is_marked self.now.closing }
     {
         self.closing.any()
+    }
+
+    /// Whether a peer has requested a reset, which the device has granted. Then the life is to end.
+    pub fn is_reset(&self) -> bool
+        ensures { result ≡ self.now.reset }
+    {
+        self.reset
     }
 
     /// Whether the connections of an adapter may have changed since this was asked last.
@@ -302,7 +314,7 @@ impl<W: RecordSink + Drop, O: LineSink, E: LineSink> StationObserver<W, O, E> {
         }
     }
 
-    /// Notes what an answer says of connections and slots, and counts datagrams.
+    /// Notes what an answer says of connections, slots and resets, and counts datagrams.
     fn note_answer<D: Device>(
         &mut self,
         device: &D,
@@ -310,8 +322,10 @@ impl<W: RecordSink + Drop, O: LineSink, E: LineSink> StationObserver<W, O, E> {
         answer: &Answer,
     ) -> Result<(), OutOfMemory>
         ensures kept { self.new.recorder ≡ self.old.recorder }
+        ensures reset { self.new.reset ≡ (self.old.reset || list_any is_reset answer.now.notices) }
     {
         let notices = answer.notices.as_slice();
+        self.reset |= requests_reset(notices);
         self.closing.note(notices);
         self.reconnected |= changes_connections(notices);
         self.slots.note(device, event, answer)?;

@@ -28,24 +28,39 @@ def ask(bench, host, profile, *options, at="peer"):
 
 
 def run_browser(bench):
-    """A browser asks a station that its options describe, one that its profile describes, and a device of a plant."""
+    """A browser asks a station that its options describe, one that its profile describes, and a device of a plant. Three resets end a life of
+    each of the last two: its record ends with the reset, and the next life has ids of its own."""
     adapter = bench.adapter("--serial", "7", "--name", "Line 3", "--inactivity", "90", log="browsed")
     said = ask(bench, bench.address["adapter"], "adapter", "--serial", "7", "--name", "Line 3", "--inactivity", "90", "--only", "25", "31.2", "31.4", "31.8", "7.2")
     holds(f"a browser asks a station that its options describe: {said}")
     need(adapter.end() == 0, "the adapter ends with status 0")
     bench.write("described.profile", DESCRIBED)
     adapter = bench.adapter("--record", bench.file("described.trace"), profile="described", log="described")
-    holds(f"a browser asks a station that its profile describes: {ask(bench, bench.address['adapter'], 'described')}")
+    holds(f"a browser asks a station that its profile describes: {ask(bench, bench.address['adapter'], 'described', '--resets')}")
     need(adapter.end() == 0, "the adapter ends with status 0")
     bench.replay_alone("described")
+    judge_lives(bench, "described", 4)
     dissect(bench, "described", bench.address["adapter"])
     node = bench.network.extra[0]
     bench.write_exactly("island.profile", DESCRIBED.format(adapter=node))
     plant = Plant(bench, "device island island.profile\n", log="browsed-plant")
     wait(lambda: any("adapter at" in line for line in plant.said()), "a plant has a device")
-    holds(f"a browser asks a device of a plant: {ask(bench, node, 'island', at='owner')}")
+    holds(f"a browser asks a device of a plant: {ask(bench, node, 'island', '--resets', at='owner')}")
+    need(sum(" life " in line for line in plant.said()) == 4, "three resets end three lives of a plant's device")
     need(plant.end() == 0, "the plant ends with status 0")
     bench.clear()
+
+
+def judge_lives(bench, name, lives):
+    """Each life of a station has a record of its own, which replays. All but the last one end with the reset: its reply is the last frame."""
+    for life in range(1, lives + 1):
+        path = bench.file(f"{name}.trace" + (f".life-{life}" if life > 1 else ""))
+        need(run(bench.program, "replay", path).returncode == 0, f"the record of life {life} replays")
+        with open(path) as file:
+            last = [line.split() for line in file if line.strip()][-3:]
+        is_reset = [words[1:2] for words in last[1:]] == [["frame"], ["note"]] and last[2][2] == "reset"
+        need(is_reset == (life < lives), f"the record of life {life} ends with the outcome of its reset: {last}")
+    sure(True, f"three resets end three lives of a station: the records of {lives} lives replay, and each ends with the reply to the reset")
 
 
 def dissect(bench, name, node):
