@@ -1,3 +1,8 @@
 pub mod Ending
-pub mod Messaging
+pub mod EngineMessaging
 pub mod Serving
+pub mod Admitted
+pub mod Aging
+pub mod EngineEffects
+pub mod StateMessaging
+pub mod Quiet

@@ -13,9 +13,8 @@ ghost use Rattle.adapter_table.specs.Step.{adapter_step};
 ghost use Rattle.cip_events.specs.Outcomes.{Follows};
 ghost use Rattle.cip_tables.specs.Step.{is_datagram};
 
-use adapter_objects::{ObjectRequest, own_request};
-use adapter_replies::{Route, unserved_answer};
-use adapter_state::AdapterState;
+use crate::state::AdapterState;
+use adapter_replies::{ObjectRequest, Route, own_request, unserved_answer};
 use cip_fwdopen::service::FORWARD_CLOSE;
 use cip_tables::{
     Answer, AnyConnection, Class3Report, Config, ConnectionReport, ConsumerCounts, Delivery,
@@ -23,7 +22,7 @@ use cip_tables::{
     StepFault, StreamReport, TableCopy, Verdict, read_router_request,
 };
 use cip_types::{Ms, Node, OutOfMemory, Triad};
-use connection_list::ConnectionTable;
+use indexed_connections::ConnectionTable;
 use std::alloc::Global;
 use std::marker::Model;
 

@@ -1,12 +1,15 @@
 //! The answers of an adapter, made before its table changes: replies to peers, directly and over their streams.
 //!
 //! Volume 2, chapter 2, encapsulation messages and common packet format.
+//!
+//! `objects` are the objects that tools ask of an adapter, and its replies to inquiries.
 #![tactic(auto)]
 
 mod addresses;
 mod answers;
 mod frames;
 mod messages;
+mod object_replies;
 mod objects;
 mod own;
 mod replies;
@@ -20,7 +23,12 @@ pub use answers::{
 };
 pub use frames::{FrameView, is_protocol, read_frame_for};
 pub use messages::repeated_answer;
-pub use objects::{inquiry_answer, object_notices, object_reply};
+pub use object_replies::{inquiry_answer, object_notices, object_reply};
+pub use objects::{
+    Attribute, Bytes, ClassFacts, ConnectionFacts, Instance, ObjectAnswer, ObjectRequest,
+    OwnRequest, Value, Zeros, assembly_answer, described_answer, has_inquiry_length, inquiry_reply,
+    own_request,
+};
 pub use own::{found_last, late_frames, referred_answer};
 pub use replies::{FrameReply, write_frame_reply};
 pub use routes::{ConnectionRoute, RequestHeader, Route};

@@ -4,13 +4,13 @@ ghost use Rattle.std.specs.Prelude.{◌≡◌, IfOk, option_to_list};
 ghost use Rattle.std.specs.List.{flat_map};
 ghost use Rattle.std.specs.Option.{option_map};
 ghost use Rattle.messaging.specs.Times.{late_waiting, without_late_class3_connections};
-ghost use Rattle.adapter_objects.specs.Views.{view_own};
+ghost use Rattle.adapter_replies.specs.Objects.Views.{view_own};
 ghost use Rattle.adapter_table.specs.Ticks.{late_frames};
 ghost use Rattle.adapter_replies.specs.Messages.{referred_answer, found_last};
 
 use crate::answers::reply_frame;
+use crate::objects::OwnRequest;
 use crate::routes::Route;
-use adapter_objects::OwnRequest;
 use cip_events::{Answer, Frame, Verdict};
 use cip_router::{Reply, Status};
 use cip_types::{Items, Ms, OutOfMemory};

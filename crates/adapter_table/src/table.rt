@@ -3,9 +3,8 @@
 use crate::opening_rates::NodeOpenings;
 use crate::profile::Profile;
 use crate::row::Row;
-use cip_types::{Items, Ms, Node};
+use cip_types::{Items, Ms, Node, Numbered};
 use messaging::Messaging;
-use open_streams::Numbered;
 
 /// The bytes of a point.
 #[derive(PartialEq, Drop)]

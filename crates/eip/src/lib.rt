@@ -20,10 +20,11 @@ pub use device_lock::{Book, BookFault, History, LockedDevice, Receipt, Segment};
 pub use fast_device::FastDevice;
 pub use list_identity::{NameFault, ProductName, StationIdentity, identity_reply, inquiry_reply};
 pub use plain_engine::{PlainAdapter, PlainDevice, PlainScanner};
-pub use port_streams::{DatagramRoute, DatagramRoutes, Destination};
 pub use scanner_engine::FastScanner;
-pub use socket_port::{OpenFault, SocketPort, SystemClock};
-pub use stream_rules::{KeptStream, Place, StreamKeeper};
+pub use socket_port::{
+    DatagramRoute, DatagramRoutes, Destination, KeptStream, OpenFault, Place, SocketPort,
+    StreamKeeper, SystemClock,
+};
 pub use test_requests::{ConnectionRequest, SentData, datagram_bytes, open_request};
 pub use udp_runner::{
     Clock, MemoryPort, Observer, Output, Port, PortFault, RunFault, SentOutput, SteppedClock,

@@ -8,7 +8,6 @@ use cip_tables::Config;
 use cip_types::OutOfMemory;
 use command_lines::{Options, StationTask, file_of, word_from_end};
 use page_feed::PageFeed;
-use point_names::{Names, ReadNames};
 use station::{DeviceSteps, EarlyEnd, InputSteps, LifeEnd};
 use station_lines::{CallLines, LineSink, NoLines};
 use station_port::{StationPlace, StationPort};
@@ -27,6 +26,7 @@ use std::random::RandomSource;
 use std::rt::{Clock, Files};
 use std::sync::Wait;
 use std::time::Instant;
+use trace_words::{Names, ReadNames};
 
 /// Why a start has to be counted, and what to do where it cannot be.
 const UNCOUNTED: &str =

@@ -20,7 +20,7 @@ use Rattle.adapter_table.specs.Productions.{produced_state, produced_row, produc
 use Rattle.conn_slab.specs.Bounds.{StateNotDueBefore, AllNotDueBefore}
 use Rattle.conn_slab.specs.Connections.{state_changes, is_changing}
 use Rattle.conn_slab.specs.Reception.{reception}
-use Rattle.connection_list.specs.Lone.{neither}
+use Rattle.indexed_connections.specs.List.Lone.{neither}
 
 -- ---- none produces at once
 

@@ -8,7 +8,7 @@ use Rattle.adapter_table.specs.Rows.{has_triad, is_established, is_unsupported}
 use Rattle.adapter_table.specs.Lemmas.SoundLemmas.{any_filter}
 use Rattle.adapter_table.specs.Closing.{without_triad, unsupported, stays, staying}
 use Rattle.conn_slab.specs.Connections.{is_listening, without}
-use Rattle.connection_list.specs.Lone.{neither}
+use Rattle.indexed_connections.specs.List.Lone.{neither}
 
 -- ---- none listens
 

@@ -9,7 +9,7 @@ use Rattle.adapter_table.specs.Rows.{is_established, same_triad, has_triad, hold
 use Rattle.adapter_table.specs.Ticks.{has_expired, by_deadline, expired, expired_rows}
 use Rattle.adapter_table.specs.Sound.{TriadsDiffer}
 use Rattle.conn_slab.specs.Connections.{timed_out, timed_out_if}
-use Rattle.connection_list.specs.Lone.{both_hold, neither, triad_itself, other_way}
+use Rattle.indexed_connections.specs.List.Lone.{both_hold, neither, triad_itself, other_way}
 use Rattle.indexed_connections.specs.CountChanges.{timed_out_each}
 use Rattle.indexed_connections.proofs.Removals.{not_out, none_out}
 

@@ -20,3 +20,6 @@ mod Runs
 mod Peers
 mod Cyclic
 mod DueTimes
+pub mod Orders
+pub mod Loops
+pub mod Advancing

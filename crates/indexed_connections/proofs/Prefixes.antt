@@ -7,7 +7,7 @@ use Rattle.adapter_table.specs.Rows.{Each, EachTwo, has_triad}
 use Rattle.adapter_table.specs.Sound.{TriadsDiffer, IdsDiffer, GroupsAgree, AllAgree, has_o_t_id}
 use Rattle.adapter_table.specs.Whole.{FitsRow}
 use Rattle.conn_slab.specs.Connections.{AreConnections}
-use Rattle.connection_list.specs.Lone.{neither}
+use Rattle.indexed_connections.specs.List.Lone.{neither}
 
 long_before : (front back : List Row) → length front ≤ length (front ++ back)
 long_before [] back = omega arith

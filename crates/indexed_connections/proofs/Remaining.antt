@@ -18,8 +18,8 @@ use Rattle.adapter_table.specs.Closing.{unsupported, staying}
 use Rattle.adapter_table.specs.Productions.{producer_in, producers, has_number, is_produced_by, is_due, group, consumers, peer_of, same_node, input_of, due_production, due_productions}
 use Rattle.adapter_table.specs.Ticks.{has_expired, by_deadline, expired, expired_rows}
 use Rattle.conn_slab.specs.Connections.{is_listening}
-use Rattle.connection_list.specs.Lone.{neither}
-use Rattle.connection_list.specs.Removals.{all_stay}
+use Rattle.indexed_connections.specs.List.Lone.{neither}
+use Rattle.indexed_connections.specs.List.Removals.{all_stay}
 use Rattle.indexed_connections.specs.Turns.{is_among, state_is_among, is_left, is_due_but, one_production}
 use Rattle.indexed_connections.proofs.Logic.{numbered}
 use Rattle.indexed_connections.proofs.Dropping.{no_listener, none_dropped}

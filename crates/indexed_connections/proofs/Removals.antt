@@ -13,8 +13,8 @@ use Rattle.adapter_table.specs.Sound.{TriadsDiffer}
 use Rattle.conn_slab.specs.Connections.{without, timed_out, timed_out_if}
 use Rattle.app_rules.specs.Counts.{Counts, total, is_driver, is_supporter, AreCounted, HasJoined}
 use Rattle.indexed_connections.specs.CountChanges.{named, HaveJoined, AreLess}
-use Rattle.connection_list.specs.Lone.{some_is, neither, triad_only}
-use Rattle.connection_list.specs.Removals.{all_stay}
+use Rattle.indexed_connections.specs.List.Lone.{some_is, neither, triad_only}
+use Rattle.indexed_connections.specs.List.Removals.{all_stay}
 
 -- ---- a connection that is found is among others
 

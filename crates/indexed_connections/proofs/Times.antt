@@ -23,7 +23,7 @@ use Rattle.adapter_table.specs.Ticks.{has_expired}
 use Rattle.conn_slab.specs.declared.reception.Received.{Received}
 use Rattle.conn_slab.specs.Bounds.{never, end_of, next_watchdog, StateNotDueBefore, NotDueBefore, AllNotDueBefore}
 use Rattle.conn_slab.specs.Reception.{IsReceived, reception}
-use Rattle.connection_list.specs.Lone.{some_is, neither}
+use Rattle.indexed_connections.specs.List.Lone.{some_is, neither}
 
 -- ---- before a bound nothing happens
 

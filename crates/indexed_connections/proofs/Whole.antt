@@ -3,8 +3,8 @@ use Rattle.std.proofs.Common.{◌≡◌, List, Option, Some, None, refl, subst}
 use Rattle.cip_types.specs.declared.names.Triad.{Triad}
 use Rattle.adapter_table.specs.Connections.{Row}
 use Rattle.adapter_table.specs.Sound.{IdsDiffer}
-use Rattle.connection_list.specs.Tables.{AreWhole}
-use Rattle.connection_list.specs.Replacing.{left_by}
+use Rattle.indexed_connections.specs.List.Tables.{AreWhole}
+use Rattle.indexed_connections.specs.List.Replacing.{left_by}
 use Rattle.conn_slab.specs.Connections.{AreConnections, without}
 
 pub whole_connections : (rows : List Row) → AreWhole rows → AreConnections rows

@@ -5,3 +5,4 @@ pub mod Keys
 pub mod ConsumerTables
 pub mod ConsumerLaws
 pub mod Peers
+pub mod List

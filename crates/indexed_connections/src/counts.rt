@@ -5,7 +5,7 @@ ghost use Rattle.adapter_table.specs.Closing.{without_triad};
 ghost use Rattle.adapter_table.specs.Sound.{TriadsDiffer};
 ghost use Rattle.conn_slab.specs.Connections.{AreConnections, without, timed_out_if};
 ghost use Rattle.app_rules.specs.Counts.{AreCounted};
-ghost use Rattle.connection_list.specs.Removals.{without_each};
+ghost use Rattle.indexed_connections.specs.List.Removals.{without_each};
 ghost use Rattle.indexed_connections.specs.CountChanges.{named, HaveJoined, AreLess, timed_out_each};
 
 use adapter_table::Row;

@@ -8,13 +8,13 @@ ghost use Rattle.adapter_table.specs.Objects.{is_owning, is_running};
 ghost use Rattle.cip_tables.specs.Wakes.{connections_due};
 ghost use Rattle.conn_slab.specs.Connections.{is_listening, is_changing};
 
+use crate::list::{connection_due, is_owning, is_running};
 use adapter_table::{
     Row, State, consumes, drives, is_established, is_member, is_of_kind, is_of_node, is_timed_out,
 };
 use cip_productions::Kind;
 use cip_types::Node;
 use conn_slab::{Rows, is_on_change};
-use connection_list::{connection_due, is_owning, is_running};
 
 /// Whether some connection is established.
 pub fn is_any_established(rows: Rows<'_>) -> bool

@@ -10,6 +10,10 @@ ghost use Rattle.indexed_connections.specs.ConsumerTables.{consumers_by_producer
 use crate::counts::{close, close_each, counted, expire, open};
 use crate::expiries::{expired, has_any_run_out, has_any_timed_out, is_any_left};
 use crate::from_list::{from_rows, replaced};
+use crate::list::{
+    ConnectionTable, ReceivedDatagram, TickPlan, dropped_with, sent_on_change, sent_when_due,
+    tick_plan, written_rows,
+};
 use crate::queries::{
     count_consuming, first_due, first_member, first_owner, is_any_established, is_any_owning,
     is_any_running, is_any_timed_out, is_changing, is_listening, kind_count, node_count, nth,
@@ -23,10 +27,6 @@ use cip_events::OutgoingDatagram;
 use cip_productions::Kind;
 use cip_types::limits::MOST_CONNECTIONS;
 use cip_types::{Ms, Node, OutOfMemory, Triad};
-use connection_list::{
-    ConnectionTable, ReceivedDatagram, TickPlan, dropped_with, sent_on_change, sent_when_due,
-    tick_plan, written_rows,
-};
 use std::alloc::Global;
 use std::marker::Model;
 

@@ -10,7 +10,7 @@ use Rattle.scanner_table.specs.declared.report.SlotReport.TheVariants as slot
 use Rattle.scanner_table.specs.declared.report.TargetReport.{TargetReport}
 use Rattle.trace_words.specs.Words.{node_word}
 use Rattle.page_feed.specs.Rows.{row_text}
-use Rattle.station_watch.specs.declared.traffic.CountedConnection.{CountedConnection}
+use Rattle.station_lines.specs.declared.watch.traffic.CountedConnection.{CountedConnection}
 use Rattle.trace_lines.specs.Kinds.{kind_word}
 
 -- the mode of the newest data

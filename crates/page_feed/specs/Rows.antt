@@ -1,11 +1,11 @@
 -- What a station has counted and noted of a connection or a slot, beside its device's table, as JSON (RFC 8259).
 use Rattle.std.specs.Prelude.{ℕ, List, [], ◌++◌, codes, decimal, Option, Some, None}
-use Rattle.station_watch.specs.DatagramCounts.Gaps.{last_minute}
-use Rattle.station_watch.specs.declared.datagram_counts.counts.DatagramCounts.{DatagramCounts}
-use Rattle.station_watch.specs.declared.datagram_counts.gaps.GapMeter.{GapMeter}
-use Rattle.station_watch.specs.declared.datagram_counts.gaps.GapSums.{GapSums}
-use Rattle.station_watch.specs.declared.notes.StateNote.{StateNote}
-use Rattle.station_watch.specs.declared.traffic.CountedConnection.{CountedConnection}
+use Rattle.station_lines.specs.Watch.DatagramCounts.Gaps.{last_minute}
+use Rattle.station_lines.specs.declared.watch.datagram_counts.counts.DatagramCounts.{DatagramCounts}
+use Rattle.station_lines.specs.declared.watch.datagram_counts.gaps.GapMeter.{GapMeter}
+use Rattle.station_lines.specs.declared.watch.datagram_counts.gaps.GapSums.{GapSums}
+use Rattle.station_lines.specs.declared.watch.notes.StateNote.{StateNote}
+use Rattle.station_lines.specs.declared.watch.traffic.CountedConnection.{CountedConnection}
 
 -- those that arrived in their size
 abbrev pub arrived_text : DatagramCounts → List ℕ

@@ -17,8 +17,8 @@ use Rattle.page_feed.specs.declared.facts.StationFacts.{StationFacts}
 use Rattle.page_feed.specs.declared.waits.SlotFacts.{SlotFacts}
 use Rattle.page_feed.specs.Facts.{counts_text, moment_text}
 use Rattle.page_feed.specs.Points.{inputs_text, output_at, outputs_text, slot_text, slots_in}
-use Rattle.station_watch.specs.Waits.{wait_at}
-use Rattle.station_watch.specs.declared.traffic.CountedConnection.{CountedConnection}
+use Rattle.station_lines.specs.Watch.Waits.{wait_at}
+use Rattle.station_lines.specs.declared.watch.traffic.CountedConnection.{CountedConnection}
 
 -- what stands before the one at a place
 abbrev pub separator : ℕ → List ℕ

@@ -2,11 +2,11 @@
 use Rattle.std.specs.Prelude.{ℕ, List, [], ◌++◌, codes, Option, Some, None}
 use Rattle.page_feed.specs.declared.waits.SlotFacts.{SlotFacts}
 use Rattle.station_lines.specs.Reasons.{why_text}
-use Rattle.station_watch.specs.Notes.{note_since}
-use Rattle.station_watch.specs.declared.notes.StateNote.{StateNote}
-use Rattle.station_watch.specs.declared.traffic.CountedConnection.{CountedConnection}
-use Rattle.station_watch.specs.declared.waits.SlotWait.{SlotWait}
-use Rattle.station_watch.specs.declared.waits.SlotWait.TheVariants as wait
+use Rattle.station_lines.specs.Watch.Notes.{note_since}
+use Rattle.station_lines.specs.declared.watch.notes.StateNote.{StateNote}
+use Rattle.station_lines.specs.declared.watch.traffic.CountedConnection.{CountedConnection}
+use Rattle.station_lines.specs.declared.watch.waits.SlotWait.{SlotWait}
+use Rattle.station_lines.specs.declared.watch.waits.SlotWait.TheVariants as wait
 
 abbrev pub wait_word : SlotWait → List ℕ
 wait_word wait.Nothing = codes ""

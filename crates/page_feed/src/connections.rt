@@ -8,7 +8,7 @@ use adapter_table::{ConnectionReport, Mode};
 use cip_productions::Age;
 use cip_types::OutOfMemory;
 use scanner_table::{SlotReport, TargetReport};
-use station_watch::CountedConnection;
+use station_lines::CountedConnection;
 use trace_lines::kind_name;
 use trace_words::{push_node, push_text};
 

@@ -10,10 +10,9 @@ use cip_events::{Event, Outcome};
 use cip_tables::{Config, Device};
 use cip_types::OutOfMemory;
 use cip_types::limits::MOST_POINTS;
-use point_names::Names;
-use station_watch::CountedConnection;
+use station_lines::CountedConnection;
 use std::alloc::Global;
-use trace_words::push_text;
+use trace_words::{Names, push_text};
 
 /// Makes snapshots of a device for its page, and notes its events. It never waits, and what has no memory is left out.
 #[derive(Drop)]
@@ -110,6 +109,15 @@ impl PageFeed {
         true
     }
 
+    /// How long a turn may wait, in milliseconds, so that a browser that looks at the page gets the next snapshot in time.
+    pub fn wait_ms(&self, facts: StationFacts, most_ms: u64) -> u64 {
+        if self.end.is_watched() {
+            most_ms.min(rest_until(self.pause_ms(facts), self.passed_ms(facts)))
+        } else {
+            most_ms
+        }
+    }
+
     /// The milliseconds from the last snapshot to the next.
     fn pause_ms(&self, facts: StationFacts) -> u64 {
         pause_between(self.has_changed, facts.number != self.shown_number)
@@ -148,15 +156,5 @@ impl PageFeed {
         push_device(&mut self.text, &self.config, device, facts, connections)?;
         self.events.push(&mut self.text)?;
         push_text(&mut self.text, "}")
-    }
-}
-
-/// How long a turn may wait, in milliseconds, so that a browser that looks at the page gets the next snapshot in time.
-pub fn page_wait_ms(page: &Option<PageFeed>, facts: StationFacts, most_ms: u64) -> u64 {
-    match page {
-        Some(page) if page.end.is_watched() => {
-            most_ms.min(rest_until(page.pause_ms(facts), page.passed_ms(facts)))
-        }
-        _ => most_ms,
     }
 }

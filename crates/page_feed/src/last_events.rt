@@ -5,13 +5,12 @@ use crate::troubles::{is_opening, is_trouble_notice};
 use cip_events::{Answer, Event, Outcome};
 use cip_tables::Config;
 use cip_types::OutOfMemory;
-use point_names::Names;
 use serde_json::Value;
 use std::alloc::Global;
 use std::collections::VecDeque;
 use std::str;
 use trace_explain::{explain_event, push_notice};
-use trace_words::push_text;
+use trace_words::{Names, push_text};
 
 /// So many events are shown at most.
 const MOST_EVENTS: usize = 32;

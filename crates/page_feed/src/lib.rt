@@ -16,5 +16,5 @@ mod troubles;
 mod waits;
 
 pub use facts::StationFacts;
-pub use feed::{PageFeed, page_wait_ms};
+pub use feed::PageFeed;
 pub use place::{FeedEnd, PageEnd, page_place};

@@ -1,10 +1,9 @@
 //! The names of a device's points, slots and bits for its page, as JSON.
 
 use cip_types::OutOfMemory;
-use point_names::{Named, Names};
 use serde_json::Value;
 use std::alloc::Global;
-use trace_words::push_text;
+use trace_words::{Named, Names, push_text};
 
 /// The names of a device: nothing, if it has none.
 pub fn names_text(alloc: Global, names: &Names) -> Result<String, OutOfMemory> {

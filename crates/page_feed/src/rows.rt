@@ -1,11 +1,11 @@
 //! What a station has counted and noted of a connection or a slot, beside its device's table.
 
 ghost use Rattle.std.specs.Prelude.{◌≡◌, ◌++◌, OnOk, slice_get, string_bytes};
-ghost use Rattle.station_watch.specs.DatagramCounts.Gaps.{last_minute};
+ghost use Rattle.station_lines.specs.Watch.DatagramCounts.Gaps.{last_minute};
 ghost use Rattle.page_feed.specs.Rows.{arrived_text, counted_text, gaps_text, last_text, minute_text, missed_text, note_text, noted_text, row_text, sums_text, traffic_text};
 
 use cip_types::OutOfMemory;
-use station_watch::{CountedConnection, DatagramCounts, GapMeter, GapSums, StateNote};
+use station_lines::{CountedConnection, DatagramCounts, GapMeter, GapSums, StateNote};
 use trace_words::push_text;
 
 /// What is known of the connection or slot at a place.

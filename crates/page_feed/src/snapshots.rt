@@ -13,7 +13,7 @@ use adapter_table::{InputPoint, OutputPoint};
 use cip_tables::{Config, Device, DeviceTable, DeviceTotals};
 use cip_types::{Node, OutOfMemory};
 use scanner_table::SlotConfig;
-use station_watch::{CountedConnection, wait_at};
+use station_lines::{CountedConnection, wait_at};
 use trace_words::{push_node, push_text};
 
 /// An adapter has at most so many connections.

@@ -4,8 +4,7 @@ ghost use Rattle.std.specs.Prelude.{◌≡◌, ◌++◌, OnOk, string_bytes};
 ghost use Rattle.page_feed.specs.Waits.{facts_why, note_of, said_wait, wait_front, wait_text, wait_word};
 
 use cip_types::{Node, OutOfMemory};
-use station_lines::push_why;
-use station_watch::{CountedConnection, SlotWait, StateNote};
+use station_lines::{CountedConnection, SlotWait, StateNote, push_why};
 use trace_words::push_text;
 
 /// What is known of a slot beside its device, at a time in milliseconds.

@@ -3,7 +3,7 @@
 
 use adapter::Adapter;
 use cip_tables::AnyDevice;
-use connection_list::ConnectionList;
+use indexed_connections::ConnectionList;
 use scanner::Scanner;
 use scanner_slots::NoHints;
 

@@ -14,8 +14,8 @@ use station_lines::LineSink;
 use station_record::Recorder;
 use station_rim::{Entries, LabelledLines, LineEntrance, SharedRecord};
 use station_setup::{
-    MOST_LIVES, OpenedPort, StationOutputs, described, open_life_port, passed_ms, recorder_in, station_of,
-    with_incarnation,
+    MOST_LIVES, OpenedPort, StationOutputs, described, open_life_port, passed_ms, recorder_in,
+    station_of, with_incarnation,
 };
 use std::alloc::Global;
 use std::fs::{self, File};

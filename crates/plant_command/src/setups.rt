@@ -1,7 +1,7 @@
 //! The devices of a plant, before they live.
 
 ghost use Rattle.std.specs.Prelude.{◌≡◌, ◌<◌, None, length, map, position, IfOk, IfSome};
-ghost use Rattle.point_names.specs.Things.{devices_in};
+ghost use Rattle.trace_words.specs.PointNames.Things.{devices_in};
 ghost use Rattle.plant_command.specs.Setups.{AreApart, address_word, device_entry, is_at, node_of, options_of, span_at, with_node};
 
 use crate::failure::PlantFailure;
@@ -14,12 +14,12 @@ use page_feed::FeedEnd;
 use plant_rim::{
     DeviceSetup, FaultOptions, IncarnationSpan, MOST_SPANS, PlantDevice, PlantFile, SharedSteps,
 };
-use point_names::{DeviceNames, Names, ReadNames};
 use station_rim::{Rim, SharedDevices, report_line};
 use station_setup::{UnusableProfile, is_scanner, names_in, profile_in};
 use std::alloc::Global;
 use std::rt::Files;
 use std::sync::Wait;
+use trace_words::{DeviceNames, Names, ReadNames};
 
 /// A device of a plant, as its lines are typed: its name, its address, what is typed at it, and whether it is a scanner.
 #[derive(Drop)]

@@ -8,11 +8,11 @@ use cip_tables::Config;
 use cip_types::{Items, OutOfMemory};
 use command_lines::Options;
 use page_feed::FeedEnd;
-use point_names::Names;
 use station::ScriptLine;
 use station_rim::{SharedDevices, SharedLines, SharedRecord};
 use std::alloc::Global;
 use std::sync::{Arc, Condvar, Mutex, Wait};
+use trace_words::Names;
 
 /// A device that is to live.
 #[derive(Drop)]

@@ -8,10 +8,9 @@ use crate::hold::DatagramHold;
 use crate::rates::FaultRates;
 use cip_events::Arrival;
 use cip_types::{Items, Node};
-use port_groups::{DataGroup, GroupPort};
 use std::alloc::Global;
 use std::time::Duration;
-use udp_runner::{Clock, KeptPort, Output, Port, PortFault, PortReport};
+use udp_runner::{Clock, DataGroup, GroupPort, KeptPort, Output, Port, PortFault, PortReport};
 
 /// A port around a port, at which datagrams are lost, repeated, delayed and reordered. What is sent, and what arrives over
 /// streams, passes as it is and in order. Its time is that of a clock of its own.

@@ -6,12 +6,11 @@ use crate::marks::StreamMarks;
 use crate::order::{OrderedPort, PortOrder};
 use cip_events::Arrival;
 use cip_types::{Items, Node, OutOfMemory};
-use port_groups::{DataGroup, GroupPort};
 use std::alloc::Global;
 use std::rt::Clock as System;
 use std::thread;
 use std::time::Duration;
-use udp_runner::{KeptPort, Output, Port, PortFault, PortReport};
+use udp_runner::{DataGroup, GroupPort, KeptPort, Output, Port, PortFault, PortReport};
 
 /// A datagram that an order sends.
 #[derive(Drop)]

@@ -12,7 +12,7 @@ use Rattle.trace_text.specs.declared.trace.Trace.{Trace}
 use Rattle.trace_text.specs.Reading.{Entry}
 use Rattle.record_settling.specs.declared.stream_names.renaming.StreamName.{StreamName}
 use Rattle.record_settling.specs.declared.settled.SettledRecords.{SettledRecords}
-use Rattle.outcome_sums.specs.declared.sum.PlacedSum.{PlacedSum}
+use Rattle.trace_outcomes.specs.declared.sums.sum.PlacedSum.{PlacedSum}
 use Rattle.record_settling.specs.Summed.{AllHaveSums}
 use Rattle.record_settling.specs.Accounts.{Step, account_history, accounted, event_in, receipts_from}
 

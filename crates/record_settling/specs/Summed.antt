@@ -1,9 +1,9 @@
 -- The sums that records have in place of outcomes.
 use Rattle.std.specs.Prelude.{ℕ, ◌+◌, List, [], ◌∷◌, Option, Some, None}
 use Rattle.cip_events.specs.Outcomes.{Outcome}
-use Rattle.outcome_sums.specs.declared.sum.OutcomeSum.{OutcomeSum}
-use Rattle.outcome_sums.specs.declared.sum.PlacedSum.{PlacedSum}
-use Rattle.outcome_sums.specs.Sums.{HasSum}
+use Rattle.trace_outcomes.specs.declared.sums.sum.OutcomeSum.{OutcomeSum}
+use Rattle.trace_outcomes.specs.declared.sums.sum.PlacedSum.{PlacedSum}
+use Rattle.trace_outcomes.specs.Sums.Sums.{HasSum}
 use Rattle.trace_stepper.specs.Compared.{recorded_at}
 use Rattle.trace_text.specs.declared.trace.Trace.{Trace}
 use Rattle.trace_text.specs.Reading.{Entry}

@@ -12,10 +12,10 @@ use crate::summed::check_all_sums;
 use cip_tables::{Config, Device, Event};
 use cip_types::Items;
 use device_lock::{History, Receipt};
-use outcome_sums::PlacedSum;
 use segment_world::{Act, WorldFault};
 use settling::{Unsettled, check_configs, settle};
 use std::alloc::Global;
+use trace_outcomes::PlacedSum;
 use trace_stepper::{StepperFault, compare, replay};
 use trace_text::{Recorded, Trace};
 

@@ -7,9 +7,8 @@ use crate::fault::RecordsFault;
 use crate::stream_names::EventPlace;
 use cip_events::Event;
 use cip_types::{Items, OutOfMemory};
-use outcome_sums::{PlacedSum, has_sum};
 use std::alloc::Global;
-use trace_outcomes::write_outcome;
+use trace_outcomes::{PlacedSum, has_sum, write_outcome};
 use trace_text::{Recorded, Trace};
 
 /// Whether the outcome of the entry at a sum's place has this sum.

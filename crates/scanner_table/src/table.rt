@@ -3,8 +3,7 @@
 use crate::explicit::PendingExplicit;
 use crate::profile::ScannerProfile;
 use crate::slot::Slot;
-use cip_types::{Items, Ms, Node};
-use open_streams::Numbered;
+use cip_types::{Items, Ms, Node, Numbered};
 
 /// The state of the session on a stream.
 ///

@@ -7,9 +7,8 @@ ghost use Rattle.scanner_transactions.specs.Undoing.{Performs};
 
 use crate::transaction::Transaction;
 use crate::undo::keep_list;
-use cip_types::OutOfMemory;
+use cip_types::{OutOfMemory, drop_stream};
 use explicit_requests::{ExplicitEnd, ends_any, keep_others, no_end_changes_nothing, report_ended};
-use open_streams::drop_stream;
 use scanner_slots::stage_streams;
 use scanner_table::Stage;
 

@@ -4,10 +4,10 @@ use crate::fault::SettleFault;
 use cip_types::Items;
 use cip_types::limits::LONGEST_TRACE;
 use fast_device::FastDevice;
-use outcome_sums::PlacedSum;
 use std::alloc::Global;
 use std::rt::Files;
 use trace_files::{FileFault, FilledRecord, read_record, read_regular};
+use trace_outcomes::PlacedSum;
 use trace_text::{Trace, TraceFault};
 
 /// The records: of each the index of its first file, its trace, and the sums that it has in place of outcomes.

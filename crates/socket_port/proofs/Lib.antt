@@ -1,1 +1,6 @@
 pub mod Unsent
+mod Putting
+mod Samples
+mod MakingRoom
+mod RulesSamples
+mod LinkSamples

@@ -1,2 +1,4 @@
 pub mod Outcomes
 pub mod Ways
+pub mod Streams
+pub mod Rules

@@ -1,6 +1,6 @@
 -- The way of a datagram, and the one call by which it is sent.
 use Rattle.std.specs.Prelude.{ℕ, ◌≡◌, Bool, true, false, List, [], ◌∷◌, ◌++◌, Option, Some, None}
-use Rattle.port_streams.specs.declared.routes.Destination.{Destination}
+use Rattle.socket_port.specs.declared.streams.routes.Destination.{Destination}
 use Rattle.socket_port.specs.declared.sending.DatagramWay.{DatagramWay}
 use Rattle.socket_port.specs.declared.sending.DatagramWay.TheVariants as way
 

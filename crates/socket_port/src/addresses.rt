@@ -1,7 +1,7 @@
 //! Addresses of sockets, and the nodes that they belong to.
 
+use crate::streams::Destination;
 use cip_types::Node;
-use port_streams::Destination;
 use std::net::{IpAddr, Ipv4Addr, SocketAddr};
 
 /// This host's own node, 127.0.0.1.

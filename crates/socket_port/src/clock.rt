@@ -3,8 +3,7 @@
 use cip_types::Ms;
 use std::rt::Clock as System;
 use std::time::{Duration, Instant};
-use turn_times::{OwedTime, passed_ns};
-use udp_runner::Clock;
+use udp_runner::{Clock, OwedTime, passed_ns};
 
 /// Whole milliseconds of the system's clock, in answers of at most the longest tick. What an answer does not give is
 /// owed, and the next answers give it: a pause of any length reaches the device whole. What a device was told ahead, up to

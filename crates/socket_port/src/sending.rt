@@ -5,7 +5,7 @@ ghost use Rattle.socket_port.specs.Ways.{Makes, SendCall, call_along, way_of};
 
 use crate::addresses::address_of;
 use crate::calls;
-use port_streams::Destination;
+use crate::streams::Destination;
 use std::net::UdpSocket;
 use udp_runner::PortFault;
 

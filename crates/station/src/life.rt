@@ -5,19 +5,17 @@ ghost use Rattle.std.specs.List.{list_any};
 ghost use Rattle.station.specs.Lives.{Closed, EndsLife, Lived, Takes, Took, TookAll, TurnsMade, end_of, number_of, reset_end, tasks_of, wait_behind};
 ghost use Rattle.station.specs.Recorded.{Does, Recorded};
 ghost use Rattle.station.specs.Rests.{Rests};
-ghost use Rattle.station_watch.specs.Closing.{close_end, is_marked, waits_on};
+ghost use Rattle.station_lines.specs.Watch.Closing.{close_end, is_marked, waits_on};
 
 use crate::fault::EarlyEnd;
 use crate::serving::Station;
 use crate::sources::{StepSource, pause_ms};
 use crate::step::{LifeEnd, StationStep};
 use cip_tables::Device;
-use port_groups::GroupPort;
 use port_orders::{OrderedPort, PortOrder};
-use station_lines::LineSink;
+use station_lines::{LineSink, close_end, waits_on};
 use station_record::RecordSink;
-use station_watch::{close_end, waits_on};
-use udp_runner::Clock;
+use udp_runner::{Clock, GroupPort};
 
 impl<
     P: GroupPort + OrderedPort,

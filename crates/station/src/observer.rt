@@ -4,24 +4,23 @@ ghost use Rattle.std.specs.Prelude.{◌≡◌, ◌||◌, IfOk};
 ghost use Rattle.std.specs.List.{list_any};
 ghost use Rattle.station.specs.Resets.{is_reset};
 ghost use Rattle.station_lines.specs.Attributes.Requested.{next_number};
-ghost use Rattle.station_watch.specs.Closing.{is_marked};
+ghost use Rattle.station_lines.specs.Watch.Closing.{is_marked};
 
 use crate::fault::EarlyEnd;
 use crate::resets::requests_reset;
 use cip_events::{Answer, Delivery, Event, Outcome, Verdict};
 use cip_tables::{Config, Device};
 use cip_types::{Node, OutOfMemory};
-use page_feed::{PageFeed, StationFacts, page_wait_ms};
-use port_groups::DataGroup;
-use station_lines::{EventMoment, LineSink, PendingAttributes, ReplyMoment, has_news, push_own};
-use station_record::{RecordFault, RecordSink, Recorder};
-use station_watch::{
-    ClosingSlots, LinkReport, SlotWatches, Starved, StationTraffic, changes_connections,
+use page_feed::{PageFeed, StationFacts};
+use station_lines::{
+    ClosingSlots, EventMoment, LineSink, LinkReport, PendingAttributes, ReplyMoment, SlotWatches,
+    Starved, StationTraffic, changes_connections, has_news, push_own,
 };
-use status_words::push_refusals;
+use station_record::{RecordFault, RecordSink, Recorder};
 use std::alloc::Global;
 use trace_text::push_outcome;
-use udp_runner::{Observer, PortReport};
+use trace_words::push_refusals;
+use udp_runner::{DataGroup, Observer, PortReport};
 
 /// Records the steps of a device, says outcomes on `out` and faults on `err`, and notes what a port is to be told.
 #[derive(Drop)]
@@ -95,7 +94,10 @@ impl<W: RecordSink + Drop, O: LineSink, E: LineSink> StationObserver<W, O, E> {
 
     /// How long a turn may wait, so that the page gets its next snapshot in time.
     pub fn page_wait_ms(&self, most_ms: u64) -> u64 {
-        page_wait_ms(&self.page, self.facts(), most_ms)
+        match &self.page {
+            Some(page) => page.wait_ms(self.facts(), most_ms),
+            None => most_ms,
+        }
     }
 
     /// Has the page note a step.

@@ -11,10 +11,9 @@ use crate::fault::EarlyEnd;
 use crate::serving::Station;
 use cip_tables::{Device, Event};
 use cip_types::limits::LONGEST_TICK_MS;
-use port_groups::GroupPort;
 use station_lines::LineSink;
 use station_record::RecordSink;
-use udp_runner::Clock;
+use udp_runner::{Clock, GroupPort};
 
 /// While a line of state waits for room, it is offered again so often, in milliseconds.
 const PATIENCE_MS: u64 = 50;

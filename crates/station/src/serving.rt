@@ -10,7 +10,7 @@ ghost use Rattle.station.specs.Recorded.{Called, Does, Recorded};
 ghost use Rattle.station.specs.Rests.{Rests, Unstepped};
 ghost use Rattle.station.specs.Sessions.{sessions_of};
 ghost use Rattle.station.specs.Turned.{Turned};
-ghost use Rattle.station_watch.specs.Closing.{closing_ms, is_marked};
+ghost use Rattle.station_lines.specs.Watch.Closing.{closing_ms, is_marked};
 
 use crate::fault::{EarlyEnd, failures_after_call, failures_after_turn};
 use crate::observer::StationObserver;
@@ -19,15 +19,14 @@ use crate::sessions::{sessions_of, unregister_message};
 use crate::step::LifeEnd;
 use cip_tables::{Config, Device, Event};
 use cip_types::{Ms, Node, OutOfMemory};
-use port_groups::{DataGroup, GroupPort};
 use scanner_table::Session;
 use station_lines::{
-    AttributeCall, LineSink, Points, call_event, push_report, push_starved, push_unbound,
+    AttributeCall, LineSink, LinkReport, Points, StationTraffic, call_event, closing_ms, owners_of,
+    push_connected, push_report, push_starved, push_unbound,
 };
 use station_record::{RecordFault, RecordSink};
-use station_watch::{LinkReport, StationTraffic, closing_ms, owners_of, push_connected};
 use std::alloc::Global;
-use udp_runner::{Clock, Output, RunFault, act, turn_in_time};
+use udp_runner::{Clock, DataGroup, GroupPort, Output, RunFault, act, turn_in_time};
 
 /// At most so many reports of the port are told behind one turn.
 const MOST_REPORTS: u32 = 64;

@@ -1,2 +1,6 @@
 pub mod Paths
 mod Samples
+mod WatchSamples
+mod DatagramCountsSamples
+mod NeverLost
+mod QueueSamples

@@ -6,22 +6,22 @@ use Rattle.cip_tables.specs.declared.table.DeviceTable.{DeviceTable}
 use Rattle.cip_tables.specs.declared.table.DeviceTable.TheVariants.{Adapter, Scanner}
 use Rattle.cip_tables.specs.States.{connection_in}
 use Rattle.cip_types.specs.declared.names.Node.{Node}
-use Rattle.station_watch.specs.DatagramCounts.Gaps.{last_minute}
-use Rattle.station_watch.specs.declared.datagram_counts.counts.DatagramCounts.{DatagramCounts}
-use Rattle.station_watch.specs.declared.datagram_counts.gaps.GapMeter.{GapMeter}
-use Rattle.station_watch.specs.declared.datagram_counts.gaps.GapSums.{GapSums}
+use Rattle.station_lines.specs.Watch.DatagramCounts.Gaps.{last_minute}
+use Rattle.station_lines.specs.declared.watch.datagram_counts.counts.DatagramCounts.{DatagramCounts}
+use Rattle.station_lines.specs.declared.watch.datagram_counts.gaps.GapMeter.{GapMeter}
+use Rattle.station_lines.specs.declared.watch.datagram_counts.gaps.GapSums.{GapSums}
 use Rattle.station_lines.specs.declared.points.EventMoment.{EventMoment}
 use Rattle.station_lines.specs.declared.points.PointKind.{PointKind}
 use Rattle.station_lines.specs.declared.points.PointKind.TheVariants.{Output, Image}
 use Rattle.station_lines.specs.declared.points.WatchedPoint.{WatchedPoint}
 use Rattle.station_lines.specs.Status.{id_text, moment_text, point_head, status_lines}
 use Rattle.station_lines.specs.Reasons.{tenths_text, why_text}
-use Rattle.station_watch.specs.Traffic.{TrafficSeen, counted_of}
-use Rattle.station_watch.specs.Waits.{wait_at}
-use Rattle.station_watch.specs.declared.notes.StateNote.{StateNote}
-use Rattle.station_watch.specs.declared.traffic.CountedConnection.{CountedConnection}
-use Rattle.station_watch.specs.declared.waits.SlotWait.{SlotWait}
-use Rattle.station_watch.specs.declared.waits.SlotWait.TheVariants as wait
+use Rattle.station_lines.specs.Watch.Traffic.{TrafficSeen, counted_of}
+use Rattle.station_lines.specs.Watch.Waits.{wait_at}
+use Rattle.station_lines.specs.declared.watch.notes.StateNote.{StateNote}
+use Rattle.station_lines.specs.declared.watch.traffic.CountedConnection.{CountedConnection}
+use Rattle.station_lines.specs.declared.watch.waits.SlotWait.{SlotWait}
+use Rattle.station_lines.specs.declared.watch.waits.SlotWait.TheVariants as wait
 
 -- THE MODE OF A SCANNER
 

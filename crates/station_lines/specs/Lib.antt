@@ -7,3 +7,5 @@ pub mod Reasons
 pub mod Reports
 pub mod Status
 pub mod Attributes
+pub mod Watch
+pub mod Queue

@@ -2,11 +2,11 @@
 use Rattle.std.specs.Prelude.{ℕ, ◌-◌, ◌/◌, ◌%◌, Bool, true, false, List, [], ◌++◌, codes, decimal, Option, Some, None}
 use Rattle.cip_types.specs.declared.names.Node.{Node}
 use Rattle.cip_events.specs.declared.event.Reason.{Reason}
-use Rattle.station_watch.specs.declared.notes.StateNote.{StateNote}
-use Rattle.station_watch.specs.declared.notes.StreamRefusal.{StreamRefusal}
-use Rattle.station_watch.specs.declared.waits.SlotWait.{SlotWait}
-use Rattle.station_watch.specs.declared.waits.SlotWait.TheVariants as wait
-use Rattle.status_words.specs.Reasons.{reason_text}
+use Rattle.station_lines.specs.declared.watch.notes.StateNote.{StateNote}
+use Rattle.station_lines.specs.declared.watch.notes.StreamRefusal.{StreamRefusal}
+use Rattle.station_lines.specs.declared.watch.waits.SlotWait.{SlotWait}
+use Rattle.station_lines.specs.declared.watch.waits.SlotWait.TheVariants as wait
+use Rattle.trace_words.specs.StatusWords.Reasons.{reason_text}
 use Rattle.trace_words.specs.Words.{node_word}
 
 -- so many tenths

@@ -8,11 +8,11 @@ use Rattle.udp_runner.specs.declared.report.RefusalCause.TheVariants as refusal
 use Rattle.udp_runner.specs.declared.report.PortReport.{PortReport}
 use Rattle.udp_runner.specs.declared.report.PortReport.TheVariants as report
 use Rattle.trace_words.specs.Words.{node_word}
-use Rattle.port_groups.specs.declared.group.DataGroup.{DataGroup}
+use Rattle.udp_runner.specs.declared.groups.group.DataGroup.{DataGroup}
 use Rattle.station_lines.specs.Reasons.{stream_words}
-use Rattle.station_watch.specs.declared.slots.Starved.{Starved}
-use Rattle.station_watch.specs.declared.slots.StarvedCause.{StarvedCause}
-use Rattle.station_watch.specs.declared.slots.StarvedCause.TheVariants as cause
+use Rattle.station_lines.specs.declared.watch.slots.Starved.{Starved}
+use Rattle.station_lines.specs.declared.watch.slots.StarvedCause.{StarvedCause}
+use Rattle.station_lines.specs.declared.watch.slots.StarvedCause.TheVariants as cause
 
 -- STREAMS
 

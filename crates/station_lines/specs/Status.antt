@@ -18,10 +18,10 @@ use Rattle.station_lines.specs.declared.points.PointKind.{PointKind}
 use Rattle.station_lines.specs.declared.points.PointKind.TheVariants.{Output, Image}
 use Rattle.station_lines.specs.declared.points.SlotTerms.{SlotTerms}
 use Rattle.station_lines.specs.declared.points.WatchedPoint.{WatchedPoint}
-use Rattle.station_watch.specs.Traffic.{counted_of}
-use Rattle.station_watch.specs.declared.datagram_counts.counts.DatagramCounts.{DatagramCounts}
-use Rattle.station_watch.specs.declared.traffic.CountedConnection.{CountedConnection}
-use Rattle.station_watch.specs.declared.traffic.TrafficTotals.{TrafficTotals}
+use Rattle.station_lines.specs.Watch.Traffic.{counted_of}
+use Rattle.station_lines.specs.declared.watch.datagram_counts.counts.DatagramCounts.{DatagramCounts}
+use Rattle.station_lines.specs.declared.watch.traffic.CountedConnection.{CountedConnection}
+use Rattle.station_lines.specs.declared.watch.traffic.TrafficTotals.{TrafficTotals}
 use Rattle.trace_words.specs.Words.{node_word}
 use Rattle.trace_lines.specs.Kinds.{kind_word}
 

@@ -8,12 +8,12 @@ ghost use Rattle.station_lines.specs.Reasons.{tenths_text};
 use crate::points::{EventMoment, PointKind, WatchedPoint};
 use crate::reasons::{push_tenths, push_why};
 use crate::status::{push_id, push_moment, push_point_head};
+use crate::watch::{
+    CountedConnection, DatagramCounts, GapMeter, GapSums, SlotWait, StateNote, counted_of, wait_at,
+};
 use cip_tables::{ConnectionReport, Device, DeviceTable};
 use cip_types::limits::MOST_CONNECTIONS;
 use cip_types::{Node, OutOfMemory};
-use station_watch::{
-    CountedConnection, DatagramCounts, GapMeter, GapSums, SlotWait, StateNote, counted_of, wait_at,
-};
 use trace_words::push_text;
 
 /// Appends the lines of the details: one of a scanner's mode, one for each connection of an adapter in the order of the openings, and

@@ -1,5 +1,8 @@
 //! The texts of a station: the calls of its application as lines that arrive while it runs, and the lines that it prints of
 //! points, streams, slots and its state.
+//!
+//! `watch` is what a station notes of peers and slots, and the datagrams that it counts. `queue` has lines on their way to an
+//! output that may be slow.
 #![tactic(auto)]
 
 mod attributes;
@@ -7,10 +10,12 @@ mod calls;
 mod details;
 mod lines;
 mod points;
+mod queue;
 mod reasons;
 mod reports;
 mod sink;
 mod status;
+mod watch;
 
 pub use attributes::{
     AttributeCall, AttributeService, AttributeType, PendingAttributes, ReplyMoment,
@@ -19,7 +24,16 @@ pub use attributes::{
 pub use calls::{InputLine, has_news, is_call, read_call, read_line};
 pub use lines::{CallBuffer, CallLines, InputRead, NextLine, NoLines, input_read};
 pub use points::{EventMoment, Points};
+pub use queue::{
+    LineQueue, NoticeForm, Offer, PushFault, QueueOutlet, ReportedPoints, state_is_never_lost,
+};
 pub use reasons::push_why;
 pub use reports::{push_report, push_starved, push_unbound};
 pub use sink::LineSink;
 pub use status::push_own;
+pub use watch::{
+    ClosingSlots, CountedConnection, DatagramCounts, GapMeter, GapSums, GapWindow, LinkReport,
+    SentAs, SlotWait, SlotWatches, Starved, StarvedCause, StateNote, StationTraffic, StreamRefusal,
+    TrafficTotals, changes_connections, close_end, closing_ms, counted, counted_of, is_accepted,
+    missed, owners_of, push_connected, sent_counts, wait_at, waits_on,
+};

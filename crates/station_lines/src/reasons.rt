@@ -3,11 +3,10 @@
 ghost use Rattle.std.specs.Prelude.{◌≡◌, ◌++◌, ◌-◌, OnOk, string_bytes};
 ghost use Rattle.station_lines.specs.Reasons.{later_text, next_text, no_session_text, no_stream_text, no_stream_with, refused_for, refused_front, stream_words, tenths_text, why_text};
 
+use crate::watch::{SlotWait, StateNote, StreamRefusal};
 use cip_events::Reason;
 use cip_types::{Node, OutOfMemory};
-use station_watch::{SlotWait, StateNote, StreamRefusal};
-use status_words::push_reason;
-use trace_words::{push_node, push_text};
+use trace_words::{push_node, push_reason, push_text};
 
 /// Appends what a slot of this target waits for at this time; nothing of one that is open, or whose request is on its way.
 pub fn push_why(

@@ -4,11 +4,10 @@ ghost use Rattle.std.specs.Prelude.{◌≡◌, ◌++◌, OnOk, string_bytes};
 ghost use Rattle.station_lines.specs.Reports.{ended_text, ending_text, full_text, missized_text, not_opened_text, opened_text, refusal_text, remedy_text, report_text, retry_text, sizes_text, starved_text, stream_text, unbound_port_text, unbound_text, unfed_text};
 
 use crate::reasons::push_stream_words;
+use crate::watch::{Starved, StarvedCause};
 use cip_types::{Node, OutOfMemory};
-use port_groups::DataGroup;
-use station_watch::{Starved, StarvedCause};
 use trace_words::{push_node, push_text};
-use udp_runner::{EndCause, PortReport, RefusalCause};
+use udp_runner::{DataGroup, EndCause, PortReport, RefusalCause};
 
 /// Appends the line of a port's report. An adapter's streams may be silent for so many seconds.
 pub fn push_report(out: &mut String, report: &PortReport, silent_s: u16) -> Result<(), OutOfMemory>

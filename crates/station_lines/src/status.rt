@@ -8,11 +8,11 @@ ghost use Rattle.station_lines.specs.Status.{age_text, apis_text, config_text, c
 
 use crate::details::push_details;
 use crate::points::{EventMoment, PointKind, SlotTerms, WatchedPoint};
+use crate::watch::{CountedConnection, DatagramCounts, StationTraffic, TrafficTotals, counted_of};
 use cip_events::Verdict;
 use cip_tables::{Age, ConnectionReport, Device, DeviceTotals, Mode, SlotReport, TargetReport};
 use cip_types::OutOfMemory;
 use cip_types::limits::MOST_CONNECTIONS;
-use station_watch::{CountedConnection, DatagramCounts, StationTraffic, TrafficTotals, counted_of};
 use trace_lines::kind_name;
 use trace_outcomes::push_verdict;
 use trace_words::{push_digits, push_node, push_text};

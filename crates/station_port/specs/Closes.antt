@@ -1,8 +1,8 @@
 -- What an output does to the links to a scanner's targets.
 use Rattle.std.specs.Prelude.{ℕ, List, if◌then◌else◌}
 use Rattle.station_port.specs.Streams.Sessions.{asks_session}
-use Rattle.stream_rules.specs.declared.links.TargetLink.{TargetLink}
-use Rattle.stream_rules.specs.Links.{Links, again_link, requested_link, at_stream, lost_link}
+use Rattle.socket_port.specs.declared.rules.links.TargetLink.{TargetLink}
+use Rattle.socket_port.specs.Rules.Links.{Links, again_link, requested_link, at_stream, lost_link}
 use Rattle.udp_runner.specs.declared.output.Output.{Output}
 use Rattle.udp_runner.specs.declared.output.Output.TheVariants as output
 

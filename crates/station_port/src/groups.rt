@@ -7,11 +7,10 @@ use cip_types::limits::MOST_SLOTS;
 use cip_types::{Node, OutOfMemory};
 use mio::net::UdpSocket;
 use mio::{Interest, Registry};
-use port_groups::{DataGroup, has_group, is_due, is_to_add, next_try_ms};
 use socket_port::received;
 use std::alloc::Global;
 use std::net::{Net, SocketAddr};
-use udp_runner::PortFault;
+use udp_runner::{DataGroup, PortFault, has_group, is_due, is_to_add, next_try_ms};
 
 /// A group of a slot.
 #[derive(Drop)]

@@ -1,13 +1,13 @@
 //! Where a station is, where it sends, and when it ends a silent stream.
 
 ghost use Rattle.std.specs.Prelude.{◌≡◌, None, true};
-ghost use Rattle.port_groups.specs.GroupUse.{uses_groups};
+ghost use Rattle.udp_runner.specs.Groups.GroupUse.{uses_groups};
 ghost use Rattle.station_port.specs.Items.{originator_use, target_use};
 
 use crate::named_ports::ItemUse;
 use cip_types::Node;
 use cip_types::limits::{TCP_PORT, UDP_PORT};
-use port_groups::uses_groups;
+use udp_runner::uses_groups;
 
 /// The encapsulation inactivity time-out, in seconds.
 ///

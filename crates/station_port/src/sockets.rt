@@ -19,12 +19,10 @@ use cip_types::limits::MOST_STREAMS;
 use cip_types::{Items, Node, OutOfMemory};
 use mio::net::{TcpListener, TcpStream, UdpSocket};
 use mio::{Interest, Registry};
-use port_groups::{DataGroup, sent_port};
-use port_streams::{PollOrder, SpareBytes};
-use socket_port::{ReadOutcome, accepted, node_of, received};
+use socket_port::{PollOrder, ReadOutcome, SpareBytes, accepted, node_of, received};
 use std::alloc::Global;
 use std::net::{Net, SocketAddr};
-use udp_runner::{EndCause, Output, PortFault};
+use udp_runner::{DataGroup, EndCause, Output, PortFault, sent_port};
 
 /// The numbers of streams are below this one.
 const STREAM_NUMBERS: u16 = MOST_STREAMS as u16;

@@ -14,16 +14,17 @@ use crate::streams::{KeptStreams, Targets, WAKER, address_of};
 use cip_events::Arrival;
 use cip_types::{Items, Node};
 use mio::{Events, Poll, Waker};
-use port_groups::{DataGroup, GroupPort};
-use port_streams::Destination;
+use socket_port::Destination;
 use std::alloc::Global;
 use std::net::Net;
 use std::rt::Clock as System;
 use std::sync::Wait;
 use std::thread;
 use std::time::{Duration, Instant};
-use turn_times::{BusyTime, wait_length, whole_ms};
-use udp_runner::{KeptPort, Output, Port, PortFault, PortReport};
+use udp_runner::{
+    BusyTime, DataGroup, GroupPort, KeptPort, Output, Port, PortFault, PortReport, wait_length,
+    whole_ms,
+};
 
 /// A wait reports at most so many sockets at once; others are reported by the next one.
 const MOST_EVENTS: usize = 64;

@@ -5,9 +5,9 @@ use Rattle.cip_events.specs.declared.event.Event.{Event}
 use Rattle.cip_events.specs.declared.event.Event.TheVariants.{Tick}
 use Rattle.cip_events.specs.Outcomes.{Outcome}
 use Rattle.trace_outcomes.specs.WrittenOutcomes.{outcome_text}
-use Rattle.outcome_sums.specs.declared.sum.OutcomeSum.{OutcomeSum}
-use Rattle.outcome_sums.specs.Sums.{sum_of}
-use Rattle.outcome_sums.specs.SumLines.{sum_line}
+use Rattle.trace_outcomes.specs.declared.sums.sum.OutcomeSum.{OutcomeSum}
+use Rattle.trace_outcomes.specs.Sums.Sums.{sum_of}
+use Rattle.trace_outcomes.specs.Sums.SumLines.{sum_line}
 
 -- an answer has datagrams, and no frames
 abbrev pub sends_alone : Outcome → Bool

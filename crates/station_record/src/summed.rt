@@ -5,7 +5,7 @@ ghost use Rattle.station_record.specs.Summed.{is_summed, recorded_outcome_text, 
 
 use cip_tables::{Event, Outcome};
 use cip_types::OutOfMemory;
-use outcome_sums::{push_sum, sum_over};
+use trace_outcomes::{push_sum, sum_over};
 use trace_text::push_outcome;
 
 /// Appends the lines of the outcome of the event of this number, or the line of its sum. The lines are made apart first.

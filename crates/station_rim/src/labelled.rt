@@ -1,10 +1,10 @@
 //! Lines on their way to an output, with the names of points, slots and devices behind them.
 
 use cip_types::OutOfMemory;
-use point_names::{DeviceNames, Names, push_labelled};
 use station_lines::LineSink;
 use std::alloc::Global;
 use std::sync::Arc;
+use trace_words::{DeviceNames, Names, push_labelled};
 
 /// The names of a plant's devices at their addresses, for each of its threads.
 #[derive(Drop)]

@@ -3,8 +3,7 @@
 use crate::line_way::LineWay;
 use crate::written::{joins, write_whole};
 use cip_types::{Items, OutOfMemory};
-use line_queue::{NoticeForm, Offer};
-use station_lines::LineSink;
+use station_lines::{LineSink, NoticeForm, Offer};
 use std::alloc::Global;
 use std::io::Write;
 use std::rt::Clock;

@@ -4,7 +4,7 @@ use crate::inbox::SharedInput;
 use crate::outlets::SharedLines;
 use crate::record_queue::SharedRecord;
 use cip_types::OutOfMemory;
-use line_queue::NoticeForm;
+use station_lines::NoticeForm;
 use std::alloc::Global;
 
 /// The input, the outputs and the record of a station.

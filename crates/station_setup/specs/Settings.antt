@@ -8,8 +8,8 @@ use Rattle.cip_tables.specs.declared.table.Config.TheVariants.{Adapter, Scanner}
 use Rattle.cip_types.specs.declared.names.Node.{Node}
 use Rattle.list_identity.specs.Names.{name_front}
 use Rattle.port_faults.specs.declared.rates.FaultRates.{FaultRates}
-use Rattle.port_groups.specs.GroupUse.{uses_groups}
-use Rattle.port_streams.specs.declared.routes.Destination.{Destination}
+use Rattle.udp_runner.specs.Groups.GroupUse.{uses_groups}
+use Rattle.socket_port.specs.declared.streams.routes.Destination.{Destination}
 use Rattle.scanner_table.specs.declared.profile.SlotConfig.{SlotConfig}
 use Rattle.station_port.specs.declared.place.StationPlace.{StationPlace}
 use Rattle.command_lines.specs.declared.station_options.Options.{Options}

@@ -10,8 +10,8 @@ use cip_types::Node;
 use cip_types::limits::TCP_PORT;
 use command_lines::Options;
 use port_faults::FaultRates;
-use port_groups::uses_groups;
 use station_port::StationPlace;
+use udp_runner::uses_groups;
 
 /// The mask of a network of one address.
 const NO_NETWORK: u32 = 0xFFFF_FFFF;

@@ -5,7 +5,7 @@ ghost use Rattle.station_setup.specs.Settings.{is_among, targets_of, with_target
 
 use cip_tables::ScannerProfile;
 use cip_types::{Node, OutOfMemory};
-use port_streams::Destination;
+use socket_port::Destination;
 use std::alloc::Global;
 
 /// The targets of a scanner's slots, each once, at this TCP port. The only fault is a refused allocation.

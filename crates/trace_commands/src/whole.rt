@@ -4,7 +4,6 @@ use crate::fault::{TracesFault, unread};
 use cip_types::OutOfMemory;
 use cip_types::limits::LONGEST_TRACE;
 use fast_device::FastDevice;
-use point_names::{Names, ReadNames, read_names};
 use std::alloc::Global;
 use std::fs::File;
 use std::io::Write;
@@ -14,6 +13,7 @@ use trace_faults::explain_fault;
 use trace_files::{FilledRecord, read_record, read_regular};
 use trace_stepper::write_text;
 use trace_text::{Trace, TraceFault, read_trace};
+use trace_words::{Names, ReadNames, read_names};
 
 /// Explains the trace of the files in words, or why they are none. It takes memory for all entries, those of a record with the
 /// outcomes in whose place it has sums. If one has another sum, the number of the first such event is printed alone.

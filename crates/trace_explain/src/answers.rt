@@ -10,10 +10,11 @@ use cip_events::{
 };
 use cip_tables::Config;
 use cip_types::{Fault, Node, OutOfMemory};
-use point_names::{Named, Names};
-use status_words::{push_encap, push_fault, push_general, push_reason};
 use std::alloc::Global;
-use trace_words::{push_bytes, push_node, push_nodes, push_text};
+use trace_words::{
+    Named, Names, push_bytes, push_encap, push_fault, push_general, push_node, push_nodes,
+    push_reason, push_text,
+};
 
 /// What begins a line of an outcome.
 const INDENT: &str = "\n    ";

@@ -6,10 +6,8 @@ use crate::router::{push_data, push_request};
 use cip_events::Event;
 use cip_tables::Config;
 use cip_types::{Node, OutOfMemory};
-use point_names::{Named, Names};
-use status_words::push_general;
 use std::alloc::Global;
-use trace_words::{push_node, push_text};
+use trace_words::{Named, Names, push_general, push_node, push_text};
 
 /// Whether the traced device is a target: an adapter.
 pub fn is_target(config: &Config) -> bool {

@@ -7,9 +7,8 @@ use cip_router::Command;
 use cip_tables::Config;
 use cip_types::OutOfMemory;
 use identity_search::read_identity_reply;
-use status_words::encap_words;
 use std::alloc::Global;
-use trace_words::push_text;
+use trace_words::{encap_words, push_text};
 
 /// A message, by its command and fields: one from an originator to a target, or its reply. The reply to ListIdentity says
 /// which device it is of.

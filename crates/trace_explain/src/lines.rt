@@ -8,9 +8,9 @@ use crate::events::push_event;
 use cip_events::{Event, Outcome};
 use cip_tables::Config;
 use cip_types::OutOfMemory;
-use point_names::Names;
 use std::alloc::Global;
 use trace_text::{Recorded, Trace, time_after};
+use trace_words::Names;
 
 /// An event in words: its number in the trace, from 1, its time in milliseconds, what happened, and what the device
 /// answered, if that is recorded.

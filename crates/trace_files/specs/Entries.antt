@@ -6,8 +6,8 @@ use Rattle.trace_outcomes.specs.declared.part.Part.{Part}
 use Rattle.trace_outcomes.specs.Parts.{part_reader}
 use Rattle.trace_text.specs.Recorded.{recorded_with}
 use Rattle.trace_text.specs.Forms.{event_of, is_ascii}
-use Rattle.outcome_sums.specs.declared.sum.OutcomeSum.{OutcomeSum}
-use Rattle.outcome_sums.specs.SumLines.{sum_reader}
+use Rattle.trace_outcomes.specs.declared.sums.sum.OutcomeSum.{OutcomeSum}
+use Rattle.trace_outcomes.specs.Sums.SumLines.{sum_reader}
 use Rattle.trace_words.specs.declared.words.TextFault.{TextFault}
 use Rattle.trace_words.specs.declared.words.TextFault.TheVariants.{Bad, OutOfMemory}
 use Rattle.trace_words.specs.Reader.{Reader, ◌>>=◌, gives, next_word}

@@ -11,8 +11,8 @@ use Rattle.trace_stepper.specs.declared.stepper.StepperFault.{StepperFault}
 use Rattle.trace_stepper.specs.declared.stepper.StepperFault.TheVariants as fault
 use Rattle.trace_stepper.specs.Compared.{AgreesWith}
 use Rattle.trace_stepper.specs.Written.{BeginsToWrite}
-use Rattle.outcome_sums.specs.declared.sum.OutcomeSum.{OutcomeSum}
-use Rattle.outcome_sums.specs.Sums.{HasSum}
+use Rattle.trace_outcomes.specs.declared.sums.sum.OutcomeSum.{OutcomeSum}
+use Rattle.trace_outcomes.specs.Sums.Sums.{HasSum}
 use Rattle.trace_text.specs.Reading.{Entry}
 use Rattle.trace_files.specs.declared.entry_reader.TraceEntry.{TraceEntry}
 

@@ -4,14 +4,13 @@ ghost use Rattle.std.specs.Prelude.{◌≡◌, IfOk};
 ghost use Rattle.trace_words.specs.Reader.{unread_words, Takes, Finds};
 ghost use Rattle.trace_text.specs.Forms.{event_of};
 ghost use Rattle.trace_files.specs.Entries.{begins_with_digit, entry_of, recorded_of, recorded_reader, sum_in, taken_line, with_event, with_part, with_recorded, with_sum, TakesLine};
-ghost use Rattle.outcome_sums.specs.SumLines.{sum_reader};
+ghost use Rattle.trace_outcomes.specs.Sums.SumLines.{sum_reader};
 
 use cip_tables::{Event, Outcome};
 use cip_types::OutOfMemory;
-use outcome_sums::{OutcomeSum, read_sum};
 use std::alloc::Global;
 use std::mem;
-use trace_outcomes::{Part, read_part};
+use trace_outcomes::{OutcomeSum, Part, read_part, read_sum};
 use trace_text::{Recorded, ascii_text, read_event_line, recorded_with};
 use trace_words::{TextFault, Words};
 

@@ -12,8 +12,8 @@ use crate::entry_reader::TraceEntry;
 use crate::player::{step_of, write_outcome};
 use cip_tables::{Config, Device, Event, NewFault, Outcome};
 use cip_types::OutOfMemory;
-use outcome_sums::{OutcomeSum, has_sum};
 use std::alloc::Global;
+use trace_outcomes::{OutcomeSum, has_sum};
 use trace_stepper::StepperFault;
 use trace_text::Recorded;
 

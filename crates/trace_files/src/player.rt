@@ -11,10 +11,9 @@ ghost use Rattle.trace_files.specs.Profile.{one_more};
 use crate::entry_reader::TraceEntry;
 use cip_tables::{Config, Device, Event, NewFault, Outcome};
 use cip_types::OutOfMemory;
-use outcome_sums::has_sum;
 use std::alloc::Global;
 use std::io::Write;
-use trace_outcomes::is_out_of_memory;
+use trace_outcomes::{has_sum, is_out_of_memory};
 use trace_stepper::{StepperFault, agrees, write_text};
 use trace_text::push_outcome;
 

@@ -4,8 +4,8 @@ use crate::filler::Filler;
 use crate::trace_reader::{TracePiece, TraceReader};
 use cip_tables::{Config, Device, Event};
 use cip_types::Items;
-use outcome_sums::PlacedSum;
 use std::alloc::{AllocFailed, Global};
+use trace_outcomes::PlacedSum;
 use trace_stepper::StepperFault;
 use trace_text::{Recorded, Trace, TraceFault, first_line};
 

@@ -1,3 +1,5 @@
 mod ExplicitSamples
 mod ResetSamples
 mod OwnRequestSamples
+mod Samples
+mod Crc32Samples

@@ -2,3 +2,12 @@ mod HexWords
 mod LineWords
 mod NodeWords
 mod NumberWords
+mod Ascii
+mod Found
+mod LabelSamples
+mod NothingNamed
+mod Parts
+mod ReadingSamples
+mod Samples
+mod Taking
+mod Walks

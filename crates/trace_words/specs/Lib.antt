@@ -1,2 +1,4 @@
 pub mod Reader
 pub mod Words
+pub mod PointNames
+pub mod StatusWords

@@ -4,3 +4,5 @@ mod Handed
 mod Driven
 mod AtPorts
 mod TakenInTime
+mod Samples
+mod GroupsSamples

@@ -6,7 +6,7 @@ use Rattle.cip_productions.specs.declared.age.Age.{Age}
 use Rattle.cip_productions.specs.declared.age.Age.TheVariants.{SinceOpening, SinceAccepted}
 use Rattle.scanner_table.specs.declared.report.SlotReport.{SlotReport}
 use Rattle.scanner_table.specs.declared.report.SlotReport.TheVariants.{Established}
-use Rattle.turn_times.specs.Timeouts.{before_timeout}
+use Rattle.udp_runner.specs.Times.Timeouts.{before_timeout}
 
 -- a connection of this packet interval and age
 abbrev pub age_rest : ℕ → Age → ℕ

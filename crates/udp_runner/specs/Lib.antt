@@ -4,3 +4,5 @@ pub mod Turns
 pub mod Handing
 pub mod InTime
 pub mod Driving
+pub mod Times
+pub mod Groups

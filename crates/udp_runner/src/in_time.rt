@@ -11,6 +11,7 @@ use crate::fault::RunFault;
 use crate::observer::Observer;
 use crate::port::{Clock, Port};
 use crate::runner::{act_on, longest_wait, tick};
+use crate::times::before_timeout;
 use adapter_table::ConnectionReport;
 use cip_events::Arrival;
 use cip_productions::Age;
@@ -18,7 +19,6 @@ use cip_tables::Device;
 use cip_types::Ms;
 use cip_types::limits::LONGEST_TICK_MS;
 use scanner_table::SlotReport;
-use turn_times::before_timeout;
 
 /// So many datagrams that wait are taken before a tick.
 const MOST_BEFORE_TICK: u32 = 64;

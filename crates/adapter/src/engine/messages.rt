@@ -17,7 +17,7 @@ use adapter_table::{Description, has_session};
 use cip_encap::{ConnectedPacket, read_connected_items};
 use cip_tables::{Answer, Delivery, EncapStatus, Outcome, Stream, Verdict};
 use cip_types::OutOfMemory;
-use connection_list::ConnectionTable;
+use indexed_connections::ConnectionTable;
 use messaging::Class3Connection;
 
 /// Whether a message, behind its sequence count, is longer than the connection's O->T size.

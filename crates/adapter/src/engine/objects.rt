@@ -11,20 +11,19 @@ ghost use Rattle.adapter_table.specs.Rows.{kind_count};
 ghost use Rattle.adapter_table.specs.Inquiries.{inquiry_reply, inquired};
 ghost use Rattle.adapter_table.specs.Requests.{served_object};
 ghost use Rattle.adapter_table.specs.Lemmas.ObjectSizes.{FewSaid};
-ghost use Rattle.adapter_objects.specs.Views.{view_answer};
+ghost use Rattle.adapter_replies.specs.Objects.Views.{view_answer};
 
 use super::Adapter;
-use adapter_objects::{
-    ConnectionFacts, ObjectAnswer, ObjectRequest, assembly_answer, described_answer,
-    has_inquiry_length,
+use adapter_replies::{
+    ConnectionFacts, ObjectAnswer, ObjectRequest, Route, assembly_answer, described_answer,
+    has_inquiry_length, inquiry_answer, object_notices, object_reply, reply_and_text,
 };
-use adapter_replies::{Route, inquiry_answer, object_notices, object_reply, reply_and_text};
 use cip_epath::class::ASSEMBLY;
 use cip_events::Recipient;
 use cip_productions::Kind;
 use cip_tables::{Answer, Outcome, Status, Verdict};
 use cip_types::{Node, OutOfMemory};
-use connection_list::ConnectionTable;
+use indexed_connections::ConnectionTable;
 
 // OBJECTS
 
@@ -84,7 +83,7 @@ impl<T: ConnectionTable> Adapter<T> {
     }
 
     /// What the device answers to a service of an object.
-    #[tactic(auto, using(adapter_objects::specs::SaidLaws::assembly_is))]
+    #[tactic(auto, using(adapter_replies::specs::Objects::SaidLaws::assembly_is))]
     fn object_answer(
         &self,
         class: u32,
@@ -154,7 +153,7 @@ impl<T: ConnectionTable> Adapter<T> {
 
 impl<T: ConnectionTable> Adapter<T> {
     /// The reply to some bytes, if the device is described and they are an inquiry.
-    #[tactic(auto, using(adapter_objects::specs::SaidLaws::inquired_is, adapter_objects::specs::SaidLaws::uninquired_is))]
+    #[tactic(auto, using(adapter_replies::specs::Objects::SaidLaws::inquired_is, adapter_replies::specs::Objects::SaidLaws::uninquired_is))]
     pub(crate) fn inquiry_reply(&self, bytes: &[u8]) -> Result<Option<Vec<u8>>, OutOfMemory>
         ensures { IfOk result (λ reply. option_map (λ v. v.items) reply ≡ inquiry_reply self.now bytes.now) }
     {
@@ -165,7 +164,7 @@ impl<T: ConnectionTable> Adapter<T> {
             return Ok(None);
         }
         let io = self.state.connections().io_state();
-        adapter_objects::inquiry_reply(
+        adapter_replies::inquiry_reply(
             self.state.alloc(),
             self.state.assemblies(),
             io,

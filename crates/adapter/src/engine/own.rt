@@ -10,7 +10,7 @@ ghost use Rattle.adapter_table.specs.Answering.{respond, responded};
 use super::Adapter;
 use adapter_replies::{Route, found_last, reply_and_text};
 use cip_tables::{Answer, Outcome, Reply, StepFault, Verdict};
-use connection_list::ConnectionTable;
+use indexed_connections::ConnectionTable;
 use messaging::Waiting;
 
 /// The bytes of data of the application's longest answer.

@@ -20,9 +20,8 @@ use adapter_table::{has_session, register_stream, session_of};
 use cip_encap::read_items;
 use cip_events::Recipient;
 use cip_tables::{Answer, Command, EncapStatus, Outcome, StepFault, Stream, Verdict};
-use cip_types::OutOfMemory;
-use connection_list::ConnectionTable;
-use open_streams::{drop_stream, find_stream};
+use cip_types::{OutOfMemory, drop_stream, find_stream};
+use indexed_connections::ConnectionTable;
 
 // STREAMS
 

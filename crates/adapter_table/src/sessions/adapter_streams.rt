@@ -4,8 +4,8 @@ ghost use Rattle.std.specs.Prelude.{◌≡◌, map};
 ghost use Rattle.adapter_table.specs.Streams.{is_taken, session_of, has_session, registered_stream};
 
 use crate::Stream;
+use cip_types::has_stream;
 use cip_types::limits::MOST_STREAMS;
-use open_streams::has_stream;
 
 /// Whether no stream of this number can be opened: one is open, or 16 streams are. Takes no memory.
 pub fn is_taken(streams: &[Stream], number: u16) -> bool

@@ -5,12 +5,11 @@ ghost use Rattle.std.specs.Prelude.{◌≡◌, false, []};
 use crate::stations::station_run::TurnArrival;
 use cip_events::Arrival;
 use cip_types::{Node, OutOfMemory};
-use port_groups::{DataGroup, GroupPort};
 use port_orders::{OrderedPort, PortOrder};
 use std::alloc::Global;
 use std::collections::VecDeque;
 use std::time::Duration;
-use udp_runner::{EndCause, KeptPort, Output, Port, PortFault, PortReport};
+use udp_runner::{DataGroup, EndCause, GroupPort, KeptPort, Output, Port, PortFault, PortReport};
 
 /// A port that receives what arrives at the turns of a run, and prints what it takes, sends and is told.
 #[derive(Drop)]

@@ -14,7 +14,7 @@ use Rattle.station_lines.specs.declared.attributes.requested.TargetAttribute.{Ta
 use Rattle.station_lines.specs.declared.attributes.replies.ReplyMoment.{ReplyMoment}
 use Rattle.station_lines.specs.Attributes.Requested.{requested_at, requested_without}
 use Rattle.station_lines.specs.Attributes.Names.{Known, known_attribute}
-use Rattle.status_words.specs.Statuses.{status_name}
+use Rattle.trace_words.specs.StatusWords.Statuses.{status_name}
 use Rattle.station_lines.specs.Attributes.Values.{raw_text, value_text}
 
 -- WHICH ATTRIBUTE

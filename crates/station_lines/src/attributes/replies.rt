@@ -9,8 +9,7 @@ use crate::attributes::texts::push_raw;
 use crate::attributes::values::push_value;
 use cip_events::Unanswered;
 use cip_types::OutOfMemory;
-use status_words::status_name;
-use trace_words::{push_bytes, push_digits, push_node, push_text};
+use trace_words::{push_bytes, push_digits, push_node, push_text, status_name};
 
 /// When a request ended: at the event of this number, at this time in milliseconds.
 #[derive(Clone, Copy, PartialEq, Eq)]

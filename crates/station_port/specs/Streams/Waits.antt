@@ -1,9 +1,9 @@
 -- How long a station waits for its streams.
 use Rattle.std.specs.Prelude.{ℕ}
-use Rattle.stream_rules.specs.Keeping.{Keeper}
-use Rattle.stream_rules.specs.Keeping as keeping
-use Rattle.stream_rules.specs.Links.{Links}
-use Rattle.stream_rules.specs.Links as linking
+use Rattle.socket_port.specs.Rules.Keeping.{Keeper}
+use Rattle.socket_port.specs.Rules.Keeping as keeping
+use Rattle.socket_port.specs.Rules.Links.{Links}
+use Rattle.socket_port.specs.Rules.Links as linking
 
 -- The milliseconds until a stream to a target is to be opened or given up, or one of a peer has been silent for the
 -- time-out; at most so many.

@@ -5,7 +5,7 @@ use cip_types::Node;
 use libc::net as c;
 use mio::net::TcpStream;
 use os::FromRawFd;
-use port_streams::Destination;
+use socket_port::Destination;
 use std::net::Net;
 use std::os::fd::OwnedFd;
 

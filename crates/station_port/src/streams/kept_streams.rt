@@ -2,7 +2,7 @@
 
 ghost use Rattle.std.specs.Prelude.{◌≡◌};
 ghost use Rattle.station_port.specs.Streams.Waits.{streams_wait};
-ghost use Rattle.stream_rules.specs.Keeping.{wait_of};
+ghost use Rattle.socket_port.specs.Rules.Keeping.{wait_of};
 
 use crate::streams::causes::EndCauses;
 use crate::streams::reports::Reports;
@@ -13,11 +13,9 @@ use cip_events::Arrival;
 use cip_types::limits::MOST_STREAMS;
 use cip_types::{Node, OutOfMemory};
 use mio::net::TcpStream;
-use port_streams::{PortStreams, Shortener};
-use socket_port::{ReadOutcome, read_outcome};
+use socket_port::{Place, PortStreams, ReadOutcome, Shortener, StreamKeeper, read_outcome};
 use std::alloc::Global;
 use std::io::Read;
-use stream_rules::{Place, StreamKeeper};
 use udp_runner::{EndCause, PortReport, RefusalCause};
 
 /// So many peers can have connections: 64 of class 1, and 64 of class 3.

@@ -3,7 +3,7 @@
 ghost use Rattle.std.specs.Prelude.{◌≡◌};
 ghost use Rattle.station_port.specs.Streams.Refusals.{dial_outcome, is_refusal};
 ghost use Rattle.station_port.specs.Closes.{sent_link};
-ghost use Rattle.stream_rules.specs.Links.{at_stream, at_target, failed_link, given_up_link, received_link, lost_link, refused_link, registered_link, registers_on, wait_of};
+ghost use Rattle.socket_port.specs.Rules.Links.{at_stream, at_target, failed_link, given_up_link, received_link, lost_link, refused_link, registered_link, registers_on, wait_of};
 
 use crate::streams::dial::dial;
 use crate::streams::kept_streams::KeptStreams;
@@ -14,11 +14,10 @@ use cip_types::limits::MOST_STREAMS;
 use cip_types::{Node, OutOfMemory};
 use mio::net::TcpStream;
 use mio::{Interest, Registry};
-use port_streams::Destination;
+use socket_port::{Destination, LinkState, TargetLinks};
 use std::alloc::Global;
 use std::io::{self, ErrorKind};
 use std::net::Net;
-use stream_rules::{LinkState, TargetLinks};
 use udp_runner::{PortReport, RefusalCause};
 
 /// The targets of a scanner, the links to them, the streams that are being opened, and why the last ones did not open,

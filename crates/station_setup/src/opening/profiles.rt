@@ -8,11 +8,11 @@ use crate::unservable::station_defect;
 use cip_tables::Config;
 use cip_types::limits::LONGEST_TRACE;
 use cip_types::{Node, OutOfMemory};
-use point_names::{Names, ReadNames, read_names};
 use std::rt::Files;
 use trace_faults::explain_fault;
 use trace_files::{FileFault, read_regular};
 use trace_text::{Trace, TraceFault, read_trace};
+use trace_words::{Names, ReadNames, read_names};
 
 /// Why a file gives no profile.
 #[derive(Drop)]

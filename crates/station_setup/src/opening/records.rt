@@ -3,12 +3,12 @@
 use cip_tables::Config;
 use cip_types::OutOfMemory;
 use command_lines::VERSION;
-use point_names::Names;
 use station_record::{RecordFault, Recorder, place_of_record, push_timestamp};
 use station_rim::{Entries, SharedRecord};
 use std::fs::File;
 use std::rt::{Clock, Files};
 use std::sync::Wait;
+use trace_words::Names;
 
 /// The recorder of a device of this configuration, whose points have these names. Its entries go to a new file of this name. The
 /// record has at most so many bytes.

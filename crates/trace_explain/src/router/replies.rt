@@ -10,9 +10,8 @@ use cip_fwdopen::{
 use cip_router::read_router_reply;
 use cip_types::OutOfMemory;
 use cip_types::fields::u16_at;
-use status_words::{push_fault, push_general};
 use std::alloc::Global;
-use trace_words::push_text;
+use trace_words::{push_fault, push_general, push_text};
 
 /// A reply, by its service and fields.
 ///

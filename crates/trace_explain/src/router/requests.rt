@@ -9,9 +9,8 @@ use cip_netparams::is_message_trigger;
 use cip_router::{RouterRequest, Status, read_router_request};
 use cip_tables::Config;
 use cip_types::OutOfMemory;
-use status_words::push_fault;
 use std::alloc::Global;
-use trace_words::push_text;
+use trace_words::{push_fault, push_text};
 
 /// A request, by its service and fields.
 ///

@@ -4,8 +4,7 @@ ghost use Rattle.std.specs.Prelude.{◌≡◌};
 ghost use Rattle.trace_files.specs.Pcap.Ends.{side_of, device_ends, reversed, ends_of, datagram_ends, inquiry_ends, is_multicast, stream_port};
 
 use cip_tables::Config;
-use cip_types::Node;
-use open_streams::Numbered;
+use cip_types::{Node, Numbered};
 
 /// The TCP port of explicit messages at an adapter, and the UDP port of inquiries.
 pub const ENCAPSULATION_PORT: u16 = 44818;

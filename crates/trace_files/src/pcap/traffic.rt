@@ -10,8 +10,7 @@ use crate::pcap::ends::{
 use crate::pcap::headers::Control;
 use crate::pcap::packets::{MOST_TCP, push_tcp, push_udp, shown};
 use cip_events::{Answer, Event, Frame, Notice, OutgoingDatagram, Recipient};
-use cip_types::{Node, OutOfMemory};
-use open_streams::{add_stream, drop_stream, find_stream};
+use cip_types::{Node, OutOfMemory, add_stream, drop_stream, find_stream};
 
 /// The control bit SYN: the first segment of the end that opens a stream.
 const OPENS: u8 = 2;

@@ -4,7 +4,7 @@ use Rattle.cip_types.specs.declared.names.Triad.{Triad}
 use Rattle.adapter_table.specs.Rows.{has_triad}
 use Rattle.adapter_table.specs.Sound.{TriadsDiffer}
 use Rattle.adapter_table.specs.Lemmas.SoundLemmas.{triads_filter}
-use Rattle.connection_list.specs.Removals.{without_each}
+use Rattle.indexed_connections.specs.List.Removals.{without_each}
 use Rattle.indexed_connections.proofs.counts.close_each.Goals as goal
 
 pub loop-triad-preserved : goal.loop-triad-preserved

@@ -1,7 +1,7 @@
 use Rattle.std.proofs.Common.{◌≡◌, drop}
 use Rattle.adapter_table.specs.Sound.{TriadsDiffer}
 use Rattle.app_rules.specs.Counts.{AreCounted}
-use Rattle.connection_list.specs.Removals.{without_each}
+use Rattle.indexed_connections.specs.List.Removals.{without_each}
 use Rattle.indexed_connections.proofs.counts.close_each.Given as goal
 
 abbrev pub invariant-loop-triad : goal.invariant-loop-triad

@@ -3,7 +3,7 @@ use Rattle.std.proofs.lemmas.List.{drop_more}
 use Rattle.adapter_table.specs.Connections.{Row}
 use Rattle.adapter_table.specs.Sound.{TriadsDiffer}
 use Rattle.conn_slab.specs.Connections.{timed_out_if}
-use Rattle.connection_list.specs.Lone.{differ_mapped}
+use Rattle.indexed_connections.specs.List.Lone.{differ_mapped}
 use Rattle.indexed_connections.specs.CountChanges.{timed_out_each}
 use Rattle.indexed_connections.proofs.Expiring.{keeps_triad}
 use Rattle.indexed_connections.proofs.counts.expire.Goals as goal

@@ -1,6 +1,6 @@
 use Rattle.std.proofs.Common.{◌≡◌, ◌≤◌, ◌<◌, None, find, sym, ap, ◌∙◌, arith, rules}
 use Rattle.adapter_table.specs.Rows.{is_timed_out}
-use Rattle.connection_list.specs.Replacing.{leaves_found, leaves_replaced, leaves_none, leaves_first}
+use Rattle.indexed_connections.specs.List.Replacing.{leaves_found, leaves_replaced, leaves_none, leaves_first}
 use Rattle.indexed_connections.proofs.from_list.replaced_row.Goals as goal
 
 pub returns-in-Some : goal.returns-in-Some

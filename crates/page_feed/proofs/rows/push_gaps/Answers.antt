@@ -1,5 +1,5 @@
 use Rattle.std.specs.Prelude.{codes}
-use Rattle.station_watch.specs.DatagramCounts.Gaps.{last_minute}
+use Rattle.station_lines.specs.Watch.DatagramCounts.Gaps.{last_minute}
 use Rattle.page_feed.specs.Rows.{minute_text, sums_text}
 use Rattle.page_feed.proofs.Pieces.{of_three}
 use Rattle.page_feed.proofs.rows.push_gaps.Goals as goal

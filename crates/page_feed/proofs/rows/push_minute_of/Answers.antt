@@ -1,5 +1,5 @@
 use Rattle.std.proofs.Common.{◌≡◌, ◌++◌, OnOk, subst, string_bytes}
-use Rattle.station_watch.specs.declared.datagram_counts.gaps.GapSums.{GapSums}
+use Rattle.station_lines.specs.declared.watch.datagram_counts.gaps.GapSums.{GapSums}
 use Rattle.page_feed.specs.Rows.{minute_text}
 use Rattle.page_feed.proofs.rows.push_minute_of.Goals as goal
 

@@ -1,5 +1,5 @@
 use Rattle.std.proofs.Common.{◌≡◌, map, take}
-use Rattle.point_names.specs.Things.{devices_in}
+use Rattle.trace_words.specs.PointNames.Things.{devices_in}
 use Rattle.plant_command.specs.Setups.{device_entry}
 use Rattle.plant_command.proofs.setups.device_names.Given as goal
 

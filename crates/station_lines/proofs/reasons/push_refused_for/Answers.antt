@@ -1,5 +1,5 @@
 use Rattle.std.specs.Prelude.{codes}
-use Rattle.status_words.specs.Reasons.{reason_text}
+use Rattle.trace_words.specs.StatusWords.Reasons.{reason_text}
 use Rattle.station_lines.specs.Attributes.Lemmas.Appended.{three}
 use Rattle.station_lines.proofs.reasons.push_refused_for.Goals as goal
 

@@ -1,5 +1,5 @@
 use Rattle.std.proofs.Common.{rules, ◌≡◌, sym, Some, None}
-use Rattle.adapter_objects.specs.SaidLaws.{described_is, undescribed_is}
+use Rattle.adapter_replies.specs.Objects.SaidLaws.{described_is, undescribed_is}
 use Rattle.adapter.proofs.engine.Adapter.described_answer.Goals as goal
 
 pub returns-in_default-clause-value : goal.returns-in_default-clause-value

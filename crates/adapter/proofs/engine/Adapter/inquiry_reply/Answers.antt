@@ -1,5 +1,5 @@
 use Rattle.std.proofs.Common.{rules, ◌≡◌, Some}
-use Rattle.adapter_objects.specs.SaidLaws.{inquired_is}
+use Rattle.adapter_replies.specs.Objects.SaidLaws.{inquired_is}
 use Rattle.adapter.proofs.engine.Adapter.inquiry_reply.Goals as goal
 
 pub returns : goal.returns

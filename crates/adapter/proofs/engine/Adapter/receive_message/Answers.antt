@@ -14,7 +14,7 @@ use Rattle.adapter_replies.specs.declared.routes.ConnectionRoute.{ConnectionRout
 use Rattle.adapter_replies.specs.declared.routes.Route.TheVariants as route
 use Rattle.adapter_replies.specs.Routes.{message_route}
 use Rattle.adapter_replies.specs.Serving.{requested_on}
-use Rattle.adapter.proofs.Messaging.{each_of_found, again_is, new_is}
+use Rattle.adapter.proofs.EngineMessaging.{each_of_found, again_is, new_is}
 use Rattle.adapter.proofs.engine.Adapter.receive_message.Goals as goal
 
 pub over-way-requires-clause-waits : goal.over-way-requires-clause-waits

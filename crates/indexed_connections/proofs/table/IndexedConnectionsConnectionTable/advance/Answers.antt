@@ -7,9 +7,9 @@ use Rattle.adapter_table.specs.Sound.{TriadsDiffer}
 use Rattle.adapter_table.specs.Ticks.{expired, expired_rows}
 use Rattle.conn_slab.specs.Connections.{is_listening, is_changing}
 use Rattle.app_rules.specs.Counts.{AreCounted}
-use Rattle.connection_list.specs.Removals.{without_each, without_unsupported, expired_differ}
-use Rattle.connection_list.specs.Tables.{AreWhole}
-use Rattle.connection_list.specs.Whole.{whole_triads}
+use Rattle.indexed_connections.specs.List.Removals.{without_each, without_unsupported, expired_differ}
+use Rattle.indexed_connections.specs.List.Tables.{AreWhole}
+use Rattle.indexed_connections.specs.List.Whole.{whole_triads}
 use Rattle.indexed_connections.specs.CountChanges.{timed_out_each}
 use Rattle.indexed_connections.proofs.Counted.{produced_counted, produced_listen}
 use Rattle.indexed_connections.proofs.Cyclic.{produced_changing}

@@ -9,10 +9,10 @@ use Rattle.indexed_connections.proofs.Dropping.{none_staying}
 use Rattle.conn_slab.specs.Bounds.{next_watchdog, AllNotDueBefore}
 use Rattle.cip_types.specs.declared.names.Triad.{Triad}
 use Rattle.adapter_table.specs.Lemmas.SoundLemmas.{triads_filter}
-use Rattle.connection_list.specs.Removals.{without_each, without_unsupported}
-use Rattle.connection_list.specs.Tables.{AreWhole}
+use Rattle.indexed_connections.specs.List.Removals.{without_each, without_unsupported}
+use Rattle.indexed_connections.specs.List.Tables.{AreWhole}
 use Rattle.indexed_connections.proofs.Times.{ends_left, rests_left}
-use Rattle.connection_list.specs.Whole.{whole_triads}
+use Rattle.indexed_connections.specs.List.Whole.{whole_triads}
 use Rattle.indexed_connections.proofs.table.IndexedConnectionsConnectionTable.close.Goals as goal
 
 pub close-requires : goal.close-requires

@@ -6,9 +6,9 @@ use Rattle.std.specs.List.{list_any}
 use Rattle.conn_slab.specs.Connections.{AreConnections, without, is_listening, is_changing}
 use Rattle.indexed_connections.proofs.Dropping.{none_opened}
 use Rattle.conn_slab.specs.Bounds.{next_watchdog, AllNotDueBefore}
-use Rattle.connection_list.specs.Replacing.{goes_by_triad}
+use Rattle.indexed_connections.specs.List.Replacing.{goes_by_triad}
 use Rattle.indexed_connections.proofs.Times.{ends_opened, rests_opened}
-use Rattle.connection_list.specs.Whole.{whole_triads, whole_rise}
+use Rattle.indexed_connections.specs.List.Whole.{whole_triads, whole_rise}
 use Rattle.indexed_connections.proofs.Whole.{whole_connections, same_left}
 use Rattle.indexed_connections.proofs.table.IndexedConnectionsConnectionTable.open.Goals as goal
 

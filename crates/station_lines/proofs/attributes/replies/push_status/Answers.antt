@@ -1,7 +1,7 @@
 use Rattle.std.proofs.Common.{[], ◌∷◌, codes}
 use Rattle.hex.specs.Hex.{encode_lower}
 use Rattle.trace_words.specs.Words.{bytes_word}
-use Rattle.status_words.specs.Statuses.{status_name}
+use Rattle.trace_words.specs.StatusWords.Statuses.{status_name}
 use Rattle.station_lines.specs.Attributes.Lemmas.Appended.{named, six}
 use Rattle.station_lines.proofs.attributes.replies.push_status.Goals as goal
 

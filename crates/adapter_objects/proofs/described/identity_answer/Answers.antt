@@ -1,4 +1,0 @@
-use Rattle.adapter_objects.proofs.described.identity_answer.Goals as goal
-
-pub returns : goal.returns
-returns c = rw (c.profile.ensures.value, c.status_word-status.ensures, c.consistency_value-consistency.ensures, c.as_slice-name.ensures) at c.instance_answer.ensures

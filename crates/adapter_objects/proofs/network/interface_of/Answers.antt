@@ -1,4 +1,0 @@
-use Rattle.adapter_objects.proofs.network.interface_of.Goals as goal
-
-pub returns : goal.returns
-returns c = c.instance_answer.ensures

@@ -1,4 +1,0 @@
-use Rattle.adapter_objects.proofs.network.link_answer.Goals as goal
-
-pub returns : goal.returns
-returns c = rw c.as_slice.ensures at c.instance_answer.ensures

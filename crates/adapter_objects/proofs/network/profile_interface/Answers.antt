@@ -1,4 +1,0 @@
-use Rattle.adapter_objects.proofs.network.profile_interface.Goals as goal
-
-pub returns : goal.returns
-returns c = rw (c.first_group-first.ensures, c.as_slice-count.ensures) at c.interface_of.ensures

@@ -1,5 +1,0 @@
-use Rattle.std.proofs.Common.{length}
-use Rattle.adapter_objects.proofs.status.+consistency.Given as goal
-
-abbrev pub decreases-consistency : goal.decreases-consistency
-decreases-consistency l = length l.bytes.now

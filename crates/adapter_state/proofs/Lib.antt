@@ -1,5 +1,0 @@
-pub mod Admitted
-pub mod Aging
-pub mod EngineEffects
-pub mod Messaging
-pub mod Quiet

@@ -1,5 +1,0 @@
-use Rattle.adapter_table.specs.Limits.{few_inputs}
-use Rattle.adapter_state.proofs.state.AdapterState.production.Goals as goal
-
-pub address_of-address-requires : goal.address_of-address-requires
-address_of-address-requires g c = rw c.profile.ensures.value (few_inputs c.self.inside.assemblies.profile c.profile.ensures.sound.faultless)

@@ -1,7 +1,0 @@
-use Rattle.std.proofs.Common.{◌≡◌, take, map}
-use Rattle.cip_productions.specs.Productions.{sent}
-use Rattle.adapter_table.specs.Productions.{production_of}
-use Rattle.connection_list.proofs.changes.datagrams.Given as goal
-
-abbrev pub invariant-loop-producer : goal.invariant-loop-producer
-invariant-loop-producer l = l.datagrams.items ≡ map sent (map (production_of l.rows l.input) (take l.producer-index l.changing))

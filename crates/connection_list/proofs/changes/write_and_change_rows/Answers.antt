@@ -1,5 +1,0 @@
-use Rattle.adapter_table.specs.RowLimits.{written_rows_fit}
-use Rattle.connection_list.proofs.changes.write_and_change_rows.Goals as goal
-
-pub change_rows-requires-clause-fit : goal.change_rows-requires-clause-fit
-change_rows-requires-clause-fit c = rw c.write_rows.ensures (written_rows_fit c.args.point c.args.rows.now c.requires.fit)

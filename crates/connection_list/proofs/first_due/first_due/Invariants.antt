@@ -1,6 +1,0 @@
-use Rattle.std.proofs.Common.{◌≡◌, drop}
-use Rattle.cip_tables.specs.Wakes.{connections_due}
-use Rattle.connection_list.proofs.first_due.first_due.Given as goal
-
-abbrev pub invariant-loop-at : goal.invariant-loop-at
-invariant-loop-at l = l.first ≡ connections_due (drop l.at l.rows)

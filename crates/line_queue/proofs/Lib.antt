@@ -1,2 +1,0 @@
-mod NeverLost
-mod Samples

@@ -1,9 +1,0 @@
-mod Ascii
-mod Found
-mod LabelSamples
-mod NothingNamed
-mod Parts
-mod ReadingSamples
-mod Samples
-mod Taking
-mod Walks

@@ -1,7 +1,0 @@
-use Rattle.std.proofs.Common.{◌≡◌, map, take}
-use Rattle.point_names.specs.Things.{names_in, view_name}
-use Rattle.point_names.proofs.names.Names.copy.Given as goal
-
--- the names so far
-abbrev pub invariant-loop-name : goal.invariant-loop-name
-invariant-loop-name l = names_in l.names ≡ map view_name (take l.name-index l.self.names.items)

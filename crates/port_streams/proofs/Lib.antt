@@ -1,2 +1,0 @@
-mod Putting
-mod Samples

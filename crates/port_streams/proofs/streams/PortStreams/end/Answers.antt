@@ -1,7 +1,0 @@
-use Rattle.std.proofs.Common.{ap, ◌∙◌, Some}
-use Rattle.port_streams.specs.Slots.{ended_at}
-use Rattle.port_streams.proofs.Putting.{put_again}
-use Rattle.port_streams.proofs.streams.PortStreams.end.Goals as goal
-
-pub returns : goal.returns
-returns g c = put_again _ _ _ _ _ _ _ c.take.ensures.left c.put.ensures (ap Some c.end.ensures ∙ ap ended_at c.in-Some.ensures.taken)

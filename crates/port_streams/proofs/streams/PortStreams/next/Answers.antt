@@ -1,7 +1,0 @@
-use Rattle.std.proofs.Common.{ap, ◌∙◌}
-use Rattle.port_streams.specs.Slots.{left_at}
-use Rattle.port_streams.proofs.Putting.{put_again}
-use Rattle.port_streams.proofs.streams.PortStreams.next.Goals as goal
-
-pub returns-clause-left : goal.returns-clause-left
-returns-clause-left g c = put_again _ _ _ _ _ _ _ c.take.ensures.left c.put.ensures (c.next-given.ensures.left ∙ ap left_at c.in_ok-port_stream.ensures.taken)

@@ -1,0 +1,8 @@
+use Rattle.std.proofs.Common.{◌≡◌, ◌∙◌, ap, arith}
+use Rattle.station_lines.specs.Watch.Peers.{owners_below}
+use Rattle.station_lines.proofs.watch.peers.owners_of.Goals as goal
+
+pub returns : goal.returns
+returns g c =
+    let all : c.loop-place.place ≡ 64 = omega arith in
+    c.loop-place.invariant ∙ ap (λ n. owners_below (g.D.Device.table c.args.device.now) n) all

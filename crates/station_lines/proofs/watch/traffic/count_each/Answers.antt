@@ -1,0 +1,7 @@
+use Rattle.std.proofs.Common.{arith}
+use Rattle.cip_types.specs.Indices.{map_more}
+use Rattle.station_lines.specs.Watch.Traffic.{counted_one}
+use Rattle.station_lines.proofs.watch.traffic.count_each.Goals as goal
+
+pub loop-connection-preserved : goal.loop-connection-preserved
+loop-connection-preserved c = map_more (counted_one c.args.datagram) c.args.connections.now c.loop-connection.connections c.loop-connection.connection-index _ _ (omega arith) (omega arith) c.loop-connection.invariant c.counted_one.ensures

@@ -1,7 +1,0 @@
-use Rattle.std.proofs.Common.{◌≡◌}
-use Rattle.station_watch.specs.Peers.{owners_below}
-use Rattle.station_watch.proofs.peers.owners_of.Given as goal
-
--- the owners by the connections at the places so far
-abbrev pub invariant-loop-place : goal.invariant-loop-place
-invariant-loop-place g l = l.owners.items ≡ owners_below (g.D.Device.table l.device) l.place

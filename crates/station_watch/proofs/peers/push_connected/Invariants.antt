@@ -1,7 +1,0 @@
-use Rattle.std.proofs.Common.{◌≡◌}
-use Rattle.station_watch.specs.Peers.{connected_below}
-use Rattle.station_watch.proofs.peers.push_connected.Given as goal
-
--- the peers of the connections at the places so far
-abbrev pub invariant-loop-place : goal.invariant-loop-place
-invariant-loop-place g l = l.peers.items ≡ connected_below (g.D.Device.table l.device) l.initial.peers.items l.place

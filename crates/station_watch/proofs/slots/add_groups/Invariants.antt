@@ -1,7 +1,0 @@
-use Rattle.std.proofs.Common.{◌≡◌, drop}
-use Rattle.station_watch.specs.Slots.{with_groups}
-use Rattle.station_watch.proofs.slots.add_groups.Given as goal
-
--- the slots that are left lead from the groups so far to all
-abbrev pub invariant-loop-slot : goal.invariant-loop-slot
-invariant-loop-slot l = with_groups (drop l.slot-index l.slots) l.groups.items ≡ with_groups l.slots l.initial.groups.items

@@ -1,7 +1,0 @@
-use Rattle.std.proofs.Common.{◌++◌, ◌∙◌, ap, string_bytes}
-use Rattle.std.proofs.lemmas.List.{append_assoc}
-use Rattle.status_words.specs.Reasons.{encap_number, encap_words, named_text}
-use Rattle.status_words.proofs.push_encap.Goals as goal
-
-pub returns : goal.returns
-returns c = c.in_ok-push_encap_name.ensures ∙ ap (λ text. text ++ named_text (encap_words c.args.status)) c.in_ok-push_encap_number.ensures ∙ append_assoc (string_bytes c.args.out.now) (encap_number c.args.status) (named_text (encap_words c.args.status))

@@ -1,7 +1,0 @@
-use Rattle.std.proofs.Common.{◌++◌, ◌∙◌, ap, string_bytes}
-use Rattle.std.proofs.lemmas.List.{append_assoc}
-use Rattle.status_words.specs.Reasons.{reason_text, slot_front}
-use Rattle.status_words.proofs.push_unopened.Goals as goal
-
-pub returns : goal.returns
-returns c = c.in_ok-push_reason.ensures ∙ ap (λ text. text ++ reason_text c.args.reason) c.in_ok-push_slot_front.ensures ∙ append_assoc (string_bytes c.args.out.now) (slot_front c.args.slot) (reason_text c.args.reason)

@@ -1,3 +1,0 @@
-mod MakingRoom
-mod Samples
-mod LinkSamples

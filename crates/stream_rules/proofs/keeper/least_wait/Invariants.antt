@@ -1,6 +1,0 @@
-use Rattle.std.proofs.Common.{◌≡◌, drop}
-use Rattle.stream_rules.specs.Keeping.{least_wait}
-use Rattle.stream_rules.proofs.keeper.least_wait.Given as goal
-
-abbrev pub invariant-loop-stream : goal.invariant-loop-stream
-invariant-loop-stream l = least_wait l.limit_ms l.now_ms l.wait_ms (drop l.stream-index l.streams) ≡ least_wait l.limit_ms l.now_ms l.most_ms l.streams
