@@ -44,7 +44,7 @@ clock_kept : Kept ClockStays
 clock_kept = record {
   same = λ t. refl;
   after = λ t u v first next. next ∙ first;
-  opening = λ t indexed stands closed_before. refl;
+  opening = λ t indexed stands closed_before in_turn. refl;
   idling = λ t indexed slot stands idle. refl;
   timing_out = λ t indexed link slot stands is becomes. refl;
   closing = λ t indexed link desired_up stands is. refl;

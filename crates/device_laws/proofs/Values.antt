@@ -99,7 +99,7 @@ runs_kept : Kept SameRun
 runs_kept = record {
   same = λ t. refl;
   after = λ t u v first next. next ∙ first;
-  opening = λ t place stands resting. refl;
+  opening = λ t place stands resting in_turn. refl;
   idling = λ t place slot stands idle. refl;
   timing_out = λ t place link slot stands is becomes. refl;
   closing = λ t place link desired_up stands is. refl;

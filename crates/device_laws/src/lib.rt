@@ -49,8 +49,8 @@ pub use scanner_openings::{
 };
 pub use scanner_table::{
     answers_are_waited_for_in_time, counters_never_fall, fresh_tables_are_whole,
-    later_counters_keep_tables_whole, numbers_are_below_the_next, slots_produce_as_themselves,
-    steps_keep_tables_whole,
+    later_counters_keep_tables_whole, numbers_are_below_the_next, openings_take_turns,
+    slots_produce_as_themselves, steps_keep_tables_whole,
 };
 pub use scanner_ticks::{
     cut_closes_are_kept, ticks_leave_none_late, timed_out_slots_wait_for_sessions,

@@ -10,6 +10,7 @@ ghost use Rattle.device_laws.specs.Scanners.{OverEveryScanner, EachSlot, HasLeng
 ghost use Rattle.scanner_table.specs.Slots.{indexed_slots};
 ghost use Rattle.scanner_table.specs.WellFormed.{IdsDiffer, RequestsDiffer, StreamsDiffer};
 ghost use Rattle.scanner_table.specs.Counters.{CountsOn};
+ghost use Rattle.scanner_table.specs.Turns.{OpeningsTakeTurns};
 ghost use Rattle.scanner_table.specs.Waiting.{SlotsWaitInTime};
 ghost use Rattle.scanner_table.specs.Drawn.{NumbersAreOwn};
 ghost use Rattle.device_laws.specs.ScannerOpenings.{OpeningsBegin};
@@ -123,6 +124,14 @@ pub fn slots_produce_as_themselves()
 /// A slot that is opening or closing waits at most `open_timeout` milliseconds from the present time on.
 pub fn answers_are_waited_for_in_time()
     ensures { OverEveryScanner SlotsWaitInTime }
+{
+    tables_are_whole();
+}
+
+/// At most as many openings of one target wait for their replies as the profile allows at one time. A slot has one of them at
+/// most, since it is in one state.
+pub fn openings_take_turns()
+    ensures { OverEveryScanner OpeningsTakeTurns }
 {
     tables_are_whole();
 }

@@ -56,7 +56,7 @@ counts_always = record {
     slots = record {
       same = λ t. record { profile = refl; slots = λ full. refl; ids = omega arith; requests = omega arith };
       after = counts_after;
-      opening = λ t indexed stands closed_before. drawn_counts t indexed.config indexed.number (opening_slot t indexed);
+      opening = λ t indexed stands closed_before place. drawn_counts t indexed.config indexed.number (opening_slot t indexed);
       idling = λ t indexed slot stands idle. set_counts t indexed.number slot;
       timing_out = λ t indexed link slot stands is becomes. set_counts t indexed.number slot;
       closing = λ t indexed link desired_up stands is. counted_counts t indexed.number (closing_slot t link desired_up indexed.slot);

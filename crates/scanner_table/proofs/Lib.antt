@@ -15,5 +15,6 @@ mod WholeTicks
 mod CounterSteps
 mod OwnSteps
 mod ProducerSteps
+mod OpeningTurns
 mod ExplicitSteps
 mod ExplicitReplySteps

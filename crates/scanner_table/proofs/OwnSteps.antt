@@ -312,7 +312,7 @@ owns_kept : Kept Owns
 owns_kept = record {
   same = λ t. owns_by t t (drawn_goes.widely.slots.same t) (stays_goes IdStays id_stays t t (drawn_goes.widely.slots.same t).later refl);
   after = owns_after;
-  opening = λ t indexed stands closed_before. record { goes = drawn_goes.widely.slots.opening t indexed stands closed_before; own = opening_owns t indexed stands };
+  opening = λ t indexed stands closed_before place. record { goes = drawn_goes.widely.slots.opening t indexed stands closed_before place; own = opening_owns t indexed stands };
   idling = λ t indexed slot stands idle. set_owns t t indexed slot (drawn_goes.widely.slots.idling t indexed slot stands idle) (set_later t indexed.number slot) refl stands (λ drawn id is. absurd (no_id indexed.config.multicast slot.state id idle.state is));
   timing_out = λ t indexed link slot stands is becomes.
       set_owns t t indexed slot (drawn_goes.widely.slots.timing_out t indexed link slot stands is becomes) (set_later t indexed.number slot) refl stands

@@ -19,6 +19,7 @@ pub mod Counters
 pub mod Drawn
 pub mod Producers
 pub mod Waiting
+pub mod Turns
 pub mod Pending
 pub mod ExplicitReplies
 pub mod Whole

@@ -51,9 +51,13 @@ abbrev pub leaves_room : Option ℕ → ℕ → Bool
 leaves_room None count = true
 leaves_room (Some most) count = nat_lt count most
 
--- fewer openings wait for replies of the target than the profile allows at one time
+-- how many openings wait for replies of the target
+abbrev pub openings_at : ScannerTable → Node → ℕ
+openings_at t target = length (filter (opens_at target) (indexed_slots t))
+
+-- fewer of them wait than the profile allows at one time
 abbrev pub has_place : ScannerTable → Node → Bool
-has_place t target = leaves_room t.profile.openings (length (filter (opens_at target) (indexed_slots t)))
+has_place t target = leaves_room t.profile.openings (openings_at t target)
 
 -- the session in which a slot of the target opens: none while the slot waits for its turn
 abbrev pub open_session : ScannerTable → Node → Option Session

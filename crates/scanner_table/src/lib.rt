@@ -29,7 +29,7 @@ pub use profile::{ScannerProfile, SlotConfig};
 pub use profile_check::MOST_WAITING_OPENINGS;
 pub use report::{SlotReport, TargetReport};
 pub use slot::{PendingClose, PendingOpen, Slot, SlotConnection, SlotState};
-pub use slots::{answers_are_waited_for_in_time, slots_produce_as_themselves};
+pub use slots::{answers_are_waited_for_in_time, openings_take_turns, slots_produce_as_themselves};
 pub use table::{ScannerTable, Session, Stage, TargetStream};
 pub use whole::{
     fresh_tables_are_whole, later_counters_keep_tables_whole, steps_keep_tables_whole,

@@ -10,17 +10,20 @@ ghost use Rattle.scanner_table.specs.Whole.{IsWholeScanner};
 
 use crate::counters::numbers_are_below_the_next;
 use crate::explicit::explicit_requests_are_pending;
-use crate::slots::{answers_are_waited_for_in_time, slots_produce_as_themselves};
+use crate::slots::{
+    answers_are_waited_for_in_time, openings_take_turns, slots_produce_as_themselves,
+};
 
 /// The table of a fresh scanner is whole, if its profile has no fault.
 pub fn fresh_tables_are_whole()
     ensures { (profile : ScannerProfile) → profile_fault profile ≡ None → IsWholeScanner (scanner_table profile) }
 {
-    // The five parts of a whole table.
+    // The six parts of a whole table.
     crate::fresh_tables_are_well_formed();
     numbers_are_below_the_next();
     slots_produce_as_themselves();
     answers_are_waited_for_in_time();
+    openings_take_turns();
     explicit_requests_are_pending();
 }
 
@@ -30,11 +33,12 @@ pub fn steps_keep_tables_whole()
     ensures { (t : ScannerTable) (event : Event) →
         IsWholeScanner t → IfOk (scanner_step t event) (λ next. IsWholeScanner next.1) }
 {
-    // The five parts of a whole table.
+    // The six parts of a whole table.
     crate::steps_keep_tables_well_formed();
     numbers_are_below_the_next();
     slots_produce_as_themselves();
     answers_are_waited_for_in_time();
+    openings_take_turns();
     explicit_requests_are_pending();
 }
 

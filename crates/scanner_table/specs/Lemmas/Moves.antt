@@ -51,7 +51,7 @@ use Rattle.scanner_table.specs.Slots.{IndexedSlot, indexed_slots, slot_at, is_nu
 use Rattle.scanner_table.specs.Sessions.{session_with, is_stream, is_taken, with_stream, without_stream, with_stage}
 use Rattle.scanner_table.specs.Requests.{is_large}
 use Rattle.scanner_table.specs.Effects.{Next, Effect, nothing, and_then, on_each, counted, changed, done}
-use Rattle.scanner_table.specs.Opening.{has_request, can_open, drawn, opening_slot, resigned, exhausted, open_requested, opened_within, closing_slot, close_requested, cleared_within, opened_from, asking_session, opened, is_ready_slot, ready_slots, ready_opened, target_opened}
+use Rattle.scanner_table.specs.Opening.{has_request, can_open, drawn, opening_slot, resigned, exhausted, open_requested, opened_within, closing_slot, close_requested, cleared_within, opened_from, has_place, open_session, asking_in, asking_session, opened, is_ready_slot, ready_slots, ready_opened, target_opened}
 use Rattle.scanner_table.specs.Replies.{open_answer, is_id_free, new_connection, established_slot, failed_slot, refused, disowned, disowned_within, rejected, judged_success, answered}
 use Rattle.scanner_table.specs.Closing.{requested_link, idle_slot, is_close_in_time, given_up_state, given_up, target_lost, closed, slot_resigned, closed_within, stopped, stopped_at}
 use Rattle.scanner_table.specs.Explicit.{is_request, is_over, is_late, others, awaits, has_explicit_length, is_barred, connects_to, explicit_sent, explicit_within, explicit_request, explicit_reply, explicit_ended, explicit_answered, without_explicit, explicit_timed_out, explicit_lost}
@@ -87,11 +87,11 @@ pub record BecomesTimedOut (link : Link) (old new : Slot) : Type 0 where
   pub output : new.output ≡ old.output
   pub image : new.image ≡ old.image
 
--- a relation from tables to later ones, which holds where one slot opens, becomes idle, times out or closes
+-- a relation from tables to later ones, which holds where one slot opens in its turn, becomes idle, times out or closes
 pub record Kept (R : ScannerTable → ScannerTable → Type 0) : Type 0 where
   pub same : (t : ScannerTable) → R t t
   pub after : (t u v : ScannerTable) → R t u → R u v → R t v
-  pub opening : (t : ScannerTable) (indexed : IndexedSlot) → Stands t indexed → is_closed indexed.slot.state ≡ true → R t (with_slot (counted (drawn t indexed.config)) indexed.number (opening_slot t indexed))
+  pub opening : (t : ScannerTable) (indexed : IndexedSlot) → Stands t indexed → is_closed indexed.slot.state ≡ true → has_place t indexed.config.target ≡ true → R t (with_slot (counted (drawn t indexed.config)) indexed.number (opening_slot t indexed))
   pub idling : (t : ScannerTable) (indexed : IndexedSlot) (slot : Slot) → Stands t indexed → BecomesIdle indexed.slot slot → R t (with_slot t indexed.number slot)
   pub timing_out : (t : ScannerTable) (indexed : IndexedSlot) (link : Link) (slot : Slot) → Stands t indexed → link_in indexed.slot.state ≡ Some link → BecomesTimedOut link indexed.slot slot → R t (with_slot t indexed.number slot)
   pub closing : (t : ScannerTable) (indexed : IndexedSlot) (link : Link) (desired_up : Bool) → Stands t indexed → link_in indexed.slot.state ≡ Some link → R t (with_slot (counted t) indexed.number (closing_slot t link desired_up indexed.slot))
@@ -180,13 +180,24 @@ does_clear R kept t indexed stands = does_idle R kept t indexed (idle_slot index
 
 -- ---- openings
 
-open_step : (b : Bool) (R : ScannerTable → ScannerTable → Type 0) → Kept R → (t : ScannerTable) (indexed : IndexedSlot) (session : Session) → Stands t indexed → is_closed indexed.slot.state ≡ true → Does R t indexed (cond b (open_requested t indexed session) (exhausted t indexed))
-open_step true R kept t indexed session stands closed_before = record { leads = kept.opening t indexed stands closed_before; local = set_local t (counted (drawn t indexed.config)) indexed.number (opening_slot t indexed) refl refl }
-open_step false R kept t indexed session stands closed_before = does_resigned R kept t indexed (notice.NoIds indexed.number ∷ []) stands
+-- a slot of the target asks in this session in its turn alone
+abbrev IsInTurn : ScannerTable → Node → Option Session → Type 0
+IsInTurn t target asking = (session : Session) → asking ≡ Some session → has_place t target ≡ true
 
-within_does : (R : ScannerTable → ScannerTable → Type 0) → Kept R → (t : ScannerTable) (indexed : IndexedSlot) (session : Option Session) → Stands t indexed → is_closed indexed.slot.state ≡ true → Does R t indexed (opened_within t indexed session)
-within_does R kept t indexed None stands closed_before = does_nothing R kept t indexed
-within_does R kept t indexed (Some session) stands closed_before = open_step (can_open t indexed.config) R kept t indexed session stands closed_before
+turn_step : (b : Bool) (t : ScannerTable) (target : Node) (session : Session) → cond b (session_with t target) None ≡ Some session → b ≡ true
+turn_step true t target session is = refl
+turn_step false t target session is = absurd cc
+
+open_in_turn : (t : ScannerTable) (target : Node) (asking : Option Session) → asking ≡ open_session t target → IsInTurn t target asking
+open_in_turn t target asking same = λ session is. turn_step (has_place t target) t target session (sym same ∙ is)
+
+open_step : (b : Bool) (R : ScannerTable → ScannerTable → Type 0) → Kept R → (t : ScannerTable) (indexed : IndexedSlot) (session : Session) → Stands t indexed → is_closed indexed.slot.state ≡ true → has_place t indexed.config.target ≡ true → Does R t indexed (cond b (open_requested t indexed session) (exhausted t indexed))
+open_step true R kept t indexed session stands closed_before place = record { leads = kept.opening t indexed stands closed_before place; local = set_local t (counted (drawn t indexed.config)) indexed.number (opening_slot t indexed) refl refl }
+open_step false R kept t indexed session stands closed_before place = does_resigned R kept t indexed (notice.NoIds indexed.number ∷ []) stands
+
+within_does : (R : ScannerTable → ScannerTable → Type 0) → Kept R → (t : ScannerTable) (indexed : IndexedSlot) (session : Option Session) → Stands t indexed → is_closed indexed.slot.state ≡ true → IsInTurn t indexed.config.target session → Does R t indexed (opened_within t indexed session)
+within_does R kept t indexed None stands closed_before turn = does_nothing R kept t indexed
+within_does R kept t indexed (Some session) stands closed_before turn = open_step (can_open t indexed.config) R kept t indexed session stands closed_before (turn session refl)
 
 -- the slot has no connection and waits for no reply
 abbrev pub IsClosedSlot : IndexedSlot → Type 0
@@ -207,17 +218,18 @@ cleared_does : (R : ScannerTable → ScannerTable → Type 0) → Kept R → (t 
 cleared_does R kept t indexed link None stands is = does_nothing R kept t indexed
 cleared_does R kept t indexed link (Some session) stands is = close_step (has_request t) R kept t indexed link indexed.slot.desired_up session stands is
 
-tidy_step : (b : Bool) (R : ScannerTable → ScannerTable → Type 0) → Kept R → (t : ScannerTable) (indexed : IndexedSlot) (link : Link) (session : Option Session) → Stands t indexed → IsClosedSlot indexed → link_in indexed.slot.state ≡ Some link → Does R t indexed (cond b (cleared_within t indexed link session) (opened_within t indexed session))
-tidy_step true R kept t indexed link session stands closed_before is = cleared_does R kept t indexed link session stands is
-tidy_step false R kept t indexed link session stands closed_before is = within_does R kept t indexed session stands closed_before
+-- a connection that timed out: at a tidy scanner it is closed in any session, and otherwise the slot opens in its turn
+tidy_step : (b : Bool) (R : ScannerTable → ScannerTable → Type 0) → Kept R → (t : ScannerTable) (indexed : IndexedSlot) (link : Link) (session : Option Session) → session ≡ cond b (session_with t indexed.config.target) (open_session t indexed.config.target) → Stands t indexed → IsClosedSlot indexed → link_in indexed.slot.state ≡ Some link → Does R t indexed (cond b (cleared_within t indexed link session) (opened_within t indexed session))
+tidy_step true R kept t indexed link session asks stands closed_before is = cleared_does R kept t indexed link session stands is
+tidy_step false R kept t indexed link session asks stands closed_before is = within_does R kept t indexed session stands closed_before (open_in_turn t indexed.config.target session asks)
 
-from_does : (R : ScannerTable → ScannerTable → Type 0) → Kept R → (t : ScannerTable) (indexed : IndexedSlot) (session : Option Session) (state : SlotState) → indexed.slot.state ≡ state → Stands t indexed → IsClosedSlot indexed → Does R t indexed (opened_from t indexed session state)
-from_does R kept t indexed session (TimedOut link) is stands closed_before = tidy_step t.profile.tidy R kept t indexed link session stands closed_before (ap link_in is)
-from_does R kept t indexed session other is stands closed_before = within_does R kept t indexed session stands closed_before
+from_does : (R : ScannerTable → ScannerTable → Type 0) → Kept R → (t : ScannerTable) (indexed : IndexedSlot) (session : Option Session) (state : SlotState) → session ≡ asking_in t indexed.config.target state → indexed.slot.state ≡ state → Stands t indexed → IsClosedSlot indexed → Does R t indexed (opened_from t indexed session state)
+from_does R kept t indexed session (TimedOut link) asks is stands closed_before = tidy_step t.profile.tidy R kept t indexed link session asks stands closed_before (ap link_in is)
+from_does R kept t indexed session other asks is stands closed_before = within_does R kept t indexed session stands closed_before (open_in_turn t indexed.config.target session asks)
 
 pub opened_does : (R : ScannerTable → ScannerTable → Type 0) → Kept R → (t : ScannerTable) (indexed : IndexedSlot) → Stands t indexed → IsClosedSlot indexed → Does R t indexed (opened t indexed)
 unfolding opened
-opened_does R kept t indexed stands closed_before = from_does R kept t indexed (asking_session t indexed) indexed.slot.state refl stands closed_before
+opened_does R kept t indexed stands closed_before = from_does R kept t indexed (asking_session t indexed) indexed.slot.state refl refl stands closed_before
 
 -- ---- effects on slots, one after another
 

@@ -207,7 +207,7 @@ pub goes_kept : (S : Relation) → Slotwise S → Kept (Goes S)
 goes_kept S by = record {
   same = λ t. stays_goes S by.stays t t (same_later t) refl;
   after = goes_after S by;
-  opening = λ t indexed stands closed_before. set_goes S by.stays t (counted (drawn t indexed.config)) indexed (opening_slot t indexed) (drawn_later t indexed.config indexed.number (opening_slot t indexed)) refl stands (by.opening t indexed closed_before);
+  opening = λ t indexed stands closed_before place. set_goes S by.stays t (counted (drawn t indexed.config)) indexed (opening_slot t indexed) (drawn_later t indexed.config indexed.number (opening_slot t indexed)) refl stands (by.opening t indexed closed_before);
   idling = λ t indexed slot stands idle. set_goes S by.stays t t indexed slot (set_later t indexed.number slot) refl stands (by.idling t indexed slot idle);
   timing_out = λ t indexed link slot stands is becomes. set_goes S by.stays t t indexed slot (set_later t indexed.number slot) refl stands (by.timing_out t indexed link slot is becomes);
   closing = λ t indexed link desired_up stands is.

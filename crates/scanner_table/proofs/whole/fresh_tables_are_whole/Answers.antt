@@ -7,5 +7,6 @@ returns c = λ profile faultless. record {
   numbers = c.numbers_are_below_the_next.ensures.fresh profile [];
   producers = c.slots_produce_as_themselves.ensures.fresh profile [];
   waits = c.answers_are_waited_for_in_time.ensures.fresh profile [];
+  turns = c.openings_take_turns.ensures.fresh profile [];
   explicit = c.explicit_requests_are_pending.ensures.fresh profile [];
 }
