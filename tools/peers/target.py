@@ -46,6 +46,7 @@ class Connection:
         self.rpi, self.time_out, self.size = t_o_rpi / 1e6, (4 << multiplier) * o_t_rpi / 1e6, size
         self.deadline, self.due, self.sequence = now + max(10.0, self.time_out), now, 0
         self.received, self.came_to = 0, collections.Counter()
+        self.came = collections.deque(maxlen=1000)  # when each datagram came, and its data: of an output the run/idle header goes before it
         self.granted_ms, self.o_t_us = 0, 0  # the time-out of its request, and the O->T interval that it asked for
 
     def serial(self):
@@ -281,6 +282,7 @@ class Target:
         connection = found[0]
         connection.received += 1
         connection.came_to[at.getsockname()] += 1
+        connection.came.append((time.monotonic(), packet[20:]))
         connection.deadline = time.monotonic() + connection.time_out
 
     def produce(self):
@@ -345,9 +347,9 @@ class Target:
 
 
 def points_of(path):
-    """The consumed and the produced point of a connection path: class 4, maybe a configuration, then both."""
+    """The consumed and the produced point of a connection path: maybe an inhibit time, class 4, maybe a configuration, then both."""
     points = []
-    while path and path[0] not in (0x80, 0x43):
+    while path and path[0] != 0x80:
         if path[0] == 0x34:
             path = path[10:]
         elif path[0] in (0x24, 0x2C):

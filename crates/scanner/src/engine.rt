@@ -96,7 +96,7 @@ impl<H: Hints> Device for Scanner<H> {
     fn write_point(&mut self, point: u32, bytes: &[u8]) -> Outcome {
         // The next table is whole, as the invariant of this type says.
         steps_keep_tables_whole();
-        self.slots.write(point, bytes)
+        self.slots.write(&mut self.hints, point, bytes)
     }
 
     #[tactic(auto, unfolding(cip_tables::specs::Step::step, scanner_table::specs::Points::read))]

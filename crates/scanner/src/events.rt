@@ -7,7 +7,6 @@ ghost use Rattle.scanner_table.specs.Points.{read, write, mode};
 ghost use Rattle.scanner_table.specs.Slots.{slot_at};
 ghost use Rattle.scanner_table.specs.Step.{scanner_step};
 ghost use Rattle.scanner_table.specs.WellFormed.{IsWellFormed};
-ghost use Rattle.scanner_slots.specs.declared.bounds.Bounds.{Bounds};
 ghost use Rattle.scanner_slots.specs.Bounding.{IsHinted};
 ghost use Rattle.scanner.specs.Tables.{table_in};
 
@@ -15,7 +14,9 @@ use crate::slots::ScannerSlots;
 use cip_events::{Answer, Event, Outcome, StepFault, Verdict};
 use cip_types::Items;
 use scanner_data::{receive, set_mode, write};
-use scanner_slots::{Hints, modes_keep_bounds, slot_at, writes_keep_bounds};
+use scanner_slots::{
+    Hints, bounds_are_kept_by_earlier_ones, narrowed_at, slot_at, writes_narrow_bounds,
+};
 
 impl ScannerSlots {
     /// Returns the image of the slot of a number. Takes no memory. `NoSuchSlot` is the only error.
@@ -39,31 +40,36 @@ impl ScannerSlots {
         Ok(Answer::plain(self.alloc, Verdict::Value(value)))
     }
 
-    /// Writes the output of a slot. Takes no memory.
-    pub fn write(&mut self, number: u32, bytes: &[u8]) -> Outcome
-        requires { IsWellFormed (table_in self.old) }
+    /// Writes the output of a slot, whose producer may then be due sooner. Takes no memory.
+    pub fn write<H: Hints>(&mut self, hints: &mut H, number: u32, bytes: &[u8]) -> Outcome
+        requires whole { IsWellFormed (table_in self.old) }
+        requires hints { IsHinted (H.bounds hints.old) (table_in self.old) }
         ensures step { Follows (write (table_in self.old) number bytes.now) (table_in self.old) result
             (table_in self.new) }
         ensures no_memory { result ≢ Err StepFault.OutOfMemory }
-        ensures hints { (bounds : Bounds) → IsHinted bounds (table_in self.old) → IsHinted bounds (table_in self.new) }
+        ensures hints { IsHinted (H.bounds hints.new) (table_in self.new) }
     {
-        // A write changes no time of a slot.
-        writes_keep_bounds();
+        // A write changes one slot, and earlier bounds hold where these do.
+        writes_narrow_bounds();
+        bounds_are_kept_by_earlier_ones();
         match write(&self.profile, &mut self.state, number, bytes) {
-            Ok(()) => Ok(Answer::plain(self.alloc, Verdict::Done)),
+            Ok(()) => {
+                let bounds = hints.bounds();
+                hints.set_bounds(narrowed_at(bounds, &self.profile, &self.state, number));
+                Ok(Answer::plain(self.alloc, Verdict::Done))
+            }
             Err(why) => Err(why),
         }
     }
 
-    /// Sets the mode. Takes no memory.
-    fn set_mode(&mut self, run: bool) -> Outcome
+    /// Sets the mode, by which the producers of exclusive owners may be due sooner. Takes no memory.
+    fn set_mode<H: Hints>(&mut self, hints: &mut H, run: bool) -> Outcome
         requires { IsWellFormed (table_in self.old) }
         ensures step { Follows (Ok (mode (table_in self.old) run)) (table_in self.old) result (table_in self.new) }
-        ensures hints { (bounds : Bounds) → IsHinted bounds (table_in self.old) → IsHinted bounds (table_in self.new) }
+        ensures hints { IsHinted (H.bounds hints.new) (table_in self.new) }
     {
-        // A change of mode changes no time of a slot.
-        modes_keep_bounds();
         set_mode(&self.profile, &mut self.state, run);
+        self.renew(hints);
         Ok(Answer::plain(self.alloc, Verdict::Done))
     }
 
@@ -98,10 +104,10 @@ impl ScannerSlots {
                 );
                 Ok(Answer::plain(self.alloc, Verdict::Delivered(delivery)))
             }
-            Event::Write { point, bytes } => self.write(*point, bytes.as_slice()),
+            Event::Write { point, bytes } => self.write(hints, *point, bytes.as_slice()),
             Event::Read { point } => self.read(*point),
             Event::Tick { ms } => self.tick(hints, *ms),
-            Event::Mode { run } => self.set_mode(*run),
+            Event::Mode { run } => self.set_mode(hints, *run),
             Event::Start { slot } => self.start(hints, *slot),
             Event::Stop { slot } => self.stop(hints, *slot),
             Event::Explicit {

@@ -5,23 +5,50 @@ ghost use Rattle.cip_events.specs.Answers.{plain_answer};
 ghost use Rattle.cip_events.specs.declared.event.Verdict.TheVariants.{Done};
 ghost use Rattle.cip_productions.specs.Kinds.{is_owner};
 ghost use Rattle.scanner_table.specs.Slots.{indexed_from};
-ghost use Rattle.scanner_table.specs.Productions.{written_state};
+ghost use Rattle.scanner_table.specs.Productions.{due_on_change, written_production, written_state};
 ghost use Rattle.scanner_table.specs.Points.{output_slot, moded_slot, write, mode};
 ghost use Rattle.scanner_table.specs.WellFormed.{IsWellFormed};
 ghost use Rattle.scanner_slots.specs.Views.{table_of};
 ghost use Rattle.scanner_data.specs.Results.{done_or};
 
 use cip_events::StepFault;
-use cip_productions::Kind;
+use cip_netparams::Trigger;
+use cip_productions::{Kind, Production};
+use cip_types::Ms;
 use scanner_slots::{ScannerState, slot_at};
 use scanner_table::{ScannerProfile, Slot, SlotConfig, SlotState};
+
+/// When a producer that has new data is due: a change-of-state one as soon as its production inhibit time is over.
+fn due_on_change(production: &Production) -> Ms
+    ensures { result ≡ due_on_change production.now.trigger production.now.last production.now.inhibit
+        production.now.due }
+{
+    match (production.trigger, production.last) {
+        (Trigger::ChangeOfState, Some(last)) => {
+            let free = last.0.saturating_add(u64::from(production.inhibit));
+            Ms(free.min(production.due.0))
+        }
+        (Trigger::Cyclic, _) | (Trigger::ChangeOfState, None) => production.due,
+    }
+}
+
+/// A producer that has new data.
+fn written_production(production: Production) -> Production
+    ensures { result ≡ written_production production }
+{
+    Production {
+        written: true,
+        due: due_on_change(&production),
+        ..production
+    }
+}
 
 /// Gives the producer of an established connection new data.
 fn renew_producer(state: &mut SlotState)
     ensures { state.new ≡ written_state state.old }
 {
     if let SlotState::Established(connection) = state {
-        connection.production.written = true;
+        connection.production = written_production(connection.production);
     }
 }
 
@@ -43,12 +70,13 @@ fn set_output(slot: &mut Slot, bytes: &[u8])
     renew_producer(&mut slot.state);
 }
 
-/// Writes the output of an exclusive owner. The bytes are new data. Takes no memory.
+/// Writes the output of an exclusive owner. The bytes are new data, which a change-of-state producer sends as soon as its
+/// production inhibit time is over. Takes no memory.
 ///
 /// The errors, in order: `NoSuchSlot` if no slot has the number; `NotAllowedNow` if the slot is no exclusive owner and so
 /// has no output; `WrongLength` if the output has another length. An error leaves the table unchanged.
 ///
-/// Volume 1, chapter 3, class 1 transport.
+/// Volume 1, chapter 3, class 1 transport, production triggers and production inhibit time.
 #[tactic(auto, unfolding(scanner_table::specs::Points::write))]
 pub fn write(
     profile: &ScannerProfile,
@@ -100,8 +128,8 @@ fn renew_all(configs: &[SlotConfig], slots: &mut Vec<Slot>)
     renew(configs, slots);
 }
 
-/// Sets the application to run or to idle. A change of mode is new data for each exclusive owner, since the data carry the
-/// mode. Takes no memory.
+/// Sets the application to run or to idle. A change of mode is new data for each exclusive owner, as a write is, since the data
+/// carry the mode. Takes no memory.
 ///
 /// Volume 1, chapter 3, real time formats and run/idle.
 #[tactic(auto, unfolding(scanner_table::specs::Points::mode))]

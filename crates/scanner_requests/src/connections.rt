@@ -4,6 +4,7 @@ ghost use Rattle.std.specs.Prelude.{◌≡◌, ◌≤◌, ◌^◌};
 ghost use Rattle.cip_types.specs.Cases.{first_case};
 ghost use Rattle.cip_netparams.specs.Rate.{interval_ms};
 ghost use Rattle.conn_state.specs.Answers.{answer_tests};
+ghost use Rattle.scanner_table.specs.Productions.{producer_trigger, producer_inhibit};
 ghost use Rattle.scanner_requests.specs.Connections.{link_or_why, connection_of};
 
 use cip_fwdopen::service::{FORWARD_OPEN, REPLY};
@@ -38,9 +39,25 @@ fn interval_ms(interval: u32) -> u32
     interval.div_ceil(1000)
 }
 
-/// Returns the connection that a successful reply opens, with the actual packet intervals of the reply.
+/// Returns the trigger of a slot's producer: a tidy scanner's slot has its own, and any other is cyclic.
+fn producer_trigger(tidy: bool, trigger: Trigger) -> Trigger
+    ensures { result ≡ producer_trigger tidy trigger }
+{
+    if tidy { trigger } else { Trigger::Cyclic }
+}
+
+/// Returns the production inhibit time of a slot's producer in milliseconds, which a cyclic one does not have.
+fn producer_inhibit(tidy: bool, inhibit: u8) -> u8
+    ensures { result ≡ producer_inhibit tidy inhibit }
+{
+    if tidy { inhibit } else { 0 }
+}
+
+/// Returns the connection that a successful reply opens, with the actual packet intervals of the reply. A tidy scanner's slot
+/// produces by its own trigger, and any other at its interval alone.
 #[tactic(auto, using(cip_netparams::specs::Timeouts::timeout_fits))]
 pub fn new_connection(
+    tidy: bool,
     clock: Ms,
     config: &SlotConfig,
     number: u32,
@@ -51,7 +68,7 @@ pub fn new_connection(
     requires time { clock.0 ≤ 2 ^ 48 }
     requires mult { config.now.mult ≤ 7 }
     requires interval { interval_ms opened.now.t_o_api_us ≤ 10000 }
-    ensures { result ≡ connection_of clock config.now number opening link opened.now }
+    ensures { result ≡ connection_of tidy clock config.now number opening link opened.now }
 {
     let t_o_api_ms = interval_ms(opened.t_o_api_us);
     // The multiplier is at most 7 and the interval at most 10 seconds, so there is a time-out.
@@ -64,6 +81,12 @@ pub fn new_connection(
         watchdog,
         last: None,
         deadline: first_deadline(clock, watchdog),
-        production: first_production(clock, number, config.target, Trigger::Cyclic, 0),
+        production: first_production(
+            clock,
+            number,
+            config.target,
+            producer_trigger(tidy, config.trigger),
+            producer_inhibit(tidy, config.inhibit),
+        ),
     }
 }

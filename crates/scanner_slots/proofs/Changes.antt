@@ -1,5 +1,5 @@
 -- Bounds of slots that change, and slots that a datagram is for.
-use Rattle.std.proofs.Common.{◌≡◌, ℕ, zero, suc, ◌==◌, ◌&&◌, ◌||◌, Bool, true, false, cond, List, [], ◌∷◌, map, find, slice_get, slice_set, length, Option, Some, None, Result, Ok, Err, refl, sym, ap, subst, ◌∙◌, arith}
+use Rattle.std.proofs.Common.{◌≡◌, ◌≢◌, ℕ, zero, suc, ◌==◌, ◌&&◌, ◌||◌, Bool, true, false, cond, List, [], ◌∷◌, find, slice_get, slice_set, length, Option, Some, None, Result, Ok, Err, refl, sym, ap, subst, ◌∙◌, arith, eqb-true}
 use Rattle.std.specs.List.{list_any}
 use Rattle.std.proofs.lemmas.Bool.Decides.{nat_tests}
 use Rattle.cip_types.specs.declared.names.Ms.{Ms}
@@ -15,17 +15,18 @@ use Rattle.scanner_table.specs.declared.slot.SlotState.{SlotState}
 use Rattle.scanner_table.specs.declared.slot.SlotState.TheVariants.{Idle, Opening, Established, TimedOut, Closing}
 use Rattle.scanner_table.specs.declared.table.ScannerTable.{ScannerTable}
 use Rattle.scanner_table.specs.declared.table.TargetStream.{TargetStream}
-use Rattle.scanner_table.specs.Slots.{IndexedSlot, indexed_from, is_with, is_closed, slot_at, is_timed_out, needs_request}
+use Rattle.scanner_table.specs.Slots.{IndexedSlot, indexed_from, is_with, slot_at, with_slot, needs_request}
 use Rattle.scanner_table.specs.Effects.{Next}
 use Rattle.scanner_table.specs.Datagrams.{is_for, accepted_connection, accepted_table}
-use Rattle.scanner_table.specs.Points.{output_slot, output_written, write, write_at, write_length, mode, moded_slot, moded_table, same_mode}
-use Rattle.scanner_table.specs.Productions.{written_state}
+use Rattle.scanner_table.specs.Lemmas.SlotLookups.{Stands, get_other, slot_is, slot_stands}
+use Rattle.scanner_table.specs.Points.{output_slot, output_written, write, write_at, write_length}
 use Rattle.scanner_table.specs.Replies.{state_consumes}
 use Rattle.scanner_table.specs.WellFormed.{states_clash, clashes, IdsDiffer}
 use Rattle.cip_tables.specs.Wakes.{has_session}
 use Rattle.scanner_slots.specs.declared.bounds.Bounds.{Bounds}
-use Rattle.scanner_slots.specs.Bounding.{EndsFrom, IsDueFrom, has_target, IsBounded, AreBounded, IsHinted, IsNoLater, with_deadline}
+use Rattle.scanner_slots.specs.Bounding.{IsDueFrom, has_target, IsBounded, IsBoundedAt, AreBounded, IsHinted, IsNoLater, with_deadline}
 use Rattle.scanner_slots.proofs.Bounded.{earlier_one, earlier_all}
+use Rattle.scanner_slots.proofs.Singly.{each_bounded, all_bounded}
 
 some_is : {A : Type 0} (a b : A) → Some a ≡ Some b → a ≡ b
 some_is a b is = cc
@@ -64,49 +65,26 @@ accepted_hints bounds t indexed d c bytes at is hinted = record {
 
 -- ---- writes
 
-written_ends : (bound : ℕ) (state : SlotState) → EndsFrom bound state → EndsFrom bound (written_state state)
-written_ends bound Idle ends = tt
-written_ends bound (Opening o) ends = ends
-written_ends bound (Established c) ends = ends
-written_ends bound (TimedOut link) ends = tt
-written_ends bound (Closing c) ends = ends
+different : (a b : ℕ) → (a == b) ≡ false → a ≢ b
+different a b is = λ same. absurd (let e : (a == b) ≡ true = grind (arith, nat_tests, same) in let f : true ≡ false = sym e ∙ is in cc)
 
-written_due : (bound : ℕ) (state : SlotState) → IsDueFrom bound state → IsDueFrom bound (written_state state)
-written_due bound Idle due = tt
-written_due bound (Opening o) due = tt
-written_due bound (Established c) due = due
-written_due bound (TimedOut link) due = tt
-written_due bound (Closing c) due = tt
+-- a slot of another number is as it was
+other_stands : (t : ScannerTable) (number : ℕ) (slot : Slot) (indexed : IndexedSlot) → indexed.number ≢ number → Stands (with_slot t number slot) indexed → Stands t indexed
+other_stands t number slot indexed other stands = record { config = stands.config; slot = sym (get_other number indexed.number t.slots slot other) ∙ stands.slot }
 
-written_closed : (state : SlotState) → is_closed (written_state state) ≡ is_closed state
-written_closed Idle = refl
-written_closed (Opening o) = refl
-written_closed (Established c) = refl
-written_closed (TimedOut link) = refl
-written_closed (Closing c) = refl
+narrowed_step : (b : Bool) (bounds next : Bounds) (t : ScannerTable) (number at : ℕ) (slot : Slot) (indexed : IndexedSlot) → (at == number) ≡ b → IsNoLater next bounds → IsHinted bounds t → IsBoundedAt next (with_slot t number slot) number → slot_at (with_slot t number slot) at ≡ Some indexed → IsBounded next (has_target t.streams indexed) indexed
+narrowed_step true bounds next t number at slot indexed is le hinted here found =
+    subst (IsBoundedAt next (with_slot t number slot)) (sym (eqb-true at number is)) here indexed found
+narrowed_step false bounds next t number at slot indexed is le hinted here found =
+    let known = slot_is (with_slot t number slot) at indexed found in
+    let other : indexed.number ≢ number = subst (λ (n : ℕ). n ≢ number) (sym known.number_is) (different at number is) in
+    earlier_one next bounds (has_target t.streams indexed) indexed le
+    (each_bounded bounds t indexed.number hinted indexed (slot_stands t indexed (other_stands t number slot indexed other known.stands)))
 
-written_timed_out : (state : SlotState) → is_timed_out (written_state state) ≡ is_timed_out state
-written_timed_out Idle = refl
-written_timed_out (Opening o) = refl
-written_timed_out (Established c) = refl
-written_timed_out (TimedOut link) = refl
-written_timed_out (Closing c) = refl
-
--- new data and another output change no time
-written_bounded : (bounds : Bounds) (streams : List TargetStream) (number : ℕ) (config : SlotConfig) (slot : Slot) (output : List ℕ) → IsBounded bounds (has_target streams (record { number = number; config = config; slot = slot })) (record { number = number; config = config; slot = slot }) → IsBounded bounds (has_target streams (record { number = number; config = config; slot = record slot { output = output; state = written_state slot.state } })) (record { number = number; config = config; slot = record slot { output = output; state = written_state slot.state } })
-written_bounded bounds streams number config slot output one = record {
-  deadlines = written_ends bounds.deadlines.0 slot.state one.deadlines;
-  retries = λ can. one.retries (ap (λ (closed : Bool). needs_request slot && (closed && has_session streams config.target)) (sym (written_closed slot.state)) ∙ ap (λ (timed_out : Bool). (slot.desired_up || timed_out) && (is_closed (written_state slot.state) && has_session streams config.target)) (sym (written_timed_out slot.state)) ∙ can);
-  dues = written_due bounds.dues.0 slot.state one.dues;
-}
-
-same_bounds : (bounds : Bounds) → IsNoLater bounds bounds
-same_bounds bounds = record { deadlines = omega arith; retries = omega arith; dues = omega arith }
-
-output_hints : (bounds : Bounds) (t : ScannerTable) (indexed : IndexedSlot) (bytes : List ℕ) → slice_get t.slots indexed.number ≡ Some indexed.slot → IsHinted bounds t → IsHinted bounds (output_written t indexed bytes).1
-output_hints bounds t indexed bytes at hinted = record {
-  slots = set_bounded bounds bounds t.streams indexed.slot (output_slot bytes indexed.slot) indexed.number 0 t.profile.slots t.slots (same_bounds bounds) at (λ number config one. written_bounded bounds t.streams number config indexed.slot bytes one) hinted.slots;
-}
+-- bounds that are no later, and hold of the one slot that changes, hold of the table
+set_narrowed : (bounds next : Bounds) (t : ScannerTable) (number : ℕ) (slot : Slot) → IsNoLater next bounds → IsHinted bounds t → IsBoundedAt next (with_slot t number slot) number → IsHinted next (with_slot t number slot)
+set_narrowed bounds next t number slot le hinted here =
+    all_bounded next (with_slot t number slot) (λ at indexed found. narrowed_step (at == number) bounds next t number at slot indexed refl le hinted here found)
 
 ok_is : (b : Bool) (next : Next) (why : StepFault) (answer : Answer) (new : ScannerTable) → ◌≡◌ {A = Result Next StepFault} (cond b (Ok next) (Err why)) (Ok (answer, new)) → next ≡ (answer, new)
 ok_is true next why answer new is = cc
@@ -116,35 +94,16 @@ owner_is : (b : Bool) (said : Result Next StepFault) (why : StepFault) (answer :
 owner_is true said why answer new is = is
 owner_is false said why answer new is = absurd cc
 
-found_hints : (bounds : Bounds) (t : ScannerTable) (bytes : List ℕ) (answer : Answer) (new : ScannerTable) (found : Option IndexedSlot) → ((indexed : IndexedSlot) → found ≡ Some indexed → slice_get t.slots indexed.number ≡ Some indexed.slot) → write_at t bytes found ≡ Ok (answer, new) → IsHinted bounds t → IsHinted bounds new
-found_hints bounds t bytes answer new None at is hinted = absurd cc
-found_hints bounds t bytes answer new (Some indexed) at is hinted =
+found_narrowed : (bounds next : Bounds) (t : ScannerTable) (number : ℕ) (bytes : List ℕ) (answer : Answer) (new : ScannerTable) (found : Option IndexedSlot) → slot_at t number ≡ found → write_at t bytes found ≡ Ok (answer, new) → IsNoLater next bounds → IsHinted bounds t → IsBoundedAt next new number → IsHinted next new
+found_narrowed bounds next t number bytes answer new None at is le hinted here = absurd cc
+found_narrowed bounds next t number bytes answer new (Some indexed) at is le hinted here =
     let same = ok_is (length bytes == indexed.config.out_len) (output_written t indexed bytes) _ answer new (owner_is (is_owner indexed.config.kind) (write_length t indexed bytes) _ answer new is) in
-    subst (IsHinted bounds) (ap (λ (next : Next). next.1) same) (output_hints bounds t indexed bytes (at indexed refl) hinted)
+    let changed : with_slot t number (output_slot bytes indexed.slot) ≡ new = ap (λ (n : ℕ). with_slot t n (output_slot bytes indexed.slot)) (sym (slot_is t number indexed at).number_is) ∙ ap (λ (pair : Next). pair.1) same in
+    subst (IsHinted next) changed (set_narrowed bounds next t number (output_slot bytes indexed.slot) le hinted (subst (λ (u : ScannerTable). IsBoundedAt next u number) (sym changed) here))
 
-pub write_hints : (bounds : Bounds) (t : ScannerTable) (number : ℕ) (bytes : List ℕ) (answer : Answer) (new : ScannerTable) → ((indexed : IndexedSlot) → slot_at t number ≡ Some indexed → slice_get t.slots indexed.number ≡ Some indexed.slot) → write t number bytes ≡ Ok (answer, new) → IsHinted bounds t → IsHinted bounds new
+pub write_narrowed : (bounds next : Bounds) (t : ScannerTable) (number : ℕ) (bytes : List ℕ) (answer : Answer) (new : ScannerTable) → write t number bytes ≡ Ok (answer, new) → IsNoLater next bounds → IsHinted bounds t → IsBoundedAt next new number → IsHinted next new
 unfolding write
-write_hints bounds t number bytes answer new at is hinted = found_hints bounds t bytes answer new (slot_at t number) at is hinted
-
--- ---- modes
-
-moded_one : (b : Bool) (bounds : Bounds) (streams : List TargetStream) (number : ℕ) (config : SlotConfig) (slot : Slot) → IsBounded bounds (has_target streams (record { number = number; config = config; slot = slot })) (record { number = number; config = config; slot = slot }) → IsBounded bounds (has_target streams (record { number = number; config = config; slot = cond b (record slot { state = written_state slot.state }) slot })) (record { number = number; config = config; slot = cond b (record slot { state = written_state slot.state }) slot })
-moded_one true bounds streams number config slot one = written_bounded bounds streams number config slot slot.output one
-moded_one false bounds streams number config slot one = one
-
-moded_all : (bounds : Bounds) (streams : List TargetStream) (number : ℕ) (configs : List SlotConfig) (slots : List Slot) → AreBounded bounds (has_target streams) (indexed_from number configs slots) → AreBounded bounds (has_target streams) (indexed_from number configs (map moded_slot (indexed_from number configs slots)))
-moded_all bounds streams number [] slots hold = tt
-moded_all bounds streams number (config ∷ configs) [] hold = tt
-moded_all bounds streams number (config ∷ configs) (slot ∷ slots) hold =
-    (moded_one (is_owner config.kind) bounds streams number config slot hold.0, moded_all bounds streams (suc number) configs slots hold.1)
-
-mode_step : (b : Bool) (bounds : Bounds) (t : ScannerTable) (run : Bool) → IsHinted bounds t → IsHinted bounds (cond b t (moded_table t run))
-mode_step true bounds t run hinted = hinted
-mode_step false bounds t run hinted = record { slots = moded_all bounds t.streams 0 t.profile.slots t.slots hinted.slots }
-
-pub mode_hints : (bounds : Bounds) (t : ScannerTable) (run : Bool) → IsHinted bounds t → IsHinted bounds (mode t run).1
-unfolding mode
-mode_hints bounds t run hinted = mode_step (same_mode run t.run) bounds t run hinted
+write_narrowed bounds next t number bytes answer new is le hinted here = found_narrowed bounds next t number bytes answer new (slot_at t number) refl is le hinted here
 
 -- ---- the slot that a datagram is for
 

@@ -10,7 +10,7 @@ ghost use Rattle.scanner_table.specs.declared.slot.SlotState.TheVariants.{Establ
 ghost use Rattle.scanner_table.specs.declared.table.ScannerTable.{ScannerTable};
 ghost use Rattle.scanner_table.specs.Datagrams.{is_for, accepted_table, accepted_connection};
 ghost use Rattle.scanner_table.specs.Effects.{nothing};
-ghost use Rattle.scanner_table.specs.Points.{write, mode};
+ghost use Rattle.scanner_table.specs.Points.{write};
 ghost use Rattle.scanner_table.specs.Productions.{due_productions, produced_table};
 ghost use Rattle.scanner_table.specs.Slots.{IndexedSlot, indexed_slots, is_numbered};
 ghost use Rattle.scanner_table.specs.Ticks.{advanced};
@@ -73,16 +73,9 @@ pub fn accepted_datagrams_keep_bounds()
     found_slots_match();
 }
 
-/// A write changes no time of a slot.
-pub fn writes_keep_bounds()
-    ensures { (bounds : Bounds) (t : ScannerTable) (number : ℕ) (bytes : List ℕ) (answer : Answer)
-        (new : ScannerTable) → write t number bytes ≡ Ok (answer, new) → IsHinted bounds t → IsHinted bounds new }
-{
-    // A slot that is found is the one of its number.
-    found_slots_match();
-}
-
-/// A change of mode changes no time of a slot.
-pub fn modes_keep_bounds()
-    ensures { (bounds : Bounds) (t : ScannerTable) (run : Bool) → IsHinted bounds t → IsHinted bounds (mode t run).1 }
+/// A write changes the slot of its number alone: after it earlier bounds hold, if they hold of that slot.
+pub fn writes_narrow_bounds()
+    ensures { (bounds narrower : Bounds) (t : ScannerTable) (number : ℕ) (bytes : List ℕ) (answer : Answer)
+        (new : ScannerTable) → write t number bytes ≡ Ok (answer, new) → IsNoLater narrower bounds → IsHinted bounds t
+        → IsBoundedAt narrower new number → IsHinted narrower new }
 {}

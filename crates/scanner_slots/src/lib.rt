@@ -18,8 +18,8 @@ mod states;
 
 pub use bound_laws::{
     accepted_datagrams_keep_bounds, bounds_are_kept_by_earlier_ones, bounds_hold_slot_by_slot,
-    connections_rest_before_bounds, found_consumers_are_first, hints_are_times, modes_keep_bounds,
-    producers_rest_before_bounds, writes_keep_bounds,
+    connections_rest_before_bounds, found_consumers_are_first, hints_are_times,
+    producers_rest_before_bounds, writes_narrow_bounds,
 };
 pub use bounds::{Bounds, bounds_of, narrowed_at};
 pub use due::{first_due, open_session};

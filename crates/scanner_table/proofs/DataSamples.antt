@@ -3,6 +3,7 @@ use Rattle.std.proofs.Common.{◌≡◌, ℕ, true, false, List, [], ◌∷◌, 
 use Rattle.cip_events.specs.declared.event.Delivery.TheVariants.{Applied, Duplicate, Old, UnknownId, WrongSize, Malformed}
 use Rattle.cip_events.specs.declared.event.Event.TheVariants.{StreamCut, Frame, Datagram, Write, Read, Tick, Mode, Start, Stop}
 use Rattle.cip_events.specs.declared.event.StepFault.TheVariants as fault
+use Rattle.cip_netparams.specs.declared.Trigger.TheVariants.{ChangeOfState}
 use Rattle.scanner_table.proofs.SmallScanner.{target, other_target, owner, gatherer, profile, reported, after, quiet, reads_bytes, not_now, delivered, becomes, sends, sends_request, items, success, opening_frame, opened_frame, registers, connected}
 use Rattle.cip_encap.specs.Reading as messages
 use Rattle.cip_encap.specs.PacketReading as packets
@@ -10,6 +11,7 @@ use Rattle.cip_fwdopen.specs.Open as opens
 use Rattle.cip_fwdopen.specs.Close as closes
 use Rattle.cip_fwdopen.specs.Reply as replies
 use Rattle.cip_datagram.specs.Reading as datagrams
+use Rattle.scanner_table.specs.declared.profile.ScannerProfile.{ScannerProfile}
 use Rattle.scanner_table.specs.declared.table.ScannerTable.{ScannerTable}
 use Rattle.scanner_table.specs.Opening.{opened, ready_opened, target_opened}
 use Rattle.scanner_table.specs.Replies.{open_answer, answered}
@@ -47,6 +49,47 @@ productions = refl
 mode_alone : reported open_table (Tick 1 ∷ Mode true ∷ Tick 9 ∷ Mode false ∷ Tick 10 ∷ []) ≡ sends (sent_data 1 1 0 0) ∷ quiet ∷ sends (sent_data 2 2 1 0) ∷ quiet ∷ sends (sent_data 3 3 0 0) ∷ []
 unfolding messages.message_reading packets.packet_reading packets.behind_socket packets.are_sockets replies.open_reply_reading replies.unread_reading opens.open_text closes.close_text datagrams.datagram_reading opened ready_opened target_opened open_answer answered target_lost stream_opened stream_cut frame received produced_table all_expired all_given_up explicit_timed_out explicit_lost tick write read mode start stop
 mode_alone = refl
+
+-- ---- changes of state
+
+-- a slot whose trigger is change of state, with a production inhibit time of 4 ms
+abbrev changing : ScannerProfile
+changing = profile (record owner { trigger = ChangeOfState; inhibit = 4 } ∷ [])
+
+-- its connection is open at time 0, at a scanner that is `tidy` and at one that is not
+abbrev tidy_changing : ScannerTable
+tidy_changing = after (record connected { profile = record changing { tidy = true } }) (Start 0 ∷ Frame 0 opened_frame ∷ [])
+
+abbrev untidy_changing : ScannerTable
+untidy_changing = after (record connected { profile = changing }) (Start 0 ∷ Frame 0 opened_frame ∷ [])
+
+-- The output that is written before the first production is sent with it, at 1 ms. One that is written then is sent when the inhibit
+-- time is over, at 5 ms and no sooner; one at 9 ms is sent at once. Nothing else is sent before 10 ms have passed since, at 19 ms.
+writes_sent : reported tidy_changing (Write 0 (four 0x11) ∷ Tick 1 ∷ Write 0 (four 0x22) ∷ Tick 3 ∷ Tick 1 ∷ Tick 4 ∷ Write 0 (four 0x33) ∷ Tick 0 ∷ Tick 9 ∷ Tick 1 ∷ []) ≡ quiet ∷ sends (sent_data 1 1 0 0x11) ∷ quiet ∷ quiet ∷ sends (sent_data 2 2 0 0x22) ∷ quiet ∷ quiet ∷ sends (sent_data 3 3 0 0x33) ∷ quiet ∷ sends (sent_data 4 3 0 0x33) ∷ []
+unfolding messages.message_reading packets.packet_reading packets.behind_socket packets.are_sockets replies.open_reply_reading replies.unread_reading opens.open_text closes.close_text datagrams.datagram_reading opened ready_opened target_opened open_answer answered target_lost stream_opened stream_cut frame received produced_table all_expired all_given_up explicit_timed_out explicit_lost tick write read mode start stop
+writes_sent = refl
+
+-- so is a change of mode: one at 1 ms at 5 ms, and one at 9 ms at once; the present mode again changes nothing
+modes_sent : reported tidy_changing (Tick 1 ∷ Mode true ∷ Tick 3 ∷ Tick 1 ∷ Mode true ∷ Tick 4 ∷ Tick 0 ∷ Mode false ∷ Tick 0 ∷ []) ≡ sends (sent_data 1 1 0 0) ∷ quiet ∷ quiet ∷ sends (sent_data 2 2 1 0) ∷ quiet ∷ quiet ∷ quiet ∷ quiet ∷ sends (sent_data 3 3 0 0) ∷ []
+unfolding messages.message_reading packets.packet_reading packets.behind_socket packets.are_sockets replies.open_reply_reading replies.unread_reading opens.open_text closes.close_text datagrams.datagram_reading opened ready_opened target_opened open_answer answered target_lost stream_opened stream_cut frame received produced_table all_expired all_given_up explicit_timed_out explicit_lost tick write read mode start stop
+modes_sent = refl
+
+-- two outputs that are written within the inhibit time are one change, and the newest is sent
+newest_sent : reported tidy_changing (Tick 1 ∷ Write 0 (four 0x22) ∷ Tick 2 ∷ Write 0 (four 0x33) ∷ Tick 2 ∷ Tick 9 ∷ []) ≡ sends (sent_data 1 1 0 0) ∷ quiet ∷ quiet ∷ quiet ∷ sends (sent_data 2 2 0 0x33) ∷ quiet ∷ []
+unfolding messages.message_reading packets.packet_reading packets.behind_socket packets.are_sockets replies.open_reply_reading replies.unread_reading opens.open_text closes.close_text datagrams.datagram_reading opened ready_opened target_opened open_answer answered target_lost stream_opened stream_cut frame received produced_table all_expired all_given_up explicit_timed_out explicit_lost tick write read mode start stop
+newest_sent = refl
+
+-- without `tidy` such a slot sends each 10 ms, and a write changes no due time
+interval_alone : reported untidy_changing (Tick 1 ∷ Write 0 (four 0x22) ∷ Tick 8 ∷ Tick 1 ∷ []) ≡ sends (sent_data 1 1 0 0) ∷ quiet ∷ quiet ∷ sends (sent_data 2 2 0 0x22) ∷ []
+unfolding messages.message_reading packets.packet_reading packets.behind_socket packets.are_sockets replies.open_reply_reading replies.unread_reading opens.open_text closes.close_text datagrams.datagram_reading opened ready_opened target_opened open_answer answered target_lost stream_opened stream_cut frame received produced_table all_expired all_given_up explicit_timed_out explicit_lost tick write read mode start stop
+interval_alone = refl
+
+-- nor does one at a cyclic slot of a tidy scanner
+cyclic_alone : reported (after (record connected { profile = record connected.profile { tidy = true } }) (Start 0 ∷ Frame 0 opened_frame ∷ [])) (Tick 1 ∷ Write 0 (four 0x22) ∷ Tick 8 ∷ Tick 1 ∷ []) ≡ sends (sent_data 1 1 0 0) ∷ quiet ∷ quiet ∷ sends (sent_data 2 2 0 0x22) ∷ []
+unfolding messages.message_reading packets.packet_reading packets.behind_socket packets.are_sockets replies.open_reply_reading replies.unread_reading opens.open_text closes.close_text datagrams.datagram_reading opened ready_opened target_opened open_answer answered target_lost stream_opened stream_cut frame received produced_table all_expired all_given_up explicit_timed_out explicit_lost tick write read mode start stop
+cyclic_alone = refl
+
+-- ---- heartbeats
 
 -- an input-only connection of a group is open, with the T->O id 0x10000002
 abbrev heartbeats : ScannerTable

@@ -30,7 +30,7 @@ use Rattle.scanner_table.specs.Opening.{ready_opened}
 use Rattle.scanner_table.specs.Replies.{failed_slot}
 use Rattle.scanner_table.specs.Closing.{given_up}
 use Rattle.scanner_table.specs.Explicit.{explicit_timed_out}
-use Rattle.scanner_table.specs.Productions.{written_connection, produced_connection, written_state, state_is_due, produced_state, produced_slot, produced_table}
+use Rattle.scanner_table.specs.Productions.{due_on_change, written_connection, produced_connection, written_state, state_is_due, produced_state, produced_slot, produced_table}
 use Rattle.scanner_table.specs.Ticks.{by_deadline, has_expired, expired_slots, expired_state, expired, all_expired, is_overdue, all_given_up, clocked_table, advanced, moved_on, ticked, tick}
 use Rattle.scanner_table.specs.Points.{output_slot, output_written, write_length, write_at, write, same_mode, moded_slot, moded_table, mode, desired_slot, started, start_state, start_at, start}
 use Rattle.scanner_table.specs.Step.{scanner_step, fresh_slot, first_serial, scanner_table}
@@ -227,10 +227,18 @@ tick_whole t ms whole = tick_step (nat_lt longest_tick ms) (nat_lt clock_end (t.
 
 -- ---- outputs and modes
 
+-- new data make a producer due no later
+change_no_later : (trigger : Trigger) (last : Option Ms) (inhibit : ℕ) (due : Ms) → (due_on_change trigger last inhibit due).0 ≤ due.0
+change_no_later Cyclic last inhibit due = omega arith
+change_no_later ChangeOfState None inhibit due = omega arith
+change_no_later ChangeOfState (Some last) inhibit due = omega arith
+
 written_fits : (r k : ℕ) (desired_up : Bool) (state : SlotState) → FitsState r k desired_up state → FitsState r k desired_up (written_state state)
 written_fits r k desired_up Idle fits = tt
 written_fits r k desired_up (Opening o) fits = fits
-written_fits r k desired_up (Established c) fits = (fits.0, record { opening = fits.1.opening; o_t_api_ms = fits.1.o_t_api_ms; t_o_api_ms = fits.1.t_o_api_ms; due = fits.1.due })
+written_fits r k desired_up (Established c) fits =
+    let p = c.production in
+    (fits.0, record { opening = fits.1.opening; o_t_api_ms = fits.1.o_t_api_ms; t_o_api_ms = fits.1.t_o_api_ms; due = omega (arith, fits.1.due, change_no_later p.trigger p.last p.inhibit p.due) })
 written_fits r k desired_up (TimedOut link) fits = fits
 written_fits r k desired_up (Closing c) fits = fits
 

@@ -18,7 +18,8 @@ use Rattle.scanner_table.specs.Productions.{written_state}
 
 -- OUTPUTS AND IMAGES
 
--- the slot with another output, which its producer sends as new data
+-- the slot with another output, which its producer sends as new data: when it is due, or with a trigger of change of state as soon as its
+-- production inhibit time is over
 abbrev pub output_slot : List ℕ → Slot → Slot
 output_slot bytes slot = record slot { output = bytes; state = written_state slot.state }
 

@@ -5,10 +5,13 @@ use Rattle.std.specs.Int.{w32, to_le_bytes}
 use Rattle.std.specs.List.{filter_map}
 use Rattle.cip_types.specs.declared.names.Ms.{Ms}
 use Rattle.cip_types.specs.Order.{in_order}
+use Rattle.cip_netparams.specs.declared.Trigger.{Trigger}
+use Rattle.cip_netparams.specs.declared.Trigger.TheVariants.{Cyclic, ChangeOfState}
 use Rattle.cip_datagram.specs.Header.{mode_header}
 use Rattle.cip_productions.specs.Kinds.{is_owner}
+use Rattle.cip_productions.specs.declared.production.Production.{Production}
 use Rattle.cip_productions.specs.declared.production.Producer.{Producer}
-use Rattle.cip_productions.specs.Productions.{is_production_due, produced, Produced, produced_by}
+use Rattle.cip_productions.specs.Productions.{is_production_due, produced, sooner_due, Produced, produced_by}
 use Rattle.scanner_table.specs.declared.slot.SlotConnection.{SlotConnection}
 use Rattle.scanner_table.specs.declared.slot.Slot.{Slot}
 use Rattle.scanner_table.specs.declared.slot.SlotState.{SlotState}
@@ -16,10 +19,31 @@ use Rattle.scanner_table.specs.declared.slot.SlotState.TheVariants.{Idle, Openin
 use Rattle.scanner_table.specs.declared.table.ScannerTable.{ScannerTable}
 use Rattle.scanner_table.specs.Slots.{IndexedSlot, indexed_slots}
 
+-- THE TRIGGER OF A SLOT
+
+-- with `tidy` a slot produces by its own trigger; without it each slot is cyclic
+abbrev pub producer_trigger : Bool → Trigger → Trigger
+producer_trigger true trigger = trigger
+producer_trigger false trigger = Cyclic
+
+-- its production inhibit time, which a cyclic producer does not have
+abbrev pub producer_inhibit : Bool → ℕ → ℕ
+producer_inhibit true inhibit = inhibit
+producer_inhibit false inhibit = 0
+
 -- NEW DATA
 
+-- the due time of a producer that has new data: a change-of-state producer is due when its production inhibit time is over
+abbrev pub due_on_change : Trigger → Option Ms → ℕ → Ms → Ms
+due_on_change Cyclic last inhibit due = due
+due_on_change ChangeOfState last inhibit due = sooner_due last inhibit due
+
+-- the producer has new data
+abbrev pub written_production : Production → Production
+written_production p = record p { written = true; due = due_on_change p.trigger p.last p.inhibit p.due }
+
 abbrev pub written_connection : SlotConnection → SlotConnection
-written_connection c = record c { production = record c.production { written = true } }
+written_connection c = record c { production = written_production c.production }
 
 -- an established connection's producer has new data
 abbrev pub written_state : SlotState → SlotState

@@ -7,7 +7,6 @@ use Rattle.cip_types.specs.declared.names.ConnId.{ConnId}
 use Rattle.cip_types.specs.declared.names.Mismatch.{Mismatch}
 use Rattle.cip_types.specs.declared.names.Node.{Node}
 use Rattle.cip_types.specs.declared.names.Triad.{Triad}
-use Rattle.cip_netparams.specs.declared.Trigger.TheVariants.{Cyclic}
 use Rattle.cip_netparams.specs.Rate.{interval_ms, timeout}
 use Rattle.cip_fwdopen.specs.declared.fault.ReadFault.{ReadFault}
 use Rattle.cip_fwdopen.specs.declared.reply.Opened as made
@@ -38,6 +37,7 @@ use Rattle.scanner_table.specs.Sessions.{session_with}
 use Rattle.scanner_table.specs.Slots.{IndexedSlot, indexed_slots, is_numbered, is_with}
 use Rattle.scanner_table.specs.Effects.{Effect, nothing, and_then, changed, counted}
 use Rattle.scanner_table.specs.Opening.{has_request, later}
+use Rattle.scanner_table.specs.Productions.{producer_trigger, producer_inhibit}
 
 -- READING A REPLY
 
@@ -79,7 +79,7 @@ abbrev pub is_id_free : ScannerTable → IndexedSlot → ConnId → Bool
 is_id_free t indexed id = not (list_any (uses_id indexed.number indexed.config.target id) (indexed_slots t))
 
 -- the connection that a successful reply opens, with the actual packet intervals of the reply: its watchdog is that of the
--- T->O interval, and its producer is cyclic
+-- T->O interval, and its producer is cyclic, or with `tidy` of the slot's trigger
 abbrev pub new_connection : ScannerTable → IndexedSlot → pending.PendingOpen → made.Opened → SlotConnection
 new_connection t indexed opening opened = record {
   opening = opening.request;
@@ -89,7 +89,7 @@ new_connection t indexed opening opened = record {
   watchdog = record { 0 = timeout indexed.config.mult (interval_ms opened.t_o_api_us) };
   last = None;
   deadline = first_deadline t.clock (timeout indexed.config.mult (interval_ms opened.t_o_api_us));
-  production = first_production t.clock indexed.number indexed.config.target Cyclic 0;
+  production = first_production t.clock indexed.number indexed.config.target (producer_trigger t.profile.tidy indexed.config.trigger) (producer_inhibit t.profile.tidy indexed.config.inhibit);
 }
 
 -- the slot with its new connection, and an image of zeros

@@ -36,9 +36,9 @@ pub struct SlotConfig {
     pub key: Option<ElectronicKey>,
     /// The configuration data that the path carries.
     pub config_data: Items<u8>,
-    /// When the target produces: cyclically, or also at a change of its input.
+    /// When the target produces, and a tidy scanner too: cyclically, or also at a change of the data.
     pub trigger: Trigger,
-    /// The least number of milliseconds between two productions at a change; 0 for a cyclic target.
+    /// The least number of milliseconds between two productions at a change; 0 for a cyclic slot.
     pub inhibit: u8,
 }
 
@@ -62,7 +62,8 @@ pub struct ScannerProfile {
     /// A slot accepts sequence numbers that are ahead of its newest by less than this, and by two more for each interval
     /// of its target since then: 2 to 2^31. An absent one limits nothing.
     pub newer: Option<u32>,
-    /// Whether the scanner closes each connection that its targets may have and no slot has.
+    /// Whether the scanner closes each connection that its targets may have and no slot has, and sends a change at once where a slot
+    /// has that trigger.
     pub tidy: bool,
     /// The most openings that wait for replies of one target at one time: 1 to 48. An absent one limits nothing.
     pub openings: Option<u8>,

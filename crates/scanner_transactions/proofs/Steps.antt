@@ -49,7 +49,7 @@ slot_changed_adds so_far number slot_change reported indexed notices slots is sa
     some_found (slot_changed slot_change reported) so_far _ number indexed is (changed_adds so_far indexed (with_change slot_change indexed.slot) (listed reported) notices slots (said ∙ ap (λ (n : ℕ). so_far.notices ++ (listed reported ++ state_notices n indexed.slot.state slot_change.state)) at) (put ∙ ap (λ (n : ℕ). slice_set so_far.table.slots n (with_change slot_change indexed.slot)) at))
 
 -- a slot that has a connection
-pub occupied_adds : (so_far : Progress) (number : ℕ) (opening : pending.PendingOpen) (opened : made.Opened) (link : Link) (connection : SlotConnection) (image : List ℕ) (indexed : IndexedSlot) (notices : List Notice) (slots : List Slot) → Some indexed ≡ slot_at so_far.table number → link ≡ link_of opening.requested opened → connection ≡ connection_of so_far.table.clock indexed.config indexed.number opening.request link opened → image ≡ replicate indexed.config.in_len 0 → notices ≡ so_far.notices ++ (listed {A = Notice} None ++ state_notices number indexed.slot.state (Established connection)) → ForSome (slice_get so_far.table.slots number) (λ slot. slots ≡ slice_set so_far.table.slots number (occupied (Established connection) image slot)) → record { frames = so_far.frames; notices = notices; table = record so_far.table { slots = slots } } ≡ followed so_far (at_number (established_by opening opened) so_far.table number)
+pub occupied_adds : (so_far : Progress) (number : ℕ) (opening : pending.PendingOpen) (opened : made.Opened) (link : Link) (connection : SlotConnection) (image : List ℕ) (indexed : IndexedSlot) (notices : List Notice) (slots : List Slot) → Some indexed ≡ slot_at so_far.table number → link ≡ link_of opening.requested opened → connection ≡ connection_of so_far.table.profile.tidy so_far.table.clock indexed.config indexed.number opening.request link opened → image ≡ replicate indexed.config.in_len 0 → notices ≡ so_far.notices ++ (listed {A = Notice} None ++ state_notices number indexed.slot.state (Established connection)) → ForSome (slice_get so_far.table.slots number) (λ slot. slots ≡ slice_set so_far.table.slots number (occupied (Established connection) image slot)) → record { frames = so_far.frames; notices = notices; table = record so_far.table { slots = slots } } ≡ followed so_far (at_number (established_by opening opened) so_far.table number)
 occupied_adds so_far number opening opened link connection image indexed notices slots is named begun zeros said set =
     let known = found number so_far.table.profile.slots so_far.table.slots indexed is in
     let slot : Slot = established_slot indexed (new_connection so_far.table indexed opening opened) in

@@ -100,6 +100,7 @@ impl Transaction<'_> {
         };
         let image = Items::zeros(self.alloc, indexed.config.in_len as usize)?;
         let connection = new_connection(
+            self.profile.tidy,
             self.scanner.clock,
             indexed.config,
             indexed.number,

@@ -47,12 +47,12 @@ def knows(bench, line):
     return run(bench.program, "explain", bench.write_exactly("line.trace", profile(bench, 1, f"{line}\n"))).returncode == 0
 
 
-def profile(bench, slots, tidy, o_t_us=1_000_000, t_o_us=10_000, multiplier=4, open_ms=OPEN_MS, kind="exclusive"):
+def profile(bench, slots, tidy, o_t_us=1_000_000, t_o_us=10_000, multiplier=4, open_ms=OPEN_MS, kind="exclusive", trigger=""):
     """A scanner of slots with the points 150 and 100, 151 and 101, ..: its own time-outs are short, and the target's watchdogs long. The
     heartbeats of slots that own nothing go to 200, 201, .."""
     head = f"scanner 32 {bench.address['owner']} 1 101 {open_ms} {RETRY_MS}\n{tidy}"
     first, out = (150, 4) if kind == "exclusive" else (target.FIRST_HEARTBEAT, 0)
-    return head + "".join(f"slot {bench.address['peer']} {kind} - {first + at} {100 + at} {out} 4 {o_t_us} {t_o_us} {multiplier} p2p - -\n"
+    return head + "".join(f"slot {bench.address['peer']} {kind} - {first + at} {100 + at} {out} 4 {o_t_us} {t_o_us} {multiplier} p2p - -{trigger}\n"
                           for at in range(slots))
 
 
@@ -366,6 +366,35 @@ def run_makes_sessions(bench):
         need((made.counts["stream"] == streams) == (mood == "serve"), f"a registration that the target may {mood}: {made.counts['stream'] - streams} new streams")
     sure(made.counts["bad session"] <= 8, f"a target that forgets its sessions is asked for a new one: {made.counts['bad session']} requests of a dead one")
     leaves_none(scanner, made, "forgotten sessions")
+    bench.clear()
+
+
+# CHANGES OF STATE
+
+def run_makes_changes(bench):
+    """A slot whose trigger is change of state sends a write and a change of mode at once, and no two datagrams within its inhibit time."""
+    made = Running(bench)
+    scanner = begin(bench, "changes", o_t_us=500_000, t_o_us=500_000, trigger=" change 50")
+    wait(lambda: are_established(scanner), "the scanner is established")
+    wait(lambda: made.connections[0].received >= 2, "its datagrams come")
+    it = made.connections[0]
+    for line, data in (("write 0 0a0b0c0d", "010000000a0b0c0d"), ("mode idle", "000000000a0b0c0d"), ("mode run", "010000000a0b0c0d")):
+        before = it.received
+        wait(lambda: it.received > before, "a datagram comes")
+        time.sleep(max(0.0, it.came[-1][0] + 0.253 - time.monotonic()))
+        begun = time.monotonic()
+        scanner.call(line)
+        wait(lambda: it.came[-1][1] == bytes.fromhex(data), f"{line}: its data come")
+        need(it.came[-1][0] - begun < 0.1, f"{line}, 253 of 500 ms behind the last datagram: it is sent after {it.came[-1][0] - begun:.3f} s")
+    before, begun = it.received, time.monotonic()
+    for value in range(100):
+        scanner.call(f"write 0 {value:08x}")
+        time.sleep(0.01)
+    wait(lambda: it.came[-1][1][4:] == struct.pack(">I", 99), "the newest output comes", 0.2)
+    came, seconds = it.received - before, time.monotonic() - begun
+    need(seconds / 0.05 * 0.5 < came <= seconds / 0.05 + 2, f"writes each 10 ms are sent each 50 ms: {came} datagrams in {seconds:.2f} s")
+    leaves_none(scanner, made, "changes of state")
+    sure(not made.unknown, f"a write and a change of mode are sent at once, and 100 writes in {seconds:.1f} s by {came} datagrams, 50 ms apart")
     bench.clear()
 
 

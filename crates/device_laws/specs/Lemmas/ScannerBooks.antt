@@ -199,7 +199,9 @@ written_old r (Closing c) = refl
 pub written_books : (sent : List Production) (device : ℕ) (run more : Bool) (next : ℕ) (config : SlotConfig) (was now : Slot) (state : SlotState) → StateBooks sent device run next config was state → StateBooks sent device more next config now (written_state state)
 written_books sent device run more next config was now Idle ok = tt
 written_books sent device run more next config was now (Opening o) ok = ok
-written_books sent device run more next config was now (Established c) ok = (ok.0, rewritten sent (end_at device c.opening) c.production (output_data run config was) (output_data more config now) ok.1)
+written_books sent device run more next config was now (Established c) ok =
+    let new = rewritten sent (end_at device c.opening) c.production (output_data run config was) (output_data more config now) ok.1 in
+    (ok.0, record { sequence = new.sequence; count = new.count; current = new.current })
 written_books sent device run more next config was now (TimedOut link) ok = tt
 written_books sent device run more next config was now (Closing c) ok = tt
 
