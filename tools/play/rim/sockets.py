@@ -12,6 +12,7 @@ PIDFD_GETFD = 438  # the number of the system's call on most machines; Python ha
 REFUSED = {errno.EPERM, errno.ENOSYS}  # what a system says that does not lend a socket of a child
 IP_RECVTTL = 12  # the number of the option on Linux; Python has no name for it
 MOST_WAKES = 3  # of an idle station in two seconds: one that tells a browser how it is wakes four times, one that asks each millisecond 2,000 times
+MOST_SHOWN = 8  # snapshots in two seconds: one each half second, and what the beginning of a life brings
 LEFT_S = 2.5  # seconds in which a page finds that a browser has left: it says once in a second that it is there
 TRIES = 3
 MOST_WORK = 0.3  # seconds of the processors for an idle station in two seconds: one that never waits takes what it gets
@@ -205,6 +206,10 @@ def run_idle(bench):
     adapter = bench.adapter("--page", str(PORT), log="idle")
     events = Events(bench)
     need(events.next(), "a browser looks at its page")
+    begin, shown = time.monotonic(), 0
+    while time.monotonic() < begin + 2 and events.next(seconds=1):
+        shown += 1
+    sure(0 < shown <= MOST_SHOWN, f"a browser gets {shown} snapshots in 2 s of an adapter to which nothing comes")
     events.stream.close()
     time.sleep(LEFT_S)
     # (what else the system has its thread do is not there each time)
