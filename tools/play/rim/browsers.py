@@ -174,8 +174,8 @@ def run_page_names(bench):
         while text.count(b"\ndata: {\"wall_ms\"") < 3:
             text += stream.recv(65536)
         names, snapshot = text.find(b"event: names\ndata: "), text.find(b"\ndata: {\"wall_ms\"")
-        said = json.loads(text[names:].partition(b"data: ")[2].partition(b"\n")[0])
         need(text.count(b"event: names") == 1 and 0 < names < snapshot, f"names come once, before the first snapshot: {text[:300]}")
+        said = json.loads(text[names:].partition(b"data: ")[2].partition(b"\n")[0])
         need(said == {"150": "Valves", "150.0.4": "Stop"}, f"they are those of the profile: {said}")
         stream.close()
     sure(True, "each of two event streams has the names of the profile once, before its first snapshot")

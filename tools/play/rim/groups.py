@@ -8,6 +8,7 @@ from rim.words import arrives
 SLOT = "scanner {incarnation} {owner} 1 {number} 1000 1000\nslot {adapter} input - 152 100 0 4 10000 10000 2 multicast - -\n"
 HINT = re.compile(r"eip_station: slot 0: no multicast datagram of \S+ came to (\S+): this host does not receive that group: (ip address add \S+ dev )INTERFACE( autojoin)")
 PEER_PORT = 2230
+TRIED_S = 8  # seconds: a port is tried again every 5 s, and a slot whose data never come opens again after 10 s
 
 
 def run_groups(bench):
@@ -81,7 +82,7 @@ def run_bound_groups(bench):
         scanner = bench.scanner("owner", "--multicast", groups=True, log="bound")
         until(lambda: said in scanner.said(), "a scanner says that another program has the UDP port of its group alone")
         alone.close()
-        until(lambda: image_of(scanner) == value, "it receives the datagrams of its group once the port can be had", 20)
+        until(lambda: image_of(scanner) == value, f"it receives the datagrams of its group within {TRIED_S} s of the port being free", TRIED_S)
         need(scanner.said().count(said) == 1, f"it says so once: {scanner.said()}")
         bound = bound_sockets(bench, group)
         scanner.call("stop 0")

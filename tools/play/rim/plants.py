@@ -1,9 +1,9 @@
 """Plants: many devices in one process, whose records settle, whose scripts do what they say, and whose files are refused by
 their lines."""
 
-import errno, glob, os, re, resource, signal, socket, struct, time
+import errno, fcntl, glob, os, re, resource, signal, socket, struct, time
 from rim.calls import CallFaults
-from rim.host import PRESENT, Station, Untried, need, run, sure, until, wait
+from rim.host import PRESENT, Pipe, Station, Untried, need, run, sure, until, wait
 from rim.pages import HOST, PORT, connected, status_of, told, word_of
 
 VALVES, DRIVES, READERS = 4, 3, 2
@@ -237,6 +237,25 @@ def run_plant_disk(bench):
     status = plant.end()
     sure(status == 6 and says("its"), f"a plant whose records have ended has failed, and names each device: status {status}")
     replays(bench, "disk")
+    bench.clear()
+    run_last_record(bench)
+
+
+def run_last_record(bench):
+    """The record of a device fails behind its end: it is a pipe that nobody reads, and that ends."""
+    os.makedirs(bench.file("piped"))
+    os.mkfifo(bench.file("piped/a.1.trace"))
+    reader = os.open(bench.file("piped/a.1.trace"), os.O_RDONLY | os.O_NONBLOCK)
+    fcntl.fcntl(reader, fcntl.F_SETPIPE_SZ, Pipe.PAGE)
+    plant = Plant(bench, f"device a plant_adapter.profile {bench.network.extra[0]}\n", "--record", bench.file("piped"), log="piped")
+    plant.call(*(f"a write 100 {value:08x}" for value in range(Pipe.PAGE // 10)), "a read 100")
+    until(lambda: any(" value " in line for line in plant.of("a")), "a device lives, and nobody reads its record")
+    plant.process.stdin.close()
+    time.sleep(0.5)
+    need(plant.is_running() and not any("record" in line for line in plant.said()), f"its plant ends, and waits for the record: {plant.said()}")
+    os.close(reader)
+    status = plant.status()
+    sure(status == 6, f"a plant whose device has ended as its record fails has failed: status {status}")
     bench.clear()
 
 

@@ -168,8 +168,12 @@ def run_state(bench):
     need(os.listdir(os.path.dirname(state)).count("counted.profile.state.new") == 0, "nothing is left beside the state")
     faults = CallFaults(bench, "medium")
     faults.set(sync=errno.EIO)
-    asked.says(6, DANGER, "adapter", profile, "--seconds", "1", "--no-input", env={**os.environ, **dict(it.split("=", 1) for it in faults.env())})
+    words, env = ("adapter", profile, "--seconds", "1", "--no-input"), {**os.environ, **dict(it.split("=", 1) for it in faults.env())}
+    asked.says(6, DANGER, *words, env=env)
     sure("incarnation 17," in begun(), "five starts that are refused use no incarnation up, one of them since its state would not be on the medium")
+    faults.set()
+    status, before = asked.ends(*words, env=env)[0], faults.synced()
+    sure((status, before) == (0, 2), f"a state is on the medium, and so is its folder, which has its new name: {before} of 2")
     folder = bench.file("closed")
     os.mkdir(folder)
     os.rename(profile, os.path.join(folder, "counted.profile"))
