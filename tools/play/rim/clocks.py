@@ -7,7 +7,7 @@ from rim.sockets import Flood
 from rim.streams import Clock
 
 CLOCK_S = 2.0
-DAYS = "1970-01-01T00:00:00.001", "2027-12-31T23:59:30.250", "2028-02-29T12:00:00", "2028-03-01T00:00:00", "2028-12-31T10:00:00", "2100-03-01T01:02:03"
+DAYS = "1970-01-01T00:00:00.001", "2027-12-31T23:59:30.250", "2028-02-29T12:00:00", "2028-03-01T00:00:00", "2028-07-04T10:00:00", "2100-03-01T01:02:03"
 LATE_S = 10.0  # seconds from the moment at which a clock is set to the beginning of a record
 STAMPS = 35  # SO_TIMESTAMPNS: Python has no name for it
 DATAGRAMS, REPLIES, ROUNDS = 400, 300, 5

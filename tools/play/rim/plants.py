@@ -1,7 +1,7 @@
 """Plants: many devices in one process, whose records settle, whose scripts do what they say, and whose files are refused by
 their lines."""
 
-import errno, fcntl, glob, os, re, resource, signal, socket, struct, time
+import collections, errno, fcntl, glob, os, re, resource, signal, socket, struct, time
 from rim.calls import CallFaults
 from rim.host import PRESENT, Pipe, Station, Untried, need, run, sure, until, wait
 from rim.pages import HOST, PORT, connected, status_of, told, word_of
@@ -11,6 +11,7 @@ RESTART_MS, SCRIPT_MS = 1500, 3500
 DISK_BYTES = 40_000
 PAUSE_MS = 60_000  # of a device that hangs
 STEPS_S = 10.0  # seconds: two steps of a plant's end, of which none takes more than 5 s (rule 34.8)
+TOLD_S, SHARE = 2, 4  # seconds; a device that is shown most often is shown at most so many times as often as any other one
 AT_ONCE = 0.2  # seconds: a plant looks for typed lines each 20 ms
 LONGEST_BYTES, TYPED_BYTES = 1400, 42_000  # of datagrams that are typed as digits: more than may wait at once
 MARK = "write 100 c0ffee00"  # the line of a script in front of its cut
@@ -365,6 +366,18 @@ def devices_shown(bench, count):
     return text.partition(b"event: station\n")[2].split(b"\n")[0], shown
 
 
+def snapshots_told(bench):
+    """How many snapshots of each device an event stream of a plant's page has in a time, behind those that its beginning brings."""
+    word, stream, text = word_of(bench, "peer"), connected(bench, "peer"), b""
+    stream.sendall(f"GET /events?{word} HTTP/1.1\r\nHost: {HOST}\r\n\r\n".encode())
+    begin = time.monotonic()
+    while time.monotonic() < begin + 1 + TOLD_S:
+        got = stream.recv(1 << 20)
+        text += got if time.monotonic() > begin + 1 else b""
+    stream.close()
+    return collections.Counter(int(it.split(b"\n")[0][4:]) for it in text.split(b"\n\n")[1:-1] if it.startswith(b"id: "))
+
+
 def run_plant_turns(bench):
     """Forty devices of a page have something new all the time, more than it tells: they take turns."""
     nodes, count = bench.network.extra, len(bench.network.extra)
@@ -373,6 +386,9 @@ def run_plant_turns(bench):
     until(lambda: sum("scanner at" in line for line in plant.said()) == count, f"{count} devices live")
     _, shown = devices_shown(bench, count)
     sure(shown == set(range(count)), f"each of {count} devices is shown, and {len(shown)} are")
+    told = snapshots_told(bench)
+    least, most = min(told[at] for at in range(count)), max(told.values())
+    sure(least * SHARE >= most, f"none of them has to wait for another one: they are shown {least} to {most} times in {TOLD_S} s")
     need(plant.end() == 0, "the plant ends with status 0")
 
 
