@@ -12,6 +12,7 @@ MOST_IN_A_SECOND = 32
 LONGEST_MS = 500
 ASIDE_MS = 500  # so much later a reply may be seen on a busy machine
 BROADCASTS = 8
+LIVES, SAME_MS = 4, 40  # (the first two delays of four lives that are drawn are as close as this once in a hundred thousand times)
 EVERYBODY, ALL_HOSTS = "127.255.255.255", "255.255.255.255"
 DESCRIBED = (
     "adapter 16 {adapter} 255.255.255.0 7 12 9 4 5\noutput 150 4 zero zero\ninput 100 6\nconfig 151 2\n"
@@ -135,6 +136,21 @@ def run_broadcasts(bench):
     for host, station in zip(hosts, stations):
         need(station.end() == 0, "the station ends with status 0")
         bench.replay_alone(host)
+    bench.clear()
+    run_drawn_delays(bench, hosts[0], port)
+
+
+def run_drawn_delays(bench, host, port):
+    """Each life of a station draws its delays anew."""
+    late = []
+    for _ in range(LIVES):
+        station = Station(bench, "adapter", "adapter", bench.file(f"{host}.profile"), "--tcp", str(port), log="drawn_delays")
+        wait(station.said, "a station starts")
+        with bench.network.inside("adapter"), asking("127.0.0.1") as udp:
+            late.append([answers(udp, EVERYBODY, port, [host])[host] for _ in range(2)])
+        need(station.end() == 0, "the station ends with status 0")
+    said = ", ".join(f"{one:.0f} and {two:.0f}" for one, two in late)
+    sure(max(max(of) - min(of) for of in zip(*late)) > SAME_MS, f"{LIVES} lives of a station answer their first two broadcasts after {said} ms")
     bench.clear()
 
 
