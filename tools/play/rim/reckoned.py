@@ -1,5 +1,6 @@
 """What the script of the page reckons, beside values worked by hand, and what its tables and its calls have in their places."""
 
+import socket
 from rim.tabs import Wrong, sure
 
 NOON = "new Date(2026, 0, 2, 3, 4, 5).getTime()"
@@ -83,9 +84,9 @@ def rows_of(tab, table):
     return tab.value(f"[...document.querySelectorAll('#{table} tbody tr')].map((row) => [...row.cells].map((it) => it.innerText.trim()))")
 
 
-def values(tab):
-    """A row has the bits and the numbers of its bytes; a connection has its intervals to and fro; counts have their places; the newest event
-    is the first one."""
+def values(tab, node):
+    """A row has the bits and the numbers of its bytes, and who consumes it; a connection has its intervals to and fro; counts have their places;
+    the newest event is the first one; the links are those of the record and of its capture file."""
     tab.until("[...document.querySelectorAll('.bytes button')].map((it) => it.textContent).join('').startsWith('20000000')", "the last write is shown")
     row, connection = rows_of(tab, "points")[0], next(it for it in rows_of(tab, "connections") if it[1] == "exclusive")
     sure(row[3].startswith("00100000 00000000 00000000 00000000") and row[4] == "32 0", f"it shows the bits and the numbers of the output: {row[1:5]}")
@@ -96,6 +97,22 @@ def values(tab):
          f"of an owner that sends more often than it is sent to more datagrams came than were sent, of all and of itself: {counts}")
     numbers = tab.value("[...document.querySelectorAll('#events li')].map((it) => parseInt(it.innerText, 10))")
     sure(len(numbers) > 2 and numbers == sorted(numbers, reverse=True), f"the newest event is the first one: {numbers[:4]}")
+    consumers = [it[5] for it in rows_of(tab, "points") if it[0] == "input"]
+    sure(consumers == ["1 exclusive, 0 input only, 0 listen only", "0 exclusive, 1 input only, 0 listen only"], f"it shows who consumes each input: {consumers}")
+    with socket.create_connection((node, 44818), 5):
+        tab.until("[...document.querySelectorAll('#totals tbody tr')][0].cells[1].innerText === '3, 2'", "it counts a stream that has no session")
+    front = ("fetch([...document.querySelectorAll('#files a')].find((it) => it.textContent === '{}').href).then((it) => it.arrayBuffer())"
+             ".then((it) => [...new Uint8Array(it).slice(0, 4)])")
+    found = [bytes(tab.value(front.format(name))) for name in ("record", "capture file")]
+    sure(found == [b"# re", bytes.fromhex("d4c3b2a1")], f"its links are those of the record and of the capture file: {found}")
+
+
+def devices(tab):
+    """The row of a scanner that sends more often than it is sent to, and the bits of its images, whose names are those of its targets' inputs."""
+    received, sent = map(int, rows_of(tab, "devices")[0][3].split(", "))
+    sure(sent > received > 0, f"a scanner that sends more often than it is sent to has received {received} datagrams, and sent {sent}")
+    bits = {row[0]: row[3] for row in rows_of(tab, "points")}
+    sure("Full 0" in bits["image"] and "Full" not in bits["output"], f"an image has the names of the bits of its target's input: {bits}")
 
 
 def calls(tab, owner):
