@@ -11,7 +11,7 @@ use page_feed::PageFeed;
 use station::{DeviceSteps, EarlyEnd, InputSteps, LifeEnd};
 use station_lines::{CallLines, LineSink, NoLines};
 use station_port::{StationPlace, StationPort};
-use station_record::{Recorder, Start, StateFault, name_of, stem_of};
+use station_record::{Recorder, Start, StateFault, forget_record, name_of, stem_of};
 use station_rim::{
     Entries, LabelledLines, LineEntrance, Rim, SharedDevices, drain_lines, drain_record,
     report_line,
@@ -122,6 +122,7 @@ where
     let Ok(origin) = Instant::now(&setting.rt) else {
         return Err(Failure::from(EarlyEnd::Clock));
     };
+    forget_lives(setting)?;
     for life in 1..MOST_LIVES {
         let setting = Stationed {
             life,
@@ -134,6 +135,26 @@ where
         }
         // (what is left of its record is not that of the next life)
         if setting.options.record_from_end.is_some() && !drain_record(&setting.rt, setting.rim) {
+            return Ok(());
+        }
+    }
+    Ok(())
+}
+
+/// Removes the records of an earlier run's lives behind the first one, so that none of them is taken for one of this run.
+fn forget_lives<R>(setting: &Stationed<'_, R>) -> Result<(), OutOfMemory>
+where
+    R: AllocGlobal + Files<File = File> + Copy + Drop,
+{
+    for life in 2..MOST_LIVES {
+        let later = Stationed { life, ..*setting };
+        let Some(path) = record_path(&later)? else {
+            return Ok(());
+        };
+        if !matches!(
+            forget_record(&setting.rt, setting.rt.alloc(), path.as_str()),
+            Ok(true)
+        ) {
             return Ok(());
         }
     }

@@ -11,14 +11,14 @@ use page_feed::PageFeed;
 use plant_rim::{DeviceFailure, DeviceSetup, NameForm, NamedLines, PlantJob, SharedPlant};
 use station::{DeviceSteps, LifeEnd, ScriptRun};
 use station_lines::LineSink;
-use station_record::Recorder;
+use station_record::{Recorder, forget_record};
 use station_rim::{Entries, LabelledLines, LineEntrance, SharedRecord};
 use station_setup::{
     MOST_LIVES, OpenedPort, StationOutputs, described, open_life_port, passed_ms, recorder_in,
     station_of, with_incarnation,
 };
 use std::alloc::Global;
-use std::fs::{self, File};
+use std::fs::File;
 use std::net::Net;
 use std::rt::{Clock, Files};
 use std::sync::Wait;
@@ -127,7 +127,7 @@ where
     };
     for life in 2..MOST_LIVES {
         let path = record_path(rt.alloc(), folder.as_str(), setup.name.as_str(), life)?;
-        if fs::remove_file(rt, path.as_str()).is_err() {
+        if !matches!(forget_record(rt, rt.alloc(), path.as_str()), Ok(true)) {
             break;
         }
     }

@@ -1,5 +1,5 @@
 -- What the options of a station and its profile say of its port and its end.
-use Rattle.std.specs.Prelude.{ℕ, ◌*◌, ◌==◌, nat_eq, if◌then◌else◌, Bool, List, [], ◌∷◌, ◌++◌, replicate, Option, Some, None, is_some}
+use Rattle.std.specs.Prelude.{ℕ, ◌+◌, ◌*◌, ◌%◌, ◌==◌, nat_eq, if◌then◌else◌, Bool, List, [], ◌∷◌, ◌++◌, replicate, Option, Some, None, is_some}
 use Rattle.std.specs.List.{list_any}
 use Rattle.adapter_table.specs.declared.profile.Description.{Description}
 use Rattle.adapter_table.specs.declared.profile.Profile.{Profile}
@@ -23,6 +23,10 @@ given_or None node = node
 abbrev pub node_of : Option Node → Node → Node
 node_of None node = node
 node_of (Some address) node = if address.0 == 0 then node else address
+
+-- the incarnation of a life, where that of the first one is said: 255 is followed by 1
+abbrev pub incarnation_in : (first life : ℕ) → ℕ
+incarnation_in first life = (first + 253 + life) % 255 + 1
 
 -- where a station is, in the network of this mask, at this TCP port, with this inactivity time-out, and where it sends
 abbrev pub place_of : Options → Node → (mask tcp inactivity : ℕ) → StationPlace

@@ -47,6 +47,7 @@ def run_reset_lives(bench):
     bench.clear()
     run_counted_resets(bench)
     run_unread_reset(bench)
+    run_forgotten_lives(bench)
 
 
 def run_counted_resets(bench):
@@ -66,6 +67,18 @@ def run_counted_resets(bench):
          f"after {seconds:.1f} s")
     sure(incarnations(adapter) == [9, 10] and incarnation_of(state) == 10 and not os.path.exists(state + ".new"),
          f"--state FILE --incarnation 9: the next life counts on: {incarnations(adapter)}")
+    bench.clear()
+
+
+def run_forgotten_lives(bench):
+    """What an earlier run has recorded of its lives is removed when a station begins a record of this name."""
+    first = bench.write_exactly("forgotten.trace", "of an earlier run\n")
+    later = [bench.write_exactly(f"forgotten.trace.{it}", "of an earlier run\n") for it in ("life-2", "life-2.2", "life-3")]
+    other = bench.write_exactly("forgotten.trace.life-5", "of no run that has a fourth life\n")
+    adapter = bench.adapter("--record", first, log="reset_forgotten")
+    need(adapter.end() == 0, "the adapter ends with status 0")
+    left = [it for it in later if os.path.exists(it)]
+    sure(not left and os.path.exists(other), f"a new record leaves nothing of an earlier run's lives beside it: {left}")
     bench.clear()
 
 

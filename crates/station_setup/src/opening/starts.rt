@@ -1,5 +1,8 @@
 //! The start of a station, which its options or its state's file count.
 
+ghost use Rattle.std.specs.Prelude.{◌≡◌};
+ghost use Rattle.station_setup.specs.Settings.{incarnation_in};
+
 use command_lines::Options;
 use station_record::{Start, StateFault};
 use std::fs::File;
@@ -26,7 +29,9 @@ where
 }
 
 /// The incarnation of a life, from that of the first one on: 1 follows 255.
-fn incarnation_in(first: u8, life: u32) -> u8 {
+fn incarnation_in(first: u8, life: u32) -> u8
+    ensures { result ≡ incarnation_in first life }
+{
     let places = (u64::from(first) + 253 + u64::from(life)) % 255;
     places as u8 + 1
 }
