@@ -1,6 +1,8 @@
 //! A port around a port, which takes orders.
 
-ghost use Rattle.std.specs.Prelude.{◌≡◌, ◌<◌, ◌+◌, ◌-◌, ◌^◌, OnOk, OnErr};
+ghost use Rattle.std.specs.Prelude.{◌≡◌, ◌<◌, ◌+◌, ◌-◌, ◌^◌, true, false, IfOk, OnOk, OnErr};
+ghost use Rattle.port_orders.specs.Orders.{HasNoOrder};
+ghost use Rattle.udp_runner.specs.Calls.{Idled, Looked, Received, Sent};
 
 use crate::marks::StreamMarks;
 use crate::order::{OrderedPort, PortOrder};
@@ -35,6 +37,8 @@ impl<P: Port, R: System> OrderPort<P, R> {
     where
         P: Drop,
         R: Drop,
+        ensures port { IfOk result (λ made. made.port ≡ port) }
+        ensures itself { IfOk result (λ made. HasNoOrder made) }
     {
         Ok(OrderPort {
             rt,
@@ -83,7 +87,15 @@ impl<P: Port, R: System> Port for OrderPort<P, R> {
         self.port.failures()
     }
 
-    fn receive(&mut self) -> Result<Option<Arrival>, PortFault> {
+    /// Without orders: what this port receives is what the port in it receives.
+    fn receive(&mut self) -> Result<Option<Arrival>, PortFault>
+        requires { P.failed self.old.port < 2 ^ 64 - 1 }
+        ensures worked { OnOk result (P.failed self.new.port ≡ P.failed self.old.port) }
+        ensures counted { OnErr result (P.failed self.new.port ≡ P.failed self.old.port + 1) }
+        ensures itself { HasNoOrder self.old → Received P.is_scripted (P.tape self.old.port) (P.tape self.new.port)
+            (P.failed self.old.port) (P.failed self.new.port) result }
+        ensures stays { HasNoOrder self.old → HasNoOrder self.new }
+    {
         send_raw(&mut self.port, &mut self.raw)?;
         if let Some(stream) = self.marks.first_to_cut() {
             close(&mut self.port, stream)?;
@@ -98,54 +110,104 @@ impl<P: Port, R: System> Port for OrderPort<P, R> {
         Ok(came)
     }
 
-    fn next_datagram(&mut self) -> Result<Option<Arrival>, PortFault> {
+    /// Which datagram waits is what the port in it says, with orders too.
+    fn next_datagram(&mut self) -> Result<Option<Arrival>, PortFault>
+        requires { P.failed self.old.port < 2 ^ 64 - 1 }
+        ensures worked { OnOk result (P.failed self.new.port ≡ P.failed self.old.port) }
+        ensures counted { OnErr result (P.failed self.new.port ≡ P.failed self.old.port + 1) }
+        ensures itself { Looked P.is_scripted (P.tape self.old.port) (P.tape self.new.port)
+            (P.failed self.old.port) (P.failed self.new.port) result }
+        ensures stays { HasNoOrder self.old → HasNoOrder self.new }
+    {
         self.port.next_datagram()
     }
 
-    fn wait(&mut self, most: Duration) {
+    fn wait(&mut self, most: Duration)
+        ensures itself { Idled P.is_scripted (P.tape self.old.port) (P.tape self.new.port) (P.failed self.old.port)
+            (P.failed self.new.port) }
+        ensures stays { HasNoOrder self.old → HasNoOrder self.new }
+    {
         if self.raw.is_empty() && !self.marks.any_to_cut() {
             self.port.wait(most);
         }
     }
 
-    fn recycle(&mut self, bytes: Items<u8>) {
+    fn recycle(&mut self, bytes: Items<u8>)
+        ensures itself { Idled P.is_scripted (P.tape self.old.port) (P.tape self.new.port) (P.failed self.old.port)
+            (P.failed self.new.port) }
+        ensures stays { HasNoOrder self.old → HasNoOrder self.new }
+    {
         self.port.recycle(bytes);
     }
 
-    fn sends_to_groups(&self) -> bool {
+    fn sends_to_groups(&self) -> bool
+        ensures { P.is_scripted ≡ true → result ≡ false }
+    {
         self.port.sends_to_groups()
     }
 
-    fn send(&mut self, output: &Output<'_>) -> Result<(), PortFault> {
+    /// What is sent is what the port in it sends, with orders too.
+    fn send(&mut self, output: &Output<'_>) -> Result<(), PortFault>
+        requires { P.failed self.old.port < 2 ^ 64 - 1 }
+        ensures worked { OnOk result (P.failed self.new.port ≡ P.failed self.old.port) }
+        ensures counted { OnErr result (P.failed self.new.port ≡ P.failed self.old.port + 1) }
+        ensures itself { Sent P.is_scripted output.now (P.tape self.old.port) (P.tape self.new.port)
+            (P.failed self.old.port) (P.failed self.new.port) result }
+        ensures stays { HasNoOrder self.old → HasNoOrder self.new }
+    {
         self.marks.note_sent(output);
         self.port.send(output)
     }
 }
 
 impl<P: KeptPort, R: System> KeptPort for OrderPort<P, R> {
-    fn next_report(&mut self) -> Option<PortReport> {
+    fn next_report(&mut self) -> Option<PortReport>
+        ensures itself { Idled P.is_scripted (P.tape self.old.port) (P.tape self.new.port) (P.failed self.old.port)
+            (P.failed self.new.port) }
+        ensures stays { HasNoOrder self.old → HasNoOrder self.new }
+    {
         self.port.next_report()
     }
 
-    fn keep(&mut self, peers: &[Node], owners: &[Node]) {
+    fn keep(&mut self, peers: &[Node], owners: &[Node])
+        ensures itself { Idled P.is_scripted (P.tape self.old.port) (P.tape self.new.port) (P.failed self.old.port)
+            (P.failed self.new.port) }
+        ensures stays { HasNoOrder self.old → HasNoOrder self.new }
+    {
         self.port.keep(peers, owners);
     }
 
-    fn renew(&mut self, target: Node) {
+    fn renew(&mut self, target: Node)
+        ensures itself { Idled P.is_scripted (P.tape self.old.port) (P.tape self.new.port) (P.failed self.old.port)
+            (P.failed self.new.port) }
+        ensures stays { HasNoOrder self.old → HasNoOrder self.new }
+    {
         self.port.renew(target);
     }
 
-    fn succeed(&mut self, target: Node) {
+    fn succeed(&mut self, target: Node)
+        ensures itself { Idled P.is_scripted (P.tape self.old.port) (P.tape self.new.port) (P.failed self.old.port)
+            (P.failed self.new.port) }
+        ensures stays { HasNoOrder self.old → HasNoOrder self.new }
+    {
         self.port.succeed(target);
     }
 }
 
 impl<P: GroupPort, R: System> GroupPort for OrderPort<P, R> {
-    fn receive_groups(&mut self, groups: &[DataGroup]) {
+    fn receive_groups(&mut self, groups: &[DataGroup])
+        ensures itself { Idled P.is_scripted (P.tape self.old.port) (P.tape self.new.port) (P.failed self.old.port)
+            (P.failed self.new.port) }
+        ensures stays { HasNoOrder self.old → HasNoOrder self.new }
+    {
         self.port.receive_groups(groups);
     }
 
-    fn next_unbound(&mut self) -> Option<DataGroup> {
+    fn next_unbound(&mut self) -> Option<DataGroup>
+        ensures itself { Idled P.is_scripted (P.tape self.old.port) (P.tape self.new.port) (P.failed self.old.port)
+            (P.failed self.new.port) }
+        ensures stays { HasNoOrder self.old → HasNoOrder self.new }
+    {
         self.port.next_unbound()
     }
 }

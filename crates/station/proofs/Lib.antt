@@ -1,3 +1,4 @@
+mod Exactness
 mod Living
 mod Noting
 mod SessionEnds

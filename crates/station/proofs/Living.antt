@@ -9,10 +9,10 @@ use Rattle.station.specs.declared.step.StationStep.{StationStep}
 use Rattle.station.specs.declared.serving.Station.{Station}
 use Rattle.station.specs.Ended.{Ended}
 use Rattle.station.specs.Lives.{Aged, Closed, EndsLife, Lived, Takes, Took, TookAll, TookMany, TurnsMade, called, end_of, ended_by, number_of, reset_end, starts_of, stops_of, tasks_of, ticks_of, turn_unless, turns_of}
-use Rattle.station.specs.Recorded.{Called, Does, Task}
+use Rattle.station.specs.Recorded.{CalledOn, Does, Task}
 use Rattle.station.specs.Recorded.Task.{Rest, Turn}
 use Rattle.station.specs.Rests.{Rests, Unstepped}
-use Rattle.station.specs.Turned.{Turned}
+use Rattle.station.specs.Turned.{Went}
 use Rattle.station.proofs.Noting.{does_on}
 use Rattle.udp_runner.specs.Tape.{Tape}
 
@@ -30,11 +30,11 @@ on_ok (Err fault) Q R then q = tt
 pub rested : {P C D W O E : Type 0} (contents : W → Option (List ℕ)) (s t : Bool) (coming : C → List ℕ) (tape : P → Tape) (failed : P → ℕ) (table : D → DeviceTable) (old new : Station P C D W O E) → Rests s tape failed old new → Does contents s t coming tape failed table (Rest ∷ []) old new
 rested contents s t coming tape failed table old new rests = (new, rests, refl)
 
-pub turned : {P C D W O E : Type 0} (contents : W → Option (List ℕ)) (s t : Bool) (coming : C → List ℕ) (tape : P → Tape) (failed : P → ℕ) (table : D → DeviceTable) (old new : Station P C D W O E) → Turned contents s t coming tape failed table old new → Does contents s t coming tape failed table (Turn ∷ []) old new
+pub turned : {P C D W O E : Type 0} (contents : W → Option (List ℕ)) (s t : Bool) (coming : C → List ℕ) (tape : P → Tape) (failed : P → ℕ) (table : D → DeviceTable) (old new : Station P C D W O E) → Went contents s t coming tape failed table old new → Does contents s t coming tape failed table (Turn ∷ []) old new
 turned contents s t coming tape failed table old new turn = (new, turn, refl)
 
 -- a call, and what is printed behind it
-pub called_then : {P C D W O E : Type 0} (contents : W → Option (List ℕ)) (s t : Bool) (coming : C → List ℕ) (tape : P → Tape) (failed : P → ℕ) (table : D → DeviceTable) (call : Event) (old middle new : Station P C D W O E) → Called contents s tape failed table call old middle → Rests s tape failed middle new → Does contents s t coming tape failed table (called call) old new
+pub called_then : {P C D W O E : Type 0} (contents : W → Option (List ℕ)) (s t : Bool) (coming : C → List ℕ) (tape : P → Tape) (failed : P → ℕ) (table : D → DeviceTable) (call : Event) (old middle new : Station P C D W O E) → CalledOn contents s tape failed table call old middle → Rests s tape failed middle new → Does contents s t coming tape failed table (called call) old new
 called_then contents s t coming tape failed table call old middle new did rests = (middle, did, (new, rests, refl))
 
 -- nothing, and what is done behind it
@@ -80,7 +80,7 @@ took_last contents s t coming tape failed table gives taken end ms from old to n
 
 -- a step that is no end, and the turn behind it
 pub took_one : {S P C D W O E : Type 0} (contents : W → Option (List ℕ)) (s t : Bool) (coming : C → List ℕ) (tape : P → Tape) (failed : P → ℕ) (table : D → DeviceTable) (gives : S → ℕ → StationStep → S → Type 0) (taken : StationStep) (ms : ℕ) (from : S) (old middle : Station P C D W O E) (to : S) (new : Station P C D W O E)
-    → ms ≡ old.observer.now_ms → gives from ms taken to → None ≡ end_of taken → Does contents s t coming tape failed table (tasks_of (number_of old) taken) old middle → Turned contents s t coming tape failed table middle new
+    → ms ≡ old.observer.now_ms → gives from ms taken to → None ≡ end_of taken → Does contents s t coming tape failed table (tasks_of (number_of old) taken) old middle → Went contents s t coming tape failed table middle new
     → Took contents s t coming tape failed table gives (reset_end new.observer.reset) from old to new
 took_one contents s t coming tape failed table gives taken ms from old middle to new at came ends work turn = record {
   taken = taken;

@@ -1,10 +1,15 @@
--- Times of lines and runs of scripts, worked by hand.
+-- Times of lines and runs of scripts, and the events of tasks, worked by hand.
 use Rattle.std.proofs.Common.{◌≡◌, List, [], ◌∷◌, false, Some, None, refl}
+use Rattle.cip_events.specs.declared.arrival.Arrival.TheVariants as arrival
+use Rattle.cip_events.specs.declared.event.Event.TheVariants as event
 use Rattle.station.specs.declared.script.run.ScriptRun.{ScriptRun}
 use Rattle.station.specs.declared.script.lines.DueTime.TheVariants.{At, Every}
 use Rattle.station.specs.declared.step.StationStep.TheVariants as step
 use Rattle.port_orders.specs.declared.order.PortOrder.TheVariants as order
 use Rattle.station.specs.declared.script.lines.ScriptLine.{ScriptLine}
+use Rattle.station.specs.Exact.{are_whole, events_of, left_of}
+use Rattle.station.specs.Recorded.{Task}
+use Rattle.station.specs.Recorded.Task.{AnyCall, Call, End, Rest, Turn}
 use Rattle.station.specs.Script.Due.{is_due, last_time, next_time}
 use Rattle.station.specs.Script.Runs.{after, taken, wait_of}
 
@@ -67,3 +72,17 @@ waits_not = refl
 -- at time 0 a line that is due then is taken
 at_0 : taken begun 0 (record { due = At 0; step = step.Order order.Cut } ∷ []) ≡ Some (record { ms = 0; line = 0 })
 at_0 = refl
+
+-- two turns with a start between them, and the end of the sessions: the clock gives 5 ms and then none, the port a cut at the second turn
+abbrev four_tasks : List Task
+four_tasks = Rest ∷ Turn ∷ Call (event.Start 3) ∷ Turn ∷ End ∷ []
+
+their_events : events_of four_tasks (5 ∷ 0 ∷ 7 ∷ []) (None ∷ Some (arrival.Cut 2) ∷ []) ≡ event.Tick 5 ∷ event.Start 3 ∷ event.StreamCut 2 ∷ []
+their_events = refl
+
+one_time_is_left : left_of four_tasks (5 ∷ 0 ∷ 7 ∷ []) ≡ 7 ∷ []
+one_time_is_left = refl
+
+-- a call of which it is not said that the station goes on behind it
+not_whole : are_whole (Turn ∷ AnyCall (event.Start 3) ∷ []) ≡ false
+not_whole = refl

@@ -1,6 +1,8 @@
 pub mod Ended
+pub mod Exact
 pub mod Faults
 pub mod Lives
+pub mod Noted
 pub mod Recorded
 pub mod Resets
 pub mod Rests

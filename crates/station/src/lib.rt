@@ -4,6 +4,7 @@
 //! `script` says when the lines of a device's script are due, over the time of its plant.
 #![tactic(auto)]
 
+mod exact;
 mod fault;
 mod life;
 mod observer;
@@ -15,6 +16,7 @@ mod sessions;
 mod sources;
 mod step;
 
+pub use exact::tasks_are_exact;
 pub use fault::EarlyEnd;
 pub use observer::StationObserver;
 pub use script::{DueLine, DueTime, ScriptLine, ScriptRun, times_are_exact, waits_are_exact};

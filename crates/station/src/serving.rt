@@ -6,10 +6,10 @@ ghost use Rattle.station_lines.specs.Attributes.Calls.{call_event};
 ghost use Rattle.station.specs.Ended.{Ended, Ends};
 ghost use Rattle.station.specs.Faults.{failures_after_call, failures_after_turn};
 ghost use Rattle.station.specs.Lives.{called, number_of, starts_of, stops_of};
-ghost use Rattle.station.specs.Recorded.{Called, Does, Recorded};
+ghost use Rattle.station.specs.Recorded.{CalledOn, Does, Recorded};
 ghost use Rattle.station.specs.Rests.{Rests, Unstepped};
 ghost use Rattle.station.specs.Sessions.{sessions_of};
-ghost use Rattle.station.specs.Turned.{Turned};
+ghost use Rattle.station.specs.Turned.{Turned, Went};
 ghost use Rattle.station_lines.specs.Watch.Closing.{closing_ms, is_marked};
 
 use crate::fault::{EarlyEnd, failures_after_call, failures_after_turn};
@@ -123,7 +123,10 @@ impl<P: GroupPort, C: Clock, D: Device, W: RecordSink + Drop, O: LineSink, E: Li
 
     /// Makes a turn that waits at most so long, and less if a line of state or a browser waits. Prints what has changed.
     pub fn turn(&mut self, most_ms: u64) -> Result<(), EarlyEnd>
-        ensures { Turned W.contents P.is_scripted C.is_scripted C.coming P.tape P.failed D.table self.old self.new }
+        ensures turned { Turned W.contents P.is_scripted C.is_scripted C.coming P.tape P.failed D.table
+            self.old self.new }
+        ensures went { OnOk result (Went W.contents P.is_scripted C.is_scripted C.coming P.tape P.failed D.table
+            self.old self.new) }
     {
         let most_ms = self.observer.page_wait_ms(most_ms);
         let most_ms = patience_ms(self.points.is_behind(), most_ms);
@@ -278,7 +281,10 @@ impl<P: GroupPort, C: Clock, D: Device, W: RecordSink + Drop, O: LineSink, E: Li
     /// Makes a turn that waits at most so many milliseconds.
     #[tactic(auto, using(crate::proofs::Turning::not_turned))]
     fn wait_and_step(&mut self, most_ms: u64) -> Result<(), EarlyEnd>
-        ensures { Turned W.contents P.is_scripted C.is_scripted C.coming P.tape P.failed D.table self.old self.new }
+        ensures turned { Turned W.contents P.is_scripted C.is_scripted C.coming P.tape P.failed D.table
+            self.old self.new }
+        ensures went { OnOk result (Went W.contents P.is_scripted C.is_scripted C.coming P.tape P.failed D.table
+            self.old self.new) }
     {
         // (`turn_in_time` requires that the count of failures can rise)
         if self.port.failures() == u64::MAX {
@@ -331,7 +337,7 @@ impl<P: GroupPort, C: Clock, D: Device, W: RecordSink + Drop, O: LineSink, E: Li
     fn step_and_send(&mut self, event: &Event) -> Result<(), EarlyEnd>
         ensures recorded { Recorded W.contents P.is_scripted C.is_scripted C.coming P.tape P.failed D.table
             self.old self.new }
-        ensures called { OnOk result (Called W.contents P.is_scripted P.tape P.failed D.table event.now
+        ensures called { OnOk result (CalledOn W.contents P.is_scripted P.tape P.failed D.table event.now
             self.old self.new) }
     {
         // (`act` requires that the count of failures can rise)

@@ -24,10 +24,10 @@ pub returns-in-Order-clause-done : goal.returns-in-Order-clause-done
 returns-in-Order-clause-done g c = always _ _ (done_as (g.W.RecordSink.contents) (g.P.Port.is_scripted) (g.C.Clock.is_scripted) (g.C.Clock.coming) (g.P.Port.tape) (g.P.Port.failed) (g.D.Device.table) (Rest ∷ []) _ _ _ (ap (tasks_of (number_of c.args.self.now)) c.in-Order.is) (rested (g.W.RecordSink.contents) (g.P.Port.is_scripted) (g.C.Clock.is_scripted) (g.C.Clock.coming) (g.P.Port.tape) (g.P.Port.failed) (g.D.Device.table) _ _ c.order.ensures))
 
 pub returns-in-Wait-clause-recorded : goal.returns-in-Wait-clause-recorded
-returns-in-Wait-clause-recorded g c = at_rest (g.W.RecordSink.contents) (g.P.Port.is_scripted) (g.C.Clock.is_scripted) (g.C.Clock.coming) (g.P.Port.tape) (g.P.Port.failed) (g.D.Device.table) _ _ (record { recorder = refl; device = refl; clock = refl; kept = λ sc. refl; worked = refl })
+returns-in-Wait-clause-recorded g c = at_rest (g.W.RecordSink.contents) (g.P.Port.is_scripted) (g.C.Clock.is_scripted) (g.C.Clock.coming) (g.P.Port.tape) (g.P.Port.failed) (g.D.Device.table) _ _ (record { recorder = refl; reset = refl; device = refl; clock = refl; kept = λ sc. refl; worked = refl })
 
 pub returns-in-Wait-clause-done : goal.returns-in-Wait-clause-done
-returns-in-Wait-clause-done g c = done_as (g.W.RecordSink.contents) (g.P.Port.is_scripted) (g.C.Clock.is_scripted) (g.C.Clock.coming) (g.P.Port.tape) (g.P.Port.failed) (g.D.Device.table) (Rest ∷ []) _ _ _ (ap (tasks_of (number_of c.args.self.now)) c.in-Wait.is) (rested (g.W.RecordSink.contents) (g.P.Port.is_scripted) (g.C.Clock.is_scripted) (g.C.Clock.coming) (g.P.Port.tape) (g.P.Port.failed) (g.D.Device.table) _ _ (record { recorder = refl; device = refl; clock = refl; kept = λ sc. refl; worked = refl }))
+returns-in-Wait-clause-done g c = done_as (g.W.RecordSink.contents) (g.P.Port.is_scripted) (g.C.Clock.is_scripted) (g.C.Clock.coming) (g.P.Port.tape) (g.P.Port.failed) (g.D.Device.table) (Rest ∷ []) _ _ _ (ap (tasks_of (number_of c.args.self.now)) c.in-Wait.is) (rested (g.W.RecordSink.contents) (g.P.Port.is_scripted) (g.C.Clock.is_scripted) (g.C.Clock.coming) (g.P.Port.tape) (g.P.Port.failed) (g.D.Device.table) _ _ (record { recorder = refl; reset = refl; device = refl; clock = refl; kept = λ sc. refl; worked = refl }))
 
 pub returns-in-End-clause-recorded : goal.returns-in-End-clause-recorded
 returns-in-End-clause-recorded g c = at_rest (g.W.RecordSink.contents) (g.P.Port.is_scripted) (g.C.Clock.is_scripted) (g.C.Clock.coming) (g.P.Port.tape) (g.P.Port.failed) (g.D.Device.table) _ _ c.report_end.ensures

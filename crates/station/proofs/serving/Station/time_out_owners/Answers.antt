@@ -8,7 +8,7 @@ use Rattle.station.proofs.serving.Station.time_out_owners.Goals as goal
 
 pub loop-init : goal.loop-init
 loop-init g c = record {
-  recorded = at_rest (g.W.RecordSink.contents) (g.P.Port.is_scripted) (g.C.Clock.is_scripted) (g.C.Clock.coming) (g.P.Port.tape) (g.P.Port.failed) (g.D.Device.table) _ _ (record { recorder = refl; device = refl; clock = refl; kept = λ sc. refl; worked = refl });
+  recorded = at_rest (g.W.RecordSink.contents) (g.P.Port.is_scripted) (g.C.Clock.is_scripted) (g.C.Clock.coming) (g.P.Port.tape) (g.P.Port.failed) (g.D.Device.table) _ _ (record { recorder = refl; reset = refl; device = refl; clock = refl; kept = λ sc. refl; worked = refl });
   aged = refl;
 }
 
