@@ -2,7 +2,7 @@
 use Rattle.std.proofs.Common.{◌≡◌, ℕ, [], ◌∷◌, ◌++◌, codes, false, true, None, Some, refl}
 use Rattle.plant_rim.specs.File.Calls.{own_call_of}
 use Rattle.station.specs.declared.step.StationStep.TheVariants as step
-use Rattle.port_orders.specs.declared.order.PortOrder.TheVariants as order
+use Rattle.port_faults.specs.declared.orders.order.PortOrder.TheVariants as order
 use Rattle.plant_rim.specs.Boards.{device_left, record_ended}
 use Rattle.plant_rim.specs.declared.failure.DeviceFailure.TheVariants.{Record, RecordEnd}
 use Rattle.plant_rim.specs.Incarnations.{next_of, span_of}

@@ -8,7 +8,7 @@ use Rattle.std.proofs.lemmas.List.{take_all, drop_all}
 use Rattle.std.proofs.lemmas.Str.{IsUtf8-from_is_utf8, is_utf8-from_IsUtf8}
 use Rattle.std.proofs.lemmas.Str.Pattern.{IsSplitOnceResult, split_once_first}
 use Rattle.station.specs.declared.step.StationStep.TheVariants as step
-use Rattle.port_orders.specs.declared.order.PortOrder.TheVariants as order
+use Rattle.port_faults.specs.declared.orders.order.PortOrder.TheVariants as order
 use Rattle.trace_words.specs.declared.words.TextFault.{TextFault}
 use Rattle.trace_words.specs.declared.words.TextFault.TheVariants.{Bad, OutOfMemory}
 use Rattle.trace_words.specs.Reader.{Takes, ends, meaning, refuses}

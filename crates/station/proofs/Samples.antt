@@ -5,7 +5,7 @@ use Rattle.cip_events.specs.declared.event.Event.TheVariants as event
 use Rattle.station.specs.declared.script.run.ScriptRun.{ScriptRun}
 use Rattle.station.specs.declared.script.lines.DueTime.TheVariants.{At, Every}
 use Rattle.station.specs.declared.step.StationStep.TheVariants as step
-use Rattle.port_orders.specs.declared.order.PortOrder.TheVariants as order
+use Rattle.port_faults.specs.declared.orders.order.PortOrder.TheVariants as order
 use Rattle.station.specs.declared.script.lines.ScriptLine.{ScriptLine}
 use Rattle.station.specs.Exact.{are_whole, events_of, left_of}
 use Rattle.station.specs.Recorded.{Task}

@@ -12,7 +12,7 @@ use crate::serving::Station;
 use crate::sources::{StepSource, pause_ms};
 use crate::step::{LifeEnd, StationStep};
 use cip_tables::Device;
-use port_orders::{OrderedPort, PortOrder};
+use port_faults::{OrderedPort, PortOrder};
 use station_lines::{LineSink, close_end, waits_on};
 use station_record::RecordSink;
 use udp_runner::{Clock, GroupPort};

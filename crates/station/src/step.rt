@@ -4,7 +4,7 @@ ghost use Rattle.std.specs.Prelude.{◌≡◌, IfOk};
 
 use cip_events::Event;
 use cip_types::{Items, OutOfMemory};
-use port_orders::PortOrder;
+use port_faults::PortOrder;
 use station_lines::AttributeCall;
 use std::alloc::Global;
 

@@ -3,7 +3,7 @@ use Rattle.std.specs.Prelude.{ℕ, if◌then◌else◌, true, false, List, [], �
 use Rattle.station.specs.declared.step.LifeEnd.TheVariants.{Restart}
 use Rattle.station.specs.declared.step.StationStep.{StationStep}
 use Rattle.station.specs.declared.step.StationStep.TheVariants as step
-use Rattle.port_orders.specs.declared.order.PortOrder.TheVariants as order
+use Rattle.port_faults.specs.declared.orders.order.PortOrder.TheVariants as order
 use Rattle.station_lines.specs.Calls.{call_of, line_of}
 use Rattle.station_lines.specs.declared.calls.InputLine.{InputLine}
 use Rattle.station_lines.specs.declared.calls.InputLine.TheVariants as input

@@ -5,7 +5,7 @@ ghost use Rattle.trace_words.specs.Reader.{Finds, Takes, meaning, refuses, unrea
 ghost use Rattle.plant_rim.specs.File.Calls.{own_call_of, own_meanings, own_reader, plant_call_of, restart_reader, station_call_of, step_of_line, typed_call_of};
 
 use cip_types::OutOfMemory;
-use port_orders::PortOrder;
+use port_faults::PortOrder;
 use station::{LifeEnd, StationStep};
 use station_lines::{InputLine, read_call, read_line};
 use std::alloc::Global;

@@ -5,7 +5,7 @@ ghost use Rattle.std.specs.Prelude.{◌≡◌, false, []};
 use crate::stations::station_run::TurnArrival;
 use cip_events::Arrival;
 use cip_types::{Node, OutOfMemory};
-use port_orders::{OrderedPort, PortOrder};
+use port_faults::{OrderedPort, PortOrder};
 use std::alloc::Global;
 use std::collections::VecDeque;
 use std::time::Duration;

@@ -4,8 +4,8 @@ use Rattle.cip_events.specs.declared.arrival.Arrival.{Arrival}
 use Rattle.cip_events.specs.declared.arrival.Arrival.TheVariants as arrival
 use Rattle.udp_runner.specs.declared.output.Output.{Output}
 use Rattle.udp_runner.specs.declared.output.Output.TheVariants as output
-use Rattle.port_orders.specs.declared.marks.StreamMark.{StreamMark}
-use Rattle.port_orders.specs.declared.marks.StreamMark.TheVariants.{Closed, Open, ToCut}
+use Rattle.port_faults.specs.declared.orders.marks.StreamMark.{StreamMark}
+use Rattle.port_faults.specs.declared.orders.marks.StreamMark.TheVariants.{Closed, Open, ToCut}
 
 -- a stream is open from its beginning on, until it is cut
 abbrev pub marks_after : Arrival → List StreamMark → List StreamMark

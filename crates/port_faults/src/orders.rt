@@ -1,6 +1,5 @@
 //! Orders to a port, which a test gives between the turns of its device: all streams are cut, nothing happens for a while, a
 //! datagram of any bytes is sent.
-#![tactic(auto)]
 
 mod marks;
 mod order;

@@ -1,11 +1,11 @@
 //! A port around a port, which takes orders.
 
 ghost use Rattle.std.specs.Prelude.{◌≡◌, ◌<◌, ◌+◌, ◌-◌, ◌^◌, true, false, IfOk, OnOk, OnErr};
-ghost use Rattle.port_orders.specs.Orders.{HasNoOrder};
+ghost use Rattle.port_faults.specs.Orders.Orders.{HasNoOrder};
 ghost use Rattle.udp_runner.specs.Calls.{Idled, Looked, Received, Sent};
 
-use crate::marks::StreamMarks;
-use crate::order::{OrderedPort, PortOrder};
+use crate::orders::marks::StreamMarks;
+use crate::orders::order::{OrderedPort, PortOrder};
 use cip_events::Arrival;
 use cip_types::{Items, Node, OutOfMemory};
 use std::alloc::Global;

@@ -1,9 +1,9 @@
 -- Which streams a cut is for, worked by hand: of the streams 0 to 3.
 use Rattle.std.proofs.Common.{◌≡◌, List, [], ◌∷◌, map, position, Some, None, refl}
 use Rattle.cip_events.specs.declared.arrival.Arrival.TheVariants as arrival
-use Rattle.port_orders.specs.Marks.{cut_mark, is_to_cut, marks_after, marks_behind}
-use Rattle.port_orders.specs.declared.marks.StreamMark.{StreamMark}
-use Rattle.port_orders.specs.declared.marks.StreamMark.TheVariants.{Closed, Open, ToCut}
+use Rattle.port_faults.specs.Orders.Marks.{cut_mark, is_to_cut, marks_after, marks_behind}
+use Rattle.port_faults.specs.declared.orders.marks.StreamMark.{StreamMark}
+use Rattle.port_faults.specs.declared.orders.marks.StreamMark.TheVariants.{Closed, Open, ToCut}
 use Rattle.udp_runner.specs.declared.output.Output.TheVariants as output
 
 abbrev two_open : List StreamMark

@@ -1,8 +1,8 @@
 //! The streams of a port: which of them are open, and which are to be cut.
 
 ghost use Rattle.std.specs.Prelude.{◌≡◌, ◌<◌, map, position, replicate, slice_set, IfOk, IfSome};
-ghost use Rattle.port_orders.specs.Marks.{cut_mark, is_to_cut, marks_after, marks_behind};
-ghost use Rattle.port_orders.specs.declared.marks.StreamMark.TheVariants.{Closed};
+ghost use Rattle.port_faults.specs.Orders.Marks.{cut_mark, is_to_cut, marks_after, marks_behind};
+ghost use Rattle.port_faults.specs.declared.orders.marks.StreamMark.TheVariants.{Closed};
 
 use cip_events::Arrival;
 use cip_types::OutOfMemory;
@@ -30,7 +30,7 @@ pub struct StreamMarks {
 
 impl Model for StreamMarks {
     ghost use Rattle.std.specs.Prelude.{◌≡◌, List, length};
-    ghost use Rattle.port_orders.specs.declared.marks.StreamMark.{StreamMark};
+    ghost use Rattle.port_faults.specs.declared.orders.marks.StreamMark.{StreamMark};
 
     ghost Value = { List StreamMark };
 
