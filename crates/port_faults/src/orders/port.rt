@@ -1,8 +1,7 @@
 //! A port around a port, which takes orders.
 
 ghost use Rattle.std.specs.Prelude.{◌≡◌, ◌<◌, ◌+◌, ◌-◌, ◌^◌, true, false, IfOk, OnOk, OnErr};
-ghost use Rattle.port_faults.specs.Orders.Orders.{HasNoOrder};
-ghost use Rattle.udp_runner.specs.Calls.{Idled, Looked, Received, Sent};
+ghost use Rattle.udp_runner.specs.Calls.{Idled, Looked, Sent};
 
 use crate::orders::marks::StreamMarks;
 use crate::orders::order::{OrderedPort, PortOrder};
@@ -37,8 +36,7 @@ impl<P: Port, R: System> OrderPort<P, R> {
     where
         P: Drop,
         R: Drop,
-        ensures port { IfOk result (λ made. made.port ≡ port) }
-        ensures itself { IfOk result (λ made. HasNoOrder made) }
+        ensures { IfOk result (λ made. made.port ≡ port) }
     {
         Ok(OrderPort {
             rt,
@@ -87,15 +85,7 @@ impl<P: Port, R: System> Port for OrderPort<P, R> {
         self.port.failures()
     }
 
-    /// Without orders: what this port receives is what the port in it receives.
-    fn receive(&mut self) -> Result<Option<Arrival>, PortFault>
-        requires { P.failed self.old.port < 2 ^ 64 - 1 }
-        ensures worked { OnOk result (P.failed self.new.port ≡ P.failed self.old.port) }
-        ensures counted { OnErr result (P.failed self.new.port ≡ P.failed self.old.port + 1) }
-        ensures itself { HasNoOrder self.old → Received P.is_scripted (P.tape self.old.port) (P.tape self.new.port)
-            (P.failed self.old.port) (P.failed self.new.port) result }
-        ensures stays { HasNoOrder self.old → HasNoOrder self.new }
-    {
+    fn receive(&mut self) -> Result<Option<Arrival>, PortFault> {
         send_raw(&mut self.port, &mut self.raw)?;
         if let Some(stream) = self.marks.first_to_cut() {
             close(&mut self.port, stream)?;
@@ -117,7 +107,6 @@ impl<P: Port, R: System> Port for OrderPort<P, R> {
         ensures counted { OnErr result (P.failed self.new.port ≡ P.failed self.old.port + 1) }
         ensures itself { Looked P.is_scripted (P.tape self.old.port) (P.tape self.new.port)
             (P.failed self.old.port) (P.failed self.new.port) result }
-        ensures stays { HasNoOrder self.old → HasNoOrder self.new }
     {
         self.port.next_datagram()
     }
@@ -125,7 +114,6 @@ impl<P: Port, R: System> Port for OrderPort<P, R> {
     fn wait(&mut self, most: Duration)
         ensures itself { Idled P.is_scripted (P.tape self.old.port) (P.tape self.new.port) (P.failed self.old.port)
             (P.failed self.new.port) }
-        ensures stays { HasNoOrder self.old → HasNoOrder self.new }
     {
         if self.raw.is_empty() && !self.marks.any_to_cut() {
             self.port.wait(most);
@@ -135,7 +123,6 @@ impl<P: Port, R: System> Port for OrderPort<P, R> {
     fn recycle(&mut self, bytes: Items<u8>)
         ensures itself { Idled P.is_scripted (P.tape self.old.port) (P.tape self.new.port) (P.failed self.old.port)
             (P.failed self.new.port) }
-        ensures stays { HasNoOrder self.old → HasNoOrder self.new }
     {
         self.port.recycle(bytes);
     }
@@ -153,7 +140,6 @@ impl<P: Port, R: System> Port for OrderPort<P, R> {
         ensures counted { OnErr result (P.failed self.new.port ≡ P.failed self.old.port + 1) }
         ensures itself { Sent P.is_scripted output.now (P.tape self.old.port) (P.tape self.new.port)
             (P.failed self.old.port) (P.failed self.new.port) result }
-        ensures stays { HasNoOrder self.old → HasNoOrder self.new }
     {
         self.marks.note_sent(output);
         self.port.send(output)
@@ -164,7 +150,6 @@ impl<P: KeptPort, R: System> KeptPort for OrderPort<P, R> {
     fn next_report(&mut self) -> Option<PortReport>
         ensures itself { Idled P.is_scripted (P.tape self.old.port) (P.tape self.new.port) (P.failed self.old.port)
             (P.failed self.new.port) }
-        ensures stays { HasNoOrder self.old → HasNoOrder self.new }
     {
         self.port.next_report()
     }
@@ -172,7 +157,6 @@ impl<P: KeptPort, R: System> KeptPort for OrderPort<P, R> {
     fn keep(&mut self, peers: &[Node], owners: &[Node])
         ensures itself { Idled P.is_scripted (P.tape self.old.port) (P.tape self.new.port) (P.failed self.old.port)
             (P.failed self.new.port) }
-        ensures stays { HasNoOrder self.old → HasNoOrder self.new }
     {
         self.port.keep(peers, owners);
     }
@@ -180,7 +164,6 @@ impl<P: KeptPort, R: System> KeptPort for OrderPort<P, R> {
     fn renew(&mut self, target: Node)
         ensures itself { Idled P.is_scripted (P.tape self.old.port) (P.tape self.new.port) (P.failed self.old.port)
             (P.failed self.new.port) }
-        ensures stays { HasNoOrder self.old → HasNoOrder self.new }
     {
         self.port.renew(target);
     }
@@ -188,7 +171,6 @@ impl<P: KeptPort, R: System> KeptPort for OrderPort<P, R> {
     fn succeed(&mut self, target: Node)
         ensures itself { Idled P.is_scripted (P.tape self.old.port) (P.tape self.new.port) (P.failed self.old.port)
             (P.failed self.new.port) }
-        ensures stays { HasNoOrder self.old → HasNoOrder self.new }
     {
         self.port.succeed(target);
     }
@@ -198,7 +180,6 @@ impl<P: GroupPort, R: System> GroupPort for OrderPort<P, R> {
     fn receive_groups(&mut self, groups: &[DataGroup])
         ensures itself { Idled P.is_scripted (P.tape self.old.port) (P.tape self.new.port) (P.failed self.old.port)
             (P.failed self.new.port) }
-        ensures stays { HasNoOrder self.old → HasNoOrder self.new }
     {
         self.port.receive_groups(groups);
     }
@@ -206,7 +187,6 @@ impl<P: GroupPort, R: System> GroupPort for OrderPort<P, R> {
     fn next_unbound(&mut self) -> Option<DataGroup>
         ensures itself { Idled P.is_scripted (P.tape self.old.port) (P.tape self.new.port) (P.failed self.old.port)
             (P.failed self.new.port) }
-        ensures stays { HasNoOrder self.old → HasNoOrder self.new }
     {
         self.port.next_unbound()
     }
