@@ -279,7 +279,7 @@ class Devices(unittest.TestCase):
 
     def test_a_request_to_the_application_reads(self):
         """Its number has 64 bits, in two numbers of an item; its path is an item of its own."""
-        for c, d, attribute, word in [(1, 7, 7, "7"), (0, 0, None, "-")]:
+        for c, d, attribute, word in [(1, 7, 7, "7"), (1, 0, 0, "0"), (0, 0, None, "-")]:
             items = [((8, 5, 1, 14, 0), b"\x0a"), ((9, 100, 2, c, d), b"")]
             raw = b"".join(
                 b"".join(n.to_bytes(4, "little") for n in item) + len(data).to_bytes(8, "little") + data for item, data in items
@@ -620,6 +620,8 @@ class Plants(unittest.TestCase):
         reopened = [(660, SlotState.TIMED_OUT), (3_660, SlotState.OPENING), (3_660, SlotState.ESTABLISHED)]
         self.assertEqual(self.states(scanner)[2:], reopened)
         self.assertEqual(adapter.read(150).hex(), "11223344")
+        # (its own time began with it)
+        self.assertEqual((adapter.device.now_ms, scanner.device.now_ms), (3_500, 4_000))
         # (a stream that the device has closed, while its end is on the way to the other)
         adapter.unplug()
         adapter.frame(scanner, UNREGISTER)
@@ -634,6 +636,39 @@ class Plants(unittest.TestCase):
         self.assertEqual(adapter.datagram(scanner.node, sent[0]), Delivery.UNKNOWN_ID)
         with self.assertRaises(ValueError):
             adapter.restart(Device(SCANNER))
+
+    def test_datagrams_are_lost_while_a_cable_is_pulled(self):
+        """Those to the device, and those from it: its connection of 10 ms lives on for 160 ms."""
+        plant, adapter, scanner = self.plant()
+        counts = lambda: (sum(adapter.deliveries.values()), sum(scanner.deliveries.values()))
+        plant.run_until(95)
+        adapter.unplug()
+        plant.run_until(195)
+        self.assertEqual(counts(), (10, 10))
+        adapter.plug()
+        plant.run_until(205)
+        self.assertEqual(counts(), (11, 11))
+
+    def test_a_cut_is_of_two_devices(self):
+        plant, adapter, scanner = self.plant()
+        other = plant.add(Device(ADAPTER.replace("192.168.1.10", "192.168.1.30")), "other")
+        plant.connect(scanner, other)
+        plant.run_until(100)
+        plant.cut(scanner, adapter)
+        self.assertEqual([stream.is_over for stream in plant.streams], [True, False])
+
+    def test_actions_have_their_times(self):
+        """`every` is at multiples of its time. What a device has to send at the moment of a call is sent before it."""
+        plant, adapter, scanner = self.plant()
+        numbers, times = [], []
+        plant.watch = lambda member, datagram: numbers.append(int.from_bytes(datagram.data[10:14], "little")) if member is adapter else None
+        plant.run_until(5)
+        plant.every(10, lambda: times.append(plant.now_ms))
+        for ms in range(20, 60, 10):
+            plant.at(ms, lambda: adapter.write(100, bytes(4)))
+        plant.run_until(55)
+        self.assertEqual(times, [10, 20, 30, 40, 50])
+        self.assertEqual(numbers, list(range(numbers[0], numbers[0] + 6)))
 
     def test_streams_wait_while_a_cable_is_pulled(self):
         plant, adapter, scanner = self.plant(Faults(delay_ms=(0, 9)))

@@ -1,12 +1,13 @@
 /* Stands before the C library's calls of datagrams, of reads, of files that are to be on the medium and of addresses, and makes them fail: the
-   file that the variable CALL_FAULTS names has five numbers of four bytes, now. The first is the error of each datagram that is sent, the
+   file that the variable CALL_FAULTS names has six numbers of four bytes, now. The first is the error of each datagram that is sent, the
    second that of each one that is asked for, 0 for none; if the third is not 0, a signal interrupts each second read of the standard
-   input. The fourth is the error of each file that is to be on the medium, the fifth that of each socket that is to have an address.
+   input. The fourth is the error of each file that is to be on the medium, the fifth that of each socket that is to have an address;
+   the sixth counts what has come on the medium.
    tools/play/stations builds and loads this. */
 typedef unsigned long size_t;
 typedef long ssize_t;
 struct faults {
-    int send, receive, interrupt, sync, bind;
+    int send, receive, interrupt, sync, bind, synced;
 };
 extern long syscall(long, ...);
 extern int open(const char *, int, ...);
@@ -20,17 +21,17 @@ enum { READ = 0, SENDTO = 44, RECVFROM = 45, BIND = 49, GETSOCKOPT = 55, FSYNC =
 enum { READ = 63, FSYNC = 82, BIND = 200, SENDTO = 206, RECVFROM = 207, GETSOCKOPT = 209 };
 #endif
 
-enum { READ_ONLY = 0, CLOSE_ON_EXEC = 02000000, PROT_READ = 1, MAP_SHARED = 1 };
+enum { READ_AND_WRITE = 2, CLOSE_ON_EXEC = 02000000, PROT_READ_WRITE = 3, MAP_SHARED = 1 };
 enum { LEVEL_SOCKET = 1, KIND = 3, DATAGRAMS = 2, INTERRUPTED = 4 };
 
-static const volatile struct faults *faults; /* none until the file is mapped */
+static volatile struct faults *faults; /* none until the file is mapped */
 static unsigned reads;
 
 __attribute__((constructor)) static void begin(void) {
     const char *path = getenv("CALL_FAULTS");
-    int file = path ? open(path, READ_ONLY | CLOSE_ON_EXEC) : -1;
+    int file = path ? open(path, READ_AND_WRITE | CLOSE_ON_EXEC) : -1;
     if (file < 0) return;
-    void *at = mmap(0, sizeof *faults, PROT_READ, MAP_SHARED, file, 0);
+    void *at = mmap(0, sizeof *faults, PROT_READ_WRITE, MAP_SHARED, file, 0);
     if (at != (void *)-1) faults = at;
 }
 
@@ -62,7 +63,10 @@ ssize_t recvfrom(int file, void *bytes, size_t len, int flags, void *from, unsig
 }
 
 int fsync(int file) {
-    return faults && faults->sync ? (int)failed(faults->sync) : (int)syscall(FSYNC, file);
+    if (faults && faults->sync) return (int)failed(faults->sync);
+    long done = syscall(FSYNC, file);
+    if (faults && !done) faults->synced++;
+    return (int)done;
 }
 
 int bind(int file, const void *at, unsigned size) {

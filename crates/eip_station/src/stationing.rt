@@ -4,29 +4,28 @@ use crate::failure::{Failure, NO_MEMORY};
 use crate::paging::{HostNet, PageSubject, begin_page, page_host};
 use crate::profiles::profile_of;
 use crate::program::{Surroundings, line_of};
-use cip_tables::{Config, Device};
+use cip_tables::Config;
 use cip_types::OutOfMemory;
 use command_lines::{Options, StationTask, file_of, word_from_end};
-use fast_device::FastDevice;
 use page_feed::PageFeed;
-use port_faults::FaultyPort;
-use socket_port::SystemClock;
-use station::{Reporting, Station, StationObserver};
-use station_lines::NoLines;
+use station::{DeviceSteps, EarlyEnd, InputSteps, LifeEnd};
+use station_lines::{CallLines, LineSink, NoLines};
 use station_port::{StationPlace, StationPort};
-use station_record::{Recorder, Start, StateFault, StationState, name_of, stem_of};
+use station_record::{Recorder, Start, StateFault, forget_record, name_of, stem_of};
 use station_rim::{
     Entries, LabelledLines, LineEntrance, Rim, SharedDevices, drain_lines, drain_record,
     report_line,
 };
 use station_setup::{
-    OpenedPort, ending_of, incarnation_of, is_scanner, names_in, open_port, rates_of, recorder_in,
-    socket_place, start_in, with_description, with_incarnation, with_serials,
+    MOST_LIVES, OpenStation, OpenedPort, StationOutputs, described, end_of, incarnation_of,
+    is_scanner, names_in, open_life_port, passed_ms, recorder_in, socket_place, start_in,
+    station_of, with_incarnation, with_serials,
 };
 use std::fs::File;
 use std::random::RandomSource;
 use std::rt::{Clock, Files};
 use std::sync::Wait;
+use std::time::Instant;
 use trace_words::{Names, ReadNames};
 
 /// Why a start has to be counted, and what to do where it cannot be.
@@ -37,7 +36,7 @@ datagram could then drive an output. --state FILE names another file; --incarnat
 /// Where the lines of an output of a station go.
 type StationLines<R> = LabelledLines<LineEntrance<R>>;
 
-/// The words of a station, its options, and what it shares with its threads.
+/// The words of a station, its options, and what it shares with its threads; and which life of it this is.
 #[derive(Clone, Copy)]
 pub struct Stationed<'a, R> {
     pub rt: R,
@@ -45,6 +44,9 @@ pub struct Stationed<'a, R> {
     pub options: &'a Options,
     pub rim: &'a Rim,
     pub shared: &'a Surroundings,
+    pub life: u32,
+    /// When the life begins, in milliseconds since the station began.
+    pub begun_ms: u64,
 }
 
 /// Runs a station to its end, and reports its failure.
@@ -63,8 +65,10 @@ where
         options: &task.options,
         rim: &shared.rim,
         shared,
+        life: 1,
+        begun_ms: 0,
     };
-    let ran = begin(&setting, task.scanner);
+    let ran = live_all(&setting, task.scanner);
     let done = with_record(&setting, ran);
     report_end(rt, words, shared, done)
 }
@@ -110,8 +114,55 @@ where
     Err(Failure::RecordEnd)
 }
 
-/// Reads the profile, begins the state, and runs the station.
-fn begin<R>(setting: &Stationed<'_, R>, scanner: bool) -> Result<(), Failure>
+/// Runs the station: a life, and behind a reset that a peer has requested the next one.
+fn live_all<R>(setting: &Stationed<'_, R>, scanner: bool) -> Result<(), Failure>
+where
+    R: AllocGlobal + Files<File = File> + Clock + HostNet + RandomSource + Wait + Copy + Drop,
+{
+    let Ok(origin) = Instant::now(&setting.rt) else {
+        return Err(Failure::from(EarlyEnd::Clock));
+    };
+    forget_lives(setting)?;
+    for life in 1..MOST_LIVES {
+        let setting = Stationed {
+            life,
+            begun_ms: passed_ms(&setting.rt, origin),
+            ..*setting
+        };
+        match begin(&setting, scanner)? {
+            LifeEnd::Restart { same: _ } => {}
+            _ => return Ok(()),
+        }
+        // (what is left of its record is not that of the next life)
+        if setting.options.record_from_end.is_some() && !drain_record(&setting.rt, setting.rim) {
+            return Ok(());
+        }
+    }
+    Ok(())
+}
+
+/// Removes the records of an earlier run's lives behind the first one, so that none of them is taken for one of this run.
+fn forget_lives<R>(setting: &Stationed<'_, R>) -> Result<(), OutOfMemory>
+where
+    R: AllocGlobal + Files<File = File> + Copy + Drop,
+{
+    for life in 2..MOST_LIVES {
+        let later = Stationed { life, ..*setting };
+        let Some(path) = record_path(&later)? else {
+            return Ok(());
+        };
+        if !matches!(
+            forget_record(&setting.rt, setting.rt.alloc(), path.as_str()),
+            Ok(true)
+        ) {
+            return Ok(());
+        }
+    }
+    Ok(())
+}
+
+/// Reads the profile, begins the state, and lives once.
+fn begin<R>(setting: &Stationed<'_, R>, scanner: bool) -> Result<LifeEnd, Failure>
 where
     R: AllocGlobal + Files<File = File> + Clock + HostNet + RandomSource + Wait + Copy + Drop,
 {
@@ -139,7 +190,7 @@ where
         Some(left) => format!(in alloc; "{}", word_from_end(setting.words, left))?,
         None => format!(in alloc; "{}.state", file_of(setting.words))?,
     };
-    match start_in(&setting.rt, options, path.as_str(), own) {
+    match start_in(&setting.rt, options, path.as_str(), own, setting.life) {
         Ok(start) => Ok(start),
         Err(fault) => Err(reported(setting, path.as_str(), fault)),
     }
@@ -172,18 +223,19 @@ where
     failure
 }
 
-/// Opens the port of a station, begins its record, and runs it.
-fn open<R>(setting: &Stationed<'_, R>, config: Config, start: &Start) -> Result<(), Failure>
+/// Opens the port of a station, begins its record, and has it live.
+fn open<R>(setting: &Stationed<'_, R>, config: Config, start: &Start) -> Result<LifeEnd, Failure>
 where
     R: AllocGlobal + Files<File = File> + Clock + HostNet + RandomSource + Wait + Copy + Drop,
 {
-    let config = described(setting, config, &start.state())?;
+    let (alloc, name) = (setting.rt.alloc(), station_name(setting).as_bytes());
+    let config = described(alloc, config, setting.options, start.state().serial, name)?;
     let kind = if is_scanner(&config) {
         "scanner"
     } else {
         "adapter"
     };
-    let opened = match open_port(setting.rt, setting.options, &config) {
+    let opened = match open_life_port(setting.rt, setting.options, &config, setting.life) {
         Ok(opened) => opened,
         Err(fault) => {
             let place = socket_place(setting.options, &config, fault);
@@ -192,26 +244,6 @@ where
     };
     let line = start_line(setting, kind, &opened.place, start.state().incarnation)?;
     serve(setting, &config, opened, start, line.as_str())
-}
-
-/// The configuration of a station: an adapter's has a description, so that inquiries find it.
-fn described<R>(
-    setting: &Stationed<'_, R>,
-    config: Config,
-    state: &StationState,
-) -> Result<Config, Failure>
-where
-    R: AllocGlobal,
-{
-    match config {
-        Config::Adapter(profile) => {
-            let name = station_name(setting).as_bytes();
-            let alloc = setting.rt.alloc();
-            let profile = with_description(alloc, profile, setting.options, state.serial, name)?;
-            Ok(Config::Adapter(profile))
-        }
-        Config::Scanner(profile) => Ok(Config::Scanner(profile)),
-    }
 }
 
 /// The name of a station: that of its options, or that of its profile's file.
@@ -238,66 +270,91 @@ where
     trace_words::push_node(&mut line, place.address)?;
     let (tcp, udp) = (place.tcp, place.udp);
     write!(line, ", TCP {tcp}, UDP {udp}, incarnation {incarnation}, ")?;
-    match setting.options.record_from_end {
-        Some(left) => {
-            let record = word_from_end(setting.words, left);
-            write!(line, "record {record}\n")?;
-        }
+    match record_path(setting)? {
+        Some(record) => write!(line, "record {record}\n")?,
         None => line.push_str("no record\n")?,
     }
     Ok(line)
 }
 
-/// Runs a device at a port until its time is over or the standard input ends.
+/// The file of the record, if there is one: a further life has one of its own.
+fn record_path<R>(setting: &Stationed<'_, R>) -> Result<Option<String>, OutOfMemory>
+where
+    R: AllocGlobal,
+{
+    let Some(left) = setting.options.record_from_end else {
+        return Ok(None);
+    };
+    let (alloc, path) = (setting.rt.alloc(), word_from_end(setting.words, left));
+    let life = setting.life;
+    match life {
+        1 => Ok(Some(format!(in alloc; "{path}")?)),
+        _ => Ok(Some(format!(in alloc; "{path}.life-{life}")?)),
+    }
+}
+
+/// Has a device live at a port until its time is over, the standard input ends, or a peer requests a reset.
 fn serve<R>(
     setting: &Stationed<'_, R>,
     config: &Config,
     opened: OpenedPort<R>,
     start: &Start,
     line: &str,
-) -> Result<(), Failure>
+) -> Result<LifeEnd, Failure>
 where
     R: AllocGlobal + Files<File = File> + Clock + HostNet + RandomSource + Wait + Copy + Drop,
 {
-    let (rt, alloc) = (setting.rt, setting.rt.alloc());
-    let OpenedPort {
-        mut port,
-        place,
-        slots,
-    } = opened;
-    port.set_alarm(setting.shared.alarm.share()?)?;
-    seed_delays(&rt, &mut port);
-    let waker = port.waker()?;
+    let rt = setting.rt;
+    let mut opened = opened;
+    opened.port.set_alarm(setting.shared.alarm.share()?)?;
+    seed_delays(&rt, &mut opened.port);
+    let (waker, slots) = (opened.port.waker()?, opened.slots);
     let names = names_of(setting)?;
     let recorder = recorder_of(setting, config, &names)?;
     if !setting.options.quiet {
         report_line(rt, setting.rim, line.as_bytes());
     }
     let (out, err) = outputs_of(setting, &names)?;
-    let mut observer = StationObserver::new(alloc, config, recorder, out, err)?;
-    if let Some(port) = setting.options.page {
-        observer.feed(page_of(setting, config, names, port)?);
-    }
-    let device = FastDevice::new(alloc, config.copy(alloc)?)?;
-    let clock = SystemClock::new(rt);
-    let reporting = Reporting {
-        quiet: setting.options.quiet,
-        silent_s: place.inactivity_s,
+    let outputs = StationOutputs {
+        recorder,
+        out,
+        err,
+        page: page_of(setting, config, names)?,
     };
-    let port = FaultyPort::new(alloc, port, SystemClock::new(rt), rates_of(setting.options));
-    let mut station = Station::new(alloc, config, port, clock, device, observer, reporting)?;
-    let ending = ending_of(setting.options, slots);
+    let mut station = station_of(rt, setting.options, config, opened, outputs)?;
     keep(setting, start)?;
-    if setting.options.no_input && !setting.options.page_writes {
-        station.run(&mut NoLines, ending)?;
+    let end = if setting.options.no_input && !setting.options.page_writes {
+        live(setting, &mut station, NoLines, slots)?
     } else {
-        let mut lines = setting.rim.input.share()?.lines(rt, waker);
-        station.run(&mut lines, ending)?;
-    }
+        let lines = setting.rim.input.share()?.lines(rt, waker);
+        live(setting, &mut station, lines, slots)?
+    };
     match station.record_fault() {
         Some(_) => Err(Failure::RecordEnd),
-        None => Ok(()),
+        None => Ok(end),
     }
+}
+
+/// A life of a station, whose device has no script.
+fn live<R, O, E, L>(
+    setting: &Stationed<'_, R>,
+    station: &mut OpenStation<R, O, E>,
+    lines: L,
+    slots: u32,
+) -> Result<LifeEnd, Failure>
+where
+    R: AllocGlobal + Files<File = File> + Clock + HostNet + Wait + Copy + Drop,
+    O: LineSink,
+    E: LineSink,
+    L: CallLines + Drop,
+{
+    let alloc = setting.rt.alloc();
+    let end_ms = match end_of(setting.options.seconds) {
+        Some(end_ms) => Some(end_ms.saturating_sub(setting.begun_ms)),
+        None => None,
+    };
+    let mut steps = DeviceSteps::unscripted(alloc, InputSteps::new(alloc, lines), end_ms);
+    Ok(station.live(&mut steps, slots)?)
 }
 
 /// The two outputs of a station, whose lines have these names behind them.
@@ -339,16 +396,18 @@ where
     Ok(names)
 }
 
-/// Begins the page of a station, and answers what tells it of the device.
+/// Begins the page of a station with its first life, if it has one, and answers what tells it of the device.
 fn page_of<R>(
     setting: &Stationed<'_, R>,
     config: &Config,
     names: Names,
-    port: u16,
-) -> Result<PageFeed, Failure>
+) -> Result<Option<PageFeed>, Failure>
 where
     R: AllocGlobal + Files<File = File> + Clock + HostNet + RandomSource + Wait + Copy + Drop,
 {
+    let Some(port) = setting.options.page else {
+        return Ok(None);
+    };
     let alloc = setting.rt.alloc();
     let record = match setting.options.record_from_end {
         Some(left) => Some(word_from_end(setting.words, left)),
@@ -360,9 +419,11 @@ where
         devices: None,
         host: page_host(setting.options, setting.words),
     };
-    begin_page(setting.rt, setting.shared, setting.options, port, subject)?;
+    if setting.life == 1 {
+        begin_page(setting.rt, setting.shared, setting.options, port, subject)?;
+    }
     let end = setting.shared.page.feed_end(0)?;
-    Ok(PageFeed::new(alloc, config.copy(alloc)?, names, end)?)
+    Ok(Some(PageFeed::new(alloc, config.copy(alloc)?, names, end)?))
 }
 
 /// Has the system draw the seed of a port's delays. Where it draws none, the port's address is the seed.
@@ -387,10 +448,9 @@ where
 {
     let rt = setting.rt;
     let alloc = rt.alloc();
-    let Some(left) = setting.options.record_from_end else {
+    let Some(path) = record_path(setting)? else {
         return Ok(Recorder::idle(alloc));
     };
-    let path = format!(in alloc; "{}", word_from_end(setting.words, left))?;
     let most = setting.options.record_bytes;
     let record = &setting.rim.record;
     Ok(recorder_in(rt, record, config, names, path, most)?)

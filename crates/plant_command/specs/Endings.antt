@@ -1,12 +1,7 @@
 -- When a plant is over, and which of its devices a phase of its end ends. Times are in milliseconds since the plant began.
-use Rattle.std.specs.Prelude.{ℕ, ◌*◌, nat_le, Bool, true, false, Option, Some, None}
+use Rattle.std.specs.Prelude.{ℕ, nat_le, Bool, true, false, Option, Some, None}
 use Rattle.plant_rim.specs.declared.phases.PlantPhase.{PlantPhase}
 use Rattle.plant_rim.specs.declared.phases.PlantPhase.TheVariants.{EndingScanners, EndingAll}
-
--- the end of a plant that runs for so many seconds
-abbrev pub end_of : Option ℕ → Option ℕ
-end_of (Some seconds) = Some (seconds * 1000)
-end_of None = None
 
 -- the time of a plant is over
 abbrev pub is_late : Option ℕ → ℕ → Bool

@@ -4,8 +4,8 @@ use Rattle.cip_tables.specs.declared.table.Config.{Config}
 use Rattle.cip_tables.specs.declared.table.Config.TheVariants.{Adapter, Scanner}
 use Rattle.cip_types.specs.declared.names.Node.{Node}
 use Rattle.command_lines.specs.declared.station_options.Options.{Options}
-use Rattle.plant_rim.specs.declared.script.incarnations.IncarnationSpan.{IncarnationSpan}
-use Rattle.plant_rim.specs.Script.Incarnations.{span_of}
+use Rattle.plant_rim.specs.declared.incarnations.IncarnationSpan.{IncarnationSpan}
+use Rattle.plant_rim.specs.Incarnations.{span_of}
 use Rattle.plant_rim.specs.declared.file.plant.FaultOptions.{FaultOptions}
 use Rattle.trace_words.specs.Words.{node_word}
 use Rattle.plant_command.specs.declared.setups.MemberSetup.{MemberSetup}

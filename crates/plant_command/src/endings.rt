@@ -1,19 +1,9 @@
 //! When a plant is over, and which of its devices a phase of its end ends.
 
 ghost use Rattle.std.specs.Prelude.{◌≡◌};
-ghost use Rattle.plant_command.specs.Endings.{end_of, ends, is_late};
+ghost use Rattle.plant_command.specs.Endings.{ends, is_late};
 
 use plant_rim::PlantPhase;
-
-/// The end of a plant that runs for so many seconds, in milliseconds since it began. One without seconds has none.
-pub(crate) fn end_of(seconds: Option<u32>) -> Option<u64>
-    ensures { result ≡ end_of seconds }
-{
-    match seconds {
-        Some(seconds) => Some(u64::from(seconds) * 1_000),
-        None => None,
-    }
-}
 
 /// Whether the time of a plant is over, so many milliseconds after it began.
 pub(crate) fn is_late(end_ms: Option<u64>, passed_ms: u64) -> bool

@@ -1,47 +1,28 @@
 //! The work of a plant's threads: the lives of its devices, and their records.
 
 ghost use Rattle.std.specs.Prelude.{◌≡◌, IfOk, string_bytes};
-ghost use Rattle.plant_command.specs.Lives.{described, life_config};
+ghost use Rattle.plant_command.specs.Lives.{life_config};
 
 use crate::paths::record_path;
-use cip_tables::{Config, Device};
+use crate::setups::node_of;
+use cip_tables::Config;
 use cip_types::{Node, OutOfMemory};
-use command_lines::Options;
-use fast_device::FastDevice;
-use page_feed::{FeedEnd, PageFeed};
-use plant_rim::{
-    DeviceFailure, DeviceLines, DeviceSetup, LifeEnd, NameForm, NamedLines, PlantJob, ScriptRun,
-    SharedPlant, incarnation_behind,
-};
-use port_faults::FaultyPort;
-use port_orders::OrderPort;
-use socket_port::SystemClock;
-use station::{Reporting, Station, StationObserver};
+use page_feed::PageFeed;
+use plant_rim::{DeviceFailure, DeviceSetup, NameForm, NamedLines, PlantJob, SharedPlant};
+use station::{DeviceSteps, LifeEnd, ScriptRun};
 use station_lines::LineSink;
-use station_port::{StationFault, StationPort};
-use station_record::Recorder;
+use station_record::{Recorder, forget_record};
 use station_rim::{Entries, LabelledLines, LineEntrance, SharedRecord};
 use station_setup::{
-    OpenedPort, open_port, rates_of, recorder_in, with_description, with_incarnation,
+    MOST_LIVES, OpenedPort, StationOutputs, described, open_life_port, passed_ms, recorder_in,
+    station_of, with_incarnation,
 };
 use std::alloc::Global;
-use std::fs::{self, File};
+use std::fs::File;
 use std::net::Net;
 use std::rt::{Clock, Files};
 use std::sync::Wait;
-use std::thread;
-use std::time::{Duration, Instant};
-
-/// The port of the next life is tried again so often, a tenth of a second apart.
-const MOST_TRIES: u32 = 50;
-
-const RETRY_MS: u64 = 100;
-
-/// A device has at most so many lives.
-const MOST_LIVES: u32 = 1_000_000;
-
-/// The port of a device of a plant.
-type PlantPort<R> = OrderPort<FaultyPort<StationPort<R>, SystemClock<R>>, R>;
+use std::time::Instant;
 
 /// Where the lines of a device of a plant go.
 type DeviceSink<R> = LabelledLines<NamedLines<LineEntrance<R>>>;
@@ -111,7 +92,7 @@ where
     let mut incarnation = setup.span.first;
     for life in 1..MOST_LIVES {
         let config = config_of(rt.alloc(), setup, incarnation)?;
-        let opened = opened(rt, setup, &config, life)?;
+        let opened = open_life_port(rt, &setup.options, &config, life)?;
         let begun_ms = passed_ms(&rt, origin);
         let life = Life {
             plant,
@@ -121,10 +102,8 @@ where
             begun_ms,
         };
         match life.live(rt, opened, &mut run, lives)? {
-            LifeEnd::Over => return Ok(()),
-            LifeEnd::Restart { same } => {
-                incarnation = incarnation_behind(setup.span, incarnation, same);
-            }
+            LifeEnd::Restart { same } => incarnation = setup.span.behind(incarnation, same),
+            _ => return Ok(()),
         }
     }
     Ok(())
@@ -138,14 +117,6 @@ fn now<R: Clock>(rt: &R) -> Result<Instant, DeviceFailure> {
     }
 }
 
-/// The milliseconds since a moment. A clock that cannot be read adds none.
-fn passed_ms<R: Clock>(rt: &R, origin: Instant) -> u64 {
-    match Instant::now(rt) {
-        Ok(now) => u64::try_from(now.duration_since(origin).as_millis()).unwrap_or(0),
-        Err(_) => 0,
-    }
-}
-
 /// Removes the records of an earlier run's lives behind the first one, so that none of them is taken for one of this run.
 fn forget_lives<R>(rt: &R, setup: &DeviceSetup) -> Result<(), OutOfMemory>
 where
@@ -156,61 +127,22 @@ where
     };
     for life in 2..MOST_LIVES {
         let path = record_path(rt.alloc(), folder.as_str(), setup.name.as_str(), life)?;
-        if fs::remove_file(rt, path.as_str()).is_err() {
+        if !matches!(forget_record(rt, rt.alloc(), path.as_str()), Ok(true)) {
             break;
         }
     }
     Ok(())
 }
 
-/// The configuration of a life with this incarnation. OutOfMemory is the only fault.
+/// The configuration of a life with this incarnation. Without a description of its own an adapter has the name of its device,
+/// and its address as its serial number. OutOfMemory is the only fault.
 fn config_of(alloc: Global, setup: &DeviceSetup, incarnation: u8) -> Result<Config, OutOfMemory>
     ensures { IfOk result (λ config.
         config ≡ life_config setup.now.config setup.now.options (string_bytes setup.now.name) incarnation) }
 {
     let config = with_incarnation(setup.config.copy(alloc)?, incarnation);
-    described(alloc, config, &setup.options, setup.name.as_bytes())
-}
-
-/// A configuration, in which an adapter has a description, so that inquiries find it: without one of its own, it has this name,
-/// and its address as its serial number. OutOfMemory is the only fault.
-fn described(
-    alloc: Global,
-    config: Config,
-    options: &Options,
-    name: &[u8],
-) -> Result<Config, OutOfMemory>
-    ensures { IfOk result (λ given. given ≡ described config options.now name.now) }
-{
-    match config {
-        Config::Adapter(profile) => {
-            let Node(serial) = profile.node;
-            let profile = with_description(alloc, profile, options, serial, name)?;
-            Ok(Config::Adapter(profile))
-        }
-        Config::Scanner(profile) => Ok(Config::Scanner(profile)),
-    }
-}
-
-/// The port of a life. That of a later life is tried again for a while: the system may not have given up the earlier one.
-fn opened<R>(
-    rt: R,
-    setup: &DeviceSetup,
-    config: &Config,
-    life: u32,
-) -> Result<OpenedPort<R>, StationFault>
-where
-    R: AllocGlobal + Net + Clock + Copy + Drop,
-{
-    if life > 1 {
-        for _ in 0..MOST_TRIES {
-            if let Ok(opened) = open_port(rt, &setup.options, config) {
-                return Ok(opened);
-            }
-            thread::sleep(&rt, Duration::from_millis(RETRY_MS));
-        }
-    }
-    open_port(rt, &setup.options, config)
+    let Node(serial) = node_of(&config);
+    described(alloc, config, &setup.options, serial, setup.name.as_bytes())
 }
 
 /// A life of a device.
@@ -279,6 +211,16 @@ impl Life<'_> {
         Ok(LabelledLines::new(alloc, names, self.setup.devices.share()?, named))
     }
 
+    /// What tells the page of the plant of this life, if there is one.
+    fn page(&self, alloc: Global) -> Result<Option<PageFeed>, OutOfMemory> {
+        let Some(page) = &self.setup.page else {
+            return Ok(None);
+        };
+        let names = self.setup.names.copy(alloc)?;
+        let config = self.config.copy(alloc)?;
+        Ok(Some(PageFeed::new(alloc, config, names, page.share()?)?))
+    }
+
     /// Says which device begins to live, and where.
     fn report_start<R>(&self, rt: R, opened: &OpenedPort<R>) -> Result<(), DeviceFailure>
     where
@@ -305,13 +247,7 @@ impl Life<'_> {
         Ok(())
     }
 
-    /// What tells the page of the plant of this life.
-    fn page_feed(&self, alloc: Global, page: &FeedEnd) -> Result<PageFeed, OutOfMemory> {
-        let names = self.setup.names.copy(alloc)?;
-        PageFeed::new(alloc, self.config.copy(alloc)?, names, page.share()?)
-    }
-
-    /// Lives to the end. A device that loses its power closes nothing.
+    /// Lives to the end. A device that loses its power, or is reset, closes nothing.
     fn live_recorded<R>(
         &self,
         rt: R,
@@ -323,40 +259,23 @@ impl Life<'_> {
     where
         R: AllocGlobal + Files<File = File> + Net + Clock + Wait + Copy + Drop,
     {
-        let alloc = rt.alloc();
         let recorder = self.recorder(rt, record)?;
         self.report_start(rt, &opened)?;
-        let OpenedPort { port, place, slots } = opened;
-        let waker = port.waker()?;
-        let out = self.named(rt, NameForm::Result, self.plant.out.sink(rt)?)?;
-        let err = self.named(rt, NameForm::Report, self.plant.err.sink(rt)?)?;
-        let mut observer = StationObserver::new(alloc, self.config, recorder, out, err)?;
-        if let Some(page) = &self.setup.page {
-            observer.feed(self.page_feed(alloc, page)?);
-        }
-        let device = FastDevice::new(alloc, self.config.copy(alloc)?)?;
-        let reports = Reporting {
-            quiet: self.setup.options.quiet,
-            silent_s: place.inactivity_s,
+        let (waker, slots) = (opened.port.waker()?, opened.slots);
+        let outputs = StationOutputs {
+            recorder,
+            out: self.named(rt, NameForm::Result, self.plant.out.sink(rt)?)?,
+            err: self.named(rt, NameForm::Report, self.plant.err.sink(rt)?)?,
+            page: self.page(rt.alloc())?,
         };
-        let rates = rates_of(&self.setup.options);
-        let port = FaultyPort::new(alloc, port, SystemClock::new(rt), rates);
-        let port: PlantPort<R> = OrderPort::new(alloc, rt, port)?;
-        let clock = SystemClock::new(rt);
-        let mut station = Station::new(alloc, self.config, port, clock, device, observer, reports)?;
+        let mut station = station_of(rt, &self.setup.options, self.config, opened, outputs)?;
         *lives = self.number;
-        let typed = self.setup.input.share()?.lines(rt, waker);
+        let typed = self.setup.typed.share()?.steps(rt, waker);
         let script = self.setup.script.as_slice();
-        let mut lines = DeviceLines::new(alloc, script, *run, typed, self.begun_ms);
-        let lived = station.live(&mut lines, slots);
-        *run = lines.run();
-        let end = lines.end();
-        let closed = match end {
-            LifeEnd::Restart { same: _ } => Ok(()),
-            LifeEnd::Over => station.close(slots),
-        };
-        lived?;
-        closed?;
+        let mut steps = DeviceSteps::scripted(rt.alloc(), script, *run, typed, self.begun_ms);
+        let lived = station.live(&mut steps, slots);
+        *run = steps.run();
+        let end = lived?;
         match station.record_fault() {
             Some(_) => Err(DeviceFailure::RecordEnd),
             None => Ok(end),

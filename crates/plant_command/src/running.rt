@@ -1,13 +1,15 @@
 //! A plant from its beginning to its end.
 
-use crate::endings::{end_of, ends, is_late};
+use crate::endings::{ends, is_late};
 use crate::failure::PlantFailure;
 use crate::opening::{NumberedPlant, PlantSetting, plant_of};
 use crate::paths::path_beside;
 use crate::setups::{Member, MemberSetup, device_names, setups_of};
 use plant_rim::{PlantFile, PlantPhase, PlantView, SharedPlant, TypedLine, next_phase, read_typed};
+use station::StationStep;
 use station_lines::NextLine;
 use station_rim::{Rim, SharedDevices, drain_lines, report_line};
+use station_setup::end_of;
 use std::rt::{Clock, Files};
 use std::sync::Wait;
 use std::time::{Duration, Instant};
@@ -190,7 +192,7 @@ where
     fn begin_phase(&self) {
         for member in self.members {
             if ends(self.phase, member.scanner) {
-                member.input.end(&self.rt);
+                member.typed.end(&self.rt);
             }
         }
     }
@@ -219,13 +221,14 @@ where
             TypedLine::Skipped => Ok(()),
             TypedLine::Status => {
                 for member in self.members {
-                    member.input.offer(&self.rt, b"status\n");
+                    let bytes = line.len().saturating_add(1);
+                    member.typed.offer(&self.rt, StationStep::Status, bytes);
                 }
                 Ok(())
             }
-            TypedLine::For(end) => {
-                let (name, rest) = line.split_at(end);
-                self.hand_to(name, rest.get(1..).unwrap_or(&[]))
+            TypedLine::For { name_end, step } => {
+                let name = line.get(..name_end).unwrap_or(&[]);
+                self.hand_to(name, step, line.len().saturating_sub(name_end))
             }
             TypedLine::NoCall => self.report(
                 "is no call: status, or NAME and write POINT HEX, read POINT, mode run, mode idle, start SLOT, stop SLOT, status, cut, pause MS, restart [same], send NODE HEX",
@@ -233,8 +236,13 @@ where
         }
     }
 
-    /// Hands a call on to the device of a name.
-    fn hand_to(&mut self, name: &[u8], call: &[u8]) -> Result<(), PlantFailure> {
+    /// Hands a step on to the device of a name. Its text has so many bytes.
+    fn hand_to(
+        &mut self,
+        name: &[u8],
+        step: StationStep,
+        bytes: usize,
+    ) -> Result<(), PlantFailure> {
         let Some(member) = self
             .members
             .iter()
@@ -242,9 +250,7 @@ where
         else {
             return self.report("names no device");
         };
-        let mut line = Vec::from_slice(self.rt.alloc(), call)?;
-        line.push(b'\n')?;
-        if member.input.offer(&self.rt, line.as_slice()) {
+        if member.typed.offer(&self.rt, step, bytes) {
             return Ok(());
         }
         self.report("finds no room at its device")

@@ -11,20 +11,22 @@ use cip_tables::Config;
 use cip_types::{Node, OutOfMemory};
 use command_lines::Options;
 use page_feed::FeedEnd;
-use plant_rim::{DeviceSetup, FaultOptions, IncarnationSpan, MOST_SPANS, PlantDevice, PlantFile};
-use station_rim::{Rim, SharedDevices, SharedInput, report_line};
+use plant_rim::{
+    DeviceSetup, FaultOptions, IncarnationSpan, MOST_SPANS, PlantDevice, PlantFile, SharedSteps,
+};
+use station_rim::{Rim, SharedDevices, report_line};
 use station_setup::{UnusableProfile, is_scanner, names_in, profile_in};
 use std::alloc::Global;
 use std::rt::Files;
 use std::sync::Wait;
 use trace_words::{DeviceNames, Names, ReadNames};
 
-/// A device of a plant, as its lines are typed: its name, its address, its input, and whether it is a scanner.
+/// A device of a plant, as its lines are typed: its name, its address, what is typed at it, and whether it is a scanner.
 #[derive(Drop)]
 pub(crate) struct Member {
     pub(crate) name: String,
     pub(crate) address: Node,
-    pub(crate) input: SharedInput,
+    pub(crate) typed: SharedSteps,
     pub(crate) scanner: bool,
 }
 
@@ -148,11 +150,11 @@ where
     let names = named_in(rt, rim, path.as_str())?;
     let scanner = is_scanner(&config);
     let address = device.address.unwrap_or(node_of(&config));
-    let input = SharedInput::new(alloc)?;
+    let typed = SharedSteps::new(alloc)?;
     let member = Member {
         name: format!(in alloc; "{name}")?,
         address,
-        input: input.share()?,
+        typed: typed.share()?,
         scanner,
     };
     let options = options_of(setting.options, &device.faults, address);
@@ -168,7 +170,7 @@ where
         options,
         script: device.script,
         span: span_at(rank.place, rank.devices),
-        input,
+        typed,
         folder,
         page: feed_of(setting, rank.place)?,
         scanner,
@@ -200,7 +202,7 @@ fn options_of(all: &Options, faults: &FaultOptions, address: Node) -> Options
 }
 
 /// The address of a profile.
-fn node_of(config: &Config) -> Node
+pub(crate) fn node_of(config: &Config) -> Node
     ensures { result ≡ node_of config.now }
 {
     match config {

@@ -2,6 +2,3 @@ mod Samples
 mod Lines
 mod FileSamples
 mod Words
-mod Rounds
-mod ScriptSamples
-mod Waits

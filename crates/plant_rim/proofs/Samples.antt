@@ -1,9 +1,11 @@
 -- Lines under names, lines that are typed, and the end of a plant, worked by hand.
-use Rattle.std.proofs.Common.{◌≡◌, ℕ, cond, [], ◌∷◌, ◌++◌, codes, false, true, None, Some, is_some, refl, ap}
-use Rattle.std.proofs.Math.Bool.{or-true}
-use Rattle.plant_rim.specs.File.Calls.{own_call_of, plant_call_of}
+use Rattle.std.proofs.Common.{◌≡◌, ℕ, [], ◌∷◌, ◌++◌, codes, false, true, None, Some, refl}
+use Rattle.plant_rim.specs.File.Calls.{own_call_of}
+use Rattle.station.specs.declared.step.StationStep.TheVariants as step
+use Rattle.port_faults.specs.declared.orders.order.PortOrder.TheVariants as order
 use Rattle.plant_rim.specs.Boards.{device_left, record_ended}
 use Rattle.plant_rim.specs.declared.failure.DeviceFailure.TheVariants.{Record, RecordEnd}
+use Rattle.plant_rim.specs.Incarnations.{next_of, span_of}
 use Rattle.plant_rim.specs.Named.{named_text}
 use Rattle.plant_rim.specs.declared.named.NameForm.TheVariants.{Result, Report}
 use Rattle.plant_rim.specs.Phases.{next_phase}
@@ -34,11 +36,11 @@ all_devices = refl
 a_comment : typed_of (codes "# status") ≡ Skipped
 a_comment = refl
 
--- `status` is a line of a station, whether or not it is a call
-state_of_one : typed_of (codes "drive-1 status") ≡ For 7
-state_of_one = ap (λ b. cond b (For 7) NoCall) (or-true (is_some (plant_call_of (codes "status"))))
+state_of_one : typed_of (codes "drive-1 status") ≡ For 7 step.Status
+unfolding own_call_of
+state_of_one = refl
 
-a_cut : typed_of (codes "v1 cut") ≡ For 2
+a_cut : typed_of (codes "v1 cut") ≡ For 2 (step.Order order.Cut)
 unfolding own_call_of
 a_cut = refl
 
@@ -80,3 +82,21 @@ a_record_ends :
     record_ended true (record { counts = record { devices = 1; scanners = 0; records = 1 }; failure = None; is_stillborn = false })
     ≡ record { counts = record { devices = 1; scanners = 0; records = 0 }; failure = Some RecordEnd; is_stillborn = false }
 a_record_ends = refl
+
+-- INCARNATIONS
+
+-- of two devices one has 1 to 127, the other 128 to 255
+first_of_two : span_of 0 2 ≡ record { first = 1; last = 127 }
+first_of_two = refl
+
+second_of_two : span_of 1 2 ≡ record { first = 128; last = 255 }
+second_of_two = refl
+
+last_of_many : span_of 126 127 ≡ record { first = 253; last = 255 }
+last_of_many = refl
+
+next_one : next_of (record { first = 253; last = 255 }) 253 ≡ 254
+next_one = refl
+
+goes_round : next_of (record { first = 253; last = 255 }) 255 ≡ 253
+goes_round = refl

@@ -7,7 +7,8 @@ use Rattle.std.specs.Str.{is_utf8}
 use Rattle.std.proofs.lemmas.List.{take_all, drop_all}
 use Rattle.std.proofs.lemmas.Str.{IsUtf8-from_is_utf8, is_utf8-from_IsUtf8}
 use Rattle.std.proofs.lemmas.Str.Pattern.{IsSplitOnceResult, split_once_first}
-use Rattle.plant_rim.specs.declared.script.script.PlantCall.TheVariants as call
+use Rattle.station.specs.declared.step.StationStep.TheVariants as step
+use Rattle.port_faults.specs.declared.orders.order.PortOrder.TheVariants as order
 use Rattle.trace_words.specs.declared.words.TextFault.{TextFault}
 use Rattle.trace_words.specs.declared.words.TextFault.TheVariants.{Bad, OutOfMemory}
 use Rattle.trace_words.specs.Reader.{Takes, ends, meaning, refuses}
@@ -46,7 +47,7 @@ no_text bytes none = go (is_utf8 bytes) refl
     go false is = ap (λ b. cond b (Ok bytes) (Err fault.NotText)) (sym is)
 
 -- what follows the word of a call that has no number
-pub cut_is : (word : List ℕ) (words : List (List ℕ)) → word ≡ codes "cut" → meaning own_meanings refuses word words ≡ ends call.Cut words
+pub cut_is : (word : List ℕ) (words : List (List ℕ)) → word ≡ codes "cut" → meaning own_meanings refuses word words ≡ ends (step.Order order.Cut) words
 cut_is word words is = ap (λ w. meaning own_meanings refuses w words) is
 
 pub restart_is : (word : List ℕ) (words : List (List ℕ)) → word ≡ codes "restart" → meaning own_meanings refuses word words ≡ restart_reader words

@@ -1,9 +1,9 @@
 pub mod Boards
 pub mod Counts
-pub mod Tasks
 pub mod Failures
+pub mod File
+pub mod Incarnations
 pub mod Named
 pub mod Phases
+pub mod Queues
 pub mod Typed
-pub mod File
-pub mod Script

@@ -9,7 +9,7 @@ mod reading;
 mod texts;
 mod values;
 
-pub use calls::read_plant_call;
+pub use calls::{read_plant_call, read_typed_call};
 pub use faults::{PlantFault, PlantLineFault, push_fault};
 pub use plant::{FaultOptions, MOST_DEVICES, MOST_SCRIPT_LINES, PlantDevice, PlantFile, PlantWord};
 pub use reading::read_plant;

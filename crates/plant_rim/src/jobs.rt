@@ -2,12 +2,14 @@
 
 use crate::board::{Board, PlantState};
 use crate::failure::DeviceFailure;
-use crate::script::{IncarnationSpan, ScriptLine};
+use crate::incarnations::IncarnationSpan;
+use crate::typed_steps::SharedSteps;
 use cip_tables::Config;
 use cip_types::{Items, OutOfMemory};
 use command_lines::Options;
 use page_feed::FeedEnd;
-use station_rim::{SharedDevices, SharedInput, SharedLines, SharedRecord};
+use station::ScriptLine;
+use station_rim::{SharedDevices, SharedLines, SharedRecord};
 use std::alloc::Global;
 use std::sync::{Arc, Condvar, Mutex, Wait};
 use trace_words::Names;
@@ -24,7 +26,7 @@ pub struct DeviceSetup {
     pub options: Options,
     pub script: Items<ScriptLine>,
     pub span: IncarnationSpan,
-    pub input: SharedInput,
+    pub typed: SharedSteps,
     /// The folder of its records, if it is recorded.
     pub folder: Option<String>,
     /// Where it tells its page, if there is one.

@@ -1,25 +1,23 @@
-//! The lines of a plant's standard input.
+//! The lines of a plant's standard input. Here a text becomes the step of a device.
 
 ghost use Rattle.std.specs.Prelude.{◌≡◌, ◌<◌, length, position, slice_index_or, IfOk, IfSome};
-ghost use Rattle.station_lines.specs.Calls.{is_skipped, is_status, line_of};
-ghost use Rattle.plant_rim.specs.Typed.{for_device, is_device_call, is_space, is_taken, typed_of};
+ghost use Rattle.station_lines.specs.Calls.{is_skipped, is_status};
+ghost use Rattle.plant_rim.specs.Typed.{for_device, is_space, typed_of};
 
-use crate::file::read_plant_call;
+use crate::file::read_typed_call;
 use cip_types::OutOfMemory;
-use station_lines::{InputLine, read_line};
+use station::StationStep;
 use std::alloc::Global;
-use trace_words::TextFault;
 
 /// What a line of the input is.
-#[derive(Clone, Copy, Debug, PartialEq, Eq)]
+#[derive(PartialEq, Drop)]
 pub enum TypedLine {
     /// An empty line, or a comment.
     Skipped,
     /// The call for the state of all devices.
     Status,
-    /// A call at a device, whose name has so many bytes; a space is behind it, and behind that a call that a script may have,
-    /// or another line that a station takes.
-    For(usize),
+    /// A step of the device whose name has so many bytes; a space is behind the name, and the text of the step behind that.
+    For { name_end: usize, step: StationStep },
     /// Anything else.
     NoCall,
 }
@@ -42,13 +40,12 @@ fn for_device(alloc: Global, line: &[u8], end: Option<usize>) -> Result<TypedLin
     requires { IfSome end (λ place. place < length line.now) }
     ensures { IfOk result (λ said. said ≡ for_device line.now end) }
 {
-    let Some(end) = end else {
+    let Some(name_end) = end else {
         return Ok(TypedLine::NoCall);
     };
-    if is_device_call(alloc, &line[end + 1..])? {
-        Ok(TypedLine::For(end))
-    } else {
-        Ok(TypedLine::NoCall)
+    match read_typed_call(alloc, &line[name_end + 1..])? {
+        Some(step) => Ok(TypedLine::For { name_end, step }),
+        None => Ok(TypedLine::NoCall),
     }
 }
 
@@ -58,36 +55,6 @@ fn name_end(line: &[u8]) -> Option<usize>
     ensures inside { IfSome result (λ end. end < length line.now) }
 {
     line.iter().position(|byte| *byte == b' ')
-}
-
-/// Whether a text is a call at a device: one that a script may have, or another line that a station takes.
-fn is_device_call(alloc: Global, call: &[u8]) -> Result<bool, OutOfMemory>
-    ensures { IfOk result (λ is. is ≡ is_device_call call.now) }
-{
-    match read_plant_call(alloc, call) {
-        Ok(_) => Ok(true),
-        Err(TextFault::Bad) => is_station_line(alloc, call),
-        Err(TextFault::OutOfMemory) => Err(OutOfMemory),
-    }
-}
-
-/// Whether a station does something at a line.
-fn is_station_line(alloc: Global, line: &[u8]) -> Result<bool, OutOfMemory>
-    ensures { IfOk result (λ is. is ≡ is_taken (line_of line.now)) }
-{
-    let said = read_line(alloc, line)?;
-    Ok(is_taken(&said))
-}
-
-/// Whether a line of a station is more than a comment, and no fault.
-fn is_taken(line: &InputLine) -> bool
-    ensures { result ≡ is_taken line.now }
-{
-    match line {
-        InputLine::Skipped => false,
-        InputLine::NoCall => false,
-        _ => true,
-    }
 }
 
 /// Whether a line is empty or a comment.

@@ -1,3 +1,4 @@
 pub mod Impairments
 pub mod Holds
 pub mod Passing
+pub mod Orders

@@ -1,8 +1,10 @@
 //! A port with faults.
 
-ghost use Rattle.std.specs.Prelude.{◌≡◌, IfNone, IfSome, min};
+ghost use Rattle.std.specs.Prelude.{◌≡◌, ◌<◌, ◌+◌, ◌-◌, ◌^◌, true, false, None, IfNone, IfSome, OnErr, OnOk, min};
 ghost use Rattle.std.specs.Duration.{as_nanos};
+ghost use Rattle.port_faults.specs.Impairments.{are_none};
 ghost use Rattle.port_faults.specs.Passing.{ArrivesLate, Passes, PassesDatagram};
+ghost use Rattle.udp_runner.specs.Calls.{Idled, Looked, Received, Sent};
 
 use crate::hold::DatagramHold;
 use crate::rates::FaultRates;
@@ -25,7 +27,8 @@ pub struct FaultyPort<P, C> {
 impl<P: Port, C: Clock> FaultyPort<P, C> {
     /// A port around this one. Takes no memory. Without faults it is this port.
     pub fn new(alloc: Global, port: P, clock: C, rates: FaultRates) -> FaultyPort<P, C>
-        ensures { result.port ≡ port }
+        ensures port { result.port ≡ port }
+        ensures itself { are_none rates ≡ true → result.hold ≡ None }
     {
         let hold = if rates.are_none() {
             None
@@ -106,7 +109,15 @@ impl<P: Port, C: Clock> Port for FaultyPort<P, C> {
         self.port.failures()
     }
 
-    fn receive(&mut self) -> Result<Option<Arrival>, PortFault> {
+    /// Without faults: what this port receives is what the port in it receives.
+    fn receive(&mut self) -> Result<Option<Arrival>, PortFault>
+        requires { P.failed self.old.port < 2 ^ 64 - 1 }
+        ensures worked { OnOk result (P.failed self.new.port ≡ P.failed self.old.port) }
+        ensures counted { OnErr result (P.failed self.new.port ≡ P.failed self.old.port + 1) }
+        ensures itself { self.old.hold ≡ None → Received P.is_scripted (P.tape self.old.port) (P.tape self.new.port)
+            (P.failed self.old.port) (P.failed self.new.port) result }
+        ensures stays { self.old.hold ≡ None → self.new.hold ≡ None }
+    {
         let Some(hold) = &mut self.hold else {
             return self.port.receive();
         };
@@ -120,7 +131,15 @@ impl<P: Port, C: Clock> Port for FaultyPort<P, C> {
         }
     }
 
-    fn next_datagram(&mut self) -> Result<Option<Arrival>, PortFault> {
+    /// Without faults: which datagram waits is what the port in it says.
+    fn next_datagram(&mut self) -> Result<Option<Arrival>, PortFault>
+        requires { P.failed self.old.port < 2 ^ 64 - 1 }
+        ensures worked { OnOk result (P.failed self.new.port ≡ P.failed self.old.port) }
+        ensures counted { OnErr result (P.failed self.new.port ≡ P.failed self.old.port + 1) }
+        ensures itself { self.old.hold ≡ None → Looked P.is_scripted (P.tape self.old.port) (P.tape self.new.port)
+            (P.failed self.old.port) (P.failed self.new.port) result }
+        ensures stays { self.old.hold ≡ None → self.new.hold ≡ None }
+    {
         let Some(hold) = &mut self.hold else {
             return self.port.next_datagram();
         };
@@ -131,7 +150,11 @@ impl<P: Port, C: Clock> Port for FaultyPort<P, C> {
         }
     }
 
-    fn wait(&mut self, most: Duration) {
+    fn wait(&mut self, most: Duration)
+        ensures itself { Idled P.is_scripted (P.tape self.old.port) (P.tape self.new.port) (P.failed self.old.port)
+            (P.failed self.new.port) }
+        ensures stays { self.new.hold ≡ self.old.hold }
+    {
         let most = match &self.hold {
             Some(hold) => wait_length(hold, self.now_ms, most),
             None => most,
@@ -139,43 +162,81 @@ impl<P: Port, C: Clock> Port for FaultyPort<P, C> {
         self.port.wait(most);
     }
 
-    fn recycle(&mut self, bytes: Items<u8>) {
+    fn recycle(&mut self, bytes: Items<u8>)
+        ensures itself { Idled P.is_scripted (P.tape self.old.port) (P.tape self.new.port) (P.failed self.old.port)
+            (P.failed self.new.port) }
+        ensures stays { self.new.hold ≡ self.old.hold }
+    {
         self.port.recycle(bytes);
     }
 
-    fn sends_to_groups(&self) -> bool {
+    fn sends_to_groups(&self) -> bool
+        ensures { P.is_scripted ≡ true → result ≡ false }
+    {
         self.port.sends_to_groups()
     }
 
-    fn send(&mut self, output: &Output<'_>) -> Result<(), PortFault> {
+    /// What is sent is what the port in it sends, with faults too.
+    fn send(&mut self, output: &Output<'_>) -> Result<(), PortFault>
+        requires { P.failed self.old.port < 2 ^ 64 - 1 }
+        ensures worked { OnOk result (P.failed self.new.port ≡ P.failed self.old.port) }
+        ensures counted { OnErr result (P.failed self.new.port ≡ P.failed self.old.port + 1) }
+        ensures itself { Sent P.is_scripted output.now (P.tape self.old.port) (P.tape self.new.port)
+            (P.failed self.old.port) (P.failed self.new.port) result }
+        ensures stays { self.new.hold ≡ self.old.hold }
+    {
         self.port.send(output)
     }
 }
 
 impl<P: KeptPort, C: Clock> KeptPort for FaultyPort<P, C> {
-    fn next_report(&mut self) -> Option<PortReport> {
+    fn next_report(&mut self) -> Option<PortReport>
+        ensures itself { Idled P.is_scripted (P.tape self.old.port) (P.tape self.new.port) (P.failed self.old.port)
+            (P.failed self.new.port) }
+        ensures stays { self.new.hold ≡ self.old.hold }
+    {
         self.port.next_report()
     }
 
-    fn keep(&mut self, peers: &[Node], owners: &[Node]) {
+    fn keep(&mut self, peers: &[Node], owners: &[Node])
+        ensures itself { Idled P.is_scripted (P.tape self.old.port) (P.tape self.new.port) (P.failed self.old.port)
+            (P.failed self.new.port) }
+        ensures stays { self.new.hold ≡ self.old.hold }
+    {
         self.port.keep(peers, owners);
     }
 
-    fn renew(&mut self, target: Node) {
+    fn renew(&mut self, target: Node)
+        ensures itself { Idled P.is_scripted (P.tape self.old.port) (P.tape self.new.port) (P.failed self.old.port)
+            (P.failed self.new.port) }
+        ensures stays { self.new.hold ≡ self.old.hold }
+    {
         self.port.renew(target);
     }
 
-    fn succeed(&mut self, target: Node) {
+    fn succeed(&mut self, target: Node)
+        ensures itself { Idled P.is_scripted (P.tape self.old.port) (P.tape self.new.port) (P.failed self.old.port)
+            (P.failed self.new.port) }
+        ensures stays { self.new.hold ≡ self.old.hold }
+    {
         self.port.succeed(target);
     }
 }
 
 impl<P: GroupPort, C: Clock> GroupPort for FaultyPort<P, C> {
-    fn receive_groups(&mut self, groups: &[DataGroup]) {
+    fn receive_groups(&mut self, groups: &[DataGroup])
+        ensures itself { Idled P.is_scripted (P.tape self.old.port) (P.tape self.new.port) (P.failed self.old.port)
+            (P.failed self.new.port) }
+        ensures stays { self.new.hold ≡ self.old.hold }
+    {
         self.port.receive_groups(groups);
     }
 
-    fn next_unbound(&mut self) -> Option<DataGroup> {
+    fn next_unbound(&mut self) -> Option<DataGroup>
+        ensures itself { Idled P.is_scripted (P.tape self.old.port) (P.tape self.new.port) (P.failed self.old.port)
+            (P.failed self.new.port) }
+        ensures stays { self.new.hold ≡ self.old.hold }
+    {
         self.port.next_unbound()
     }
 }

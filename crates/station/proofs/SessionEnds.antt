@@ -9,6 +9,7 @@ use Rattle.udp_runner.specs.Tape.{Tape}
 -- the first of these sessions were ended, and these are left
 pub record EndsSoFar {P C D W O E : Type 0} (scripted : Bool) (tape : P → Tape) (failed : P → ℕ) (sessions left : List Session) (old new : Station P C D W O E) : Type 0 where
   pub recorder : new.observer.recorder ≡ old.observer.recorder
+  pub reset : new.observer.reset ≡ old.observer.reset
   pub device : new.device ≡ old.device
   pub clock : new.clock ≡ old.clock
   pub rises : failed old.port ≤ failed new.port
@@ -16,7 +17,7 @@ pub record EndsSoFar {P C D W O E : Type 0} (scripted : Bool) (tape : P → Tape
 
 -- none was ended yet
 pub none_ended : {P C D W O E : Type 0} (scripted : Bool) (tape : P → Tape) (failed : P → ℕ) (sessions : List Session) (station : Station P C D W O E) → EndsSoFar scripted tape failed sessions sessions station station
-none_ended scripted tape failed sessions station = record { recorder = refl; device = refl; clock = refl; rises = omega arith; sends = λ sc same. refl }
+none_ended scripted tape failed sessions station = record { recorder = refl; reset = refl; device = refl; clock = refl; rises = omega arith; sends = λ sc same. refl }
 
 between : (one two three : ℕ) → one ≤ two → two ≤ three → three ≡ one → two ≡ one
 between one two three less more same = omega (arith, less, more, same)
@@ -29,6 +30,7 @@ pub one_ended : {P C D W O E : Type 0} (scripted : Bool) (tape : P → Tape) (fa
     → left ≡ session ∷ rest → EndsSoFar scripted tape failed sessions left old middle → Unstepped middle new → Ends scripted tape failed (session ∷ []) middle new → EndsSoFar scripted tape failed sessions rest old new
 one_ended scripted tape failed sessions left rest session old middle new parts far rests ends = record {
   recorder = rests.recorder ∙ far.recorder;
+  reset = rests.reset ∙ far.reset;
   device = rests.device ∙ far.device;
   clock = ends.clock ∙ far.clock;
   rises = omega (arith, far.rises, ends.rises);
@@ -47,4 +49,4 @@ all_ended scripted tape failed sessions left old new none far = record {
 }
 
 pub so_far : {P C D W O E : Type 0} (scripted : Bool) (tape : P → Tape) (failed : P → ℕ) (sessions left : List Session) (old new : Station P C D W O E) → EndsSoFar scripted tape failed sessions left old new → Unstepped old new
-so_far scripted tape failed sessions left old new far = record { recorder = far.recorder; device = far.device }
+so_far scripted tape failed sessions left old new far = record { recorder = far.recorder; reset = far.reset; device = far.device }

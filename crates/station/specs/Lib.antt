@@ -1,7 +1,13 @@
 pub mod Ended
+pub mod Exact
 pub mod Faults
+pub mod Lives
+pub mod Noted
 pub mod Recorded
+pub mod Resets
 pub mod Rests
 pub mod Sessions
+pub mod Sources
 pub mod Times
 pub mod Turned
+pub mod Script

@@ -1,16 +1,25 @@
-//! A station: a device at a port with a clock. It takes calls as lines, records what its device takes, prints what changes.
+//! A station: a device at a port with a clock. It takes steps of its input and of a script, records what its device takes, prints
+//! what changes.
+//!
+//! `script` says when the lines of a device's script are due, over the time of its plant.
 #![tactic(auto)]
 
+mod exact;
 mod fault;
-mod living;
+mod life;
 mod observer;
 mod point_lines;
-mod run;
+mod resets;
+mod script;
 mod serving;
 mod sessions;
+mod sources;
+mod step;
 
+pub use exact::tasks_are_exact;
 pub use fault::EarlyEnd;
-pub use living::{LifeLines, NextTask};
 pub use observer::StationObserver;
-pub use run::Ending;
+pub use script::{DueLine, DueTime, ScriptLine, ScriptRun, times_are_exact, waits_are_exact};
 pub use serving::{Reporting, Station};
+pub use sources::{DeviceSteps, InputSteps, StepSource, TypedSteps};
+pub use step::{LifeEnd, StationStep};

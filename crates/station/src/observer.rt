@@ -1,11 +1,13 @@
 //! The observer of a station's device: it records its steps, prints them, and notes what the port has to know.
 
-ghost use Rattle.std.specs.Prelude.{◌≡◌, IfOk};
+ghost use Rattle.std.specs.Prelude.{◌≡◌, ◌||◌, IfOk};
 ghost use Rattle.std.specs.List.{list_any};
+ghost use Rattle.station.specs.Resets.{grants_reset, is_reset};
 ghost use Rattle.station_lines.specs.Attributes.Requested.{next_number};
 ghost use Rattle.station_lines.specs.Watch.Closing.{is_marked};
 
 use crate::fault::EarlyEnd;
+use crate::resets::requests_reset;
 use cip_events::{Answer, Delivery, Event, Outcome, Verdict};
 use cip_tables::{Config, Device};
 use cip_types::{Node, OutOfMemory};
@@ -31,6 +33,8 @@ pub struct StationObserver<W, O, E> {
     closing: ClosingSlots,
     /// Whether the connections of an adapter may have changed since the port was told of them.
     reconnected: bool,
+    /// Whether a peer has requested a reset, and the device has granted it.
+    reset: bool,
     slots: SlotWatches,
     traffic: StationTraffic,
     requested: PendingAttributes,
@@ -61,6 +65,7 @@ impl<W: RecordSink + Drop, O: LineSink, E: LineSink> StationObserver<W, O, E> {
             now_ms: 0,
             closing: ClosingSlots::none(alloc)?,
             reconnected: false,
+            reset: false,
             slots: SlotWatches::of(alloc, config)?,
             traffic: StationTraffic::of(alloc, config)?,
             requested: PendingAttributes::none(alloc),
@@ -73,6 +78,7 @@ impl<W: RecordSink + Drop, O: LineSink, E: LineSink> StationObserver<W, O, E> {
     /// Tells a page of the device from now on.
     pub fn feed(&mut self, page: PageFeed)
         ensures kept { self.new.recorder ≡ self.old.recorder }
+        ensures unreset { self.new.reset ≡ self.old.reset }
     {
         self.page = Some(page);
     }
@@ -80,6 +86,7 @@ impl<W: RecordSink + Drop, O: LineSink, E: LineSink> StationObserver<W, O, E> {
     /// Hands a snapshot of the device to the page, if there is one and it is time.
     pub fn show_page<D: Device>(&mut self, device: &D)
         ensures kept { self.new.recorder ≡ self.old.recorder }
+        ensures unreset { self.new.reset ≡ self.old.reset }
     {
         let facts = self.facts();
         if let Some(page) = &mut self.page {
@@ -98,6 +105,7 @@ impl<W: RecordSink + Drop, O: LineSink, E: LineSink> StationObserver<W, O, E> {
     /// Has the page note a step.
     fn note_page(&mut self, event: &Event, outcome: &Outcome)
         ensures kept { self.new.recorder ≡ self.old.recorder }
+        ensures unreset { self.new.reset ≡ self.old.reset }
     {
         let facts = self.facts();
         if let Some(page) = &mut self.page {
@@ -154,9 +162,17 @@ impl<W: RecordSink + Drop, O: LineSink, E: LineSink> StationObserver<W, O, E> {
         self.closing.any()
     }
 
+    /// Whether a peer has requested a reset, which the device has granted. Then the life is to end.
+    pub fn is_reset(&self) -> bool
+        ensures { result ≡ self.now.reset }
+    {
+        self.reset
+    }
+
     /// Whether the connections of an adapter may have changed since this was asked last.
     pub fn take_reconnected(&mut self) -> bool
         ensures kept { self.new.recorder ≡ self.old.recorder }
+        ensures unreset { self.new.reset ≡ self.old.reset }
     {
         let reconnected = self.reconnected;
         self.reconnected = false;
@@ -166,6 +182,7 @@ impl<W: RecordSink + Drop, O: LineSink, E: LineSink> StationObserver<W, O, E> {
     /// Appends the groups of the slots, each once, if they may have changed since the last time. Whether they may have.
     pub fn push_groups(&mut self, groups: &mut Vec<DataGroup>) -> Result<bool, OutOfMemory>
         ensures kept { self.new.recorder ≡ self.old.recorder }
+        ensures unreset { self.new.reset ≡ self.old.reset }
     {
         self.slots.push_groups(groups)
     }
@@ -173,6 +190,7 @@ impl<W: RecordSink + Drop, O: LineSink, E: LineSink> StationObserver<W, O, E> {
     /// Takes the next thing that the port is to be told of a slot's target.
     pub fn next_link_report(&mut self) -> Option<LinkReport>
         ensures kept { self.new.recorder ≡ self.old.recorder }
+        ensures unreset { self.new.reset ≡ self.old.reset }
     {
         self.slots.next_link_report()
     }
@@ -180,6 +198,7 @@ impl<W: RecordSink + Drop, O: LineSink, E: LineSink> StationObserver<W, O, E> {
     /// Takes the next slot whose data never came.
     pub fn next_starved(&mut self) -> Option<Starved>
         ensures kept { self.new.recorder ≡ self.old.recorder }
+        ensures unreset { self.new.reset ≡ self.old.reset }
     {
         self.slots.next_starved()
     }
@@ -199,6 +218,7 @@ impl<W: RecordSink + Drop, O: LineSink, E: LineSink> StationObserver<W, O, E> {
     /// Notes what the port reports of a stream.
     pub fn note_report(&mut self, report: &PortReport)
         ensures kept { self.new.recorder ≡ self.old.recorder }
+        ensures unreset { self.new.reset ≡ self.old.reset }
     {
         self.traffic.note_report(self.now_ms, report);
     }
@@ -213,6 +233,7 @@ impl<W: RecordSink + Drop, O: LineSink, E: LineSink> StationObserver<W, O, E> {
     /// Fails once if there was no memory to note a step.
     pub fn check(&mut self) -> Result<(), EarlyEnd>
         ensures kept { self.new.recorder ≡ self.old.recorder }
+        ensures unreset { self.new.reset ≡ self.old.reset }
     {
         match self.fault.take() {
             Some(fault) => Err(fault),
@@ -223,6 +244,7 @@ impl<W: RecordSink + Drop, O: LineSink, E: LineSink> StationObserver<W, O, E> {
     /// Says a text on `out`.
     pub fn print(&mut self, text: &[u8])
         ensures kept { self.new.recorder ≡ self.old.recorder }
+        ensures unreset { self.new.reset ≡ self.old.reset }
     {
         if !text.is_empty() {
             self.out.line(text);
@@ -232,6 +254,7 @@ impl<W: RecordSink + Drop, O: LineSink, E: LineSink> StationObserver<W, O, E> {
     /// Offers a line of state on `out`. Whether it was taken.
     pub fn print_state(&mut self, text: &[u8]) -> bool
         ensures kept { self.new.recorder ≡ self.old.recorder }
+        ensures unreset { self.new.reset ≡ self.old.reset }
     {
         self.out.state(text)
     }
@@ -239,6 +262,7 @@ impl<W: RecordSink + Drop, O: LineSink, E: LineSink> StationObserver<W, O, E> {
     /// Reports a text on `err`.
     pub fn report(&mut self, text: &[u8])
         ensures kept { self.new.recorder ≡ self.old.recorder }
+        ensures unreset { self.new.reset ≡ self.old.reset }
     {
         let facts = self.facts();
         if let Some(page) = &mut self.page {
@@ -250,6 +274,7 @@ impl<W: RecordSink + Drop, O: LineSink, E: LineSink> StationObserver<W, O, E> {
     /// Prints the outcome of the last event, and why slots are not opened.
     fn print_outcome(&mut self, outcome: &Outcome) -> Result<(), OutOfMemory>
         ensures kept { self.new.recorder ≡ self.old.recorder }
+        ensures unreset { self.new.reset ≡ self.old.reset }
     {
         let mut text = String::new(self.alloc);
         push_outcome(&mut text, self.recorder.count(), outcome)?;
@@ -261,6 +286,7 @@ impl<W: RecordSink + Drop, O: LineSink, E: LineSink> StationObserver<W, O, E> {
     /// Prints the outcome of the last event, if it is to be printed, and what its answer says of requests.
     fn print_news(&mut self, event: &Event, outcome: &Outcome) -> Result<(), OutOfMemory>
         ensures kept { self.new.recorder ≡ self.old.recorder }
+        ensures unreset { self.new.reset ≡ self.old.reset }
     {
         if has_news(event, outcome) {
             self.print_outcome(outcome)?;
@@ -271,6 +297,7 @@ impl<W: RecordSink + Drop, O: LineSink, E: LineSink> StationObserver<W, O, E> {
     /// Prints what an answer says of attributes that were requested, and a request that the application is to answer.
     fn print_requests(&mut self, outcome: &Outcome) -> Result<(), OutOfMemory>
         ensures kept { self.new.recorder ≡ self.old.recorder }
+        ensures unreset { self.new.reset ≡ self.old.reset }
     {
         let Ok(answer) = outcome else {
             return Ok(());
@@ -292,6 +319,7 @@ impl<W: RecordSink + Drop, O: LineSink, E: LineSink> StationObserver<W, O, E> {
         outcome: &Outcome,
     ) -> Result<(), OutOfMemory>
         ensures kept { self.new.recorder ≡ self.old.recorder }
+        ensures reset { self.new.reset ≡ (self.old.reset || grants_reset outcome.now) }
     {
         if let Event::Tick { ms } = event {
             if outcome.is_ok() {
@@ -304,7 +332,7 @@ impl<W: RecordSink + Drop, O: LineSink, E: LineSink> StationObserver<W, O, E> {
         }
     }
 
-    /// Notes what an answer says of connections and slots, and counts datagrams.
+    /// Notes what an answer says of connections, slots and resets, and counts datagrams.
     fn note_answer<D: Device>(
         &mut self,
         device: &D,
@@ -312,8 +340,10 @@ impl<W: RecordSink + Drop, O: LineSink, E: LineSink> StationObserver<W, O, E> {
         answer: &Answer,
     ) -> Result<(), OutOfMemory>
         ensures kept { self.new.recorder ≡ self.old.recorder }
+        ensures reset { self.new.reset ≡ (self.old.reset || list_any is_reset answer.now.notices) }
     {
         let notices = answer.notices.as_slice();
+        self.reset |= requests_reset(notices);
         self.closing.note(notices);
         self.reconnected |= changes_connections(notices);
         self.slots.note(device, event, answer)?;
@@ -330,6 +360,7 @@ impl<W: RecordSink + Drop, O: LineSink, E: LineSink> StationObserver<W, O, E> {
         ended: Option<RecordFault>,
     )
         ensures kept { self.new.recorder ≡ self.old.recorder }
+        ensures reset { self.new.reset ≡ (self.old.reset || grants_reset outcome.now) }
     {
         if let Some(fault) = ended {
             self.report_end(fault);
@@ -345,6 +376,7 @@ impl<W: RecordSink + Drop, O: LineSink, E: LineSink> StationObserver<W, O, E> {
     /// Reports that the record has ended.
     fn report_end(&mut self, fault: RecordFault)
         ensures kept { self.new.recorder ≡ self.old.recorder }
+        ensures unreset { self.new.reset ≡ self.old.reset }
     {
         self.record_fault = Some(fault);
         self.report(fault.line());
@@ -352,9 +384,9 @@ impl<W: RecordSink + Drop, O: LineSink, E: LineSink> StationObserver<W, O, E> {
 }
 
 impl<W: RecordSink + Drop, O: LineSink, E: LineSink> Observer for StationObserver<W, O, E> {
-    ghost use Rattle.station_record.specs.Records.{Notes};
+    ghost use Rattle.station.specs.Noted.{NotesStep, noted};
 
-    ghost notes = { λ old event outcome new. Notes W.contents old.recorder event outcome new.recorder };
+    ghost notes = { λ old event outcome new. NotesStep W.contents (noted old) event outcome (noted new) };
 
     fn stepped<D: Device>(&mut self, device: &D, event: &Event, outcome: &Outcome) {
         let ended = self.recorder.note(event, outcome);

@@ -1,7 +1,9 @@
 //! What a station tells of its points: a line for each as its life begins, then for each change, and their fault actions.
 
-ghost use Rattle.std.specs.Prelude.{◌≡◌};
-ghost use Rattle.station.specs.Recorded.{Recorded};
+ghost use Rattle.std.specs.Prelude.{◌≡◌, ◌∷◌, OnOk};
+ghost use Rattle.station.specs.Lives.{Aged, starts_of};
+ghost use Rattle.station.specs.Recorded.{Does, Recorded};
+ghost use Rattle.station.specs.Recorded.Task.{Rest};
 ghost use Rattle.station.specs.Rests.{Rests};
 ghost use Rattle.station.specs.Times.{patience_ms};
 
@@ -29,7 +31,10 @@ impl<P: GroupPort, C: Clock, D: Device, W: RecordSink + Drop, O: LineSink, E: Li
 > {
     /// Begins a life: offers the line of each point, whatever it holds, and asks a scanner to open each slot.
     pub(crate) fn begin(&mut self, slots: u32) -> Result<(), EarlyEnd>
-        ensures { Recorded W.contents P.is_scripted C.is_scripted C.coming P.tape P.failed D.table self.old self.new }
+        ensures recorded { Recorded W.contents P.is_scripted C.is_scripted C.coming P.tape P.failed D.table
+            self.old self.new }
+        ensures begun { OnOk result (Does W.contents P.is_scripted C.is_scripted C.coming P.tape P.failed D.table
+            (Rest ∷ starts_of slots) self.old self.new) }
     {
         self.show()?;
         self.start(slots)
@@ -78,7 +83,10 @@ impl<P: GroupPort, C: Clock, D: Device, W: RecordSink + Drop, O: LineSink, E: Li
     /// Lets so much time pass at an adapter that each connection which owns an output times out, and offers the lines of the
     /// fault actions. While none owns an output, none passes.
     pub(crate) fn time_out_owners(&mut self) -> Result<(), EarlyEnd>
-        ensures { Recorded W.contents P.is_scripted C.is_scripted C.coming P.tape P.failed D.table self.old self.new }
+        ensures recorded { Recorded W.contents P.is_scripted C.is_scripted C.coming P.tape P.failed D.table
+            self.old self.new }
+        ensures aged { OnOk result (Aged W.contents P.is_scripted C.is_scripted C.coming P.tape P.failed
+            D.table self.old self.new) }
     {
         for _ in 0..LAST_TICKS {
             if !self.points.has_owner(&self.device) {

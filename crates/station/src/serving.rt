@@ -2,24 +2,27 @@
 
 ghost use Rattle.std.specs.Prelude.{◌≡◌, ◌∷◌, [], Ok, IfOk, OnOk};
 ghost use Rattle.std.specs.List.{list_any};
+ghost use Rattle.station_lines.specs.Attributes.Calls.{call_event};
 ghost use Rattle.station.specs.Ended.{Ended, Ends};
 ghost use Rattle.station.specs.Faults.{failures_after_call, failures_after_turn};
-ghost use Rattle.station.specs.Recorded.{Recorded};
+ghost use Rattle.station.specs.Lives.{called, number_of, starts_of, stops_of};
+ghost use Rattle.station.specs.Recorded.{CalledOn, Does, Recorded};
 ghost use Rattle.station.specs.Rests.{Rests, Unstepped};
 ghost use Rattle.station.specs.Sessions.{sessions_of};
-ghost use Rattle.station.specs.Turned.{Turned};
+ghost use Rattle.station.specs.Turned.{Turned, Went};
 ghost use Rattle.station_lines.specs.Watch.Closing.{closing_ms, is_marked};
 
 use crate::fault::{EarlyEnd, failures_after_call, failures_after_turn};
 use crate::observer::StationObserver;
 use crate::point_lines::patience_ms;
 use crate::sessions::{sessions_of, unregister_message};
+use crate::step::LifeEnd;
 use cip_tables::{Config, Device, Event};
 use cip_types::{Ms, Node, OutOfMemory};
 use scanner_table::Session;
 use station_lines::{
-    AttributeCall, InputLine, LineSink, LinkReport, Points, StationTraffic, call_event, closing_ms,
-    owners_of, push_connected, push_report, push_starved, push_unbound, read_line,
+    AttributeCall, LineSink, LinkReport, Points, StationTraffic, call_event, closing_ms, owners_of,
+    push_connected, push_report, push_starved, push_unbound,
 };
 use station_record::{RecordFault, RecordSink};
 use std::alloc::Global;
@@ -53,7 +56,6 @@ pub struct Station<P, C, D, W, O, E> {
     /// How long it waits at its end while slots are being closed, in milliseconds.
     pub(crate) closing_ms: u64,
     failures: u32,
-    lines: u64,
 }
 
 impl<P: GroupPort, C: Clock, D: Device, W: RecordSink + Drop, O: LineSink, E: LineSink> Station<
@@ -97,7 +99,6 @@ impl<P: GroupPort, C: Clock, D: Device, W: RecordSink + Drop, O: LineSink, E: Li
             reporting,
             closing_ms: closing_ms(config),
             failures: 0,
-            lines: 0,
         })
     }
 
@@ -122,7 +123,10 @@ impl<P: GroupPort, C: Clock, D: Device, W: RecordSink + Drop, O: LineSink, E: Li
 
     /// Makes a turn that waits at most so long, and less if a line of state or a browser waits. Prints what has changed.
     pub fn turn(&mut self, most_ms: u64) -> Result<(), EarlyEnd>
-        ensures { Turned W.contents P.is_scripted C.is_scripted C.coming P.tape P.failed D.table self.old self.new }
+        ensures turned { Turned W.contents P.is_scripted C.is_scripted C.coming P.tape P.failed D.table
+            self.old self.new }
+        ensures went { OnOk result (Went W.contents P.is_scripted C.is_scripted C.coming P.tape P.failed D.table
+            self.old self.new) }
     {
         let most_ms = self.observer.page_wait_ms(most_ms);
         let most_ms = patience_ms(self.points.is_behind(), most_ms);
@@ -262,21 +266,25 @@ impl<P: GroupPort, C: Clock, D: Device, W: RecordSink + Drop, O: LineSink, E: Li
         Ok(())
     }
 
-    /// Reports that the input has ended.
-    pub fn report_input_end(&mut self)
+    /// Reports why the life ends, if its input has ended.
+    pub(crate) fn report_end(&mut self, end: LifeEnd) -> Result<(), EarlyEnd>
         ensures { Rests P.is_scripted P.tape P.failed self.old self.new }
     {
-        if !self.reporting.quiet {
+        if end == LifeEnd::InputEnd && !self.reporting.quiet {
             self.observer.report(
                 b"eip_station: standard input has ended, and so does the station (--no-input: runs on without it)\n",
             );
         }
+        Ok(())
     }
 
     /// Makes a turn that waits at most so many milliseconds.
     #[tactic(auto, using(crate::proofs::Turning::not_turned))]
     fn wait_and_step(&mut self, most_ms: u64) -> Result<(), EarlyEnd>
-        ensures { Turned W.contents P.is_scripted C.is_scripted C.coming P.tape P.failed D.table self.old self.new }
+        ensures turned { Turned W.contents P.is_scripted C.is_scripted C.coming P.tape P.failed D.table
+            self.old self.new }
+        ensures went { OnOk result (Went W.contents P.is_scripted C.is_scripted C.coming P.tape P.failed D.table
+            self.old self.new) }
     {
         // (`turn_in_time` requires that the count of failures can rise)
         if self.port.failures() == u64::MAX {
@@ -301,34 +309,24 @@ impl<P: GroupPort, C: Clock, D: Device, W: RecordSink + Drop, O: LineSink, E: Li
         Ok(())
     }
 
-    /// Performs the call of a line, and prints its outcome and what has changed, or its state if the line asks for that. An
-    /// empty line and a comment are skipped. A line that is no call is reported.
-    #[tactic(auto, using(crate::proofs::Noting::at_rest, crate::proofs::Noting::unmoved))]
-    pub fn call(&mut self, line: &[u8]) -> Result<(), EarlyEnd>
-        ensures { Recorded W.contents P.is_scripted C.is_scripted C.coming P.tape P.failed D.table self.old self.new }
-    {
-        self.lines = self.lines.saturating_add(1);
-        match read_line(self.alloc, line)? {
-            InputLine::Skipped => Ok(()),
-            InputLine::Call(event) => self.act(&event),
-            InputLine::Attribute(call) => self.ask(&call),
-            InputLine::Status => self.print_status(),
-            InputLine::NoCall => self.report_line(),
-        }
-    }
-
     /// Has a scanner send the request of a call that concerns an attribute. Its number is one above that of the last one.
     #[tactic(auto, using(crate::proofs::Noting::at_rest, crate::proofs::Noting::unmoved))]
-    fn ask(&mut self, call: &AttributeCall) -> Result<(), EarlyEnd>
-        ensures { Recorded W.contents P.is_scripted C.is_scripted C.coming P.tape P.failed D.table self.old self.new }
+    pub(crate) fn ask(&mut self, call: &AttributeCall) -> Result<(), EarlyEnd>
+        ensures recorded { Recorded W.contents P.is_scripted C.is_scripted C.coming P.tape P.failed D.table
+            self.old self.new }
+        ensures requested { OnOk result (Does W.contents P.is_scripted C.is_scripted C.coming P.tape P.failed D.table
+            (called (call_event (number_of self.old) call.now)) self.old self.new) }
     {
         let event = call_event(self.alloc, self.observer.next_explicit(), call)?;
         self.act(&event)
     }
 
     /// Steps the device by an event of the application, sends the answer, and prints what has changed.
-    pub fn act(&mut self, event: &Event) -> Result<(), EarlyEnd>
-        ensures { Recorded W.contents P.is_scripted C.is_scripted C.coming P.tape P.failed D.table self.old self.new }
+    pub(crate) fn act(&mut self, event: &Event) -> Result<(), EarlyEnd>
+        ensures recorded { Recorded W.contents P.is_scripted C.is_scripted C.coming P.tape P.failed D.table
+            self.old self.new }
+        ensures called { OnOk result (Does W.contents P.is_scripted C.is_scripted C.coming P.tape P.failed D.table
+            (called event.now) self.old self.new) }
     {
         self.step_and_send(event)?;
         self.show()
@@ -337,7 +335,10 @@ impl<P: GroupPort, C: Clock, D: Device, W: RecordSink + Drop, O: LineSink, E: Li
     /// Steps the device by an event of the application, and sends the answer. What cannot be sent is lost.
     #[tactic(auto, using(crate::proofs::Noting::at_rest, crate::proofs::Noting::unmoved))]
     fn step_and_send(&mut self, event: &Event) -> Result<(), EarlyEnd>
-        ensures { Recorded W.contents P.is_scripted C.is_scripted C.coming P.tape P.failed D.table self.old self.new }
+        ensures recorded { Recorded W.contents P.is_scripted C.is_scripted C.coming P.tape P.failed D.table
+            self.old self.new }
+        ensures called { OnOk result (CalledOn W.contents P.is_scripted P.tape P.failed D.table event.now
+            self.old self.new) }
     {
         // (`act` requires that the count of failures can rise)
         if self.port.failures() == u64::MAX {
@@ -357,8 +358,11 @@ impl<P: GroupPort, C: Clock, D: Device, W: RecordSink + Drop, O: LineSink, E: Li
     }
 
     /// Asks a scanner to open each slot.
-    pub fn start(&mut self, slots: u32) -> Result<(), EarlyEnd>
-        ensures { Recorded W.contents P.is_scripted C.is_scripted C.coming P.tape P.failed D.table self.old self.new }
+    pub(crate) fn start(&mut self, slots: u32) -> Result<(), EarlyEnd>
+        ensures recorded { Recorded W.contents P.is_scripted C.is_scripted C.coming P.tape P.failed D.table
+            self.old self.new }
+        ensures started { OnOk result (Does W.contents P.is_scripted C.is_scripted C.coming P.tape P.failed D.table
+            (starts_of slots) self.old self.new) }
     {
         for slot in 0..slots {
             self.act(&Event::Start { slot })?;
@@ -367,8 +371,11 @@ impl<P: GroupPort, C: Clock, D: Device, W: RecordSink + Drop, O: LineSink, E: Li
     }
 
     /// Asks a scanner to close each slot.
-    pub fn stop(&mut self, slots: u32) -> Result<(), EarlyEnd>
-        ensures { Recorded W.contents P.is_scripted C.is_scripted C.coming P.tape P.failed D.table self.old self.new }
+    pub(crate) fn stop(&mut self, slots: u32) -> Result<(), EarlyEnd>
+        ensures recorded { Recorded W.contents P.is_scripted C.is_scripted C.coming P.tape P.failed D.table
+            self.old self.new }
+        ensures stopped { OnOk result (Does W.contents P.is_scripted C.is_scripted C.coming P.tape P.failed D.table
+            (stops_of slots) self.old self.new) }
     {
         for slot in 0..slots {
             self.act(&Event::Stop { slot })?;
@@ -433,7 +440,7 @@ impl<P: GroupPort, C: Clock, D: Device, W: RecordSink + Drop, O: LineSink, E: Li
     }
 
     /// Prints the lines of the call `status`, which is no event of the device. The fault: there was no memory for them.
-    fn print_status(&mut self) -> Result<(), EarlyEnd>
+    pub(crate) fn print_status(&mut self) -> Result<(), EarlyEnd>
         ensures { Rests P.is_scripted P.tape P.failed self.old self.new }
     {
         self.text.clear();
@@ -444,12 +451,11 @@ impl<P: GroupPort, C: Clock, D: Device, W: RecordSink + Drop, O: LineSink, E: Li
         Ok(())
     }
 
-    /// Reports that a line of the input is no call.
-    fn report_line(&mut self) -> Result<(), EarlyEnd>
+    /// Reports that the line of this number of the input is no call.
+    pub(crate) fn report_line(&mut self, number: u64) -> Result<(), EarlyEnd>
         ensures { Rests P.is_scripted P.tape P.failed self.old self.new }
     {
         self.text.clear();
-        let number = self.lines;
         if write!(
             &mut self.text,
             "eip_station: line {number} of standard input is no call: write POINT HEX, read POINT, mode run, mode idle, start SLOT, stop SLOT, get NODE CLASS INSTANCE ATTRIBUTE, set NODE CLASS INSTANCE ATTRIBUTE HEX, explicit NODE NUMBER HEX, answer NUMBER STATUS HEX, status\n"

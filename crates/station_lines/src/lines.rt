@@ -21,10 +21,16 @@ pub enum NextLine {
     End,
 }
 
-/// A source of lines that never waits.
+/// A source of lines that never waits. Contracts see it as a relation: from the source, by what it has next, to the source behind
+/// that.
 pub trait CallLines {
+    ghost use Rattle.station_lines.specs.declared.lines.NextLine.{NextLine};
+
+    ghost has: { Self → NextLine → Self → Type 0 };
+
     /// The next line. The fault: an allocation was refused.
-    fn next_line(&mut self) -> Result<NextLine, OutOfMemory>;
+    fn next_line(&mut self) -> Result<NextLine, OutOfMemory>
+        ensures { IfOk result (λ next. has self.old next self.new) };
 }
 
 /// A source without lines that never ends.
@@ -32,6 +38,10 @@ pub trait CallLines {
 pub struct NoLines;
 
 impl CallLines for NoLines {
+    ghost use Rattle.station_lines.specs.declared.lines.NextLine.TheVariants.{Nothing};
+
+    ghost has = { λ old next new. next ≡ Nothing };
+
     fn next_line(&mut self) -> Result<NextLine, OutOfMemory> {
         Ok(NextLine::Nothing)
     }

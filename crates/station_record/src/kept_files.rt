@@ -7,6 +7,6 @@ mod state_file;
 mod timestamp;
 
 pub use file_words::{name_of, stem_of};
-pub use record_file::{RecordFile, RecordPlace, place_of_record};
+pub use record_file::{RecordFile, RecordPlace, forget_record, place_of_record};
 pub use state_file::{Start, StateFault};
 pub use timestamp::push_timestamp;

@@ -14,7 +14,8 @@ mod summed;
 pub use fault::RecordFault;
 pub use files::{Placed, RecordFiles, file_name};
 pub use kept_files::{
-    RecordFile, RecordPlace, Start, StateFault, name_of, place_of_record, push_timestamp, stem_of,
+    RecordFile, RecordPlace, Start, StateFault, forget_record, name_of, place_of_record,
+    push_timestamp, stem_of,
 };
 pub use kept_state::{StationState, begin_state, push_state, read_state, reads_back};
 pub use recorder::Recorder;

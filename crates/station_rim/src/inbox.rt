@@ -135,6 +135,8 @@ pub struct InputLines<R: Wait + Drop> {
 }
 
 impl<R: Wait + Drop> CallLines for InputLines<R> {
+    ghost has = { λ old next new. new ≡ old };
+
     fn next_line(&mut self) -> Result<NextLine, OutOfMemory> {
         self.input.next_line(&self.rt)
     }

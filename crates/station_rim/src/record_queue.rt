@@ -69,7 +69,8 @@ impl SharedRecord {
         }
     }
 
-    /// The end of the way at which entries are put in, for a record at this place.
+    /// The end of the way at which entries are put in, for a record at this place. Where the way had another record before, all of it
+    /// was written (`is_drained`).
     pub fn entries<R: Wait + Drop>(
         &self,
         rt: R,
@@ -129,11 +130,9 @@ impl SharedRecord {
         file: &mut Option<RecordFile>,
         piece: &[u8],
     ) -> io::Result<()> {
-        if file.is_none() {
-            let place = self.channel.way.lock(rt).place.take();
-            if let Some(place) = place {
-                *file = Some(RecordFile::begin(rt, self.alloc, place)?);
-            }
+        let place = self.channel.way.lock(rt).place.take();
+        if let Some(place) = place {
+            *file = Some(RecordFile::begin(rt, self.alloc, place)?);
         }
         if piece.is_empty() || self.has_failed(rt) {
             return Ok(());

@@ -2,6 +2,7 @@
 use Rattle.std.proofs.Common.{◌≡◌, ℕ, [], ◌∷◌, Some, None, refl}
 use Rattle.cip_productions.specs.declared.kind.Kind.TheVariants.{ExclusiveOwner, InputOnly}
 use Rattle.scanner_table.specs.declared.profile.SlotConfig.{SlotConfig}
+use Rattle.station_setup.specs.Settings.{incarnation_in}
 use Rattle.station_setup.specs.Unservable.Defects.{own_node, slots_defect}
 use Rattle.station_setup.specs.declared.unservable.defect.StationDefect.TheVariants.{OwnTarget, SharedOutput}
 
@@ -28,3 +29,10 @@ at_its_option = refl
 
 at_each_address : own_node (Some (record { 0 = 0 })) (record { 0 = 9 }) ≡ record { 0 = 9 }
 at_each_address = refl
+
+-- the lives behind the first one
+lives_of_16 : (incarnation_in 16 1 ≡ 16) × (incarnation_in 16 2 ≡ 17)
+lives_of_16 = (refl, refl)
+
+lives_of_255 : (incarnation_in 255 1 ≡ 255) × ((incarnation_in 255 2 ≡ 1) × (incarnation_in 255 257 ≡ 1))
+lives_of_255 = (refl, (refl, refl))

@@ -1,15 +1,16 @@
 -- What the options of a station and its profile say of its port and its end.
-use Rattle.std.specs.Prelude.{ℕ, ◌*◌, ◌==◌, nat_eq, if◌then◌else◌, Bool, List, [], ◌∷◌, ◌++◌, replicate, Option, Some, None, is_some}
+use Rattle.std.specs.Prelude.{ℕ, ◌+◌, ◌*◌, ◌%◌, ◌==◌, nat_eq, if◌then◌else◌, Bool, List, [], ◌∷◌, ◌++◌, replicate, Option, Some, None, is_some}
 use Rattle.std.specs.List.{list_any}
 use Rattle.adapter_table.specs.declared.profile.Description.{Description}
 use Rattle.adapter_table.specs.declared.profile.Profile.{Profile}
+use Rattle.cip_tables.specs.declared.table.Config.{Config}
+use Rattle.cip_tables.specs.declared.table.Config.TheVariants.{Adapter, Scanner}
 use Rattle.cip_types.specs.declared.names.Node.{Node}
 use Rattle.list_identity.specs.Names.{name_front}
 use Rattle.port_faults.specs.declared.rates.FaultRates.{FaultRates}
 use Rattle.udp_runner.specs.Groups.GroupUse.{uses_groups}
 use Rattle.socket_port.specs.declared.streams.routes.Destination.{Destination}
 use Rattle.scanner_table.specs.declared.profile.SlotConfig.{SlotConfig}
-use Rattle.station.specs.declared.run.Ending.{Ending}
 use Rattle.station_port.specs.declared.place.StationPlace.{StationPlace}
 use Rattle.command_lines.specs.declared.station_options.Options.{Options}
 
@@ -22,6 +23,10 @@ given_or None node = node
 abbrev pub node_of : Option Node → Node → Node
 node_of None node = node
 node_of (Some address) node = if address.0 == 0 then node else address
+
+-- the incarnation of a life, where that of the first one is said: 255 is followed by 1
+abbrev pub incarnation_in : (first life : ℕ) → ℕ
+incarnation_in first life = (first + 253 + life) % 255 + 1
 
 -- where a station is, in the network of this mask, at this TCP port, with this inactivity time-out, and where it sends
 abbrev pub place_of : Options → Node → (mask tcp inactivity : ℕ) → StationPlace
@@ -66,18 +71,19 @@ with_description profile options serial name = record profile {
   description = Some (description_of profile.description options serial name);
 }
 
+-- the configuration of a station: an adapter has a description
+abbrev pub described : Config → Options → ℕ → List ℕ → Config
+described (Adapter profile) options serial name = Adapter (with_description profile options serial name)
+described (Scanner profile) options serial name = Scanner profile
+
 -- what becomes of the datagrams that arrive
 abbrev pub rates_of : Options → FaultRates
 rates_of options = record { lose = options.lose; repeat = options.repeat; reorder = options.reorder; delay_ms = options.delay_ms; seed = options.seed }
 
--- the milliseconds of so many seconds, if there is an end
-abbrev pub ms_of : Option ℕ → Option ℕ
-ms_of (Some seconds) = Some (seconds * 1000)
-ms_of None = None
-
--- when a station of so many slots ends
-abbrev pub ending_of : Options → ℕ → Ending
-ending_of options slots = record { slots = slots; ms = ms_of options.seconds }
+-- the end of what runs for so many seconds, in milliseconds since it began
+abbrev pub end_of : Option ℕ → Option ℕ
+end_of (Some seconds) = Some (seconds * 1000)
+end_of None = None
 
 -- a target of this address is among them
 abbrev pub is_among : Node → List Destination → Bool

@@ -2,9 +2,10 @@
 
 ghost use Rattle.std.specs.Prelude.{◌≡◌, IfOk};
 ghost use Rattle.list_identity.specs.Names.{name_front};
-ghost use Rattle.station_setup.specs.Settings.{described_as, description_of, node_of, with_description};
+ghost use Rattle.station_setup.specs.Settings.{described, described_as, description_of, node_of, with_description};
 
 use adapter_table::{Description, Profile};
+use cip_tables::Config;
 use cip_types::limits::TCP_PORT;
 use cip_types::{Items, Node, OutOfMemory};
 use command_lines::Options;
@@ -27,10 +28,30 @@ const NO_ADDRESS: [u8; 6] = [0; 6];
 /// Volume 2, chapter 5, encapsulation inactivity timeout of the TCP/IP Interface object.
 const USUAL_INACTIVITY_S: u16 = 120;
 
+/// The configuration of a station, in which an adapter has a description, so that inquiries find it: without one of its own it has
+/// this serial number and this name. OutOfMemory is the only fault.
+pub fn described(
+    alloc: Global,
+    config: Config,
+    options: &Options,
+    serial: u32,
+    name: &[u8],
+) -> Result<Config, OutOfMemory>
+    ensures { IfOk result (λ given. given ≡ described config options.now serial name.now) }
+{
+    match config {
+        Config::Adapter(profile) => {
+            let profile = with_description(alloc, profile, options, serial, name)?;
+            Ok(Config::Adapter(profile))
+        }
+        Config::Scanner(profile) => Ok(Config::Scanner(profile)),
+    }
+}
+
 /// The profile of an adapter station: at the address of its options, and with a description. What the options say comes
 /// first, then the description that the profile has, then the station's own serial number and name and the usual values.
 /// The only fault is a refused allocation.
-pub fn with_description(
+fn with_description(
     alloc: Global,
     profile: Profile,
     options: &Options,

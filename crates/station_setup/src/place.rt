@@ -1,7 +1,7 @@
 //! Where a station is, what becomes of the datagrams that arrive there, and when it ends.
 
 ghost use Rattle.std.specs.Prelude.{◌≡◌};
-ghost use Rattle.station_setup.specs.Settings.{ending_of, given_or, ms_of, place_of, rates_of};
+ghost use Rattle.station_setup.specs.Settings.{end_of, given_or, place_of, rates_of};
 
 use crate::describing::node_of;
 use adapter_table::Profile;
@@ -10,7 +10,6 @@ use cip_types::Node;
 use cip_types::limits::TCP_PORT;
 use command_lines::Options;
 use port_faults::FaultRates;
-use station::Ending;
 use station_port::StationPlace;
 use udp_runner::uses_groups;
 
@@ -71,19 +70,9 @@ fn given_or(address: Option<Node>, node: Node) -> Node
     }
 }
 
-/// When a station of so many slots ends.
-pub fn ending_of(options: &Options, slots: u32) -> Ending
-    ensures { result ≡ ending_of options.now slots }
-{
-    Ending {
-        slots,
-        ms: ms_of(options.seconds),
-    }
-}
-
-/// The milliseconds of so many seconds, if there is an end.
-fn ms_of(seconds: Option<u32>) -> Option<u64>
-    ensures { result ≡ ms_of seconds }
+/// When a station or a plant ends that runs for so many seconds, in milliseconds since it began. One without seconds has no end.
+pub fn end_of(seconds: Option<u32>) -> Option<u64>
+    ensures { result ≡ end_of seconds }
 {
     match seconds {
         Some(seconds) => Some(u64::from(seconds) * 1_000),

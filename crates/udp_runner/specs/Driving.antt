@@ -5,6 +5,7 @@ use Rattle.cip_events.specs.Outcomes.{Follows, Outcome}
 use Rattle.cip_tables.specs.declared.table.DeviceTable.{DeviceTable}
 use Rattle.cip_tables.specs.Step.{step}
 use Rattle.udp_runner.specs.declared.fault.RunFault.{RunFault}
+use Rattle.udp_runner.specs.declared.fault.RunFault.TheVariants as run
 use Rattle.udp_runner.specs.Handing.{HandsOut, HandsSome}
 use Rattle.udp_runner.specs.Tape.{Tape}
 use Rattle.udp_runner.specs.Turns.{Blames, Drives, Stops}
@@ -43,3 +44,8 @@ pub record Stepped {O : Type 0} (notes : O → Event → Outcome → O → Type 
   pub outcome : Outcome
   pub follows : Follows (step before event) before outcome after
   pub noted : notes old event outcome new
+
+-- an event that the device refuses sends and receives nothing
+abbrev pub IsQuiet : (scripted : Bool) → (old new : Tape) → Result Unit RunFault → Type 0
+IsQuiet scripted old new (Err (run.Step fault)) = scripted ≡ true → new ≡ old
+IsQuiet scripted old new other = Unit

@@ -1,4 +1,5 @@
 pub mod Tape
+pub mod Calls
 pub mod Outputs
 pub mod Turns
 pub mod Handing

@@ -6,7 +6,7 @@ ghost use Rattle.cip_events.specs.Arrivals.{arrival_event};
 ghost use Rattle.cip_events.specs.Outcomes.{Follows};
 ghost use Rattle.cip_tables.specs.Step.{step};
 ghost use Rattle.cip_tables.specs.Wakes.{due_in};
-ghost use Rattle.udp_runner.specs.Driving.{Drove, Stepped, once, seen};
+ghost use Rattle.udp_runner.specs.Driving.{Drove, IsQuiet, Stepped, once, seen};
 ghost use Rattle.udp_runner.specs.Outputs.{SendsSome, answer_sent, reply_sent};
 ghost use Rattle.udp_runner.specs.Tape.{first_or, with_sent};
 ghost use Rattle.udp_runner.specs.Turns.{arrivals_of, events_of, ticks_of, turn_of};
@@ -224,6 +224,7 @@ pub fn act<P: Port, D: Device, O: Observer>(
         (seen P.tape P.failed D.table port.old device.old observer.old)
         (seen P.tape P.failed D.table port.new device.new observer.new) (once result) }
     ensures stepped { Stepped O.notes event.now observer.old observer.new (D.table device.old) (D.table device.new) }
+    ensures refused { IsQuiet P.is_scripted (P.tape port.old) (P.tape port.new) result }
 {
     let answer = step(device, observer, event)?;
     send(port, &answer)?;

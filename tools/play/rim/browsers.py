@@ -1,13 +1,13 @@
 """Where the page of a station is, what its event stream says, by numbers worked by hand, and browsers that vanish or are slow."""
 
-import json, time
-from rim.host import holds, listens, need, sure, wait
+import json, os, time
+from rim.host import ADAPTER, holds, listens, need, sure, wait
 from rim.pages import HOST, LATE, MOST, PORT, Events, asked, connected, slowly_connected, status_of, told, wait_for_refusal, word_of
-from rim.peers import Originator
+from rim.peers import Originator, Silent
 from rim.plants import begun
 
 REQUEST_S = 3.0  # seconds in which a request has to arrive, however many reads that takes
-MOST_EVENTS = 32
+MOST_EVENTS, TROUBLES = 32, 3
 COUNTS = {"received": 5, "applied": 4, "lost": 3}  # those of the numbers 1, 2, 3, 7, and 7 again
 ROW = COUNTS | {"duplicate": 0, "old": 1, "wrong_size": 0}  # those of their connection
 PAUSE_MS = 4500  # a pause of a device: nearly as long as the 5 s after which a browser opens its event stream again
@@ -137,6 +137,7 @@ def run_page_numbers(bench):
     later = events.next(lambda it: it["ms"] >= first["ms"] + 1000)
     need(later and shown(later) and later["counts"]["sent"] >= first["counts"]["sent"] + 3, f"what is sent is counted by itself: {later}")
     need(abs(later["ms"] / 1000 - (time.monotonic() - begun_at)) < 1.5, f"a snapshot has the milliseconds of its device: {later['ms']}")
+    run_troubles(bench, events)
     found = [(it["o_t_ms"], it["t_o_ms"], it["mode"], it["consumed"], it["produced"]) for it in later["connections"]]
     sure(found == [(500, 200, "run", 150, 100)], f"a snapshot has what arrived, was applied and lost, what was sent, and both intervals: {found}")
     run_row(connection, owner, events, later["connections"][0])
@@ -147,6 +148,51 @@ def run_page_numbers(bench):
     sure(allowed == {"writes": False, "record": True}, f"a page says whether it takes calls, and whether it has a record: {allowed}")
     need(adapter.end() == 0, "the adapter ends with status 0")
     bench.clear()
+    run_piped_record(bench)
+    run_page_names(bench)
+
+
+def run_piped_record(bench):
+    """A record that is a pipe cannot be read again, and so no page hands it out."""
+    path = bench.file("page_pipe.trace")
+    os.mkfifo(path)
+    reader = os.open(path, os.O_RDWR | os.O_NONBLOCK)
+    adapter = bench.adapter("--page", str(PORT), "--record", path, log="page_pipe")
+    said, status = greeting_of(bench)["record"], asked(bench, path=f"/record?{word_of(bench)}")[0]
+    sure((said, status) == (False, 404), f"a page whose record is a pipe has none: {said}, {status}")
+    os.close(reader)
+    bench.clear()
+
+
+def run_page_names(bench):
+    """Each event stream has the names of the profile once, before the first snapshot."""
+    bench.write("page_names.profile", ADAPTER + "# name 150 Valves\n# bit 150 0 4 Stop\n")
+    adapter = bench.adapter("--page", str(PORT), profile="page_names", log="page_names")
+    for turn in range(2):
+        stream, text = connected(bench), b""
+        begin_events(stream, word_of(bench))
+        while text.count(b"\ndata: {\"wall_ms\"") < 3:
+            text += stream.recv(65536)
+        names, snapshot = text.find(b"event: names\ndata: "), text.find(b"\ndata: {\"wall_ms\"")
+        need(text.count(b"event: names") == 1 and 0 < names < snapshot, f"names come once, before the first snapshot: {text[:300]}")
+        said = json.loads(text[names:].partition(b"data: ")[2].partition(b"\n")[0])
+        need(said == {"150": "Valves", "150.0.4": "Stop"}, f"they are those of the profile: {said}")
+        stream.close()
+    sure(True, "each of two event streams has the names of the profile once, before its first snapshot")
+    need(adapter.end() == 0, "the adapter ends with status 0")
+    bench.clear()
+
+
+def run_troubles(bench, events):
+    """A trouble that comes again is one, with a count, and the times at which it came first and last."""
+    own = bench.network.extra[0]
+    ended = lambda it: [trouble for trouble in it["troubles"] if f" of {own} ended: its peer cut it" in trouble["words"]]
+    for turn in range(1, TROUBLES + 1):
+        Silent(bench, own).close()
+        later = events.next(lambda it: [trouble["count"] for trouble in ended(it)] == [turn])
+        need(later, f"a stream that its peer cuts {turn} times is one trouble, which came {turn} times")
+    last = ended(later)[0]
+    sure(last["first_ms"] < last["ms"] <= later["ms"], f"a trouble that came {TROUBLES} times is told once: {last}")
 
 
 def run_row(connection, owner, events, row):

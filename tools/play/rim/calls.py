@@ -18,9 +18,9 @@ class CallFaults:
         if not os.path.exists(self.library):
             build_before("calls", self.library)
         self.file = open(self.path, "w+b")
-        self.file.write(bytes(20))
+        self.file.write(bytes(24))
         self.file.flush()
-        self.faults = mmap.mmap(self.file.fileno(), 20)
+        self.faults = mmap.mmap(self.file.fileno(), 24)
         bench.later(self)
 
     def env(self):
@@ -28,6 +28,10 @@ class CallFaults:
 
     def set(self, send=0, receive=0, interrupt=0, sync=0, bind=0):
         self.faults[:20] = struct.pack("<iiiii", send, receive, interrupt, sync, bind)
+
+    def synced(self):
+        """How often a file or a folder has come on the medium."""
+        return struct.unpack("<i", self.faults[20:])[0]
 
     def close(self):
         self.faults.close()

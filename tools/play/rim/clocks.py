@@ -1,11 +1,14 @@
 """The clock of a station, and its waits between two milliseconds."""
 
-import contextlib, select, socket, struct, time
-from rim.host import Untried, Wrong, ahead, first_in_line, need, sure, wait
+import contextlib, datetime, os, select, socket, struct, subprocess, time
+from rim.host import Untried, Wrong, ahead, first_in_line, need, run, sure, wait
 from rim.peers import INPUT_ONLY, POINT_TO_POINT, Originator, served
 from rim.sockets import Flood
+from rim.streams import Clock
 
 CLOCK_S = 2.0
+DAYS = "1970-01-01T00:00:00.001", "2027-12-31T23:59:30.250", "2028-02-29T12:00:00", "2028-03-01T00:00:00", "2028-07-04T10:00:00", "2100-03-01T01:02:03"
+LATE_S = 10.0  # seconds from the moment at which a clock is set to the beginning of a record
 STAMPS = 35  # SO_TIMESTAMPNS: Python has no name for it
 DATAGRAMS, REPLIES, ROUNDS = 400, 300, 5
 CYCLE_MS = 2
@@ -33,6 +36,22 @@ def run_clock(bench):
     passed, least, most = later - device, next_before - after, next_after - before
     sure(least - 2 <= passed <= most + 2, f"a device whose clock is read all the time has {passed} ms, of {least:.0f} to {most:.0f} ms that passed")
     need(adapter.end() == 0, "the adapter ends with status 0")
+    bench.clear()
+
+
+def run_wall_clock(bench):
+    """The first line of a record has the date and the time of the clock on the wall, in leap years and in others; `pcap` reads it so."""
+    clock, words = bench.later(Clock(bench, "wall")), [bench.program, "adapter", bench.file("adapter.profile"), "--incarnation", "5"]
+    env = {**os.environ, **dict(it.split("=", 1) for it in clock.env())}
+    for text in DAYS:
+        day, trace = datetime.datetime.fromisoformat(f"{text}+00:00"), bench.file("wall.trace")
+        clock.set_wall(day.timestamp())
+        done = run(*bench.network.at("adapter"), *words, "--record", trace, stdin=subprocess.DEVNULL, env=env)
+        need(done.returncode == 0, f"a station at {text} ends with status 0: {done.stderr.decode()}")
+        with open(trace) as file:
+            said = datetime.datetime.fromisoformat(file.readline().split()[3].replace("Z", "+00:00"))
+        need(0 <= (said - day).total_seconds() < LATE_S, f"a record that begins at {day} says {said}")
+    sure(True, f"records that begin at {', '.join(DAYS)} say so")
     bench.clear()
 
 

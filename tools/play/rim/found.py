@@ -12,6 +12,7 @@ MOST_IN_A_SECOND = 32
 LONGEST_MS = 500
 ASIDE_MS = 500  # so much later a reply may be seen on a busy machine
 BROADCASTS = 8
+LIVES, SAME_MS = 4, 40  # (the first two delays of four lives that are drawn are as close as this once in a hundred thousand times)
 EVERYBODY, ALL_HOSTS = "127.255.255.255", "255.255.255.255"
 DESCRIBED = (
     "adapter 16 {adapter} 255.255.255.0 7 12 9 4 5\noutput 150 4 zero zero\ninput 100 6\nconfig 151 2\n"
@@ -28,24 +29,39 @@ def ask(bench, host, profile, *options, at="peer"):
 
 
 def run_browser(bench):
-    """A browser asks a station that its options describe, one that its profile describes, and a device of a plant."""
+    """A browser asks a station that its options describe, one that its profile describes, and a device of a plant. Three resets end a life of
+    each of the last two: its record ends with the reset, and the next life has ids of its own."""
     adapter = bench.adapter("--serial", "7", "--name", "Line 3", "--inactivity", "90", log="browsed")
     said = ask(bench, bench.address["adapter"], "adapter", "--serial", "7", "--name", "Line 3", "--inactivity", "90", "--only", "25", "31.2", "31.4", "31.8", "7.2")
     holds(f"a browser asks a station that its options describe: {said}")
     need(adapter.end() == 0, "the adapter ends with status 0")
     bench.write("described.profile", DESCRIBED)
     adapter = bench.adapter("--record", bench.file("described.trace"), profile="described", log="described")
-    holds(f"a browser asks a station that its profile describes: {ask(bench, bench.address['adapter'], 'described')}")
+    holds(f"a browser asks a station that its profile describes: {ask(bench, bench.address['adapter'], 'described', '--resets')}")
     need(adapter.end() == 0, "the adapter ends with status 0")
     bench.replay_alone("described")
+    judge_lives(bench, "described", 4)
     dissect(bench, "described", bench.address["adapter"])
     node = bench.network.extra[0]
     bench.write_exactly("island.profile", DESCRIBED.format(adapter=node))
     plant = Plant(bench, "device island island.profile\n", log="browsed-plant")
     wait(lambda: any("adapter at" in line for line in plant.said()), "a plant has a device")
-    holds(f"a browser asks a device of a plant: {ask(bench, node, 'island', at='owner')}")
+    holds(f"a browser asks a device of a plant: {ask(bench, node, 'island', '--resets', at='owner')}")
+    need(sum(" life " in line for line in plant.said()) == 4, "three resets end three lives of a plant's device")
     need(plant.end() == 0, "the plant ends with status 0")
     bench.clear()
+
+
+def judge_lives(bench, name, lives):
+    """Each life of a station has a record of its own, which replays. All but the last one end with the reset: its reply is the last frame."""
+    for life in range(1, lives + 1):
+        path = bench.file(f"{name}.trace" + (f".life-{life}" if life > 1 else ""))
+        need(run(bench.program, "replay", path).returncode == 0, f"the record of life {life} replays")
+        with open(path) as file:
+            last = [line.split() for line in file if line.strip()][-3:]
+        is_reset = [words[1:2] for words in last[1:]] == [["frame"], ["note"]] and last[2][2] == "reset"
+        need(is_reset == (life < lives), f"the record of life {life} ends with the outcome of its reset: {last}")
+    sure(True, f"three resets end three lives of a station: the records of {lives} lives replay, and each ends with the reply to the reset")
 
 
 def dissect(bench, name, node):
@@ -120,6 +136,21 @@ def run_broadcasts(bench):
     for host, station in zip(hosts, stations):
         need(station.end() == 0, "the station ends with status 0")
         bench.replay_alone(host)
+    bench.clear()
+    run_drawn_delays(bench, hosts[0], port)
+
+
+def run_drawn_delays(bench, host, port):
+    """Each life of a station draws its delays anew."""
+    late = []
+    for _ in range(LIVES):
+        station = Station(bench, "adapter", "adapter", bench.file(f"{host}.profile"), "--tcp", str(port), log="drawn_delays")
+        wait(station.said, "a station starts")
+        with bench.network.inside("adapter"), asking("127.0.0.1") as udp:
+            late.append([answers(udp, EVERYBODY, port, [host])[host] for _ in range(2)])
+        need(station.end() == 0, "the station ends with status 0")
+    said = ", ".join(f"{one:.0f} and {two:.0f}" for one, two in late)
+    sure(max(max(of) - min(of) for of in zip(*late)) > SAME_MS, f"{LIVES} lives of a station answer their first two broadcasts after {said} ms")
     bench.clear()
 
 

@@ -1,13 +1,14 @@
 """Multicast groups as hosts of a network have them: what a station sends to a group, and how a scanner's host receives it."""
 
 import argparse, contextlib, re, socket
-from rim.host import Bench, holds, need, run, sure, until, wait
+from rim.host import Bench, group_of, holds, need, run, sure, until, wait
 from rim.peers import INPUT_ONLY, MULTICAST, Originator
 from rim.words import arrives
 
 SLOT = "scanner {incarnation} {owner} 1 {number} 1000 1000\nslot {adapter} input - 152 100 0 4 10000 10000 2 multicast - -\n"
 HINT = re.compile(r"eip_station: slot 0: no multicast datagram of \S+ came to (\S+): this host does not receive that group: (ip address add \S+ dev )INTERFACE( autojoin)")
 PEER_PORT = 2230
+TRIED_S = 8  # seconds: a port is tried again every 5 s, and a slot whose data never come opens again after 10 s
 
 
 def run_groups(bench):
@@ -66,12 +67,43 @@ def run_hint(hosts):
     hosts.clear()
 
 
+def run_bound_groups(bench):
+    """A group whose UDP port another program has alone: a scanner says so, and receives once the port can be had. Its socket goes with its
+    slot. (Here the test joins the group, at its host.)"""
+    group, own, value = group_of(int(bench.address["adapter"].split(".")[-1])), bench.address["owner"], "0badcafe"
+    said = f"eip_station: no datagram of the group {group} can be received: its UDP port 2222 cannot be had, as where another program has it alone; " \
+           "it is tried again every 5 s"
+    with bench.network.inside("owner"), contextlib.ExitStack() as opened:
+        alone, member = [opened.enter_context(socket.socket(socket.AF_INET, socket.SOCK_DGRAM)) for _ in range(2)]
+        alone.bind((group, 2222))
+        member.setsockopt(socket.IPPROTO_IP, socket.IP_ADD_MEMBERSHIP, socket.inet_aton(group) + socket.inet_aton(own))
+        adapter = bench.adapter("--multicast", groups=True, log="bound_adapter")
+        adapter.call(f"write 100 {value}")
+        scanner = bench.scanner("owner", "--multicast", groups=True, log="bound")
+        until(lambda: said in scanner.said(), "a scanner says that another program has the UDP port of its group alone")
+        alone.close()
+        until(lambda: image_of(scanner) == value, f"it receives the datagrams of its group within {TRIED_S} s of the port being free", TRIED_S)
+        need(scanner.said().count(said) == 1, f"it says so once: {scanner.said()}")
+        bound = bound_sockets(bench, group)
+        scanner.call("stop 0")
+        wait(lambda: bound_sockets(bench, group) == bound - 1, "a group is let go when no slot has it")
+        scanner.call("start 0")
+        wait(lambda: bound_sockets(bench, group) == bound and scanner.is_established(), "a group is bound again when its slot opens again", 30)
+        sure(bound == 1, "a scanner has a socket of a group as long as a slot of it has the group")
+        need(scanner.end() == 0 == adapter.end(), "both end with status 0")
+    bench.clear()
+
+
+def bound_sockets(hosts, group):
+    """How many sockets of the scanner's host are bound to a group."""
+    told = run(*hosts.network.at("owner"), "cat", "/proc/net/udp").stdout.decode()
+    raw = "".join(f"{int(byte):02X}" for byte in reversed(group.split(".")))
+    return sum(f" {raw}:08AE " in line for line in told.splitlines())
+
+
 def closed_with_their_slots(hosts, group, first, second):
     """A group is bound while a slot has it. Of two scanners one stops its slot, and then the other."""
-    def bound():
-        told = run(*hosts.network.at("owner"), "cat", "/proc/net/udp").stdout.decode()
-        raw = "".join(f"{int(byte):02X}" for byte in reversed(group.split(".")))
-        return sum(f" {raw}:08AE " in line for line in told.splitlines())
+    bound = lambda: bound_sockets(hosts, group)
     need(bound() == 2, f"both have a socket of the group: {bound()}")
     first.call("stop 0")
     wait(lambda: bound() == 1, "a group is let go when no slot has it")

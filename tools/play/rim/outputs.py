@@ -13,6 +13,7 @@ WHOLE_LINE = re.compile(r"\d+ (done|value [0-9a-f]+|frame \d+ [0-9a-f]+|note .+|
 ENDED = "eip_station: the record cannot take more and has ended"
 FILE_BYTES = 16_777_216
 LITTLE_MEMORY = 12_000_000
+REST_BYTES = 20_000  # that a record's second file may still have once its disk is nearly full
 AT_ONCE = 1.0  # the time-out of an owner is 160 ms; a busy host has the rest
 
 
@@ -186,11 +187,11 @@ def replays(bench, what, *files):
 
 
 def run_long_record(bench, *options, meanwhile=lambda: None):
-    """A record that has more bytes than one file. What is to be done while it is written goes before its end."""
+    """A record that has more bytes than one file, and is ended by a full disk. What is to be done while it is written goes before its end."""
     bench.write("large.profile", LARGE)
     first, second = bench.file("long.trace"), bench.file("long.trace.2")
     begin = datetime.datetime.now(datetime.timezone.utc)
-    adapter = bench.adapter("--record", first, *options, profile="large", log="long")
+    adapter = bench.adapter("--record", first, *options, profile="large", log="long", before=lambda: signal.signal(signal.SIGXFSZ, signal.SIG_IGN))
     owner = Originator(bench)
     feeder = bench.later(owner.feed(owner.open(), "01020304"))
     for turn in range(64):
@@ -200,7 +201,10 @@ def run_long_record(bench, *options, meanwhile=lambda: None):
     feeder.stop()
     stopped = time.time()
     meanwhile()
-    sure(adapter.end() == 0, "an adapter that records 18 MB ends with status 0")
+    resource.prlimit(adapter.process.pid, resource.RLIMIT_FSIZE, (os.path.getsize(second) + REST_BYTES,) * 2)
+    adapter.call(*[f"write 101 {os.urandom(1400).hex()}" for _ in range(100)])
+    wait(lambda: ENDED in adapter.said(), "the disk becomes full while the second file is written: a line says that the record has ended")
+    sure(adapter.end() == 6, "an adapter that records 18 MB, until its disk is full, ends with status 6")
     ended = time.time()
     sizes = [os.path.getsize(it) if os.path.exists(it) else 0 for it in (first, second)]
     sure(sizes[0] <= FILE_BYTES and sizes[1] > 0 and sum(sizes) > FILE_BYTES, f"a full file is followed by FILE.2: {sizes}")

@@ -1,9 +1,9 @@
 """Plants: many devices in one process, whose records settle, whose scripts do what they say, and whose files are refused by
 their lines."""
 
-import errno, glob, os, re, resource, signal, socket, time
+import collections, errno, fcntl, glob, os, re, resource, signal, socket, struct, time
 from rim.calls import CallFaults
-from rim.host import PRESENT, Station, Untried, need, run, sure, until, wait
+from rim.host import PRESENT, Pipe, Station, Untried, need, run, sure, until, wait
 from rim.pages import HOST, PORT, connected, status_of, told, word_of
 
 VALVES, DRIVES, READERS = 4, 3, 2
@@ -11,7 +11,9 @@ RESTART_MS, SCRIPT_MS = 1500, 3500
 DISK_BYTES = 40_000
 PAUSE_MS = 60_000  # of a device that hangs
 STEPS_S = 10.0  # seconds: two steps of a plant's end, of which none takes more than 5 s (rule 34.8)
+TOLD_S, SHARE = 2, 4  # seconds; a device that is shown most often is shown at most so many times as often as any other one
 AT_ONCE = 0.2  # seconds: a plant looks for typed lines each 20 ms
+LONGEST_BYTES, TYPED_BYTES = 1400, 42_000  # of datagrams that are typed as digits: more than may wait at once
 MARK = "write 100 c0ffee00"  # the line of a script in front of its cut
 MOST_TICKS = 12  # of the turns of a cut: a device that goes on without it has a hundred in a second, one that was kept from the processor a long one
 ADAPTER = "adapter 1 {node} 255.255.255.0 0 12 7 2 3\noutput 150 4 zero zero\ninput 100 4\nheartbeat 152 153\n"
@@ -106,9 +108,10 @@ def run_plant(bench):
           "an input reaches the image of each scanner")
     counts = {name: sum(" status streams " in line for line in plant.of(name)) for name in ("adapter-0", "adapter-3", "scanner-2")}
     sure(counts == {"adapter-0": 1, "adapter-3": 2, "scanner-2": 1}, "`status` is said by all devices, and by one if its name is before it")
-    plant.call("nobody status", "adapter-0 dance", "adapter-0")
-    until(lambda: len([line for line in plant.said() if "of standard input" in line]) == 3, "three lines that are no calls are reported")
-    need(any("line 5 of standard input names no device" in line for line in plant.said()), "the number of a line is said")
+    plant.call("nobody status", "adapter-0 dance", "adapter-0", "adapter status")
+    until(lambda: len([line for line in plant.said() if "of standard input" in line]) == 4, "four lines that are no calls are reported")
+    need(all(any(f"line {number} of standard input names no device" in line for line in plant.said()) for number in (5, 8)),
+         "the numbers of lines that name no device are said, and the beginning of a name is none")
     ended = noted(plant, VALVES + DRIVES, "expired", "dropped", "replaced")
     sure(plant.end() == 0, "the plant ends with status 0 when its input ends")
     opened, closed = noted(plant, VALVES + DRIVES, "opened"), noted(plant, VALVES + DRIVES, "closed")
@@ -236,6 +239,25 @@ def run_plant_disk(bench):
     sure(status == 6 and says("its"), f"a plant whose records have ended has failed, and names each device: status {status}")
     replays(bench, "disk")
     bench.clear()
+    run_last_record(bench)
+
+
+def run_last_record(bench):
+    """The record of a device fails behind its end: it is a pipe that nobody reads, and that ends."""
+    os.makedirs(bench.file("piped"))
+    os.mkfifo(bench.file("piped/a.1.trace"))
+    reader = os.open(bench.file("piped/a.1.trace"), os.O_RDONLY | os.O_NONBLOCK)
+    fcntl.fcntl(reader, fcntl.F_SETPIPE_SZ, Pipe.PAGE)
+    plant = Plant(bench, f"device a plant_adapter.profile {bench.network.extra[0]}\n", "--record", bench.file("piped"), log="piped")
+    plant.call(*(f"a write 100 {value:08x}" for value in range(Pipe.PAGE // 10)), "a read 100")
+    until(lambda: any(" value " in line for line in plant.of("a")), "a device lives, and nobody reads its record")
+    plant.process.stdin.close()
+    time.sleep(0.5)
+    need(plant.is_running() and not any("record" in line for line in plant.said()), f"its plant ends, and waits for the record: {plant.said()}")
+    os.close(reader)
+    status = plant.status()
+    sure(status == 6, f"a plant whose device has ended as its record fails has failed: status {status}")
+    bench.clear()
 
 
 def has(file, text):
@@ -271,6 +293,9 @@ def run_plant_sends(bench):
             got, (node, port) = udp.recvfrom(100)
             need((got, node, port) == (bytes([0, turn]), nodes[turn % 2], 2222), f"the bytes of line {turn} come from its device: {got}, {node}:{port}")
             late.append(time.monotonic() - begin)
+        for turn in range(TYPED_BYTES // LONGEST_BYTES):
+            plant.call(f"adapter-0 send {nodes[5]} {'%04x' % turn * (LONGEST_BYTES // 2)}")
+            need(udp.recv(2048) == struct.pack(">H", turn) * (LONGEST_BYTES // 2), f"line {turn} of {TYPED_BYTES} bytes is taken: {plant.said()}")
     sure(sorted(late)[4] < AT_ONCE, f"typed datagrams leave within {min(late) * 1000:.0f} to {max(late) * 1000:.0f} ms")
     need(plant.end() == 0, "the plant ends with status 0")
     names = sorted(os.listdir(bench.file("kept")))
@@ -299,8 +324,9 @@ def run_plant_files(bench):
     both = f"{device}device b plant_adapter.profile {nodes[1]}\n"
     plant = Plant(bench, both, "--record", bench.file("taken"), log="taken")
     sure(plant.status() == 6 and any("its record cannot be written" in line for line in plant.said()), "a device whose first record cannot be made ends the plant")
-    plant = Plant(bench, f"seconds 1\n{device}", "--no-input", log="seconds")
-    sure(plant.status() == 0, "a plant whose file says its seconds ends by itself")
+    plants = [Plant(bench, f"seconds 1\n{device}", "--no-input", log="seconds"),
+              Plant(bench, f"seconds 600\ndevice a plant_adapter.profile {nodes[2]}\n", "--no-input", "--seconds", "1", log="own_seconds")]
+    sure([it.status() for it in plants] == [0, 0], "a plant whose file says its seconds ends by itself, or where --seconds says others")
     run_taken_port(bench, device)
 
 
@@ -340,6 +366,18 @@ def devices_shown(bench, count):
     return text.partition(b"event: station\n")[2].split(b"\n")[0], shown
 
 
+def snapshots_told(bench):
+    """How many snapshots of each device an event stream of a plant's page has in a time, behind those that its beginning brings."""
+    word, stream, text = word_of(bench, "peer"), connected(bench, "peer"), b""
+    stream.sendall(f"GET /events?{word} HTTP/1.1\r\nHost: {HOST}\r\n\r\n".encode())
+    begin = time.monotonic()
+    while time.monotonic() < begin + 1 + TOLD_S:
+        got = stream.recv(1 << 20)
+        text += got if time.monotonic() > begin + 1 else b""
+    stream.close()
+    return collections.Counter(int(it.split(b"\n")[0][4:]) for it in text.split(b"\n\n")[1:-1] if it.startswith(b"id: "))
+
+
 def run_plant_turns(bench):
     """Forty devices of a page have something new all the time, more than it tells: they take turns."""
     nodes, count = bench.network.extra, len(bench.network.extra)
@@ -348,6 +386,9 @@ def run_plant_turns(bench):
     until(lambda: sum("scanner at" in line for line in plant.said()) == count, f"{count} devices live")
     _, shown = devices_shown(bench, count)
     sure(shown == set(range(count)), f"each of {count} devices is shown, and {len(shown)} are")
+    told = snapshots_told(bench)
+    least, most = min(told[at] for at in range(count)), max(told.values())
+    sure(least * SHARE >= most, f"none of them has to wait for another one: they are shown {least} to {most} times in {TOLD_S} s")
     need(plant.end() == 0, "the plant ends with status 0")
 
 
@@ -355,9 +396,11 @@ def run_plant_names(bench):
     """Lines of a plant have the names of the devices at their addresses behind them."""
     profiles(bench, 2, 0)
     with open(bench.file("plant_adapter.profile"), "a") as file:
-        file.write("# name 150 Valves\n")
+        file.write("# name 150 Valves\n# name 150 Again\n")
     plant, nodes = Plant(bench, file_of(bench, 2, 0), log="plant_names"), [re.escape(it) for it in bench.network.extra]
     until(lambda: plant.established("scanner-0") == 2, "a scanner of a plant opens two slots")
+    bad = f"eip_station: {bench.file('plant_adapter.profile')}: line 6: an earlier line names the same"
+    sure(plant.said().count(bad) == 2, f"a name line that is bad is told for each device of the profile: {plant.said()}")
     plant.call("scanner-0 mode run", "scanner-0 write 1 0a0b0c0d")
     until(lambda: any(line.endswith(" output 150 0a0b0c0d # 150 (Valves)") for line in plant.of("adapter-1")), "an output has the name of its profile")
     wanted = {"adapter-1": [rf"\d+ at \d+ owner 150 {nodes[2]} run age \d+ # 150 \(Valves\), {nodes[2]} \(scanner-0\)",

@@ -3,7 +3,7 @@ serve, a state that cannot be kept. And starts that are refused use no incarnati
 
 import errno, os, resource, socket, subprocess, time
 from rim.calls import CallFaults
-from rim.host import Station, Wrong, need, sure, wait
+from rim.host import Station, Wrong, free_port, need, sure, wait
 
 LONGEST = 16_777_216
 NOBODY = 65534
@@ -106,6 +106,10 @@ def run_files(bench):
         said = asked.says(3, why, "adapter", bench.file("adapter.profile"), "--state", path, preexec_fn=little)
         need(path in said and DANGER in said, said)
     sure(True, "a FIFO, a device, a folder and a file of a terabyte are refused at once, as a profile, a trace, a plant and a state")
+    with open(bench.file("adapter.profile")) as profile:
+        trace = bench.write_exactly("events.profile", profile.read() + "tick 1\n")
+    asked.says(3, f"{trace} has events behind the profile", "adapter", trace)
+    asked.says(3, f"{trace} has events behind the profile", "plant", bench.write_exactly("events.plant", "device a events.profile\n"))
     for path in fifo, sparse:
         os.remove(path)
 
@@ -152,7 +156,8 @@ def run_state(bench):
     need("incarnation 16," in begun(), "the first start has the incarnation of the profile")
     holder = bench.adapter(log="holder")
     need(bench.address["adapter"] in asked.says(5, "the TCP port 44818 of", "adapter", profile), "a port in use is named with its address")
-    need(holder.end() == 0, "the holder of the port ends with status 0")
+    asked.says(5, f"the UDP port 2222 of {bench.address['adapter']}", "adapter", profile, "--tcp", str(free_port()))
+    need(holder.end() == 0, "the holder of the ports ends with status 0")
     asked.says(6, "the record cannot be written", "adapter", profile, "--record", bench.file("none/x.trace"))
     with bench.network.inside("adapter"), socket.socket() as page:
         page.bind((bench.address["adapter"], 0))
@@ -163,8 +168,12 @@ def run_state(bench):
     need(os.listdir(os.path.dirname(state)).count("counted.profile.state.new") == 0, "nothing is left beside the state")
     faults = CallFaults(bench, "medium")
     faults.set(sync=errno.EIO)
-    asked.says(6, DANGER, "adapter", profile, "--seconds", "1", "--no-input", env={**os.environ, **dict(it.split("=", 1) for it in faults.env())})
-    sure("incarnation 17," in begun(), "four starts that are refused use no incarnation up, one of them since its state would not be on the medium")
+    words, env = ("adapter", profile, "--seconds", "1", "--no-input"), {**os.environ, **dict(it.split("=", 1) for it in faults.env())}
+    asked.says(6, DANGER, *words, env=env)
+    sure("incarnation 17," in begun(), "five starts that are refused use no incarnation up, one of them since its state would not be on the medium")
+    faults.set()
+    status, before = asked.ends(*words, env=env)[0], faults.synced()
+    sure((status, before) == (0, 2), f"a state is on the medium, and so is its folder, which has its new name: {before} of 2")
     folder = bench.file("closed")
     os.mkdir(folder)
     os.rename(profile, os.path.join(folder, "counted.profile"))

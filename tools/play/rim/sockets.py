@@ -11,10 +11,12 @@ NOTHING = bytes(24)  # NOP, which has no answer
 PIDFD_GETFD = 438  # the number of the system's call on most machines; Python has no name for it
 REFUSED = {errno.EPERM, errno.ENOSYS}  # what a system says that does not lend a socket of a child
 IP_RECVTTL = 12  # the number of the option on Linux; Python has no name for it
-MOST_WAKES = 3  # of an idle station in two seconds: one that tells a browser how it is wakes four times, one that asks each millisecond 2,000 times
+IDLE_S = 4  # seconds in which the wakes of a station are counted
+MOST_WAKES = 5  # of an idle station in this time: one that tells a browser how it is wakes eight times, one that asks each millisecond 4,000 times
+MOST_SHOWN = 8  # snapshots in two seconds: one each half second, and what the beginning of a life brings
 LEFT_S = 2.5  # seconds in which a page finds that a browser has left: it says once in a second that it is there
 TRIES = 3
-MOST_WORK = 0.3  # seconds of the processors for an idle station in two seconds: one that never waits takes what it gets
+MOST_WORK = 0.6  # seconds of the processors for an idle station in this time: one that never waits takes what it gets
 ROUNDED = 0.005  # seconds: the port and its device have milliseconds of their own
 RETRY = 1.0  # seconds from a session that is refused to the next stream
 REFUSALS = {1, 2, 3, 4, 5, 7}  # the sessions that a target refuses: the sixth is served, and its stream ends
@@ -194,9 +196,9 @@ def worked_of(station):
 
 
 def wakes_and_work(station):
-    """How often a station wakes in two seconds, and the seconds for which it works."""
+    """How often a station wakes in some seconds, and the seconds for which it works."""
     before, worked = wakes_of(station), worked_of(station)
-    time.sleep(2)
+    time.sleep(IDLE_S)
     return wakes_of(station) - before, worked_of(station) - worked
 
 
@@ -205,6 +207,10 @@ def run_idle(bench):
     adapter = bench.adapter("--page", str(PORT), log="idle")
     events = Events(bench)
     need(events.next(), "a browser looks at its page")
+    begin, shown = time.monotonic(), 0
+    while time.monotonic() < begin + 2 and events.next(seconds=1):
+        shown += 1
+    sure(0 < shown <= MOST_SHOWN, f"a browser gets {shown} snapshots in 2 s of an adapter to which nothing comes")
     events.stream.close()
     time.sleep(LEFT_S)
     # (what else the system has its thread do is not there each time)
@@ -213,7 +219,7 @@ def run_idle(bench):
         if wakes <= MOST_WAKES and seconds < MOST_WORK:
             break
     sure(wakes <= MOST_WAKES and seconds < MOST_WORK, f"an adapter to which nothing comes, and whose browser has left, wakes {wakes} times and "
-         f"works {seconds:.2f} s in 2 s")
+         f"works {seconds:.2f} s in {IDLE_S} s")
     need(adapter.end() == 0, "the adapter ends with status 0")
     bench.clear()
 

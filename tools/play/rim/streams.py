@@ -190,9 +190,9 @@ class Clock:
         if not os.path.exists(self.library):
             build_before("clock", self.library)
         self.file = open(self.path, "w+b")
-        self.file.write(struct.pack("<q", 0))
+        self.file.write(struct.pack("<qq", 0, 0))
         self.file.flush()
-        self.offset = mmap.mmap(self.file.fileno(), 8)
+        self.offset = mmap.mmap(self.file.fileno(), 16)
 
     def env(self):
         return [f"LD_PRELOAD={self.library}", f"CLOCK_OFFSET={self.path}"]
@@ -200,6 +200,10 @@ class Clock:
     def jump(self, ms):
         now = struct.unpack("<q", self.offset[:8])[0]
         self.offset[:8] = struct.pack("<q", now + ms)
+
+    def set_wall(self, seconds):
+        """The clock on the wall shows this time now, in seconds since 1970 began."""
+        self.offset[8:] = struct.pack("<q", round((seconds - time.time()) * 1000))
 
     def close(self):
         self.offset.close()

@@ -5,10 +5,13 @@ from rim.host import Pipe, Untried, listens, need, sure, until, usual, wait
 from rim.lives import script_words
 from rim.outputs import LOST_OUT, replays
 from rim.peers import INPUT_ONLY, POINT_TO_POINT, Originator, served
+from rim.plants import Plant
 
 WIDE = "adapter 16 {adapter} 255.255.255.0 1 12 7 2 3\noutput 150 1400 zero zero\ninput 100 4\nheartbeat 152 153\n"
 WIDE_DATA, WIDE_ZEROS = "11223344" * 350, "00000000" * 350
 RUN_DATA, ZEROS = "11223344", "00000000"
+LEFT = "adapter 16 {node} 255.255.255.0 1 12 7 2 3\noutput 150 4 zero zero\ninput 100 4\ninput 101 1400\nheartbeat 152 153\n"
+FILL = 200  # of lines of 2,800 bytes: twice as many as wait for an output
 PAUSES_MS = (1, 4)
 FILL_S = 40
 MOST_TEXTS = 4096  # the queue of an output has so many
@@ -115,6 +118,33 @@ def run_unread_states(bench):
     until(lambda: outputs()[-1:] == [ZEROS], "nobody read: the newest line of the output comes once somebody does", 5)
     sure(outputs() == [ZEROS, RUN_DATA, ZEROS], "each change of it is one line")
     need(adapter.end() == 0, "the adapter ends with status 0")
+    bench.clear()
+
+
+def run_left_output(bench):
+    """A device of a plant ends for good while a line of its output waits, which nobody reads: the output of the others is told on."""
+    nodes, out = bench.network.extra[:2], bench.later(Pipe())
+    for at, name in enumerate("ab"):
+        bench.write_exactly(f"left_{name}.profile", LEFT.format(node=nodes[at]))
+    os.makedirs(bench.file("left/a.2.trace"))  # (so its second life has no record, and fails)
+    plant = Plant(bench, "device a left_a.profile\ndevice b left_b.profile\n", "--record", bench.file("left"), "--quiet", log="left", out=out.writer)
+    out.handed_over()
+    until(lambda: all(listens(bench.network, "peer", it) for it in nodes), "two adapters of a plant live")
+    watch, owner = Originator(bench, target=nodes[0]), Originator(bench, own=bench.network.extra[3], target=nodes[0])
+    feeder = bench.later(owner.feed(owner.open(), RUN_DATA))
+    wait(lambda: watch.read(150) == RUN_DATA, "the owner's data reach the output")
+    for _ in range(FILL // 20):
+        plant.call(*["b read 101"] * 20)
+        time.sleep(0.02)
+    feeder.stop()
+    wait(lambda: watch.read(150) == ZEROS, "the output takes its fault action", 5)
+    plant.call("a restart")
+    until(lambda: any(line.startswith("eip_station: a: its record cannot be written") for line in plant.said()), "a device ends for good while its line waits")
+    wait(lambda: any(LOST_OUT.fullmatch(line) for line in out.taken()), "what was printed is read, and lines are lost")
+    out.taken()
+    time.sleep(0.2)
+    plant.call("b read 100")
+    until(lambda: any(line.startswith("b ") and line.endswith(" value 00000000") for line in out.taken()), "and the other one's lines are read again", 5)
     bench.clear()
 
 

@@ -2,14 +2,15 @@
 
 import contextlib, re, select, signal, socket, subprocess, time
 from bad_profiles import BAD_PROFILES, BAD_PROFILE_LINES
-from rim.host import ADAPTER, OWNER, Station, holds, listens, need, run, sure, until, wait
+from rim.host import ADAPTER, OWNER, Station, free_port, holds, listens, need, run, sure, until, wait
 from rim.peers import INPUT_ONLY, MULTICAST, POINT_TO_POINT, Originator, Silent, Target
 
 CALLS = ["write POINT HEX", "read POINT", "mode run", "mode idle", "start SLOT", "stop SLOT",
          "get NODE CLASS INSTANCE ATTRIBUTE", "set NODE CLASS INSTANCE ATTRIBUTE HEX", "explicit NODE NUMBER HEX", "answer NUMBER STATUS HEX", "status"]
 TRIES_S = 1.5  # seconds, in which there is another try: the first ones wait 1 s each (rule 24.4)
 MUTE = "scanner 32 {owner} 1 101 1000 1000\nslot {adapter} input - 152 100 0 4 10000 10000 2 multicast - -\n"
-NAMED = ADAPTER + "# name 150 Valves of tank 2\n# name 100 Levels\n# bit 150 0 4 Emergency stop\n"
+NAMED = ADAPTER + "# name 150 Valves of tank 2\n# name 100 Levels\n# bit 150 0 4 Emergency stop\n# name 100 Again\n# bit 150 0 8 Ninth\n"
+BAD_NAMES = {8: "an earlier line names the same", 9: "a name line is # name POINT TEXT, .*"}  # by the lines of NAMED
 PRESS = OWNER.replace("{cast}", "p2p") + "# name slot 0 Press # 1\n# name 150 Nobody's\n"
 FED = "slot {adapter} input - 152 100 0 4 10000 10000 2 p2p - -\n"
 
@@ -95,6 +96,8 @@ def run_names(bench):
     bench.write("named.profile", NAMED)
     bench.write("press.profile", PRESS)
     adapter = bench.adapter("--record", bench.file("named.trace"), profile="named")
+    for number, why in BAD_NAMES.items():
+        line_of(adapter, rf"eip_station: {re.escape(bench.file('named.profile'))}: line {number}: {why}")
     owner, target, peer = bench.scanner("owner", profile="press"), re.escape(bench.address["adapter"]), re.escape(bench.address["owner"])
     wait(owner.is_established, "the scanner is established")
     sure(any(line.endswith(" note slot 0 3 # slot 0 (Press # 1)") for line in owner.lines()), "a notice of a slot has its name behind it")
@@ -114,7 +117,7 @@ def run_names(bench):
     asked(owner, r"why slot 0 stopped by a call, or never started # slot 0 \(Press # 1\)", "and why it is not open")
     need(adapter.end() == 0 == owner.end(), "both end with status 0")
     with open(bench.file("named.trace")) as file:
-        named = [line for line in file if "Valves" in line or "Levels" in line]
+        named = [line for line in file if line.startswith("# name") or "Valves" in line]
     sure(named == ["# name 150 Valves of tank 2\n", "# name 100 Levels\n"], f"a record has names in its comments alone: {named}")
     need(run(bench.program, "replay", bench.file("named.trace")).returncode == 0, "the record replays")
     run_named_reports(bench)
@@ -134,6 +137,7 @@ def run_scanner_lines(bench):
     peer = re.escape(bench.address["peer"])
     refuses = re.compile(rf"eip_station: {peer} refuses a stream; the next try is in 1 s")
     station = bench.scanner("owner", profile="single", log="nobody")
+    line_of(station, rf"eip_station: scanner single\.profile at {re.escape(bench.address['owner'])}, TCP 44818, UDP 2222, incarnation \d+, no record")
     told = lambda: sum(bool(refuses.fullmatch(line)) for line in station.said())
     line_of(station, refuses.pattern)
     time.sleep(TRIES_S)
@@ -216,6 +220,12 @@ def run_quiet(bench):
     need(station.end() == 0, "it ends with status 0")
     said = station.said()
     sure(len(said) == 1 and "is no call" in said[0], f"--quiet: a start and streams print nothing, a wrong call does: {said}")
+    port = free_port()
+    station = bench.adapter("--quiet", "--page", str(port), "--page-writes", log="quiet_page")
+    need(station.end() == 0, "it ends with status 0")
+    said = station.said()
+    sure(len(said) == 1 and re.fullmatch(rf"eip_station: page at http://127\.0\.0\.1:{port}/#[0-9a-f]{{32}}", said[0]),
+         f"--quiet --page-writes: the token of the page is printed all the same: {said}")
     bench.clear()
 
 

@@ -3,9 +3,9 @@ use Rattle.std.specs.Prelude.{ℕ, ◌==◌, nat_lt, if◌then◌else◌, List, 
 use Rattle.std.specs.Borrow.{Bor}
 use Rattle.std.specs.Str.{is_utf8}
 use Rattle.cip_types.specs.declared.names.Node.{Node}
-use Rattle.plant_rim.specs.declared.script.script.DueTime.{DueTime}
-use Rattle.plant_rim.specs.declared.script.script.DueTime.TheVariants.{At, Every}
-use Rattle.plant_rim.specs.declared.script.script.PlantCall.{PlantCall}
+use Rattle.station.specs.declared.script.lines.DueTime.{DueTime}
+use Rattle.station.specs.declared.script.lines.DueTime.TheVariants.{At, Every}
+use Rattle.station.specs.declared.step.StationStep.{StationStep}
 use Rattle.trace_words.specs.Reader.{Reader, Meanings, meaning, next_word, ends, ◌>>=◌}
 use Rattle.trace_words.specs.Words.{node_of, number_of, words_of}
 use Rattle.plant_rim.specs.declared.file.faults.PlantLineFault.{PlantLineFault}
@@ -94,12 +94,12 @@ device_named name (byte ∷ bytes) address = device_with name (byte ∷ bytes) (
 abbrev pub device_of : List ℕ → Result PlantLine PlantLineFault
 device_of rest = if is_name (first_word rest) then device_named (first_word rest) (first_word (behind_word rest)) (behind_word (behind_word rest)) else Err fault.BadName
 
--- a line of a script with this time and call
-abbrev pub script_with : DueTime → Option PlantCall → Result PlantLine PlantLineFault
+-- a line of a script with this time and step
+abbrev pub script_with : DueTime → Option StationStep → Result PlantLine PlantLineFault
 script_with due None = Err fault.NoCall
-script_with due (Some call) = Ok (line.Script (record { due = due; call = call }))
+script_with due (Some step) = Ok (line.Script (record { due = due; step = step }))
 
-abbrev pub script_due : Result DueTime PlantLineFault → Option PlantCall → Result PlantLine PlantLineFault
+abbrev pub script_due : Result DueTime PlantLineFault → Option StationStep → Result PlantLine PlantLineFault
 script_due (Err why) call = Err why
 script_due (Ok due) call = script_with due call
 

@@ -3,7 +3,7 @@ use Rattle.std.specs.Prelude.{ℕ, ◌==◌, nat_le, bytes_eq, if◌then◌else�
 use Rattle.std.specs.List.{list_any}
 use Rattle.cip_types.specs.declared.names.Node.{Node}
 use Rattle.port_faults.specs.declared.rates.FaultRates.{FaultRates}
-use Rattle.plant_rim.specs.declared.script.script.ScriptLine.{ScriptLine}
+use Rattle.station.specs.declared.script.lines.ScriptLine.{ScriptLine}
 use Rattle.plant_rim.specs.declared.file.draft.PlantDraft.{PlantDraft}
 use Rattle.plant_rim.specs.declared.file.faults.PlantLineFault.{PlantLineFault}
 use Rattle.plant_rim.specs.declared.file.faults.PlantLineFault.TheVariants as fault

@@ -10,8 +10,8 @@ use crate::file::line::{FaultSetting, PlantLine};
 use crate::file::plant::{
     FaultOptions, MOST_DEVICES, MOST_SCRIPT_LINES, PlantDevice, PlantFile, PlantWord,
 };
-use crate::script::ScriptLine;
 use cip_types::{Items, Node, OutOfMemory};
+use station::ScriptLine;
 use std::alloc::Global;
 use std::mem;
 

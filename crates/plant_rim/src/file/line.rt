@@ -10,8 +10,8 @@ use crate::file::texts::{is_name, is_skipped, split_word, trimmed};
 use crate::file::values::{
     at_of, delay_of, every_of, percent_of, read_address, read_folder, seconds_of, seed_of, text_of,
 };
-use crate::script::{DueTime, ScriptLine};
 use cip_types::Node;
+use station::{DueTime, ScriptLine};
 use std::alloc::Global;
 use trace_words::TextFault;
 
@@ -132,12 +132,12 @@ fn read_every(alloc: Global, rest: &str) -> Result<PlantLine, PlantReadFault>
     read_script(alloc, due, call)
 }
 
-/// A line of a script with this call.
+/// A line of a script with the step of this text.
 fn read_script(alloc: Global, due: DueTime, call: &str) -> Result<PlantLine, PlantReadFault>
     ensures { Reads (script_with due (plant_call_of call.now)) result }
 {
     match read_plant_call(alloc, call.as_bytes()) {
-        Ok(call) => Ok(PlantLine::Script(ScriptLine { due, call })),
+        Ok(step) => Ok(PlantLine::Script(ScriptLine { due, step })),
         Err(TextFault::Bad) => Err(PlantReadFault::Line(PlantLineFault::NoCall)),
         Err(TextFault::OutOfMemory) => Err(PlantReadFault::OutOfMemory),
     }

@@ -1,8 +1,8 @@
 //! A plant, as its file says it.
 
-use crate::script::ScriptLine;
 use cip_types::{Items, Node, OutOfMemory};
 use port_faults::FaultRates;
+use station::ScriptLine;
 use std::alloc::Global;
 use std::marker::Model;
 

@@ -6,8 +6,8 @@ ghost use Rattle.plant_rim.specs.File.Lines.{Reads, address_of, address_reader, 
 
 use crate::file::faults::{PlantLineFault, PlantReadFault};
 use crate::file::plant::PlantWord;
-use crate::script::DueTime;
 use cip_types::Node;
+use station::DueTime;
 use std::alloc::Global;
 use trace_words::{TextFault, Words, read_u64};
 

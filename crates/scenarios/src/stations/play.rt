@@ -7,7 +7,7 @@ use crate::stations::port::PrintingPort;
 use crate::stations::sinks::{PrintingLines, PrintingRecord};
 use crate::stations::station_run::{StationRun, read_run};
 use cip_tables::{Config, Device};
-use station::{EarlyEnd, Ending, Reporting, Station, StationObserver};
+use station::{DeviceSteps, EarlyEnd, InputSteps, LifeEnd, Reporting, Station, StationObserver};
 use station_lines::CallBuffer;
 use station_record::{RecordFault, Recorder};
 use std::alloc::Global;
@@ -80,28 +80,25 @@ fn play<D: Device + Drop, R: Print + Copy + Drop>(
         silent_s: 120,
     };
     let mut station = Station::new(alloc, &config, port, clock, device, observer, reporting)?;
-    let mut lines = PrintingInput {
+    let lines = PrintingInput {
         rt,
         alloc,
         inputs,
         buffer: CallBuffer::new(alloc),
     };
-    let ending = Ending {
-        slots: slots_of(&config),
-        ms: ends_ms,
-    };
-    let ended = station.run(&mut lines, ending);
+    let mut steps = DeviceSteps::unscripted(alloc, InputSteps::new(alloc, lines), ends_ms);
+    let ended = station.live(&mut steps, slots_of(&config));
     print_end(&rt, ended, station.record_fault())
 }
 
 /// Prints how a station ended, and why its record did.
 fn print_end<R: Print>(
     rt: &R,
-    ended: Result<(), EarlyEnd>,
+    ended: Result<LifeEnd, EarlyEnd>,
     record: Option<RecordFault>,
 ) -> Result<(), StationRunFault> {
     match ended {
-        Ok(()) => println!(rt; "ended in order")?,
+        Ok(_) => println!(rt; "ended in order")?,
         Err(end) => println!(rt; "ended early: {end}")?,
     }
     if let Some(fault) = record {

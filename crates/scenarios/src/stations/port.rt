@@ -4,7 +4,8 @@ ghost use Rattle.std.specs.Prelude.{◌≡◌, false, []};
 
 use crate::stations::station_run::TurnArrival;
 use cip_events::Arrival;
-use cip_types::Node;
+use cip_types::{Node, OutOfMemory};
+use port_faults::{OrderedPort, PortOrder};
 use std::alloc::Global;
 use std::collections::VecDeque;
 use std::time::Duration;
@@ -200,6 +201,18 @@ impl<R: Print> KeptPort for PrintingPort<R> {
 
     fn succeed(&mut self, target: Node) {
         self.print_node("succeed", target);
+    }
+}
+
+impl<R: Print> OrderedPort for PrintingPort<R> {
+    fn obey(&mut self, order: PortOrder) -> Result<(), OutOfMemory> {
+        let word = match order {
+            PortOrder::Cut => "cut",
+            PortOrder::Pause { ms: _ } => "pause",
+            PortOrder::Send { node: _, bytes: _ } => "send",
+        };
+        let _ = println!(&self.rt; "ordered {word}");
+        Ok(())
     }
 }
 

@@ -113,6 +113,18 @@ pub fn place_of_record<R: Files<File = File>>(
     })
 }
 
+/// Removes an earlier record of this name, with the files that followed it. Ok(false) if there is none.
+pub fn forget_record<R: Files<File = File>>(rt: &R, alloc: Global, path: &str) -> io::Result<bool> {
+    match fs::remove_file(rt, path) {
+        Ok(()) => {
+            remove_followers(rt, alloc, path)?;
+            Ok(true)
+        }
+        Err(error) if error.kind() == ErrorKind::NotFound => Ok(false),
+        Err(error) => Err(error),
+    }
+}
+
 /// Removes the files that followed an earlier record of this name, so that none of them is taken for one of the new record.
 fn remove_followers<R: Files<File = File>>(rt: &R, alloc: Global, path: &str) -> io::Result<()> {
     for number in 2..u32::MAX {

@@ -19,3 +19,13 @@ pub returns-clause-run : goal.returns-clause-run
 returns-clause-run g c =
     drove_one (g.O.Observer.notes) _ _ _ _ _ _ c.in_ok-answer.ensures.step c.in_ok-answer.ensures.noted
     c.in_ok-send.ensures.sent c.in_ok-send.ensures.worked
+
+pub returns-in_err-answer-clause-refused : goal.returns-in_err-answer-clause-refused
+returns-in_err-answer-clause-refused g c =
+    let p = err_from_is_err_and c.from_residual.result c.from_residual.ensures.1 in
+    rw (p.1, p.2) (λ sc. refl)
+
+pub returns-in_err-send-clause-refused : goal.returns-in_err-send-clause-refused
+returns-in_err-send-clause-refused g c =
+    let p = err_from_is_err_and c.from_residual-in_err-send.result c.from_residual-in_err-send.ensures.1 in
+    rw (p.1, p.2) tt

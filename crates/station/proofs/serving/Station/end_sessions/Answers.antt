@@ -12,6 +12,7 @@ loop-session-preserved g c = one_ended (g.P.Port.is_scripted) (g.P.Port.tape) (g
 pub returns-in_err-end_session-clause-unstepped : goal.returns-in_err-end_session-clause-unstepped
 returns-in_err-end_session-clause-unstepped g c = record {
   recorder = c.end_session.ensures.unstepped.recorder ∙ c.loop-session.invariant.recorder;
+  reset = c.end_session.ensures.unstepped.reset ∙ c.loop-session.invariant.reset;
   device = c.end_session.ensures.unstepped.device ∙ c.loop-session.invariant.device;
 }
 

@@ -1,8 +1,0 @@
-use Rattle.plant_rim.proofs.Rounds.{last, next}
-use Rattle.plant_rim.proofs.script.laws.times_are_exact.Goals as goal
-
-pub returns-clause-last : goal.returns-clause-last
-returns-clause-last c = last
-
-pub returns-clause-next : goal.returns-clause-next
-returns-clause-next c = next

@@ -1,3 +1,0 @@
-pub mod Due
-pub mod Incarnations
-pub mod Runs

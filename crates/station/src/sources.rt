@@ -1,0 +1,223 @@
+//! Where the steps of a station come from: its input, and the script of its device.
+
+ghost use Rattle.std.specs.Prelude.{◌≡◌, IfOk, OnOk};
+ghost use Rattle.station.specs.Script.Runs.{after, taken};
+ghost use Rattle.station.specs.Sources.{count_after, plant_ms, script_step, step_of, typed_of};
+ghost use Rattle.station.specs.Times.{is_over, pause_ms};
+
+use crate::script::{ScriptLine, ScriptRun};
+use crate::step::{LifeEnd, StationStep};
+use cip_types::OutOfMemory;
+use station_lines::{CallLines, InputLine, NextLine, read_line};
+use std::alloc::Global;
+
+/// A station looks for what is typed at least so often, in milliseconds, and earlier if its source wakes the port.
+const LOOK_MS: u64 = 1_000;
+
+/// The steps of a station. Contracts see them as a relation: from the source, at a time of the station's clock, by the step that it
+/// gives, to the source behind it.
+pub trait StepSource {
+    ghost use Rattle.std.specs.Prelude.{ℕ};
+    ghost use Rattle.station.specs.declared.step.StationStep.{StationStep};
+
+    ghost gives: { Self → ℕ → StationStep → Self → Type 0 };
+
+    /// What the station does next, so many milliseconds after its life began. Never waits. The fault: an allocation was refused.
+    fn next_step(&mut self, now_ms: u64) -> Result<StationStep, OutOfMemory>
+        ensures { IfOk result (λ step. gives self.old now_ms step self.new) };
+}
+
+/// The steps that are typed. Contracts see them as a relation, as those of a `StepSource`.
+pub trait TypedSteps {
+    ghost use Rattle.std.specs.Prelude.{Option};
+    ghost use Rattle.station.specs.declared.step.StationStep.{StationStep};
+
+    ghost types: { Self → Option StationStep → Self → Type 0 };
+
+    /// The next step that was typed; None if there is none now. Never waits. The fault: an allocation was refused.
+    fn next_typed(&mut self) -> Result<Option<StationStep>, OutOfMemory>
+        ensures { IfOk result (λ step. types self.old step self.new) };
+}
+
+/// The steps that the lines of an input have a station do. Here a text becomes a call.
+#[derive(Drop)]
+pub struct InputSteps<L> {
+    alloc: Global,
+    lines: L,
+    count: u64,
+}
+
+impl<L: CallLines> InputSteps<L> {
+    /// The steps of these lines.
+    pub fn new(alloc: Global, lines: L) -> InputSteps<L>
+    where
+        L: Drop,
+    {
+        InputSteps {
+            alloc,
+            lines,
+            count: 0,
+        }
+    }
+}
+
+impl<L: CallLines> TypedSteps for InputSteps<L> {
+    ghost use Rattle.station.specs.Sources.{Types};
+
+    ghost types = { λ old step new. Types L.has old step new };
+
+    fn next_typed(&mut self) -> Result<Option<StationStep>, OutOfMemory> {
+        let next = self.lines.next_line()?;
+        typed_of(self.alloc, &mut self.count, next)
+    }
+}
+
+/// The step of what an input has now, behind so many lines, which are counted. The only fault is a refused allocation.
+fn typed_of(
+    alloc: Global,
+    count: &mut u64,
+    next: NextLine,
+) -> Result<Option<StationStep>, OutOfMemory>
+    ensures step { IfOk result (λ step. step ≡ typed_of count.old next) }
+    ensures counted { count.new ≡ count_after count.old next }
+{
+    match next {
+        NextLine::End => Ok(Some(StationStep::End(LifeEnd::InputEnd))),
+        NextLine::Nothing => Ok(None),
+        NextLine::Line(line) => {
+            *count = count.saturating_add(1);
+            let said = read_line(alloc, line.as_slice())?;
+            Ok(Some(step_of(said, *count)))
+        }
+    }
+}
+
+/// The step of a line of this number.
+fn step_of(said: InputLine, line: u64) -> StationStep
+    ensures { result ≡ step_of said line }
+{
+    match said {
+        InputLine::Skipped => StationStep::Wait { ms: 0 },
+        InputLine::Call(event) => StationStep::Call(event),
+        InputLine::Attribute(call) => StationStep::Ask(call),
+        InputLine::Status => StationStep::Status,
+        InputLine::NoCall => StationStep::NoCall { line },
+    }
+}
+
+/// The steps of a device in one life: what is typed comes first, then what its script has due. A station without a plant is a
+/// device without a script.
+#[derive(Drop)]
+pub struct DeviceSteps<'a, T> {
+    alloc: Global,
+    script: &'a [ScriptLine],
+    run: ScriptRun,
+    typed: T,
+    /// When the life began, in milliseconds since the plant began.
+    begun_ms: u64,
+    /// When the life is over, in milliseconds since it began, if not only what is typed ends it.
+    end_ms: Option<u64>,
+}
+
+impl<'a, T: TypedSteps> DeviceSteps<'a, T> {
+    /// The steps of a device of a plant in a life that begins at this time of the plant. Its script was taken so far.
+    pub fn scripted(
+        alloc: Global,
+        script: &'a [ScriptLine],
+        run: ScriptRun,
+        typed: T,
+        begun_ms: u64,
+    ) -> DeviceSteps<'a, T>
+    where
+        T: Drop,
+    {
+        DeviceSteps {
+            alloc,
+            script,
+            run,
+            typed,
+            begun_ms,
+            end_ms: None,
+        }
+    }
+
+    /// The steps of a device without a script, whose life is over at this time, if it has an end.
+    pub fn unscripted(alloc: Global, typed: T, end_ms: Option<u64>) -> DeviceSteps<'a, T>
+    where
+        T: Drop,
+    {
+        DeviceSteps {
+            alloc,
+            script: &[],
+            run: ScriptRun::new(),
+            typed,
+            begun_ms: 0,
+            end_ms,
+        }
+    }
+
+    /// How far the script was taken.
+    pub fn run(&self) -> ScriptRun
+        ensures { result ≡ self.now.run }
+    {
+        self.run
+    }
+
+    /// What the script has the device do, so many milliseconds after the life began.
+    fn script_step(&mut self, now_ms: u64) -> Result<StationStep, OutOfMemory>
+        ensures step { IfOk result (λ step. step ≡ script_step self.old.script.now self.old.run
+            (pause_ms now_ms self.old.end_ms) (plant_ms self.old.begun_ms now_ms)) }
+        ensures left { OnOk result (self.new ≡ record self.old {
+          run = after self.old.run (taken self.old.run (plant_ms self.old.begun_ms now_ms) self.old.script.now);
+        }) }
+    {
+        let (script, at_ms) = (self.script, self.begun_ms.saturating_add(now_ms));
+        match self.run.next_line(script, at_ms) {
+            Some(due) => match script.get(due.line) {
+                Some(line) => line.step.copy(self.alloc),
+                None => Ok(StationStep::Wait { ms: 0 }),
+            },
+            None => {
+                let most_ms = pause_ms(now_ms, self.end_ms);
+                let ms = self.run.wait_ms(script, at_ms, most_ms);
+                Ok(StationStep::Wait { ms })
+            }
+        }
+    }
+}
+
+impl<'a, T: TypedSteps> StepSource for DeviceSteps<'a, T> {
+    ghost use Rattle.station.specs.Sources.{Gives};
+
+    ghost gives = { λ old now step new. Gives T.types old now step new };
+
+    fn next_step(&mut self, now_ms: u64) -> Result<StationStep, OutOfMemory> {
+        if is_over(now_ms, self.end_ms) {
+            return Ok(StationStep::End(LifeEnd::Over));
+        }
+        match self.typed.next_typed()? {
+            Some(step) => Ok(step),
+            None => self.script_step(now_ms),
+        }
+    }
+}
+
+/// Whether the time of a life is over.
+fn is_over(now_ms: u64, end_ms: Option<u64>) -> bool
+    ensures { result ≡ is_over now_ms end_ms }
+{
+    match end_ms {
+        Some(end) => end <= now_ms,
+        None => false,
+    }
+}
+
+/// The milliseconds that a turn waits at most: until the source is asked again, or the end.
+pub(crate) fn pause_ms(now_ms: u64, end_ms: Option<u64>) -> u64
+    ensures { result ≡ pause_ms now_ms end_ms }
+{
+    match end_ms {
+        Some(end) => LOOK_MS.min(end.saturating_sub(now_ms)),
+        None => LOOK_MS,
+    }
+}

@@ -1,0 +1,74 @@
+//! The station of a device at its port.
+
+ghost use Rattle.std.specs.Prelude.{◌≡◌, IfOk};
+
+use crate::opening::ports::OpenedPort;
+use crate::place::rates_of;
+use cip_events::NewFault;
+use cip_tables::{Config, Device};
+use command_lines::Options;
+use fast_device::FastDevice;
+use page_feed::PageFeed;
+use port_faults::{FaultyPort, OrderPort};
+use socket_port::SystemClock;
+use station::{Reporting, Station, StationObserver};
+use station_lines::LineSink;
+use station_port::StationPort;
+use station_record::Recorder;
+use station_rim::Entries;
+use std::fs::File;
+use std::net::Net;
+use std::rt::{Clock, Files};
+use std::sync::Wait;
+
+/// The port of each station: its datagrams may have faults, and it takes orders.
+pub type OpenPort<R> = OrderPort<FaultyPort<StationPort<R>, SystemClock<R>>, R>;
+
+/// A station at real addresses, whose lines go to outputs of these kinds.
+pub type OpenStation<R, O, E> = Station<OpenPort<R>, SystemClock<R>, FastDevice, Entries<R>, O, E>;
+
+/// Where a station tells what it does: its record, its outputs, and its page if it has one.
+#[derive(Drop)]
+pub struct StationOutputs<W, O, E> {
+    pub recorder: Recorder<W>,
+    pub out: O,
+    pub err: E,
+    pub page: Option<PageFeed>,
+}
+
+/// The station of a device of this configuration, at its port. The faults are those of the device's beginning.
+pub fn station_of<R, O, E>(
+    rt: R,
+    options: &Options,
+    config: &Config,
+    opened: OpenedPort<R>,
+    outputs: StationOutputs<Entries<R>, O, E>,
+) -> Result<OpenStation<R, O, E>, NewFault>
+where
+    R: AllocGlobal + Files<File = File> + Net + Clock + Wait + Copy + Drop,
+    O: LineSink + Drop,
+    E: LineSink + Drop,
+    ensures { IfOk result (λ station. station.observer.recorder ≡ outputs.recorder) }
+{
+    let alloc = rt.alloc();
+    let OpenedPort { port, place, .. } = opened;
+    let StationOutputs {
+        recorder,
+        out,
+        err,
+        page,
+    } = outputs;
+    let mut observer = StationObserver::new(alloc, config, recorder, out, err)?;
+    if let Some(page) = page {
+        observer.feed(page);
+    }
+    let device = FastDevice::new(alloc, config.copy(alloc)?)?;
+    let port = FaultyPort::new(alloc, port, SystemClock::new(rt), rates_of(options));
+    let port = OrderPort::new(alloc, rt, port)?;
+    let reporting = Reporting {
+        quiet: options.quiet,
+        silent_s: place.inactivity_s,
+    };
+    let clock = SystemClock::new(rt);
+    Ok(Station::new(alloc, config, port, clock, device, observer, reporting)?)
+}
