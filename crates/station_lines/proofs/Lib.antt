@@ -2,5 +2,4 @@ pub mod Paths
 mod Samples
 mod WatchSamples
 mod DatagramCountsSamples
-mod NeverLost
-mod QueueSamples
+mod ReportedSamples

@@ -8,4 +8,4 @@ pub mod Reports
 pub mod Status
 pub mod Attributes
 pub mod Watch
-pub mod Queue
+pub mod Reported

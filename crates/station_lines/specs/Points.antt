@@ -12,7 +12,7 @@ use Rattle.station_lines.specs.declared.points.PointKind.{PointKind}
 use Rattle.station_lines.specs.declared.points.PointKind.TheVariants.{Output, Image}
 use Rattle.station_lines.specs.declared.points.SlotTerms.{SlotTerms}
 use Rattle.station_lines.specs.declared.points.WatchedPoint.{WatchedPoint}
-use Rattle.station_lines.specs.Queue.Reported.{Reported, due_bytes}
+use Rattle.station_lines.specs.Reported.{Reported, due_bytes}
 
 -- THE POINTS OF A PROFILE
 

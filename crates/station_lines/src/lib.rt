@@ -1,8 +1,7 @@
 //! The texts of a station: the calls of its application as lines that arrive while it runs, and the lines that it prints of
 //! points, streams, slots and its state.
 //!
-//! `watch` is what a station notes of peers and slots, and the datagrams that it counts. `queue` has lines on their way to an
-//! output that may be slow.
+//! `watch` is what a station notes of peers and slots, and the datagrams that it counts.
 #![tactic(auto)]
 
 mod attributes;
@@ -10,8 +9,8 @@ mod calls;
 mod details;
 mod lines;
 mod points;
-mod queue;
 mod reasons;
+mod reported;
 mod reports;
 mod sink;
 mod status;
@@ -24,10 +23,8 @@ pub use attributes::{
 pub use calls::{InputLine, has_news, is_call, read_call, read_line};
 pub use lines::{CallBuffer, CallLines, InputRead, NextLine, NoLines, input_read};
 pub use points::{EventMoment, Points};
-pub use queue::{
-    LineQueue, NoticeForm, Offer, PushFault, QueueOutlet, ReportedPoints, state_is_never_lost,
-};
 pub use reasons::push_why;
+pub use reported::ReportedPoints;
 pub use reports::{push_report, push_starved, push_unbound};
 pub use sink::LineSink;
 pub use status::push_own;

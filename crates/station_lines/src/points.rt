@@ -4,9 +4,9 @@ ghost use Rattle.std.specs.Prelude.{◌≡◌, ◌++◌, map, slice_get, IfOk, O
 ghost use Rattle.std.specs.List.{list_any};
 ghost use Rattle.station_lines.specs.Points.{count_of, due_at, due_line, due_of, is_owned, point_line, terms_of, watched_output, watched_points, watched_slot, watched_slots, word_of};
 ghost use Rattle.station_lines.specs.Details.{status_text};
-ghost use Rattle.station_lines.specs.Queue.Reported.{answered, begun, first_place, is_behind, unreported};
+ghost use Rattle.station_lines.specs.Reported.{answered, begun, first_place, is_behind, unreported};
 
-use crate::queue::ReportedPoints;
+use crate::reported::ReportedPoints;
 use crate::status::push_status;
 use crate::watch::StationTraffic;
 use cip_tables::{Config, Device, Kind, OutputPoint, SlotConfig};

@@ -1,3 +1,5 @@
 mod Appended
 mod InOrder
+mod NeverLost
+mod QueueSamples
 mod Samples

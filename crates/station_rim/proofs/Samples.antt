@@ -1,8 +1,8 @@
 -- The ways of lines, entries and calls, worked by hand: room for eight bytes and two texts.
 use Rattle.std.proofs.Common.{◌≡◌, true, false, [], ◌∷◌, Some, Ok, Err, refl}
 use Rattle.std.specs.Prelude.{codes}
-use Rattle.station_lines.specs.declared.queue.outlet.NoticeForm.TheVariants.{Comment}
-use Rattle.station_lines.specs.Queue.Outlets.{with_text}
+use Rattle.station_rim.specs.declared.queue.outlet.NoticeForm.TheVariants.{Comment}
+use Rattle.station_rim.specs.Queue.Outlets.{with_text}
 use Rattle.station_lines.specs.Lines.{Whole, NotYet}
 use Rattle.station_rim.specs.LineWays.{LineWay, taken_line, way_after, with_written, is_drained as all_written}
 use Rattle.station_rim.specs.LineWays.{new_way as new_line_way}

@@ -1,4 +1,5 @@
 pub mod Reads
+pub mod Queue
 pub mod UnreadCalls
 pub mod LineWays
 pub mod RecordWays

@@ -1,8 +1,8 @@
 -- The lines of an output between a station and the thread that writes them.
 use Rattle.std.specs.Prelude.{ℕ, ◌≡◌, ◌&&◌, not, Bool, true, false, List, Option, Some, None}
-use Rattle.station_lines.specs.Queue.Outlets.{QueueOutlet, Dealt, DealtState, is_idle, new_outlet, outlet_after, taken_text, without_owed}
-use Rattle.station_lines.specs.declared.queue.outlet.NoticeForm.{NoticeForm}
-use Rattle.station_lines.specs.declared.queue.outlet.Offer.{Offer}
+use Rattle.station_rim.specs.Queue.Outlets.{QueueOutlet, Dealt, DealtState, is_idle, new_outlet, outlet_after, taken_text, without_owed}
+use Rattle.station_rim.specs.declared.queue.outlet.NoticeForm.{NoticeForm}
+use Rattle.station_rim.specs.declared.queue.outlet.Offer.{Offer}
 
 -- the lines on their way, and whether the writer has some in its hands
 pub record LineWay : Type 0 where

@@ -1,8 +1,8 @@
 -- The entries of a record between a station and the thread that writes its files: which are taken, and in which order.
 use Rattle.std.specs.Prelude.{ℕ, ◌≡◌, ◌&&◌, ◌||◌, not, Bool, true, false, List, [], ◌∷◌, Option, Some, None, Result, Ok, Err}
-use Rattle.station_lines.specs.Queue.Queues.{Queue, empty_queue, has_room, is_empty, with_pushed, without}
-use Rattle.station_lines.specs.declared.queue.lines_in_turn.PushFault.{PushFault}
-use Rattle.station_lines.specs.declared.queue.lines_in_turn.PushFault.TheVariants as push
+use Rattle.station_rim.specs.Queue.Queues.{Queue, empty_queue, has_room, is_empty, with_pushed, without}
+use Rattle.station_rim.specs.declared.queue.lines_in_turn.PushFault.{PushFault}
+use Rattle.station_rim.specs.declared.queue.lines_in_turn.PushFault.TheVariants as push
 use Rattle.station_rim.specs.declared.record_way.PutFault.{PutFault}
 use Rattle.station_rim.specs.declared.record_way.PutFault.TheVariants as put
 

@@ -1,11 +1,11 @@
 //! The lines of an output on their way: which are taken and which are lost, which are next, and when each is written.
 
 ghost use Rattle.std.specs.Prelude.{◌≡◌, IfOk, OnErr};
-ghost use Rattle.station_lines.specs.Queue.Outlets.{is_idle};
+ghost use Rattle.station_rim.specs.Queue.Outlets.{is_idle};
 ghost use Rattle.station_rim.specs.LineWays.{LineWay, StateWasOffered, WasOffered, is_drained, new_way, taken_line, way_after, with_release, with_written};
 
+use crate::queue::{NoticeForm, Offer, QueueOutlet};
 use cip_types::{Items, OutOfMemory};
-use station_lines::{NoticeForm, Offer, QueueOutlet};
 use std::alloc::Global;
 use std::marker::Model;
 

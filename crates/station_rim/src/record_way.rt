@@ -3,8 +3,8 @@
 ghost use Rattle.std.specs.Prelude.{◌≡◌};
 ghost use Rattle.station_rim.specs.RecordWays.{RecordWay, WasPut, is_drained, is_waiting, new_way, taken_entry, way_after_take, with_end, with_note};
 
+use crate::queue::{LineQueue, PushFault};
 use cip_types::Items;
-use station_lines::{LineQueue, PushFault};
 use std::alloc::Global;
 use std::marker::Model;
 

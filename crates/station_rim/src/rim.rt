@@ -2,9 +2,9 @@
 
 use crate::inbox::SharedInput;
 use crate::outlets::SharedLines;
+use crate::queue::NoticeForm;
 use crate::record_queue::SharedRecord;
 use cip_types::OutOfMemory;
-use station_lines::NoticeForm;
 use std::alloc::Global;
 
 /// The input, the outputs and the record of a station.

@@ -1,4 +1,3 @@
 pub mod Queues
 pub mod Outlets
-pub mod Reported
 pub mod StateLaw

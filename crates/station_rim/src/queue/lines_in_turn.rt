@@ -1,8 +1,8 @@
 //! A queue of pieces of text with a bound.
 
 ghost use Rattle.std.specs.Prelude.{◌≡◌, ◌↔◌, false, true, IfErr, OnOk, OnErr};
-ghost use Rattle.station_lines.specs.Queue.Queues.{Queue, empty_queue, first_piece, has_room, is_empty, with_pushed, without_first};
-ghost use Rattle.station_lines.specs.declared.queue.lines_in_turn.PushFault.TheVariants.{Full};
+ghost use Rattle.station_rim.specs.Queue.Queues.{Queue, empty_queue, first_piece, has_room, is_empty, with_pushed, without_first};
+ghost use Rattle.station_rim.specs.declared.queue.lines_in_turn.PushFault.TheVariants.{Full};
 
 use cip_types::Items;
 use std::alloc::Global;
@@ -28,7 +28,7 @@ pub struct LineQueue {
 }
 
 impl Model for LineQueue {
-    ghost use Rattle.station_lines.specs.Queue.Queues.{Queue};
+    ghost use Rattle.station_rim.specs.Queue.Queues.{Queue};
 
     ghost Value = { Queue };
 

@@ -3,11 +3,11 @@ use Rattle.std.proofs.Common.{◌≡◌, ◌≢◌, ℕ, zero, suc, ◌==◌, no
 use Rattle.std.proofs.lemmas.Bool.Decides.{nat_tests}
 use Rattle.std.proofs.lemmas.Option.{same_Some}
 use Rattle.std.proofs.lemmas.Slice.Eq.{bytes_eq-Decides}
-use Rattle.station_lines.specs.Queue.Outlets.{QueueOutlet, after_of, offered_text}
-use Rattle.station_lines.specs.Queue.Queues.{without}
-use Rattle.station_lines.specs.Queue.StateLaw.{Given, Event, State, given_text, Way, fresh_way, Act, Report, Say, Begin, Take, Release, read_on, way_after, way_through, last_on, last_line, InOrder, ReportsAll, StateIsNeverLost, reported_one, reported_through, RoomReportsAll}
-use Rattle.station_lines.specs.Queue.Reported.{Reported, answered, is_due, reported_at}
-use Rattle.station_lines.specs.declared.queue.outlet.Offer.TheVariants as offer
+use Rattle.station_rim.specs.Queue.Outlets.{QueueOutlet, after_of, offered_text}
+use Rattle.station_rim.specs.Queue.Queues.{without}
+use Rattle.station_rim.specs.Queue.StateLaw.{Given, Event, State, given_text, Way, fresh_way, Act, Report, Say, Begin, Take, Release, read_on, way_after, way_through, last_on, last_line, InOrder, ReportsAll, StateIsNeverLost, reported_one, reported_through, RoomReportsAll}
+use Rattle.station_lines.specs.Reported.{Reported, answered, is_due, reported_at}
+use Rattle.station_rim.specs.declared.queue.outlet.Offer.TheVariants as offer
 
 -- ---- order
 

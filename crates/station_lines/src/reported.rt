@@ -1,7 +1,7 @@
 //! What was told of points to the reader of an output.
 
 ghost use Rattle.std.specs.Prelude.{◌≡◌, IfOk};
-ghost use Rattle.station_lines.specs.Queue.Reported.{answered, begun, due_bytes, first_place, is_behind, is_due, reported_at, unreported, with_reported};
+ghost use Rattle.station_lines.specs.Reported.{answered, begun, due_bytes, first_place, is_behind, is_due, reported_at, unreported, with_reported};
 
 use cip_types::{Items, OutOfMemory};
 use std::alloc::Global;
@@ -16,7 +16,7 @@ pub struct ReportedPoints {
 }
 
 impl Model for ReportedPoints {
-    ghost use Rattle.station_lines.specs.Queue.Reported.{Reported};
+    ghost use Rattle.station_lines.specs.Reported.{Reported};
 
     ghost Value = { Reported };
 

@@ -1,5 +1,5 @@
 use Rattle.std.proofs.Common.{◌≡◌, replicate, None}
-use Rattle.station_lines.proofs.queue.reported.ReportedPoints.unreported.Given as goal
+use Rattle.station_lines.proofs.reported.ReportedPoints.unreported.Given as goal
 
 -- nothing is told of the points so far
 abbrev pub invariant-loop-place : goal.invariant-loop-place

@@ -2,11 +2,10 @@
 use Rattle.std.proofs.Common.{◌≡◌, true, false, [], ◌∷◌, Some, None, refl}
 use Rattle.std.specs.Fmt.{digits}
 use Rattle.std.specs.Prelude.{codes}
-use Rattle.station_lines.specs.Queue.Outlets.{QueueOutlet, lines_of, new_outlet, notice_text, offered_text, outlet_after, takes_events, takes_state, taken_text, with_lost, with_owed, with_state, with_text}
-use Rattle.station_lines.specs.Queue.Queues.{has_room}
-use Rattle.station_lines.specs.Queue.Reported.{Reported, answered, due_bytes, first_place, is_behind, unreported}
-use Rattle.station_lines.specs.Queue.StateLaw.{Event, State, last_line}
-use Rattle.station_lines.specs.declared.queue.outlet.NoticeForm.TheVariants.{Comment, Report}
+use Rattle.station_rim.specs.Queue.Outlets.{QueueOutlet, lines_of, new_outlet, notice_text, offered_text, outlet_after, takes_events, takes_state, taken_text, with_lost, with_owed, with_state, with_text}
+use Rattle.station_rim.specs.Queue.Queues.{has_room}
+use Rattle.station_rim.specs.Queue.StateLaw.{Event, State, last_line}
+use Rattle.station_rim.specs.declared.queue.outlet.NoticeForm.TheVariants.{Comment, Report}
 
 abbrev fresh : QueueOutlet
 fresh = new_outlet Comment 8 2
@@ -66,34 +65,6 @@ events_behind_state = refl
 
 waiting_state_is_not_lost : (with_owed (with_lost wide (codes "1 done\n"))).lost ≡ 1
 waiting_state_is_not_lost = refl
-
--- two points of a byte: each line is due at first, then the one that found no room, with the newest byte
-abbrev first_reported : Reported
-first_reported = answered 1 (8 ∷ []) false (answered 0 (7 ∷ []) true (unreported 2))
-
-due_at_first : due_bytes (unreported 2) 1 (0 ∷ []) ≡ Some (0 ∷ [])
-due_at_first = refl
-
-not_due_once_taken : due_bytes first_reported 0 (7 ∷ []) ≡ None
-not_due_once_taken = refl
-
-due_after_a_change : due_bytes first_reported 0 (9 ∷ []) ≡ Some (9 ∷ [])
-due_after_a_change = refl
-
-still_due_without_room : due_bytes first_reported 1 (8 ∷ []) ≡ Some (8 ∷ [])
-still_due_without_room = refl
-
-newest_is_due : due_bytes first_reported 1 (9 ∷ []) ≡ Some (9 ∷ [])
-newest_is_due = refl
-
-refused_one_is_first : first_place first_reported ≡ 1
-refused_one_is_first = refl
-
-behind_while_one_waits : is_behind first_reported ≡ true
-behind_while_one_waits = refl
-
-no_third_point : due_bytes first_reported 2 (1 ∷ []) ≡ None
-no_third_point = refl
 
 last_of_two_lines : last_line 0 (State 0 (7 ∷ []) (codes "a") ∷ State 1 (8 ∷ []) (codes "b") ∷ Event (codes "c") ∷ State 0 (9 ∷ []) (codes "d") ∷ []) ≡ Some (9 ∷ [])
 last_of_two_lines = refl

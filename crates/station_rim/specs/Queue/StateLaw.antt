@@ -1,10 +1,10 @@
 -- The law of state: a reader that has taken what is on its way has the newest value of each point, or a line with it is due.
 use Rattle.std.specs.Prelude.{ℕ, ◌≡◌, ◌==◌, ◌++◌, map, if◌then◌else◌, Bool, true, false, List, [], ◌∷◌, Option, Some, None}
-use Rattle.station_lines.specs.Queue.Outlets.{QueueOutlet, new_outlet, offered_text, outlet_after, with_lost, with_owed, with_state, with_text, without_owed}
-use Rattle.station_lines.specs.Queue.Reported.{Reported, answered, begun, is_due, reported_at, unreported}
-use Rattle.station_lines.specs.declared.queue.outlet.NoticeForm.{NoticeForm}
-use Rattle.station_lines.specs.declared.queue.outlet.Offer.{Offer}
-use Rattle.station_lines.specs.declared.queue.outlet.Offer.TheVariants as offer
+use Rattle.station_rim.specs.Queue.Outlets.{QueueOutlet, new_outlet, offered_text, outlet_after, with_lost, with_owed, with_state, with_text, without_owed}
+use Rattle.station_lines.specs.Reported.{Reported, answered, begun, is_due, reported_at, unreported}
+use Rattle.station_rim.specs.declared.queue.outlet.NoticeForm.{NoticeForm}
+use Rattle.station_rim.specs.declared.queue.outlet.Offer.{Offer}
+use Rattle.station_rim.specs.declared.queue.outlet.Offer.TheVariants as offer
 
 -- WHAT HAPPENS
 

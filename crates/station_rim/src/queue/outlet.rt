@@ -2,9 +2,9 @@
 //! taken.
 
 ghost use Rattle.std.specs.Prelude.{◌≡◌, ◌++◌, false, true, IfOk, IfErr, OnOk, OnErr};
-ghost use Rattle.station_lines.specs.Queue.Queues.{has_room, with_pushed};
-ghost use Rattle.station_lines.specs.declared.queue.lines_in_turn.PushFault.TheVariants as PushFault;
-ghost use Rattle.station_lines.specs.Queue.Outlets.{Dealt, DealtState, QueueOutlet, is_idle, lines_of, new_outlet, notice_front, notice_text, offer_of, offered_text, outlet_after, takes_events, takes_state, taken_text, without_owed};
+ghost use Rattle.station_rim.specs.Queue.Queues.{has_room, with_pushed};
+ghost use Rattle.station_rim.specs.declared.queue.lines_in_turn.PushFault.TheVariants as PushFault;
+ghost use Rattle.station_rim.specs.Queue.Outlets.{Dealt, DealtState, QueueOutlet, is_idle, lines_of, new_outlet, notice_front, notice_text, offer_of, offered_text, outlet_after, takes_events, takes_state, taken_text, without_owed};
 
 use crate::queue::lines_in_turn::{LineQueue, PushFault};
 use cip_types::{Items, OutOfMemory};
@@ -48,7 +48,7 @@ pub struct QueueOutlet {
 }
 
 impl Model for QueueOutlet {
-    ghost use Rattle.station_lines.specs.Queue.Outlets.{QueueOutlet};
+    ghost use Rattle.station_rim.specs.Queue.Outlets.{QueueOutlet};
 
     ghost Value = { QueueOutlet };
 

@@ -1,12 +1,12 @@
 -- The lines of an output: events, of which those that do not fit are counted, and state, which is offered until it is taken.
 use Rattle.std.specs.Prelude.{ℕ, ◌≡◌, ◌+◌, ◌==◌, ◌&&◌, nat_le, not, if◌then◌else◌, Bool, true, false, List, [], ◌∷◌, ◌++◌, codes, decimal, Option, Some, None}
-use Rattle.station_lines.specs.Queue.Queues.{Queue, empty_queue, has_room, is_empty, up_to_end, with_pushed, without_first}
-use Rattle.station_lines.specs.declared.queue.outlet.NoticeForm.{NoticeForm}
-use Rattle.station_lines.specs.declared.queue.outlet.NoticeForm.TheVariants.{Comment, Report}
-use Rattle.station_lines.specs.declared.queue.outlet.Offer.{Offer}
-use Rattle.station_lines.specs.declared.queue.outlet.Offer.TheVariants as offer
-use Rattle.station_lines.specs.declared.queue.lines_in_turn.PushFault.{PushFault}
-use Rattle.station_lines.specs.declared.queue.lines_in_turn.PushFault.TheVariants as push
+use Rattle.station_rim.specs.Queue.Queues.{Queue, empty_queue, has_room, is_empty, up_to_end, with_pushed, without_first}
+use Rattle.station_rim.specs.declared.queue.outlet.NoticeForm.{NoticeForm}
+use Rattle.station_rim.specs.declared.queue.outlet.NoticeForm.TheVariants.{Comment, Report}
+use Rattle.station_rim.specs.declared.queue.outlet.Offer.{Offer}
+use Rattle.station_rim.specs.declared.queue.outlet.Offer.TheVariants as offer
+use Rattle.station_rim.specs.declared.queue.lines_in_turn.PushFault.{PushFault}
+use Rattle.station_rim.specs.declared.queue.lines_in_turn.PushFault.TheVariants as push
 
 -- the texts on their way, the number of lines that were lost behind them, and whether state was offered last and found no room
 pub record QueueOutlet : Type 0 where

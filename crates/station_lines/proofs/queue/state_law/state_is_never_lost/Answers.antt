@@ -1,5 +1,0 @@
-use Rattle.station_lines.proofs.NeverLost.{never_lost, room_reports_all}
-use Rattle.station_lines.proofs.queue.state_law.state_is_never_lost.Goals as goal
-
-pub returns : goal.returns
-returns c = record { lost = never_lost; room = room_reports_all }
