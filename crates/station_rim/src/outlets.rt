@@ -1,9 +1,10 @@
 //! The lines of an output, which a thread of its own writes.
 
 use crate::line_way::LineWay;
+use crate::queue::{NoticeForm, Offer};
 use crate::written::{joins, write_whole};
 use cip_types::{Items, OutOfMemory};
-use station_lines::{LineSink, NoticeForm, Offer};
+use station_lines::LineSink;
 use std::alloc::Global;
 use std::io::Write;
 use std::rt::Clock;
