@@ -1,2 +1,3 @@
+pub mod OrderLemmas
 mod Samples
 mod OrdersSamples

@@ -1,9 +1,11 @@
 -- Which streams of a port are open, and which are to be cut.
-use Rattle.std.specs.Prelude.{Bool, true, false, List, slice_set}
+use Rattle.std.specs.Prelude.{◌≡◌, Bool, true, false, List, [], map, position, slice_set, None}
 use Rattle.cip_events.specs.declared.arrival.Arrival.{Arrival}
 use Rattle.cip_events.specs.declared.arrival.Arrival.TheVariants as arrival
 use Rattle.udp_runner.specs.declared.output.Output.{Output}
 use Rattle.udp_runner.specs.declared.output.Output.TheVariants as output
+use Rattle.port_faults.specs.declared.orders.order.PortOrder.{PortOrder}
+use Rattle.port_faults.specs.declared.orders.order.PortOrder.TheVariants as order
 use Rattle.port_faults.specs.declared.orders.marks.StreamMark.{StreamMark}
 use Rattle.port_faults.specs.declared.orders.marks.StreamMark.TheVariants.{Closed, Open, ToCut}
 
@@ -27,3 +29,11 @@ cut_mark ToCut = ToCut
 abbrev pub is_to_cut : StreamMark → Bool
 is_to_cut ToCut = true
 is_to_cut other = false
+
+abbrev pub marks_ordered : PortOrder → List StreamMark → List StreamMark
+marks_ordered order.Cut marks = map cut_mark marks
+marks_ordered other marks = marks
+
+-- no order is to be done: no datagram of one waits, and no stream is to be cut
+abbrev pub AreNone : {A : Type 0} → List A → List StreamMark → Type 0
+AreNone raw marks = (raw ≡ []) × (position is_to_cut marks ≡ None)

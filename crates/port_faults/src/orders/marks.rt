@@ -1,6 +1,6 @@
 //! The streams of a port: which of them are open, and which are to be cut.
 
-ghost use Rattle.std.specs.Prelude.{◌≡◌, ◌<◌, map, position, replicate, slice_set, IfOk, IfSome};
+ghost use Rattle.std.specs.Prelude.{◌≡◌, ◌<◌, false, None, map, position, replicate, slice_set, IfOk, IfSome};
 ghost use Rattle.port_faults.specs.Orders.Marks.{cut_mark, is_to_cut, marks_after, marks_behind};
 ghost use Rattle.port_faults.specs.declared.orders.marks.StreamMark.TheVariants.{Closed};
 
@@ -42,7 +42,8 @@ impl Model for StreamMarks {
 impl StreamMarks {
     /// No stream is open. The only fault is a refused allocation.
     pub fn none(alloc: Global) -> Result<StreamMarks, OutOfMemory>
-        ensures { IfOk result (λ marks. marks ≡ replicate 16 Closed) }
+        ensures made { IfOk result (λ marks. marks ≡ replicate 16 Closed) }
+        ensures none { IfOk result (λ marks. position is_to_cut marks ≡ None) }
     {
         Ok(StreamMarks {
             marks: vec![in alloc; StreamMark::Closed; MOST_STREAMS]?,
@@ -51,7 +52,8 @@ impl StreamMarks {
 
     /// Notes what has arrived. Takes no memory.
     pub fn note(&mut self, arrival: &Arrival)
-        ensures { self.new ≡ marks_after arrival.now self.old }
+        ensures noted { self.new ≡ marks_after arrival.now self.old }
+        ensures none { position is_to_cut self.old ≡ None → position is_to_cut self.new ≡ None }
     {
         match arrival {
             Arrival::Opened { stream, peer: _ } => self.put(*stream, StreamMark::Open),
@@ -62,7 +64,8 @@ impl StreamMarks {
 
     /// Notes what was sent. Takes no memory.
     pub fn note_sent(&mut self, output: &Output<'_>)
-        ensures { self.new ≡ marks_behind output.now self.old }
+        ensures noted { self.new ≡ marks_behind output.now self.old }
+        ensures none { position is_to_cut self.old ≡ None → position is_to_cut self.new ≡ None }
     {
         match output {
             Output::Close { stream } => self.put(*stream, StreamMark::Closed),
@@ -102,7 +105,8 @@ impl StreamMarks {
 
     /// Puts what is known of the stream of a number, if there are so many.
     fn put(&mut self, stream: u16, mark: StreamMark)
-        ensures { self.new ≡ slice_set self.old stream mark }
+        ensures put { self.new ≡ slice_set self.old stream mark }
+        ensures none { is_to_cut mark ≡ false → position is_to_cut self.old ≡ None → position is_to_cut self.new ≡ None }
     {
         let index = usize::from(stream);
         if index < self.marks.len() {

@@ -1,7 +1,8 @@
 //! A port around a port, which takes orders.
 
-ghost use Rattle.std.specs.Prelude.{◌≡◌, ◌<◌, ◌+◌, ◌-◌, ◌^◌, true, false, IfOk, OnOk, OnErr};
-ghost use Rattle.udp_runner.specs.Calls.{Idled, Looked, Sent};
+ghost use Rattle.std.specs.Prelude.{◌≡◌, ◌<◌, ◌+◌, ◌-◌, ◌^◌, true, false, [], IfOk, OnOk, OnErr};
+ghost use Rattle.port_faults.specs.Orders.Marks.{AreNone, marks_ordered};
+ghost use Rattle.udp_runner.specs.Calls.{Idled, Looked, Received, Sent};
 
 use crate::orders::marks::StreamMarks;
 use crate::orders::order::{OrderedPort, PortOrder};
@@ -36,7 +37,8 @@ impl<P: Port, R: System> OrderPort<P, R> {
     where
         P: Drop,
         R: Drop,
-        ensures { IfOk result (λ made. made.port ≡ port) }
+        ensures port { IfOk result (λ made. made.port ≡ port) }
+        ensures itself { IfOk result (λ made. AreNone made.raw.items made.marks) }
     {
         Ok(OrderPort {
             rt,
@@ -52,6 +54,8 @@ fn send_raw<P: Port>(port: &mut P, raw: &mut Vec<RawDatagram>) -> Result<(), Por
     requires { P.failed port.old < 2 ^ 64 - 1 }
     ensures worked { OnOk result (P.failed port.new ≡ P.failed port.old) }
     ensures counted { OnErr result (P.failed port.new ≡ P.failed port.old + 1) }
+    ensures none { raw.old.items ≡ [] → OnErr result ⊥ }
+    ensures rests { raw.old.items ≡ [] → (port.new ≡ port.old) × (raw.new ≡ raw.old) }
 {
     if raw.is_empty() {
         return Ok(());
@@ -85,7 +89,15 @@ impl<P: Port, R: System> Port for OrderPort<P, R> {
         self.port.failures()
     }
 
-    fn receive(&mut self) -> Result<Option<Arrival>, PortFault> {
+    /// Without orders: what this port receives is what the port in it receives.
+    fn receive(&mut self) -> Result<Option<Arrival>, PortFault>
+        requires { P.failed self.old.port < 2 ^ 64 - 1 }
+        ensures worked { OnOk result (P.failed self.new.port ≡ P.failed self.old.port) }
+        ensures counted { OnErr result (P.failed self.new.port ≡ P.failed self.old.port + 1) }
+        ensures itself { AreNone self.old.raw.items self.old.marks → Received P.is_scripted (P.tape self.old.port)
+            (P.tape self.new.port) (P.failed self.old.port) (P.failed self.new.port) result }
+        ensures stays { AreNone self.old.raw.items self.old.marks → AreNone self.new.raw.items self.new.marks }
+    {
         send_raw(&mut self.port, &mut self.raw)?;
         if let Some(stream) = self.marks.first_to_cut() {
             close(&mut self.port, stream)?;
@@ -107,6 +119,7 @@ impl<P: Port, R: System> Port for OrderPort<P, R> {
         ensures counted { OnErr result (P.failed self.new.port ≡ P.failed self.old.port + 1) }
         ensures itself { Looked P.is_scripted (P.tape self.old.port) (P.tape self.new.port)
             (P.failed self.old.port) (P.failed self.new.port) result }
+        ensures stays { (self.new.raw ≡ self.old.raw) × (self.new.marks ≡ self.old.marks) }
     {
         self.port.next_datagram()
     }
@@ -114,6 +127,7 @@ impl<P: Port, R: System> Port for OrderPort<P, R> {
     fn wait(&mut self, most: Duration)
         ensures itself { Idled P.is_scripted (P.tape self.old.port) (P.tape self.new.port) (P.failed self.old.port)
             (P.failed self.new.port) }
+        ensures stays { (self.new.raw ≡ self.old.raw) × (self.new.marks ≡ self.old.marks) }
     {
         if self.raw.is_empty() && !self.marks.any_to_cut() {
             self.port.wait(most);
@@ -123,6 +137,7 @@ impl<P: Port, R: System> Port for OrderPort<P, R> {
     fn recycle(&mut self, bytes: Items<u8>)
         ensures itself { Idled P.is_scripted (P.tape self.old.port) (P.tape self.new.port) (P.failed self.old.port)
             (P.failed self.new.port) }
+        ensures stays { (self.new.raw ≡ self.old.raw) × (self.new.marks ≡ self.old.marks) }
     {
         self.port.recycle(bytes);
     }
@@ -140,6 +155,7 @@ impl<P: Port, R: System> Port for OrderPort<P, R> {
         ensures counted { OnErr result (P.failed self.new.port ≡ P.failed self.old.port + 1) }
         ensures itself { Sent P.is_scripted output.now (P.tape self.old.port) (P.tape self.new.port)
             (P.failed self.old.port) (P.failed self.new.port) result }
+        ensures stays { AreNone self.old.raw.items self.old.marks → AreNone self.new.raw.items self.new.marks }
     {
         self.marks.note_sent(output);
         self.port.send(output)
@@ -150,6 +166,7 @@ impl<P: KeptPort, R: System> KeptPort for OrderPort<P, R> {
     fn next_report(&mut self) -> Option<PortReport>
         ensures itself { Idled P.is_scripted (P.tape self.old.port) (P.tape self.new.port) (P.failed self.old.port)
             (P.failed self.new.port) }
+        ensures stays { (self.new.raw ≡ self.old.raw) × (self.new.marks ≡ self.old.marks) }
     {
         self.port.next_report()
     }
@@ -157,6 +174,7 @@ impl<P: KeptPort, R: System> KeptPort for OrderPort<P, R> {
     fn keep(&mut self, peers: &[Node], owners: &[Node])
         ensures itself { Idled P.is_scripted (P.tape self.old.port) (P.tape self.new.port) (P.failed self.old.port)
             (P.failed self.new.port) }
+        ensures stays { (self.new.raw ≡ self.old.raw) × (self.new.marks ≡ self.old.marks) }
     {
         self.port.keep(peers, owners);
     }
@@ -164,6 +182,7 @@ impl<P: KeptPort, R: System> KeptPort for OrderPort<P, R> {
     fn renew(&mut self, target: Node)
         ensures itself { Idled P.is_scripted (P.tape self.old.port) (P.tape self.new.port) (P.failed self.old.port)
             (P.failed self.new.port) }
+        ensures stays { (self.new.raw ≡ self.old.raw) × (self.new.marks ≡ self.old.marks) }
     {
         self.port.renew(target);
     }
@@ -171,6 +190,7 @@ impl<P: KeptPort, R: System> KeptPort for OrderPort<P, R> {
     fn succeed(&mut self, target: Node)
         ensures itself { Idled P.is_scripted (P.tape self.old.port) (P.tape self.new.port) (P.failed self.old.port)
             (P.failed self.new.port) }
+        ensures stays { (self.new.raw ≡ self.old.raw) × (self.new.marks ≡ self.old.marks) }
     {
         self.port.succeed(target);
     }
@@ -180,6 +200,7 @@ impl<P: GroupPort, R: System> GroupPort for OrderPort<P, R> {
     fn receive_groups(&mut self, groups: &[DataGroup])
         ensures itself { Idled P.is_scripted (P.tape self.old.port) (P.tape self.new.port) (P.failed self.old.port)
             (P.failed self.new.port) }
+        ensures stays { (self.new.raw ≡ self.old.raw) × (self.new.marks ≡ self.old.marks) }
     {
         self.port.receive_groups(groups);
     }
@@ -187,13 +208,18 @@ impl<P: GroupPort, R: System> GroupPort for OrderPort<P, R> {
     fn next_unbound(&mut self) -> Option<DataGroup>
         ensures itself { Idled P.is_scripted (P.tape self.old.port) (P.tape self.new.port) (P.failed self.old.port)
             (P.failed self.new.port) }
+        ensures stays { (self.new.raw ≡ self.old.raw) × (self.new.marks ≡ self.old.marks) }
     {
         self.port.next_unbound()
     }
 }
 
 impl<P: Port, R: System> OrderedPort for OrderPort<P, R> {
-    fn obey(&mut self, order: PortOrder) -> Result<(), OutOfMemory> {
+    fn obey(&mut self, order: PortOrder) -> Result<(), OutOfMemory>
+        ensures worked { P.failed self.new.port ≡ P.failed self.old.port }
+        ensures cut { OnOk result (self.new.marks ≡ marks_ordered order self.old.marks) }
+        ensures kept { OnErr result (self.new.marks ≡ self.old.marks) }
+    {
         match order {
             PortOrder::Cut => self.marks.cut_all(),
             PortOrder::Pause { ms } => thread::sleep(&self.rt, Duration::from_millis(ms)),
