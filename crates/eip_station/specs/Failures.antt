@@ -1,5 +1,26 @@
--- The status of the program after a failure.
-use Rattle.std.specs.Prelude.{ℕ, Bool, true, false}
+-- Why the program fails, what its line names, and its status.
+use Rattle.std.specs.Prelude.{ℕ, if◌then◌else◌, Bool, true, false, Result, Ok, Err, Option, Some, None}
+use Rattle.cip_events.specs.Faults.{fault_number}
+use Rattle.cip_events.specs.declared.event.NewFault.{NewFault}
+use Rattle.cip_events.specs.declared.event.NewFault.TheVariants as new
+use Rattle.station.specs.declared.fault.EarlyEnd.{EarlyEnd}
+use Rattle.station.specs.declared.fault.EarlyEnd.TheVariants as early
+use Rattle.station_port.specs.declared.fault.StationFault.{StationFault}
+use Rattle.station_port.specs.declared.fault.StationFault.TheVariants as port
+use Rattle.station_record.specs.declared.fault.RecordFault.{RecordFault}
+use Rattle.station_record.specs.declared.fault.RecordFault.TheVariants as record_fault
+use Rattle.station_record.specs.declared.kept_files.state_file.StateFault.{StateFault}
+use Rattle.station_record.specs.declared.kept_files.state_file.StateFault.TheVariants as state
+use Rattle.station_setup.specs.Opening.Places.{no_place}
+use Rattle.station_setup.specs.declared.opening.places.SocketPlace.{SocketPlace}
+use Rattle.station_setup.specs.declared.opening.profiles.UnusableProfile.{UnusableProfile}
+use Rattle.station_setup.specs.declared.opening.profiles.UnusableProfile.TheVariants as profile
+use Rattle.trace_commands.specs.declared.fault.TracesFault.TheVariants as traces
+use Rattle.trace_text.specs.declared.trace.TraceFault.{TraceFault}
+use Rattle.trace_text.specs.declared.trace.TraceFault.TheVariants as trace
+use Rattle.plant_command.specs.declared.failure.PlantFailure.TheVariants as plant
+use Rattle.settle_command.specs.Faults.{file_of}
+use Rattle.world_command.specs.declared.failure.WorldFailure.TheVariants as world
 use Rattle.station_port.specs.declared.fault.SocketCause.TheVariants as cause
 use Rattle.command_lines.specs.declared.station_options.StationMisuse.TheVariants as misuse
 use Rattle.identity_search.specs.Statuses.{search_status}
@@ -9,6 +30,8 @@ use Rattle.trace_commands.specs.Unread.{traces_status}
 use Rattle.world_command.specs.Failures.{status_of as world_status}
 use Rattle.eip_station.specs.declared.failure.Failure.{Failure}
 use Rattle.eip_station.specs.declared.failure.Failure.TheVariants as failure
+use Rattle.eip_station.specs.declared.failure.Subject.{Subject}
+use Rattle.eip_station.specs.declared.failure.Subject.TheVariants as subject
 
 -- 1 after an early end, where the output takes nothing or no device answers, 2 after a wrong word, 3 after a bad profile or state, 4 after an
 -- address that is none, 5 where a socket cannot be made, 6 where the record or the state cannot be written, 7 where there is
@@ -51,3 +74,83 @@ is_reported failure.NoState = true
 is_reported failure.RecordEnd = true
 is_reported (failure.Plant why) = is_plant_reported why
 is_reported other = false
+
+-- the status behind what the program did
+abbrev pub end_status : Result Unit Failure → ℕ
+end_status (Ok done) = 0
+end_status (Err why) = status_of why
+
+-- how a task ends that writes a text or a capture file: if nobody reads on, nothing is said of it
+abbrev pub unread_end : Result Unit Failure → (is_unread : Bool) → Result Unit Failure
+unread_end (Ok done) is_unread = Ok done
+unread_end (Err why) is_unread = if is_unread then Err failure.Unheard else Err why
+
+-- WHAT FAILED
+
+-- a text is no trace, or no profile
+abbrev pub trace_failure : TraceFault → Failure
+trace_failure trace.OutOfMemory = failure.OutOfMemory
+trace_failure other = failure.Profile other
+
+-- a file gives no profile of a station
+abbrev pub profile_failure : UnusableProfile → Failure
+profile_failure (profile.Unread why) = failure.Unread why
+profile_failure (profile.Bad why sentence) = trace_failure why
+profile_failure profile.Events = failure.Events
+profile_failure (profile.Unserved sentence) = failure.Unserved
+profile_failure profile.OutOfMemory = failure.OutOfMemory
+
+-- a socket at this place cannot be made
+abbrev pub failure_at : StationFault → SocketPlace → Failure
+failure_at (port.Socket socket cause) place = failure.Socket socket cause place
+failure_at port.OutOfMemory place = failure.OutOfMemory
+
+abbrev pub port_failure : StationFault → Failure
+port_failure fault = failure_at fault no_place
+
+-- a profile makes no device
+abbrev pub new_failure : NewFault → Failure
+new_failure new.OutOfMemory = failure.OutOfMemory
+new_failure new.WrongKind = failure.WrongKind
+new_failure (new.Profile first) = failure.Profile (trace.BadProfile (fault_number first))
+
+-- there is no state to begin with
+abbrev pub state_failure : StateFault → Failure
+state_failure (state.Unread why) = failure.UnreadState why
+state_failure state.NoState = failure.State
+state_failure state.Unwritten = failure.NoState
+state_failure state.OutOfMemory = failure.OutOfMemory
+
+-- a record cannot be begun
+abbrev pub record_failure : RecordFault → Failure
+record_failure record_fault.OutOfMemory = failure.OutOfMemory
+record_failure record_fault.Refused = failure.Record
+record_failure record_fault.Full = failure.Record
+
+-- a life ended before its time
+abbrev pub early_failure : EarlyEnd → Failure
+early_failure early.OutOfMemory = failure.OutOfMemory
+early_failure other = failure.Early other
+
+-- WHAT THE LINE OF A FAILURE NAMES
+
+abbrev pub file_subject : Option ℕ → Subject
+file_subject (Some place) = subject.File place
+file_subject None = subject.Nothing
+
+-- the wrong word, or the file that is not what it is to be, or the record
+abbrev pub subject_in : Failure → Subject
+subject_in (failure.Words misuse) = subject.Word misuse
+subject_in (failure.Unread why) = subject.File 0
+subject_in failure.Events = subject.File 0
+subject_in failure.WrongKind = subject.File 0
+subject_in (failure.World world.Write) = subject.Nothing
+subject_in (failure.World world.OutOfMemory) = subject.Nothing
+subject_in (failure.World other) = subject.File 0
+subject_in (failure.Plant (plant.Unread why)) = subject.File 0
+subject_in (failure.Traces traces.Events) = subject.File 0
+subject_in (failure.Traces traces.Scanner) = subject.File 0
+subject_in (failure.Traces (traces.Unread place why)) = subject.File place
+subject_in (failure.Settling fault) = file_subject (file_of fault)
+subject_in failure.Record = subject.Record
+subject_in other = subject.Nothing

@@ -1,1 +1,4 @@
 pub mod Failures
+pub mod Needs
+pub mod Rules
+pub mod Texts

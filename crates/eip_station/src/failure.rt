@@ -1,9 +1,9 @@
 //! Why the program fails: the line on standard error, and the status.
 
 ghost use Rattle.std.specs.Prelude.{◌≡◌};
-ghost use Rattle.eip_station.specs.Failures.{is_reported, status_of};
+ghost use Rattle.eip_station.specs.Failures.{end_status, failure_at, file_subject, is_reported, status_of, subject_in, unread_end};
 
-use cip_tables::NewFault;
+use cip_events::NewFault;
 use cip_types::OutOfMemory;
 use command_lines::{StationMisuse, file_at, wrong_word};
 use identity_search::SearchFault;
@@ -133,7 +133,32 @@ pub fn status_of(failure: Failure) -> u8
     }
 }
 
+/// The status of the program, behind what it did.
+pub fn end_status(done: Result<(), Failure>) -> u8
+    ensures { result ≡ end_status done }
+{
+    match done {
+        Ok(()) => 0,
+        Err(failure) => status_of(failure),
+    }
+}
+
+/// How a task ends that writes a text or a capture file: if nobody reads on, nothing is said of it.
+pub fn unread_end(done: Result<(), Failure>, is_unread: bool) -> Result<(), Failure>
+    ensures { result ≡ unread_end done is_unread }
+{
+    match done {
+        Ok(()) => Ok(()),
+        Err(_) if is_unread => Err(Failure::Unheard),
+        Err(failure) => Err(failure),
+    }
+}
+
 impl From<TraceFault> for Failure {
+    ghost use Rattle.eip_station.specs.Failures.{trace_failure};
+
+    ghost from_gives = { λ fault given. given ≡ trace_failure fault };
+
     fn from(fault: TraceFault) -> Failure {
         match fault {
             TraceFault::OutOfMemory => Failure::OutOfMemory,
@@ -143,17 +168,20 @@ impl From<TraceFault> for Failure {
 }
 
 impl From<StationFault> for Failure {
+    ghost use Rattle.eip_station.specs.Failures.{port_failure};
+
+    ghost from_gives = { λ fault given. given ≡ port_failure fault };
+
     fn from(fault: StationFault) -> Failure {
-        match fault {
-            StationFault::Socket(socket, cause) => {
-                Failure::Socket(socket, cause, SocketPlace::NONE)
-            }
-            StationFault::OutOfMemory => Failure::OutOfMemory,
-        }
+        Failure::at(fault, SocketPlace::NONE)
     }
 }
 
 impl From<NewFault> for Failure {
+    ghost use Rattle.eip_station.specs.Failures.{new_failure};
+
+    ghost from_gives = { λ fault given. given ≡ new_failure fault };
+
     fn from(fault: NewFault) -> Failure {
         match fault {
             NewFault::OutOfMemory => Failure::OutOfMemory,
@@ -164,6 +192,10 @@ impl From<NewFault> for Failure {
 }
 
 impl From<StateFault> for Failure {
+    ghost use Rattle.eip_station.specs.Failures.{state_failure};
+
+    ghost from_gives = { λ fault given. given ≡ state_failure fault };
+
     fn from(fault: StateFault) -> Failure {
         match fault {
             StateFault::Unread(fault) => Failure::UnreadState(fault),
@@ -175,6 +207,10 @@ impl From<StateFault> for Failure {
 }
 
 impl From<RecordFault> for Failure {
+    ghost use Rattle.eip_station.specs.Failures.{record_failure};
+
+    ghost from_gives = { λ fault given. given ≡ record_failure fault };
+
     fn from(fault: RecordFault) -> Failure {
         match fault {
             RecordFault::OutOfMemory => Failure::OutOfMemory,
@@ -185,12 +221,20 @@ impl From<RecordFault> for Failure {
 }
 
 impl From<TracesFault> for Failure {
+    ghost use Rattle.eip_station.specs.declared.failure.Failure.TheVariants as failure;
+
+    ghost from_gives = { λ fault given. given ≡ failure.Traces fault };
+
     fn from(fault: TracesFault) -> Failure {
         Failure::Traces(fault)
     }
 }
 
 impl From<EarlyEnd> for Failure {
+    ghost use Rattle.eip_station.specs.Failures.{early_failure};
+
+    ghost from_gives = { λ end given. given ≡ early_failure end };
+
     fn from(end: EarlyEnd) -> Failure {
         match end {
             EarlyEnd::OutOfMemory => Failure::OutOfMemory,
@@ -200,18 +244,30 @@ impl From<EarlyEnd> for Failure {
 }
 
 impl From<OutOfMemory> for Failure {
+    ghost use Rattle.eip_station.specs.declared.failure.Failure.TheVariants as failure;
+
+    ghost from_gives = { λ _ given. given ≡ failure.OutOfMemory };
+
     fn from(_refused: OutOfMemory) -> Failure {
         Failure::OutOfMemory
     }
 }
 
 impl From<AllocError> for Failure {
+    ghost use Rattle.eip_station.specs.declared.failure.Failure.TheVariants as failure;
+
+    ghost from_gives = { λ _ given. given ≡ failure.OutOfMemory };
+
     fn from(_refused: AllocError) -> Failure {
         Failure::OutOfMemory
     }
 }
 
 impl<T: Drop> From<AllocFailed<T>> for Failure {
+    ghost use Rattle.eip_station.specs.declared.failure.Failure.TheVariants as failure;
+
+    ghost from_gives = { λ _ given. given ≡ failure.OutOfMemory };
+
     fn from(_refused: AllocFailed<T>) -> Failure {
         Failure::OutOfMemory
     }
@@ -219,7 +275,9 @@ impl<T: Drop> From<AllocFailed<T>> for Failure {
 
 impl Failure {
     /// The failure of a socket at this place.
-    pub fn at(fault: StationFault, place: SocketPlace) -> Failure {
+    pub fn at(fault: StationFault, place: SocketPlace) -> Failure
+        ensures { result ≡ failure_at fault place }
+    {
         match fault {
             StationFault::Socket(socket, cause) => Failure::Socket(socket, cause, place),
             StationFault::OutOfMemory => Failure::OutOfMemory,
@@ -244,20 +302,55 @@ pub fn is_reported(failure: Failure) -> bool
     }
 }
 
+/// What the line of a failure names.
+#[derive(Clone, Copy, PartialEq, Eq)]
+enum Subject {
+    Nothing,
+    /// The wrong word of the command line.
+    Word(StationMisuse),
+    /// The file of this number.
+    File(usize),
+    Record,
+}
+
+/// What the line of a failure names.
+fn subject_in(failure: Failure) -> Subject
+    ensures { result ≡ subject_in failure }
+{
+    match failure {
+        Failure::Words(misuse) => Subject::Word(misuse),
+        Failure::Unread(_) => Subject::File(0),
+        Failure::Events => Subject::File(0),
+        Failure::WrongKind => Subject::File(0),
+        Failure::World(WorldFailure::Write) => Subject::Nothing,
+        Failure::World(WorldFailure::OutOfMemory) => Subject::Nothing,
+        Failure::World(_) => Subject::File(0),
+        Failure::Plant(PlantFailure::Unread(_)) => Subject::File(0),
+        Failure::Traces(TracesFault::Events) => Subject::File(0),
+        Failure::Traces(TracesFault::Scanner) => Subject::File(0),
+        Failure::Traces(TracesFault::Unread(place, _)) => Subject::File(place),
+        Failure::Settling(fault) => file_subject(fault.file()),
+        Failure::Record => Subject::Record,
+        _ => Subject::Nothing,
+    }
+}
+
+/// The file of this number, if there is one.
+fn file_subject(file: Option<usize>) -> Subject
+    ensures { result ≡ file_subject file }
+{
+    match file {
+        Some(place) => Subject::File(place),
+        None => Subject::Nothing,
+    }
+}
+
 /// The words before a failure: the wrong word of the command line, or the file.
 pub fn subject_of(words: &[String], failure: Failure) -> &str {
-    match failure {
-        Failure::Words(misuse) => wrong_word(words, misuse),
-        Failure::Unread(_) | Failure::Events | Failure::WrongKind => file_at(words, 0),
-        Failure::World(WorldFailure::Write | WorldFailure::OutOfMemory) => "",
-        Failure::Plant(PlantFailure::Unread(_)) | Failure::World(_) => file_at(words, 0),
-        Failure::Traces(TracesFault::Events | TracesFault::Scanner) => file_at(words, 0),
-        Failure::Traces(TracesFault::Unread(place, _)) => file_at(words, place),
-        Failure::Settling(fault) => match fault.file() {
-            Some(place) => file_at(words, place),
-            None => "",
-        },
-        Failure::Record => "the record",
-        _ => "",
+    match subject_in(failure) {
+        Subject::Nothing => "",
+        Subject::Word(misuse) => wrong_word(words, misuse),
+        Subject::File(place) => file_at(words, place),
+        Subject::Record => "the record",
     }
 }

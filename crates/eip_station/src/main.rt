@@ -2,14 +2,18 @@
 #![tactic(auto)]
 
 mod failure;
+mod needs;
 mod paging;
 mod profiles;
 mod program;
+mod rules;
 mod stationing;
+mod texts;
 
 use failure::{Failure, NO_MEMORY, NO_THREAD, status_of};
 use fast_device::FastDevice;
-use page_server::{PAGE_THREADS, SharedPage, begin_page};
+use needs::page_threads;
+use page_server::{SharedPage, begin_page};
 use plant_command::work;
 use plant_rim::SharedPlant;
 use program::Surroundings;
@@ -52,8 +56,7 @@ fn main(rt: HostRuntime) -> ExitCode {
     if needs.input && thread::spawn(&rt, move || input.fill(&rt, rt.reader())).is_err() {
         return no_thread(rt.stderr());
     }
-    let page_threads = if needs.page { PAGE_THREADS } else { 0 };
-    for _ in 0..page_threads {
+    for _ in 0..page_threads(needs.page) {
         let Ok(page) = page.share() else {
             return no_memory(rt.stderr());
         };

@@ -2,9 +2,10 @@
 
 use crate::failure::Failure;
 use crate::program::Surroundings;
-use cip_types::Node;
+use crate::rules::{allowed_of, tells_page};
+use crate::texts::page_text;
 use command_lines::{Options, word_from_end};
-use page_server::{Allowed, OwnNames, PageSetting, Secrets, greeting_text, page_node};
+use page_server::{OwnNames, PageSetting, Secrets, greeting_text, page_node};
 use station_port::page_listener;
 use station_rim::report_line;
 use station_setup::SocketPlace;
@@ -13,7 +14,7 @@ use std::net::{Net, TcpListener, TcpStream};
 use std::random::RandomSource;
 use std::rt::{Clock, Files};
 use std::sync::Wait;
-use trace_words::{push_digits, push_node};
+use trace_words::push_digits;
 
 /// The bytes of a word, and of a token.
 const TOKEN_BYTES: usize = 16;
@@ -53,10 +54,7 @@ where
     let word = drawn_word(&rt)?;
     let token = token_of(&rt, options)?;
     let record = record_of(&rt, subject.record)?;
-    let allowed = Allowed {
-        writes: options.page_writes,
-        record: record.is_some(),
-    };
+    let allowed = allowed_of(options, record.is_some());
     let devices = subject.devices.unwrap_or(&[]);
     let secrets = Secrets {
         word: word.as_bytes(),
@@ -71,8 +69,9 @@ where
         is_plant: subject.devices.is_some(),
     };
     shared.page.open(&rt, page);
-    if !options.quiet || !token.is_empty() {
-        report_page(rt, shared, address, port, token.as_str())?;
+    if tells_page(options) {
+        let line = page_text(alloc, address, port, token.as_str())?;
+        report_line(rt, &shared.rim, line.as_bytes());
     }
     Ok(())
 }
@@ -123,26 +122,4 @@ where
         return Ok(Some(format!(in rt.alloc(); "{path}")?));
     }
     Ok(None)
-}
-
-/// Reports where the page is. Only who reads this line has the token.
-fn report_page<R>(
-    rt: R,
-    shared: &Surroundings,
-    address: Node,
-    port: u16,
-    token: &str,
-) -> Result<(), Failure>
-where
-    R: AllocGlobal + Wait + Copy + Drop,
-{
-    let mut line = format!(in rt.alloc(); "eip_station: page at http://")?;
-    push_node(&mut line, address)?;
-    write!(line, ":{port}/")?;
-    if !token.is_empty() {
-        write!(line, "#{token}")?;
-    }
-    line.push_str("\n")?;
-    report_line(rt, &shared.rim, line.as_bytes());
-    Ok(())
 }

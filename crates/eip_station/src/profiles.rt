@@ -1,5 +1,8 @@
 //! The profile of a station, and what is reported of one that is bad.
 
+ghost use Rattle.std.specs.Prelude.{◌≡◌};
+ghost use Rattle.eip_station.specs.Failures.{profile_failure};
+
 use crate::failure::Failure;
 use cip_tables::Config;
 use cip_types::OutOfMemory;
@@ -21,17 +24,27 @@ pub fn profile_of<R: Files + AllocGlobal + Wait + Copy + Drop>(
     match profile_in(&rt, path, options.address) {
         Ok(config) if is_scanner(&config) == scanner => Ok(config),
         Ok(_) => Err(Failure::WrongKind),
-        Err(UnusableProfile::Unread(fault)) => Err(Failure::Unread(fault)),
-        Err(UnusableProfile::Events) => Err(Failure::Events),
-        Err(UnusableProfile::OutOfMemory) => Err(Failure::OutOfMemory),
-        Err(UnusableProfile::Bad(fault, sentence)) => {
-            report_fault(rt, rim, path, sentence.as_str())?;
-            Err(Failure::from(fault))
+        Err(fault) => {
+            if let UnusableProfile::Bad(_, sentence)
+            | UnusableProfile::Unserved(sentence) = &fault
+            {
+                report_fault(rt, rim, path, sentence.as_str())?;
+            }
+            Err(profile_failure(&fault))
         }
-        Err(UnusableProfile::Unserved(sentence)) => {
-            report_fault(rt, rim, path, sentence.as_str())?;
-            Err(Failure::Unserved)
-        }
+    }
+}
+
+/// The failure of a station whose file gives no profile.
+fn profile_failure(fault: &UnusableProfile) -> Failure
+    ensures { result ≡ profile_failure fault.now }
+{
+    match fault {
+        UnusableProfile::Unread(why) => Failure::Unread(*why),
+        UnusableProfile::Bad(why, _) => Failure::from(*why),
+        UnusableProfile::Events => Failure::Events,
+        UnusableProfile::Unserved(_) => Failure::Unserved,
+        UnusableProfile::OutOfMemory => Failure::OutOfMemory,
     }
 }
 

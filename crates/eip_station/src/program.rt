@@ -1,6 +1,9 @@
 //! The program, at its command line and its streams.
 
-use crate::failure::{Failure, NO_MEMORY, is_reported, status_of, subject_of};
+use crate::failure::{
+    Failure, NO_MEMORY, end_status, is_reported, status_of, subject_of, unread_end,
+};
+use crate::needs::{self, Needs};
 use crate::paging::{HostNet, PageSubject, begin_page, page_host};
 use crate::stationing::{report_end, run_task};
 use command_lines::{
@@ -35,25 +38,6 @@ pub struct Surroundings {
     pub plant: SharedPlant,
 }
 
-/// The threads that a command line needs.
-#[derive(Clone, Copy, Default)]
-pub struct Needs {
-    /// Those of outputs.
-    pub outputs: bool,
-    /// That of the alarm of a station.
-    pub alarm: bool,
-    /// That of its input.
-    pub input: bool,
-    /// That of its record.
-    pub record: bool,
-    /// Those of its page.
-    pub page: bool,
-    /// Two for each device of a plant, which take its jobs.
-    pub plant: usize,
-    /// The devices whose snapshots a page shows.
-    pub devices: usize,
-}
-
 /// Performs what the command line requests, and answers the status. A failure is one line on `err`.
 pub fn run<R, O, E>(rt: R, shared: Surroundings, out: O, err: E) -> ExitCode
 where
@@ -66,44 +50,19 @@ where
         let _ = err.write_all(NO_MEMORY);
         return ExitCode::from(status_of(Failure::OutOfMemory));
     };
-    match perform(rt, words.as_slice(), &shared, out, &mut err) {
-        Ok(()) => ExitCode::SUCCESS,
-        Err(failure) => ExitCode::from(status_of(failure)),
-    }
+    let done = perform(rt, words.as_slice(), &shared, out, &mut err);
+    ExitCode::from(end_status(done))
 }
 
 /// The threads that the command line needs. None without memory.
 pub fn needs_of<R: AllocGlobal + Env + Files>(rt: &R) -> Option<Needs> {
     let words = words_of(rt)?;
-    match read_task(words.as_slice()) {
-        Ok(ProgramTask::Station(task)) => Some(Needs {
-            outputs: true,
-            alarm: true,
-            input: !task.options.no_input,
-            record: task.options.record_from_end.is_some(),
-            page: task.options.page.is_some(),
-            plant: 0,
-            devices: 1,
-        }),
-        Ok(ProgramTask::Plant(options)) => {
-            let devices = names_in(rt, file_of(words.as_slice())).ok()?.len();
-            Some(plant_needs(&options, devices))
-        }
-        _ => Some(Needs::default()),
-    }
-}
-
-/// The threads that a plant of so many devices needs. A file that is no plant has none.
-fn plant_needs(options: &Options, devices: usize) -> Needs {
-    Needs {
-        outputs: true,
-        alarm: false,
-        input: !options.no_input,
-        record: false,
-        page: options.page.is_some(),
-        plant: devices.saturating_mul(2),
-        devices,
-    }
+    let read = read_task(words.as_slice());
+    let devices = match read {
+        Ok(ProgramTask::Plant(_)) => names_in(rt, file_of(words.as_slice())).ok()?.len(),
+        _ => 0,
+    };
+    Some(needs::needs_of(&read, devices))
 }
 
 /// The words of the command line. An option and its value are two of them.
@@ -214,10 +173,7 @@ where
 {
     let mut piped = PipedOutput::new(out);
     let done = write(rt, words, task, &mut piped);
-    if done.is_err() && piped.is_unread() {
-        return Err(Failure::Unheard);
-    }
-    done
+    unread_end(done, piped.is_unread())
 }
 
 /// Performs a task that writes a text or a capture file.

@@ -4,6 +4,8 @@ use crate::failure::{Failure, NO_MEMORY};
 use crate::paging::{HostNet, PageSubject, begin_page, page_host};
 use crate::profiles::profile_of;
 use crate::program::{Surroundings, line_of};
+use crate::rules::{has_next_life, left_ms, life_end, reads_lines, run_end};
+use crate::texts::{record_name, start_text, state_name};
 use cip_tables::Config;
 use cip_types::OutOfMemory;
 use command_lines::{Options, StationTask, file_of, word_from_end};
@@ -17,9 +19,9 @@ use station_rim::{
     report_line,
 };
 use station_setup::{
-    MOST_LIVES, OpenStation, OpenedPort, StationOutputs, described, end_of, incarnation_of,
-    is_scanner, names_in, open_life_port, passed_ms, recorder_in, socket_place, start_in,
-    station_of, with_incarnation, with_serials,
+    MOST_LIVES, OpenStation, OpenedPort, StationOutputs, described, incarnation_of, is_scanner,
+    names_in, open_life_port, passed_ms, recorder_in, socket_place, start_in, station_of,
+    with_incarnation, with_serials,
 };
 use std::fs::File;
 use std::random::RandomSource;
@@ -101,17 +103,15 @@ where
     if setting.options.record_from_end.is_none() {
         return ran;
     }
-    let whole = drain_record(&setting.rt, setting.rim);
-    ran?;
-    if whole {
-        return Ok(());
+    let done = run_end(ran, drain_record(&setting.rt, setting.rim));
+    if done != ran {
+        report_line(
+            setting.rt,
+            setting.rim,
+            b"eip_station: the record cannot take more and has ended\n",
+        );
     }
-    report_line(
-        setting.rt,
-        setting.rim,
-        b"eip_station: the record cannot take more and has ended\n",
-    );
-    Err(Failure::RecordEnd)
+    done
 }
 
 /// Runs the station: a life, and behind a reset that a peer has requested the next one.
@@ -129,9 +129,8 @@ where
             begun_ms: passed_ms(&setting.rt, origin),
             ..*setting
         };
-        match begin(&setting, scanner)? {
-            LifeEnd::Restart { same: _ } => {}
-            _ => return Ok(()),
+        if !has_next_life(begin(&setting, scanner)?) {
+            return Ok(());
         }
         // (what is left of its record is not that of the next life)
         if setting.options.record_from_end.is_some() && !drain_record(&setting.rt, setting.rim) {
@@ -186,10 +185,11 @@ where
 {
     let options = setting.options;
     let alloc = setting.rt.alloc();
-    let path = match options.state_from_end {
-        Some(left) => format!(in alloc; "{}", word_from_end(setting.words, left))?,
-        None => format!(in alloc; "{}.state", file_of(setting.words))?,
+    let given = match options.state_from_end {
+        Some(left) => Some(word_from_end(setting.words, left)),
+        None => None,
     };
+    let path = state_name(alloc, given, file_of(setting.words))?;
     match start_in(&setting.rt, options, path.as_str(), own, setting.life) {
         Ok(start) => Ok(start),
         Err(fault) => Err(reported(setting, path.as_str(), fault)),
@@ -230,11 +230,6 @@ where
 {
     let (alloc, name) = (setting.rt.alloc(), station_name(setting).as_bytes());
     let config = described(alloc, config, setting.options, start.state().serial, name)?;
-    let kind = if is_scanner(&config) {
-        "scanner"
-    } else {
-        "adapter"
-    };
     let opened = match open_life_port(setting.rt, setting.options, &config, setting.life) {
         Ok(opened) => opened,
         Err(fault) => {
@@ -242,7 +237,8 @@ where
             return Err(Failure::at(fault, place));
         }
     };
-    let line = start_line(setting, kind, &opened.place, start.state().incarnation)?;
+    let scanner = is_scanner(&config);
+    let line = start_line(setting, scanner, &opened.place, start.state().incarnation)?;
     serve(setting, &config, opened, start, line.as_str())
 }
 
@@ -257,24 +253,27 @@ fn station_name<'a, R>(setting: &Stationed<'a, R>) -> &'a str {
 /// The line that says which station has started.
 fn start_line<R>(
     setting: &Stationed<'_, R>,
-    kind: &str,
+    scanner: bool,
     place: &StationPlace,
     incarnation: u8,
-) -> Result<String, Failure>
+) -> Result<String, OutOfMemory>
 where
     R: AllocGlobal + Copy + Drop,
 {
-    let alloc = setting.rt.alloc();
     let profile = name_of(file_of(setting.words));
-    let mut line = format!(in alloc; "eip_station: {kind} {profile} at ")?;
-    trace_words::push_node(&mut line, place.address)?;
-    let (tcp, udp) = (place.tcp, place.udp);
-    write!(line, ", TCP {tcp}, UDP {udp}, incarnation {incarnation}, ")?;
-    match record_path(setting)? {
-        Some(record) => write!(line, "record {record}\n")?,
-        None => line.push_str("no record\n")?,
-    }
-    Ok(line)
+    let record = record_path(setting)?;
+    let record = match &record {
+        Some(record) => Some(record.as_str()),
+        None => None,
+    };
+    start_text(
+        setting.rt.alloc(),
+        scanner,
+        profile,
+        place,
+        incarnation,
+        record,
+    )
 }
 
 /// The file of the record, if there is one: a further life has one of its own.
@@ -285,12 +284,8 @@ where
     let Some(left) = setting.options.record_from_end else {
         return Ok(None);
     };
-    let (alloc, path) = (setting.rt.alloc(), word_from_end(setting.words, left));
-    let life = setting.life;
-    match life {
-        1 => Ok(Some(format!(in alloc; "{path}")?)),
-        _ => Ok(Some(format!(in alloc; "{path}.life-{life}")?)),
-    }
+    let first = word_from_end(setting.words, left);
+    Ok(Some(record_name(setting.rt.alloc(), first, setting.life)?))
 }
 
 /// Has a device live at a port until its time is over, the standard input ends, or a peer requests a reset.
@@ -323,16 +318,13 @@ where
     };
     let mut station = station_of(rt, setting.options, config, opened, outputs)?;
     keep(setting, start)?;
-    let end = if setting.options.no_input && !setting.options.page_writes {
-        live(setting, &mut station, NoLines, slots)?
-    } else {
+    let end = if reads_lines(setting.options) {
         let lines = setting.rim.input.share()?.lines(rt, waker);
         live(setting, &mut station, lines, slots)?
+    } else {
+        live(setting, &mut station, NoLines, slots)?
     };
-    match station.record_fault() {
-        Some(_) => Err(Failure::RecordEnd),
-        None => Ok(end),
-    }
+    life_end(end, station.record_fault())
 }
 
 /// A life of a station, whose device has no script.
@@ -349,10 +341,7 @@ where
     L: CallLines + Drop,
 {
     let alloc = setting.rt.alloc();
-    let end_ms = match end_of(setting.options.seconds) {
-        Some(end_ms) => Some(end_ms.saturating_sub(setting.begun_ms)),
-        None => None,
-    };
+    let end_ms = left_ms(setting.options.seconds, setting.begun_ms);
     let mut steps = DeviceSteps::unscripted(alloc, InputSteps::new(alloc, lines), end_ms);
     Ok(station.live(&mut steps, slots)?)
 }

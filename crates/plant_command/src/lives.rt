@@ -1,8 +1,9 @@
 //! The work of a plant's threads: the lives of its devices, and their records.
 
-ghost use Rattle.std.specs.Prelude.{◌≡◌, IfOk, string_bytes};
-ghost use Rattle.plant_command.specs.Lives.{life_config};
+ghost use Rattle.std.specs.Prelude.{◌≡◌, ◌++◌, IfOk, OnOk, string_bytes};
+ghost use Rattle.plant_command.specs.Lives.{life_config, life_text, start_text};
 
+use crate::endings::{is_stillborn, life_end, next_incarnation};
 use crate::paths::record_path;
 use crate::setups::node_of;
 use cip_tables::Config;
@@ -11,11 +12,12 @@ use page_feed::PageFeed;
 use plant_rim::{DeviceFailure, DeviceSetup, NameForm, NamedLines, PlantJob, SharedPlant};
 use station::{DeviceSteps, LifeEnd, ScriptRun};
 use station_lines::LineSink;
+use station_port::StationPlace;
 use station_record::{Recorder, forget_record};
 use station_rim::{Entries, LabelledLines, LineEntrance, SharedRecord};
 use station_setup::{
-    MOST_LIVES, OpenedPort, StationOutputs, described, open_life_port, passed_ms, recorder_in,
-    station_of, with_incarnation,
+    MOST_LIVES, OpenedPort, StationOutputs, described, incarnation_of, open_life_port, passed_ms,
+    recorder_in, station_of, with_incarnation,
 };
 use std::alloc::Global;
 use std::fs::File;
@@ -23,6 +25,7 @@ use std::net::Net;
 use std::rt::{Clock, Files};
 use std::sync::Wait;
 use std::time::Instant;
+use trace_words::push_node;
 
 /// Where the lines of a device of a plant go.
 type DeviceSink<R> = LabelledLines<NamedLines<LineEntrance<R>>>;
@@ -58,7 +61,7 @@ where
             Some(failure)
         }
     };
-    plant.leave(&rt, setup.scanner, failure, failure.is_some() && lives == 0);
+    plant.leave(&rt, setup.scanner, failure, is_stillborn(failure, lives));
 }
 
 /// Reports why a device fails.
@@ -101,9 +104,10 @@ where
             number: life,
             begun_ms,
         };
-        match life.live(rt, opened, &mut run, lives)? {
-            LifeEnd::Restart { same } => incarnation = setup.span.behind(incarnation, same),
-            _ => return Ok(()),
+        let end = life.live(rt, opened, &mut run, lives)?;
+        match next_incarnation(setup.span, incarnation, end) {
+            Some(next) => incarnation = next,
+            None => return Ok(()),
         }
     }
     Ok(())
@@ -143,6 +147,26 @@ fn config_of(alloc: Global, setup: &DeviceSetup, incarnation: u8) -> Result<Conf
     let config = with_incarnation(setup.config.copy(alloc)?, incarnation);
     let Node(serial) = node_of(&config);
     described(alloc, config, &setup.options, serial, setup.name.as_bytes())
+}
+
+/// Appends which kind of device begins to live, and where.
+fn push_start(line: &mut String, scanner: bool, place: &StationPlace) -> Result<(), OutOfMemory>
+    ensures { OnOk result (string_bytes line.new ≡ string_bytes line.old ++ start_text scanner place.now) }
+{
+    let kind = if scanner { "scanner" } else { "adapter" };
+    let (tcp, udp) = (place.tcp, place.udp);
+    write!(line, "{kind} at ")?;
+    push_node(line, place.address)?;
+    write!(line, ", TCP {tcp}, UDP {udp}, ")?;
+    Ok(())
+}
+
+/// Appends which life of it that is.
+fn push_life(line: &mut String, life: u32, incarnation: u8) -> Result<(), OutOfMemory>
+    ensures { OnOk result (string_bytes line.new ≡ string_bytes line.old ++ life_text life incarnation) }
+{
+    write!(line, "life {life}, incarnation {incarnation}\n")?;
+    Ok(())
 }
 
 /// A life of a device.
@@ -229,20 +253,10 @@ impl Life<'_> {
         if self.setup.options.quiet {
             return Ok(());
         }
-        let (name, place) = (self.setup.name.as_str(), &opened.place);
+        let name = self.setup.name.as_str();
         let mut line = format!(in rt.alloc(); "eip_station: {name}: ")?;
-        line.push_str(if self.setup.scanner {
-            "scanner at "
-        } else {
-            "adapter at "
-        })?;
-        trace_words::push_node(&mut line, place.address)?;
-        let (tcp, udp) = (place.tcp, place.udp);
-        let (life, incarnation) = (self.number, station_setup::incarnation_of(self.config));
-        write!(
-            line,
-            ", TCP {tcp}, UDP {udp}, life {life}, incarnation {incarnation}\n"
-        )?;
+        push_start(&mut line, self.setup.scanner, &opened.place)?;
+        push_life(&mut line, self.number, incarnation_of(self.config))?;
         self.plant.err.sink(rt)?.line(line.as_bytes());
         Ok(())
     }
@@ -275,10 +289,6 @@ impl Life<'_> {
         let mut steps = DeviceSteps::scripted(rt.alloc(), script, *run, typed, self.begun_ms);
         let lived = station.live(&mut steps, slots);
         *run = steps.run();
-        let end = lived?;
-        match station.record_fault() {
-            Some(_) => Err(DeviceFailure::RecordEnd),
-            None => Ok(end),
-        }
+        life_end(lived?, station.record_fault())
     }
 }

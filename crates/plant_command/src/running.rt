@@ -1,6 +1,6 @@
 //! A plant from its beginning to its end.
 
-use crate::endings::{ends, is_late};
+use crate::endings::{ends, is_late, is_over, seconds_of};
 use crate::failure::PlantFailure;
 use crate::opening::{NumberedPlant, PlantSetting, plant_of};
 use crate::paths::path_beside;
@@ -48,7 +48,7 @@ where
     R: AllocGlobal + Files + Clock + Wait + Copy + Drop,
 {
     let NumberedPlant { plant: said, lines } = plant_of(rt, rim, setting.file)?;
-    let seconds = setting.options.seconds.or(said.seconds);
+    let seconds = seconds_of(setting.options.seconds, said.seconds);
     let folder = folder_of(rt, setting, &said)?;
     let folder = match &folder {
         Some(folder) => Some(folder.as_str()),
@@ -177,7 +177,7 @@ where
         let is_late = is_late(self.end_ms, self.passed_ms);
         let view = PlantView {
             counts: state.counts,
-            is_over: is_late || self.has_ended || state.is_stillborn,
+            is_over: is_over(is_late, self.has_ended, state.is_stillborn),
             waited_ms: self.passed_ms.saturating_sub(self.phase_ms),
         };
         let next = next_phase(self.phase, view);

@@ -1,10 +1,24 @@
--- Slots that no station can serve, worked by hand. What a slot has beside target, kind and output does not matter.
-use Rattle.std.proofs.Common.{◌≡◌, ℕ, [], ◌∷◌, Some, None, refl}
+-- Slots that no station can serve, and where a station is, worked by hand. What a slot has beside target, kind and output does not matter.
+use Rattle.std.proofs.Common.{◌≡◌, ℕ, [], ◌∷◌, Bool, true, false, List, Some, None, refl}
+use Rattle.std.specs.Prelude.{codes}
+use Rattle.adapter_table.specs.declared.profile.Description.{Description}
+use Rattle.cip_tables.specs.declared.table.Config.{Config}
+use Rattle.cip_tables.specs.declared.table.Config.TheVariants as config
+use Rattle.command_lines.specs.declared.station_options.Options.{Options}
 use Rattle.cip_productions.specs.declared.kind.Kind.TheVariants.{ExclusiveOwner, InputOnly}
 use Rattle.scanner_table.specs.declared.profile.SlotConfig.{SlotConfig}
-use Rattle.station_setup.specs.Settings.{incarnation_in}
+use Rattle.scanner_table.specs.declared.profile.ScannerProfile.{ScannerProfile}
+use Rattle.station_port.specs.declared.fault.StationSocket.TheVariants as socket
+use Rattle.station_port.specs.declared.place.StationPlace.{StationPlace}
+use Rattle.station_setup.specs.Opening.Places.{no_place, place_of_socket}
+use Rattle.station_setup.specs.Opening.Profiles.{refusal_of}
+use Rattle.station_setup.specs.Opening.Starts.{counting_of, more_tries}
+use Rattle.station_setup.specs.Opening.Unserved.{defect_text}
+use Rattle.station_setup.specs.Settings.{inactivity_of, incarnation_in, port_of, reporting_of, scanner_place}
+use Rattle.station_setup.specs.declared.opening.profiles.Refusal.TheVariants as refusal
+use Rattle.station_setup.specs.declared.opening.starts.Counting.TheVariants.{Said, Counted}
 use Rattle.station_setup.specs.Unservable.Defects.{own_node, slots_defect}
-use Rattle.station_setup.specs.declared.unservable.defect.StationDefect.TheVariants.{OwnTarget, SharedOutput}
+use Rattle.station_setup.specs.declared.unservable.defect.StationDefect.TheVariants.{NoPort, OwnTarget, SharedOutput}
 
 abbrev owner : SlotConfig → ℕ → ℕ → SlotConfig
 owner slot target point = record slot { target = record { 0 = target }; kind = ExclusiveOwner; consumed = point }
@@ -36,3 +50,65 @@ lives_of_16 = (refl, refl)
 
 lives_of_255 : (incarnation_in 255 1 ≡ 255) × ((incarnation_in 255 2 ≡ 1) × (incarnation_in 255 257 ≡ 1))
 lives_of_255 = (refl, (refl, refl))
+
+-- --incarnation 16 alone, and beside --state
+said_alone : (counting_of (Some 16) false 1 ≡ Said 16) × (counting_of (Some 16) false 3 ≡ Said 18)
+said_alone = (refl, refl)
+
+said_with_a_file : (counting_of (Some 16) true 1 ≡ Counted (Some 16)) × (counting_of (Some 16) true 2 ≡ Counted None)
+said_with_a_file = (refl, refl)
+
+counted : (has_file : Bool) → (counting_of None has_file 1 ≡ Counted None) × (counting_of None has_file 2 ≡ Counted None)
+counted has_file = (refl, refl)
+
+tries : (more_tries 1 ≡ 0) × (more_tries 2 ≡ 50)
+tries = (refl, refl)
+
+-- WHERE A STATION IS
+
+described_port : (d : Description) → (port_of (Some (record d { port = 44819 })) ≡ 44819) × (port_of None ≡ 44818)
+described_port d = (refl, refl)
+
+described_inactivity : (d : Description) → (inactivity_of (Some (record d { inactivity = 60 })) ≡ 60) × (inactivity_of None ≡ 0)
+described_inactivity d = (refl, refl)
+
+scanner_ports : (o : Options) (p : ScannerProfile) →
+    ((scanner_place (record o { tcp = Some 5000 }) p).tcp ≡ 5000) × (((scanner_place (record o { tcp = None }) p).tcp ≡ 44818)
+    × (((scanner_place o p).mask ≡ 4294967295) × ((scanner_place o p).inactivity_s ≡ 0)))
+scanner_ports o p = (refl, (refl, (refl, refl)))
+
+here : StationPlace → StationPlace
+here place = record place { address = record { 0 = 7 }; tcp = 44818; udp = 2222; inactivity_s = 60 }
+
+sockets : (place : StationPlace) → (place_of_socket (here place) socket.Tcp ≡ record { address = 7; port = 44818 })
+    × ((place_of_socket (here place) socket.Identity ≡ record { address = 7; port = 44818 })
+    × ((place_of_socket (here place) socket.Udp ≡ record { address = 7; port = 2222 }) × (place_of_socket (here place) socket.Wait ≡ no_place)))
+unfolding here
+sockets place = (refl, (refl, (refl, refl)))
+
+silence : (o : Options) (place : StationPlace) → reporting_of (record o { quiet = true }) (here place) ≡ record { quiet = true; silent_s = 60 }
+unfolding here
+silence o place = refl
+
+-- WHAT A STATION REFUSES
+
+events_first : (c : Config) → refusal_of c true None ≡ Some refusal.Events
+events_first c = refl
+
+own_target : (p : ScannerProfile) (slot : SlotConfig) →
+    refusal_of (config.Scanner (record p { node = record { 0 = 9 }; slots = reader slot 9 152 ∷ [] })) false None ≡ Some (refusal.Unserved (OwnTarget 0))
+own_target p slot = refl
+
+port_0 : (c : Config) → defect_text c NoPort (Some 4) None ≡ codes "line 4: word 4: a station listens at a TCP port from 1 to 65535, and 0 is none\n"
+port_0 c = refl
+
+-- the addresses are 10.0.0.9 and 10.0.0.7
+twice : (p : ScannerProfile) (slot : SlotConfig) →
+    defect_text (config.Scanner (record p { slots = owner slot 167772167 150 ∷ owner slot 167772167 150 ∷ [] })) (SharedOutput 1 0) (Some 4) (Some 2)
+    ≡ codes "line 4: word 5: slot 1 owns the output 150 of 10.0.0.7, which has one owner: slot 0 in line 2\n"
+twice p slot = refl
+
+at_itself : (p : ScannerProfile) (slot : SlotConfig) →
+    defect_text (config.Scanner (record p { slots = reader slot 167772169 152 ∷ [] })) (OwnTarget 0) (Some 2) None
+    ≡ codes "line 2: word 2: the target of slot 0 is 10.0.0.9, the scanner itself\n"
+at_itself p slot = refl

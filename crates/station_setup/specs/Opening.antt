@@ -1,1 +1,5 @@
 pub mod Devices
+pub mod Places
+pub mod Profiles
+pub mod Starts
+pub mod Unserved

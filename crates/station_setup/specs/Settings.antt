@@ -11,6 +11,8 @@ use Rattle.port_faults.specs.declared.rates.FaultRates.{FaultRates}
 use Rattle.udp_runner.specs.Groups.GroupUse.{uses_groups}
 use Rattle.socket_port.specs.declared.streams.routes.Destination.{Destination}
 use Rattle.scanner_table.specs.declared.profile.SlotConfig.{SlotConfig}
+use Rattle.scanner_table.specs.declared.profile.ScannerProfile.{ScannerProfile}
+use Rattle.station.specs.declared.serving.Reporting.{Reporting}
 use Rattle.station_port.specs.declared.place.StationPlace.{StationPlace}
 use Rattle.command_lines.specs.declared.station_options.Options.{Options}
 
@@ -46,6 +48,28 @@ abbrev pub given_or_number : Option ℕ → ℕ → ℕ
 given_or_number (Some number) other = number
 given_or_number None other = other
 
+-- the TCP port of a description, or the standard's
+abbrev pub port_of : Option Description → ℕ
+port_of (Some description) = description.port
+port_of None = 44818
+
+-- the inactivity time-out of a description, or none
+abbrev pub inactivity_of : Option Description → ℕ
+inactivity_of (Some description) = description.inactivity
+inactivity_of None = 0
+
+abbrev pub adapter_place : Options → Profile → StationPlace
+adapter_place options profile = place_of options profile.node profile.mask (port_of profile.description) (inactivity_of profile.description)
+
+-- a scanner's network is of one address, at which no inquiry finds it; the TCP port is that of its targets
+abbrev pub scanner_place : Options → ScannerProfile → StationPlace
+scanner_place options profile = place_of options profile.node 4294967295 (given_or_number options.tcp 44818) 0
+
+-- where the station of a device is
+abbrev pub own_place : Options → Config → StationPlace
+own_place options (Adapter profile) = adapter_place options profile
+own_place options (Scanner profile) = scanner_place options profile
+
 -- a description with what the options say in its place
 abbrev pub described_as : Description → Options → List ℕ → Description
 described_as d options name = record d {
@@ -75,6 +99,10 @@ with_description profile options serial name = record profile {
 abbrev pub described : Config → Options → ℕ → List ℕ → Config
 described (Adapter profile) options serial name = Adapter (with_description profile options serial name)
 described (Scanner profile) options serial name = Scanner profile
+
+-- what a station says beside its outcomes
+abbrev pub reporting_of : Options → StationPlace → Reporting
+reporting_of options place = record { quiet = options.quiet; silent_s = place.inactivity_s }
 
 -- what becomes of the datagrams that arrive
 abbrev pub rates_of : Options → FaultRates

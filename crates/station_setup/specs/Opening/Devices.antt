@@ -1,11 +1,7 @@
 -- What is read of a profile as its device begins, and what is put in its place.
 use Rattle.std.specs.Prelude.{ℕ, ◌-◌, ◌^◌, ◌==◌, if◌then◌else◌, min, length, Bool, true, false, Option}
 use Rattle.cip_tables.specs.declared.table.Config.{Config}
-use Rattle.trace_files.specs.declared.regular.fault.FileFault.{FileFault}
-use Rattle.trace_files.specs.declared.regular.fault.FileFault.TheVariants as file
 use Rattle.cip_tables.specs.declared.table.Config.TheVariants.{Adapter, Scanner}
-use Rattle.station_setup.specs.declared.opening.profiles.UnusableProfile.{UnusableProfile}
-use Rattle.station_setup.specs.declared.opening.profiles.UnusableProfile.TheVariants as fault
 
 abbrev pub is_scanner : Config → Bool
 is_scanner (Adapter profile) = false
@@ -33,8 +29,3 @@ with_serials (Scanner profile) kept serials = Scanner (record profile { serial =
 abbrev pub slots_of : Config → ℕ
 slots_of (Adapter profile) = 0
 slots_of (Scanner profile) = min (length profile.slots) (2 ^ 32 - 1)
-
--- why the file of a profile is not read
-abbrev pub unread_profile : FileFault → UnusableProfile
-unread_profile file.OutOfMemory = fault.OutOfMemory
-unread_profile other = fault.Unread other

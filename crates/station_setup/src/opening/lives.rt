@@ -1,5 +1,8 @@
 //! The lives of a device, one behind another.
 
+ghost use Rattle.std.specs.Prelude.{◌≡◌};
+ghost use Rattle.station_setup.specs.Opening.Starts.{more_tries};
+
 use crate::opening::ports::{OpenedPort, open_port};
 use cip_tables::Config;
 use command_lines::Options;
@@ -35,13 +38,18 @@ pub fn open_life_port<R>(
 where
     R: AllocGlobal + Net + Clock + Copy + Drop,
 {
-    if life > 1 {
-        for _ in 0..MOST_TRIES {
-            if let Ok(opened) = open_port(rt, options, config) {
-                return Ok(opened);
-            }
-            thread::sleep(&rt, Duration::from_millis(RETRY_MS));
+    for _ in 0..more_tries(life) {
+        if let Ok(opened) = open_port(rt, options, config) {
+            return Ok(opened);
         }
+        thread::sleep(&rt, Duration::from_millis(RETRY_MS));
     }
     open_port(rt, options, config)
+}
+
+/// How often the port of a life is tried before the last time.
+fn more_tries(life: u32) -> u32
+    ensures { result ≡ more_tries life }
+{
+    if life > 1 { MOST_TRIES } else { 0 }
 }

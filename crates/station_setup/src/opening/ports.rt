@@ -1,5 +1,9 @@
 //! The port of a device.
 
+ghost use Rattle.std.specs.Prelude.{◌≡◌, IfOk};
+ghost use Rattle.station_setup.specs.Opening.Devices.{slots_of};
+ghost use Rattle.station_setup.specs.Settings.{own_place};
+
 use crate::opening::devices::slots_of;
 use crate::{adapter_place, scanner_place, targets_of};
 use cip_tables::Config;
@@ -25,6 +29,8 @@ pub fn open_port<R>(
 ) -> Result<OpenedPort<R>, StationFault>
 where
     R: AllocGlobal + Net + Clock + Copy + Drop,
+    ensures place { IfOk result (λ opened. opened.place ≡ own_place options.now config.now) }
+    ensures slots { IfOk result (λ opened. opened.slots ≡ slots_of config.now) }
 {
     let (alloc, slots) = (rt.alloc(), slots_of(config));
     match config {

@@ -1,10 +1,10 @@
 //! Profiles in files.
 
 ghost use Rattle.std.specs.Prelude.{◌≡◌};
-ghost use Rattle.station_setup.specs.Opening.Devices.{unread_profile};
+ghost use Rattle.station_setup.specs.Opening.Profiles.{refusal_of, unread_profile};
 
 use crate::opening::unserved::sentence_of;
-use crate::unservable::station_defect;
+use crate::unservable::{StationDefect, station_defect};
 use cip_tables::Config;
 use cip_types::limits::LONGEST_TRACE;
 use cip_types::{Node, OutOfMemory};
@@ -27,6 +27,13 @@ pub enum UnusableProfile {
     Unserved(String),
     /// An allocation was refused.
     OutOfMemory,
+}
+
+/// Why a trace that is read gives no profile.
+#[derive(Clone, Copy, PartialEq, Eq)]
+enum Refusal {
+    Events,
+    Unserved(StationDefect),
 }
 
 impl From<OutOfMemory> for UnusableProfile {
@@ -56,15 +63,26 @@ pub fn profile_in<R: Files + AllocGlobal>(
             return Err(UnusableProfile::Bad(fault, sentence));
         }
     };
-    if !events.as_slice().is_empty() {
-        return Err(UnusableProfile::Events);
-    }
-    match station_defect(&config, address) {
+    match refusal_of(&config, !events.as_slice().is_empty(), address) {
         None => Ok(config),
-        Some(defect) => {
+        Some(Refusal::Events) => Err(UnusableProfile::Events),
+        Some(Refusal::Unserved(defect)) => {
             let sentence = sentence_of(alloc, text.as_slice(), &config, defect)?;
             Err(UnusableProfile::Unserved(sentence))
         }
+    }
+}
+
+/// Why a trace of this profile, with events or without, gives none of a station at this address.
+fn refusal_of(config: &Config, has_events: bool, address: Option<Node>) -> Option<Refusal>
+    ensures { result ≡ refusal_of config.now has_events address }
+{
+    if has_events {
+        return Some(Refusal::Events);
+    }
+    match station_defect(config, address) {
+        Some(defect) => Some(Refusal::Unserved(defect)),
+        None => None,
     }
 }
 

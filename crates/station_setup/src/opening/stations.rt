@@ -1,6 +1,7 @@
 //! The station of a device at its port.
 
 ghost use Rattle.std.specs.Prelude.{◌≡◌, IfOk};
+ghost use Rattle.station_setup.specs.Settings.{reporting_of};
 
 use crate::opening::ports::OpenedPort;
 use crate::place::rates_of;
@@ -13,7 +14,7 @@ use port_faults::{FaultyPort, OrderPort};
 use socket_port::SystemClock;
 use station::{Reporting, Station, StationObserver};
 use station_lines::LineSink;
-use station_port::StationPort;
+use station_port::{StationPlace, StationPort};
 use station_record::Recorder;
 use station_rim::Entries;
 use std::fs::File;
@@ -65,10 +66,17 @@ where
     let device = FastDevice::new(alloc, config.copy(alloc)?)?;
     let port = FaultyPort::new(alloc, port, SystemClock::new(rt), rates_of(options));
     let port = OrderPort::new(alloc, rt, port)?;
-    let reporting = Reporting {
-        quiet: options.quiet,
-        silent_s: place.inactivity_s,
-    };
+    let reporting = reporting_of(options, &place);
     let clock = SystemClock::new(rt);
     Ok(Station::new(alloc, config, port, clock, device, observer, reporting)?)
+}
+
+/// What a station with these options, at this place, says beside its outcomes.
+fn reporting_of(options: &Options, place: &StationPlace) -> Reporting
+    ensures { result ≡ reporting_of options.now place.now }
+{
+    Reporting {
+        quiet: options.quiet,
+        silent_s: place.inactivity_s,
+    }
 }

@@ -1,0 +1,36 @@
+-- The lives of a plant's devices, worked by hand.
+use Rattle.std.specs.Prelude.{◌≡◌, ℕ, codes, Bool, true, false, Some, None, Err, refl}
+use Rattle.plant_rim.specs.declared.failure.DeviceFailure.TheVariants.{RecordEnd}
+use Rattle.station.specs.declared.step.LifeEnd.TheVariants.{Over, Restart}
+use Rattle.station_port.specs.declared.place.StationPlace.{StationPlace}
+use Rattle.station_record.specs.declared.fault.RecordFault.TheVariants.{Refused}
+use Rattle.plant_command.specs.Endings.{is_over, is_stillborn, life_end, next_incarnation, seconds_of}
+use Rattle.plant_command.specs.Lives.{life_text, start_text}
+use Rattle.plant_command.specs.Paths.{path_in}
+
+seconds : (seconds_of (Some 5) (Some 9) ≡ Some 5) × (seconds_of None (Some 9) ≡ Some 9)
+seconds = (refl, refl)
+
+overs : (is_over false false false ≡ false) × (is_over false false true ≡ true)
+overs = (refl, refl)
+
+stillborn : (is_stillborn (Some RecordEnd) 0 ≡ true) × ((is_stillborn (Some RecordEnd) 1 ≡ false) × (is_stillborn None 0 ≡ false))
+stillborn = (refl, (refl, refl))
+
+record_ends : life_end Over (Some Refused) ≡ Err RecordEnd
+record_ends = refl
+
+-- a device with the incarnations 1 to 127
+next_lives : (next_incarnation (record { first = 1; last = 127 }) 5 (Restart true) ≡ Some 5) × ((next_incarnation (record { first = 1; last = 127 }) 127 (Restart false) ≡ Some 1)
+    × (next_incarnation (record { first = 1; last = 127 }) 5 Over ≡ None))
+next_lives = (refl, (refl, refl))
+
+paths : (path_in (Some (codes "/a")) (codes "b/c") ≡ codes "/a/b/c") × ((path_in (Some (codes "/a")) (codes "/b") ≡ codes "/b") × (path_in None (codes "b") ≡ codes "b"))
+paths = (refl, (refl, refl))
+
+-- at 10.0.0.7
+starts : (place : StationPlace) → start_text false (record place { address = record { 0 = 167772167 }; tcp = 44818; udp = 2222 }) ≡ codes "adapter at 10.0.0.7, TCP 44818, UDP 2222, "
+starts place = refl
+
+lives : life_text 2 17 ≡ codes "life 2, incarnation 17\n"
+lives = refl

@@ -1,0 +1,15 @@
+-- How a life comes to its incarnation, and to its port.
+use Rattle.std.specs.Prelude.{ℕ, ◌==◌, nat_lt, if◌then◌else◌, Bool, Option, Some, None}
+use Rattle.station_setup.specs.Settings.{incarnation_in}
+use Rattle.station_setup.specs.declared.opening.starts.Counting.{Counting}
+use Rattle.station_setup.specs.declared.opening.starts.Counting.TheVariants.{Said, Counted}
+
+-- an incarnation of the options is that of the first life; without a state's file of the options each further one has the next, and
+-- no file is read or written
+abbrev pub counting_of : Option ℕ → (has_file : Bool) → (life : ℕ) → Counting
+counting_of None has_file life = Counted None
+counting_of (Some first) has_file life = if has_file then (if life == 1 then Counted (Some first) else Counted None) else Said (incarnation_in first life)
+
+-- the port of a later life is tried fifty times more: the system may not have given up the earlier one
+abbrev pub more_tries : (life : ℕ) → ℕ
+more_tries life = if nat_lt 1 life then 50 else 0
