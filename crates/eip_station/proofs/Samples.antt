@@ -14,7 +14,7 @@ use Rattle.station_setup.specs.declared.opening.places.SocketPlace.{SocketPlace}
 use Rattle.eip_station.specs.Failures.{end_status, failure_at, record_failure, state_failure, status_of, subject_in, unread_end}
 use Rattle.eip_station.specs.Needs.{needs_of, no_needs, page_threads, plant_needs}
 use Rattle.eip_station.specs.Rules.{has_next_life, left_ms, life_end, reads_lines, run_end, tells_page}
-use Rattle.eip_station.specs.Texts.{page_text, record_name, start_text, state_name}
+use Rattle.eip_station.specs.Texts.{kind_word, page_text, record_name, start_text, state_name}
 use Rattle.eip_station.specs.declared.failure.Failure.TheVariants as failure
 use Rattle.eip_station.specs.declared.failure.Subject.TheVariants as subject
 
@@ -64,11 +64,11 @@ files : (state_name None (codes "a.profile") ≡ codes "a.profile.state") × ((r
 files = (refl, (refl, refl))
 
 -- at 10.0.0.7
-started : (place : StationPlace) → start_text true (codes "s.profile") (record place { address = record { 0 = 167772167 }; tcp = 44818; udp = 2222 }) 16 None
+started : (place : StationPlace) → start_text (kind_word true) (codes "s.profile") (record place { address = record { 0 = 167772167 }; tcp = 44818; udp = 2222 }) 16 None
     ≡ codes "eip_station: scanner s.profile at 10.0.0.7, TCP 44818, UDP 2222, incarnation 16, no record\n"
 started place = refl
 
-recorded : (place : StationPlace) → start_text false (codes "a.profile") (record place { address = record { 0 = 167772167 }; tcp = 44818; udp = 2222 }) 1 (Some (codes "a.trace"))
+recorded : (place : StationPlace) → start_text (kind_word false) (codes "a.profile") (record place { address = record { 0 = 167772167 }; tcp = 44818; udp = 2222 }) 1 (Some (codes "a.trace"))
     ≡ codes "eip_station: adapter a.profile at 10.0.0.7, TCP 44818, UDP 2222, incarnation 1, record a.trace\n"
 recorded place = refl
 

@@ -20,9 +20,15 @@ record_words None = codes "no record\n"
 abbrev pub kind_word : (scanner : Bool) → List ℕ
 kind_word scanner = if scanner then codes "scanner" else codes "adapter"
 
+abbrev pub start_front : List ℕ → List ℕ → List ℕ
+start_front kind profile = codes "eip_station: " ++ (kind ++ (codes " " ++ (profile ++ codes " at ")))
+
+abbrev pub ports_text : StationPlace → ℕ → List ℕ
+ports_text place incarnation = codes ", TCP " ++ (decimal place.tcp ++ (codes ", UDP " ++ (decimal place.udp ++ (codes ", incarnation " ++ (decimal incarnation ++ codes ", ")))))
+
 -- which station has started: `eip_station: KIND PROFILE at ADDRESS, TCP PORT, UDP PORT, incarnation N, record FILE`
-abbrev pub start_text : Bool → List ℕ → StationPlace → ℕ → Option (List ℕ) → List ℕ
-start_text scanner profile place incarnation record_file = codes "eip_station: " ++ (kind_word scanner ++ (codes " " ++ (profile ++ (codes " at " ++ (node_word place.address ++ (codes ", TCP " ++ (decimal place.tcp ++ (codes ", UDP " ++ (decimal place.udp ++ (codes ", incarnation " ++ (decimal incarnation ++ (codes ", " ++ record_words record_file))))))))))))
+abbrev pub start_text : List ℕ → List ℕ → StationPlace → ℕ → Option (List ℕ) → List ℕ
+start_text kind profile place incarnation file = start_front kind profile ++ (node_word place.address ++ (ports_text place incarnation ++ record_words file))
 
 abbrev pub token_text : List ℕ → List ℕ
 token_text [] = []

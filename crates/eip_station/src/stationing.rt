@@ -5,7 +5,7 @@ use crate::paging::{HostNet, PageSubject, begin_page, page_host};
 use crate::profiles::profile_of;
 use crate::program::{Surroundings, line_of};
 use crate::rules::{has_next_life, left_ms, life_end, reads_lines, run_end};
-use crate::texts::{record_name, start_text, state_name};
+use crate::texts::{kind_word, record_name, start_text, state_name};
 use cip_tables::Config;
 use cip_types::OutOfMemory;
 use command_lines::{Options, StationTask, file_of, word_from_end};
@@ -237,8 +237,8 @@ where
             return Err(Failure::at(fault, place));
         }
     };
-    let scanner = is_scanner(&config);
-    let line = start_line(setting, scanner, &opened.place, start.state().incarnation)?;
+    let kind = kind_word(is_scanner(&config));
+    let line = start_line(setting, kind, &opened.place, start.state().incarnation)?;
     serve(setting, &config, opened, start, line.as_str())
 }
 
@@ -253,7 +253,7 @@ fn station_name<'a, R>(setting: &Stationed<'a, R>) -> &'a str {
 /// The line that says which station has started.
 fn start_line<R>(
     setting: &Stationed<'_, R>,
-    scanner: bool,
+    kind: &str,
     place: &StationPlace,
     incarnation: u8,
 ) -> Result<String, OutOfMemory>
@@ -268,7 +268,7 @@ where
     };
     start_text(
         setting.rt.alloc(),
-        scanner,
+        kind,
         profile,
         place,
         incarnation,

@@ -1,7 +1,7 @@
 //! The names of a station's files, and the lines that say where a station and its page are.
 
 ghost use Rattle.std.specs.Prelude.{◌≡◌, ◌++◌, IfOk, OnOk, option_map, string_bytes};
-ghost use Rattle.eip_station.specs.Texts.{page_text, record_name, record_words, start_text, state_name, token_text};
+ghost use Rattle.eip_station.specs.Texts.{kind_word, page_text, ports_text, record_name, record_words, start_front, start_text, state_name, token_text};
 
 use cip_types::{Node, OutOfMemory};
 use station_port::StationPlace;
@@ -29,25 +29,48 @@ pub fn record_name(alloc: Global, first: &str, life: u32) -> Result<String, OutO
     }
 }
 
+/// The word of a station's kind.
+pub fn kind_word(scanner: bool) -> &'static str
+    ensures { result.now ≡ kind_word scanner }
+{
+    if scanner { "scanner" } else { "adapter" }
+}
+
 /// The line that says which station has started: its kind, its profile, its place, its incarnation and its record.
 pub fn start_text(
     alloc: Global,
-    scanner: bool,
+    kind: &str,
     profile: &str,
     place: &StationPlace,
     incarnation: u8,
     record: Option<&str>,
 ) -> Result<String, OutOfMemory>
-    ensures { IfOk result (λ line. string_bytes line ≡ start_text scanner profile.now place.now incarnation
+    ensures { IfOk result (λ line. string_bytes line ≡ start_text kind.now profile.now place.now incarnation
         (option_map (λ name. name.now) record.entry)) }
 {
-    let kind = if scanner { "scanner" } else { "adapter" };
-    let (tcp, udp) = (place.tcp, place.udp);
-    let mut line = format!(in alloc; "eip_station: {kind} {profile} at ")?;
+    let mut line = String::new(alloc);
+    push_front(&mut line, kind, profile)?;
     push_node(&mut line, place.address)?;
-    write!(line, ", TCP {tcp}, UDP {udp}, incarnation {incarnation}, ")?;
+    push_ports(&mut line, place, incarnation)?;
     push_record(&mut line, record)?;
     Ok(line)
+}
+
+/// Appends the kind of a station and its profile.
+fn push_front(line: &mut String, kind: &str, profile: &str) -> Result<(), OutOfMemory>
+    ensures { OnOk result (string_bytes line.new ≡ string_bytes line.old ++ start_front kind.now profile.now) }
+{
+    write!(line, "eip_station: {kind} {profile} at ")?;
+    Ok(())
+}
+
+/// Appends the ports of a station, and its incarnation.
+fn push_ports(line: &mut String, place: &StationPlace, incarnation: u8) -> Result<(), OutOfMemory>
+    ensures { OnOk result (string_bytes line.new ≡ string_bytes line.old ++ ports_text place.now incarnation) }
+{
+    let (tcp, udp) = (place.tcp, place.udp);
+    write!(line, ", TCP {tcp}, UDP {udp}, incarnation {incarnation}, ")?;
+    Ok(())
 }
 
 /// Appends the record of a station, or that there is none.

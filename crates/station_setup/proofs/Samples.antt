@@ -77,17 +77,15 @@ scanner_ports : (o : Options) (p : ScannerProfile) →
     × (((scanner_place o p).mask ≡ 4294967295) × ((scanner_place o p).inactivity_s ≡ 0)))
 scanner_ports o p = (refl, (refl, (refl, refl)))
 
-here : StationPlace → StationPlace
+abbrev here : StationPlace → StationPlace
 here place = record place { address = record { 0 = 7 }; tcp = 44818; udp = 2222; inactivity_s = 60 }
 
 sockets : (place : StationPlace) → (place_of_socket (here place) socket.Tcp ≡ record { address = 7; port = 44818 })
     × ((place_of_socket (here place) socket.Identity ≡ record { address = 7; port = 44818 })
     × ((place_of_socket (here place) socket.Udp ≡ record { address = 7; port = 2222 }) × (place_of_socket (here place) socket.Wait ≡ no_place)))
-unfolding here
 sockets place = (refl, (refl, (refl, refl)))
 
 silence : (o : Options) (place : StationPlace) → reporting_of (record o { quiet = true }) (here place) ≡ record { quiet = true; silent_s = 60 }
-unfolding here
 silence o place = refl
 
 -- WHAT A STATION REFUSES

@@ -53,14 +53,14 @@ front_text None word = codes "word " ++ (decimal word ++ codes ": ")
 abbrev pub own_text : Node → ℕ → List ℕ
 own_text target slot = codes "the target of slot " ++ (decimal slot ++ (codes " is " ++ (node_word target ++ codes ", the scanner itself")))
 
-abbrev pub shared_text : Config → ℕ → ℕ → List ℕ
-shared_text config slot other = codes "slot " ++ (decimal slot ++ (codes " owns the output " ++ (decimal (output_of config slot) ++ (codes " of " ++ (node_word (target_of config slot) ++ (codes ", which has one owner: slot " ++ decimal other))))))
+abbrev pub shared_text : Node → (point slot other : ℕ) → List ℕ
+shared_text target point slot other = codes "slot " ++ (decimal slot ++ (codes " owns the output " ++ (decimal point ++ (codes " of " ++ (node_word target ++ (codes ", which has one owner: slot " ++ decimal other))))))
 
 -- what is wrong
 abbrev pub value_text : Config → StationDefect → List ℕ
 value_text config NoPort = codes "a station listens at a TCP port from 1 to 65535, and 0 is none"
 value_text config (OwnTarget slot) = own_text (target_of config slot) slot
-value_text config (SharedOutput slot other) = shared_text config slot other
+value_text config (SharedOutput slot other) = shared_text (target_of config slot) (output_of config slot) slot other
 
 -- the line of the other slot, where it is known
 abbrev pub behind_text : Option ℕ → List ℕ

@@ -109,7 +109,15 @@ fn push_value(out: &mut String, config: &Config, defect: StationDefect) -> Resul
             )
         }
         StationDefect::OwnTarget { slot } => push_own(out, target_of(config, slot), slot),
-        StationDefect::SharedOutput { slot, other } => push_shared(out, config, slot, other),
+        StationDefect::SharedOutput { slot, other } => {
+            push_shared(
+                out,
+                target_of(config, slot),
+                output_of(config, slot),
+                slot,
+                other,
+            )
+        }
     }
 }
 
@@ -125,15 +133,15 @@ fn push_own(out: &mut String, target: Node, slot: usize) -> Result<(), OutOfMemo
 /// Appends that a slot owns an output that an earlier one owns.
 fn push_shared(
     out: &mut String,
-    config: &Config,
+    target: Node,
+    point: u32,
     slot: usize,
     other: usize,
 ) -> Result<(), OutOfMemory>
-    ensures { OnOk result (string_bytes out.new ≡ string_bytes out.old ++ shared_text config.now slot other) }
+    ensures { OnOk result (string_bytes out.new ≡ string_bytes out.old ++ shared_text target point slot other) }
 {
-    let point = output_of(config, slot);
     write!(out, "slot {slot} owns the output {point} of ")?;
-    push_node(out, target_of(config, slot))?;
+    push_node(out, target)?;
     write!(out, ", which has one owner: slot {other}")?;
     Ok(())
 }
