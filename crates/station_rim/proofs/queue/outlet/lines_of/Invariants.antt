@@ -1,5 +1,5 @@
 use Rattle.std.proofs.Common.{◌≡◌, drop}
-use Rattle.station_lines.specs.Queue.Outlets.{lines_of, lines_on}
+use Rattle.station_rim.specs.Queue.Outlets.{lines_of, lines_on}
 use Rattle.station_rim.proofs.queue.outlet.lines_of.Given as goal
 
 -- the bytes that are left add their lines to those so far
