@@ -1,5 +1,6 @@
 -- What a station does beside its device, worked by hand.
-use Rattle.std.specs.Prelude.{◌≡◌, ℕ, [], codes, Bool, true, false, Some, None, Ok, Err, refl}
+use Rattle.std.specs.Prelude.{◌≡◌, ℕ, List, [], ◌++◌, codes, decimal, Bool, true, false, Some, None, Ok, Err, refl}
+use Rattle.cip_types.specs.declared.names.Node.{Node}
 use Rattle.command_lines.specs.declared.station_options.Options.{Options}
 use Rattle.command_lines.specs.declared.station_options.StationMisuse.TheVariants as misuse
 use Rattle.command_lines.specs.declared.station_task.ProgramTask.TheVariants.{Plant, Version}
@@ -11,6 +12,7 @@ use Rattle.station_port.specs.declared.place.StationPlace.{StationPlace}
 use Rattle.station_record.specs.declared.fault.RecordFault.TheVariants.{Full}
 use Rattle.station_record.specs.declared.kept_files.state_file.StateFault.TheVariants.{NoState, Unwritten}
 use Rattle.station_setup.specs.declared.opening.places.SocketPlace.{SocketPlace}
+use Rattle.trace_words.specs.Words.{node_word}
 use Rattle.eip_station.specs.Failures.{end_status, failure_at, record_failure, state_failure, status_of, subject_in, unread_end}
 use Rattle.eip_station.specs.Needs.{needs_of, no_needs, page_threads, plant_needs}
 use Rattle.eip_station.specs.Rules.{has_next_life, left_ms, life_end, reads_lines, run_end, tells_page}
@@ -60,20 +62,25 @@ ends = (refl, (refl, refl))
 -- TEXTS
 
 files : (state_name None (codes "a.profile") ≡ codes "a.profile.state") × ((record_name (codes "a.trace") 1 ≡ codes "a.trace")
-    × (record_name (codes "a.trace") 12 ≡ codes "a.trace.life-12"))
+    × (record_name (codes "a.trace") 12 ≡ codes "a.trace.life-" ++ decimal 12))
 files = (refl, (refl, refl))
 
--- at 10.0.0.7
-started : (place : StationPlace) → start_text (kind_word true) (codes "s.profile") (record place { address = record { 0 = 167772167 }; tcp = 44818; udp = 2222 }) 16 None
-    ≡ codes "eip_station: scanner s.profile at 10.0.0.7, TCP 44818, UDP 2222, incarnation 16, no record\n"
+abbrev here : StationPlace → StationPlace
+here place = record place { tcp = 44818; udp = 2222 }
+
+abbrev ports : ℕ → List ℕ
+ports incarnation = codes ", TCP " ++ (decimal 44818 ++ (codes ", UDP " ++ (decimal 2222 ++ (codes ", incarnation " ++ (decimal incarnation ++ codes ", ")))))
+
+started : (place : StationPlace) → start_text (kind_word true) (codes "s.profile") (here place) 16 None
+    ≡ codes "eip_station: scanner s.profile at " ++ (node_word place.address ++ (ports 16 ++ codes "no record\n"))
 started place = refl
 
-recorded : (place : StationPlace) → start_text (kind_word false) (codes "a.profile") (record place { address = record { 0 = 167772167 }; tcp = 44818; udp = 2222 }) 1 (Some (codes "a.trace"))
-    ≡ codes "eip_station: adapter a.profile at 10.0.0.7, TCP 44818, UDP 2222, incarnation 1, record a.trace\n"
+recorded : (place : StationPlace) → start_text (kind_word false) (codes "a.profile") (here place) 1 (Some (codes "a.trace"))
+    ≡ codes "eip_station: adapter a.profile at " ++ (node_word place.address ++ (ports 1 ++ codes "record a.trace\n"))
 recorded place = refl
 
-page : page_text (record { 0 = 2130706433 }) 8080 (codes "0a0b") ≡ codes "eip_station: page at http://127.0.0.1:8080/#0a0b\n"
-page = refl
+page : (node : Node) → page_text node 8080 (codes "0a0b") ≡ codes "eip_station: page at http://" ++ (node_word node ++ (codes ":" ++ (decimal 8080 ++ codes "/#0a0b\n")))
+page node = refl
 
-page_without_calls : page_text (record { 0 = 2130706433 }) 8080 [] ≡ codes "eip_station: page at http://127.0.0.1:8080/\n"
-page_without_calls = refl
+page_without_calls : (node : Node) → page_text node 8080 [] ≡ codes "eip_station: page at http://" ++ (node_word node ++ (codes ":" ++ (decimal 8080 ++ codes "/\n")))
+page_without_calls node = refl

@@ -1,9 +1,10 @@
 -- The lives of a plant's devices, worked by hand.
-use Rattle.std.specs.Prelude.{◌≡◌, ℕ, codes, Bool, true, false, Some, None, Err, refl}
+use Rattle.std.specs.Prelude.{◌≡◌, ℕ, ◌++◌, codes, decimal, Bool, true, false, Some, None, Err, refl}
 use Rattle.plant_rim.specs.declared.failure.DeviceFailure.TheVariants.{RecordEnd}
 use Rattle.station.specs.declared.step.LifeEnd.TheVariants.{Over, Restart}
 use Rattle.station_port.specs.declared.place.StationPlace.{StationPlace}
 use Rattle.station_record.specs.declared.fault.RecordFault.TheVariants.{Refused}
+use Rattle.trace_words.specs.Words.{node_word}
 use Rattle.plant_command.specs.Endings.{is_over, is_stillborn, life_end, next_incarnation, seconds_of}
 use Rattle.plant_command.specs.Lives.{life_text, start_text}
 use Rattle.plant_command.specs.Paths.{path_in}
@@ -28,9 +29,9 @@ next_lives = (refl, (refl, refl))
 paths : (path_in (Some (codes "/a")) (codes "b/c") ≡ codes "/a/b/c") × ((path_in (Some (codes "/a")) (codes "/b") ≡ codes "/b") × (path_in None (codes "b") ≡ codes "b"))
 paths = (refl, (refl, refl))
 
--- at 10.0.0.7
-starts : (place : StationPlace) → start_text false (record place { address = record { 0 = 167772167 }; tcp = 44818; udp = 2222 }) ≡ codes "adapter at 10.0.0.7, TCP 44818, UDP 2222, "
+starts : (place : StationPlace) → start_text false (record place { tcp = 44818; udp = 2222 })
+    ≡ codes "adapter at " ++ (node_word place.address ++ (codes ", TCP " ++ (decimal 44818 ++ (codes ", UDP " ++ (decimal 2222 ++ codes ", ")))))
 starts place = refl
 
-lives : life_text 2 17 ≡ codes "life 2, incarnation 17\n"
+lives : life_text 2 17 ≡ codes "life " ++ (decimal 2 ++ (codes ", incarnation " ++ (decimal 17 ++ codes "\n")))
 lives = refl

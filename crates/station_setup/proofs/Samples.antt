@@ -1,6 +1,6 @@
 -- Slots that no station can serve, and where a station is, worked by hand. What a slot has beside target, kind and output does not matter.
 use Rattle.std.proofs.Common.{◌≡◌, ℕ, [], ◌∷◌, Bool, true, false, List, Some, None, refl}
-use Rattle.std.specs.Prelude.{codes}
+use Rattle.std.specs.Prelude.{◌++◌, codes, decimal}
 use Rattle.adapter_table.specs.declared.profile.Description.{Description}
 use Rattle.cip_tables.specs.declared.table.Config.{Config}
 use Rattle.cip_tables.specs.declared.table.Config.TheVariants as config
@@ -10,6 +10,7 @@ use Rattle.scanner_table.specs.declared.profile.SlotConfig.{SlotConfig}
 use Rattle.scanner_table.specs.declared.profile.ScannerProfile.{ScannerProfile}
 use Rattle.station_port.specs.declared.fault.StationSocket.TheVariants as socket
 use Rattle.station_port.specs.declared.place.StationPlace.{StationPlace}
+use Rattle.trace_words.specs.Words.{node_word}
 use Rattle.station_setup.specs.Opening.Places.{no_place, place_of_socket}
 use Rattle.station_setup.specs.Opening.Profiles.{refusal_of}
 use Rattle.station_setup.specs.Opening.Starts.{counting_of, more_tries}
@@ -97,16 +98,19 @@ own_target : (p : ScannerProfile) (slot : SlotConfig) →
     refusal_of (config.Scanner (record p { node = record { 0 = 9 }; slots = reader slot 9 152 ∷ [] })) false None ≡ Some (refusal.Unserved (OwnTarget 0))
 own_target p slot = refl
 
-port_0 : (c : Config) → defect_text c NoPort (Some 4) None ≡ codes "line 4: word 4: a station listens at a TCP port from 1 to 65535, and 0 is none\n"
+port_0 : (c : Config) → defect_text c NoPort (Some 4) None
+    ≡ (codes "line " ++ (decimal 4 ++ (codes ": word " ++ (decimal 4 ++ codes ": ")))) ++ codes "a station listens at a TCP port from 1 to 65535, and 0 is none\n"
 port_0 c = refl
 
--- the addresses are 10.0.0.9 and 10.0.0.7
 twice : (p : ScannerProfile) (slot : SlotConfig) →
-    defect_text (config.Scanner (record p { slots = owner slot 167772167 150 ∷ owner slot 167772167 150 ∷ [] })) (SharedOutput 1 0) (Some 4) (Some 2)
-    ≡ codes "line 4: word 5: slot 1 owns the output 150 of 10.0.0.7, which has one owner: slot 0 in line 2\n"
+    defect_text (config.Scanner (record p { slots = owner slot 7 150 ∷ owner slot 7 150 ∷ [] })) (SharedOutput 1 0) (Some 4) (Some 2)
+    ≡ (codes "line " ++ (decimal 4 ++ (codes ": word " ++ (decimal 5 ++ codes ": "))))
+    ++ ((codes "slot " ++ (decimal 1 ++ (codes " owns the output " ++ (decimal 150 ++ (codes " of " ++ (node_word (record { 0 = 7 }) ++ (codes ", which has one owner: slot " ++ decimal 0)))))))
+    ++ ((codes " in line " ++ decimal 2) ++ codes "\n"))
 twice p slot = refl
 
 at_itself : (p : ScannerProfile) (slot : SlotConfig) →
-    defect_text (config.Scanner (record p { slots = reader slot 167772169 152 ∷ [] })) (OwnTarget 0) (Some 2) None
-    ≡ codes "line 2: word 2: the target of slot 0 is 10.0.0.9, the scanner itself\n"
+    defect_text (config.Scanner (record p { slots = reader slot 9 152 ∷ [] })) (OwnTarget 0) (Some 2) None
+    ≡ (codes "line " ++ (decimal 2 ++ (codes ": word " ++ (decimal 2 ++ codes ": "))))
+    ++ ((codes "the target of slot " ++ (decimal 0 ++ (codes " is " ++ (node_word (record { 0 = 9 }) ++ codes ", the scanner itself")))) ++ codes "\n")
 at_itself p slot = refl
