@@ -1,5 +1,5 @@
 -- Times of lines and runs of scripts, and the events of tasks, worked by hand.
-use Rattle.std.proofs.Common.{◌≡◌, List, [], ◌∷◌, false, Some, None, refl}
+use Rattle.std.proofs.Common.{◌≡◌, ℕ, List, [], ◌∷◌, false, Some, None, refl}
 use Rattle.cip_events.specs.declared.arrival.Arrival.TheVariants as arrival
 use Rattle.cip_events.specs.declared.event.Event.TheVariants as event
 use Rattle.station.specs.declared.script.run.ScriptRun.{ScriptRun}
@@ -80,7 +80,7 @@ four_tasks = Rest ∷ Turn ∷ Call (event.Start 3) ∷ Turn ∷ End ∷ []
 their_events : events_of four_tasks (5 ∷ 0 ∷ 7 ∷ []) (None ∷ Some (arrival.Cut 2) ∷ []) ≡ event.Tick 5 ∷ event.Start 3 ∷ event.StreamCut 2 ∷ []
 their_events = refl
 
-one_time_is_left : left_of four_tasks (5 ∷ 0 ∷ 7 ∷ []) ≡ 7 ∷ []
+one_time_is_left : left_of {X = ℕ} four_tasks (5 ∷ 0 ∷ 7 ∷ []) ≡ 7 ∷ []
 one_time_is_left = refl
 
 -- a call of which it is not said that the station goes on behind it
