@@ -1,5 +1,5 @@
 -- What a station does beside its device, worked by hand.
-use Rattle.std.specs.Prelude.{◌≡◌, ℕ, List, [], ◌++◌, codes, decimal, Bool, true, false, Some, None, Ok, Err, refl}
+use Rattle.std.specs.Prelude.{◌≡◌, ℕ, List, [], ◌++◌, codes, decimal, true, false, Some, None, Ok, Err, refl}
 use Rattle.cip_types.specs.declared.names.Node.{Node}
 use Rattle.command_lines.specs.declared.station_options.Options.{Options}
 use Rattle.command_lines.specs.declared.station_options.StationMisuse.TheVariants as misuse
@@ -14,8 +14,8 @@ use Rattle.station_record.specs.declared.kept_files.state_file.StateFault.TheVar
 use Rattle.station_setup.specs.declared.opening.places.SocketPlace.{SocketPlace}
 use Rattle.trace_words.specs.Words.{node_word}
 use Rattle.eip_station.specs.Failures.{end_status, failure_at, record_failure, state_failure, status_of, subject_in, unread_end}
-use Rattle.eip_station.specs.Needs.{needs_of, no_needs, page_threads, plant_needs}
-use Rattle.eip_station.specs.Rules.{has_next_life, left_ms, life_end, reads_lines, run_end, tells_page}
+use Rattle.eip_station.specs.Needs.{needs_of, no_needs, page_threads}
+use Rattle.eip_station.specs.Rules.{has_next_life, left_ms, life_end, reads_lines, run_end, reports_page}
 use Rattle.eip_station.specs.Texts.{kind_word, page_text, record_name, start_text, state_name}
 use Rattle.eip_station.specs.declared.failure.Failure.TheVariants as failure
 use Rattle.eip_station.specs.declared.failure.Subject.TheVariants as subject
@@ -31,6 +31,10 @@ unread = (refl, refl)
 
 subjects : (subject_in (failure.Words misuse.NoFile) ≡ subject.Word misuse.NoFile) × ((subject_in failure.Events ≡ subject.File 0) × (subject_in failure.Token ≡ subject.Nothing))
 subjects = (refl, (refl, refl))
+
+-- a failure of the station comes before that of its record
+ends_so : (end_status (Err failure.Token) ≡ 5) × (run_end (Err failure.Token) false ≡ Err failure.Token)
+ends_so = (refl, refl)
 
 -- THREADS
 
@@ -49,8 +53,8 @@ browsers = (refl, refl)
 calls : (o : Options) → (reads_lines (record o { no_input = true; page_writes = false }) ≡ false) × (reads_lines (record o { no_input = true; page_writes = true }) ≡ true)
 calls o = (refl, refl)
 
-told_page : (o : Options) → (tells_page (record o { quiet = true; page_writes = false }) ≡ false) × (tells_page (record o { quiet = true; page_writes = true }) ≡ true)
-told_page o = (refl, refl)
+reported_page : (o : Options) → (reports_page (record o { quiet = true; page_writes = false }) ≡ false) × (reports_page (record o { quiet = true; page_writes = true }) ≡ true)
+reported_page o = (refl, refl)
 
 -- --seconds 4: a life that begins after 1500 ms, and one that begins too late
 time_left : (left_ms (Some 4) 1500 ≡ Some 2500) × ((left_ms (Some 4) 4100 ≡ Some 0) × (left_ms None 1500 ≡ None))

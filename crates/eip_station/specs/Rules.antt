@@ -18,8 +18,8 @@ abbrev pub allowed_of : Options → (has_record : Bool) → Allowed
 allowed_of options has_record = record { writes = options.page_writes; «record» = has_record }
 
 -- a line says where the page is, also of a quiet station if the page takes calls: it alone has their token
-abbrev pub tells_page : Options → Bool
-tells_page options = not options.quiet || options.page_writes
+abbrev pub reports_page : Options → Bool
+reports_page options = not options.quiet || options.page_writes
 
 abbrev pub left_of : Option ℕ → ℕ → Option ℕ
 left_of (Some end) begun = Some (end - begun)

@@ -2,7 +2,7 @@
 
 use crate::failure::Failure;
 use crate::program::Surroundings;
-use crate::rules::{allowed_of, tells_page};
+use crate::rules::{allowed_of, reports_page};
 use crate::texts::page_text;
 use command_lines::{Options, word_from_end};
 use page_server::{OwnNames, PageSetting, Secrets, greeting_text, page_node};
@@ -69,7 +69,7 @@ where
         is_plant: subject.devices.is_some(),
     };
     shared.page.open(&rt, page);
-    if tells_page(options) {
+    if reports_page(options) {
         let line = page_text(alloc, address, port, token.as_str())?;
         report_line(rt, &shared.rim, line.as_bytes());
     }

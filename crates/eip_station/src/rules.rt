@@ -1,7 +1,7 @@
 //! What a station does beside its device, as its options say.
 
 ghost use Rattle.std.specs.Prelude.{◌≡◌};
-ghost use Rattle.eip_station.specs.Rules.{allowed_of, has_next_life, left_ms, life_end, reads_lines, run_end, tells_page};
+ghost use Rattle.eip_station.specs.Rules.{allowed_of, has_next_life, left_ms, life_end, reads_lines, run_end, reports_page};
 
 use crate::failure::Failure;
 use command_lines::Options;
@@ -28,8 +28,8 @@ pub fn allowed_of(options: &Options, has_record: bool) -> Allowed
 }
 
 /// Whether a line says where the page is. It alone has the token of a page that takes calls.
-pub fn tells_page(options: &Options) -> bool
-    ensures { result ≡ tells_page options.now }
+pub fn reports_page(options: &Options) -> bool
+    ensures { result ≡ reports_page options.now }
 {
     !options.quiet || options.page_writes
 }

@@ -1,5 +1,5 @@
 -- The lives of a plant's devices, worked by hand.
-use Rattle.std.specs.Prelude.{◌≡◌, ℕ, ◌++◌, codes, decimal, Bool, true, false, Some, None, Err, refl}
+use Rattle.std.specs.Prelude.{◌≡◌, ◌++◌, codes, decimal, true, false, Some, None, Err, refl}
 use Rattle.plant_rim.specs.declared.failure.DeviceFailure.TheVariants.{RecordEnd}
 use Rattle.station.specs.declared.step.LifeEnd.TheVariants.{Over, Restart}
 use Rattle.station_port.specs.declared.place.StationPlace.{StationPlace}

@@ -1,5 +1,5 @@
 -- The paths of a plant's files.
-use Rattle.std.specs.Prelude.{ℕ, ◌==◌, if◌then◌else◌, Bool, true, false, List, [], ◌∷◌, ◌++◌, codes, decimal, Option, Some, None}
+use Rattle.std.specs.Prelude.{ℕ, ◌==◌, if◌then◌else◌, Bool, false, List, [], ◌∷◌, ◌++◌, codes, decimal, Option, Some, None}
 
 -- a path begins at the root
 abbrev pub is_absolute : List ℕ → Bool

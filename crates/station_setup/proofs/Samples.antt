@@ -1,5 +1,5 @@
 -- Slots that no station can serve, and where a station is, worked by hand. What a slot has beside target, kind and output does not matter.
-use Rattle.std.proofs.Common.{◌≡◌, ℕ, [], ◌∷◌, Bool, true, false, List, Some, None, refl}
+use Rattle.std.proofs.Common.{◌≡◌, ℕ, [], ◌∷◌, Bool, true, false, Some, None, refl}
 use Rattle.std.specs.Prelude.{◌++◌, codes, decimal}
 use Rattle.adapter_table.specs.declared.profile.Description.{Description}
 use Rattle.cip_tables.specs.declared.table.Config.{Config}
@@ -16,7 +16,7 @@ use Rattle.station_setup.specs.Opening.Profiles.{refusal_of}
 use Rattle.station_setup.specs.Opening.Starts.{counting_of, more_tries}
 use Rattle.station_setup.specs.Opening.Unserved.{defect_text}
 use Rattle.station_setup.specs.Settings.{inactivity_of, incarnation_in, port_of, reporting_of, scanner_place}
-use Rattle.station_setup.specs.declared.opening.profiles.Refusal.TheVariants as refusal
+use Rattle.station_setup.specs.declared.opening.profiles.TraceRefusal.TheVariants as refusal
 use Rattle.station_setup.specs.declared.opening.starts.Counting.TheVariants.{Said, Counted}
 use Rattle.station_setup.specs.Unservable.Defects.{own_node, slots_defect}
 use Rattle.station_setup.specs.declared.unservable.defect.StationDefect.TheVariants.{NoPort, OwnTarget, SharedOutput}

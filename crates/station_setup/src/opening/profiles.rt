@@ -31,7 +31,7 @@ pub enum UnusableProfile {
 
 /// Why a trace that is read gives no profile.
 #[derive(Clone, Copy, PartialEq, Eq)]
-enum Refusal {
+enum TraceRefusal {
     Events,
     Unserved(StationDefect),
 }
@@ -65,8 +65,8 @@ pub fn profile_in<R: Files + AllocGlobal>(
     };
     match refusal_of(&config, !events.as_slice().is_empty(), address) {
         None => Ok(config),
-        Some(Refusal::Events) => Err(UnusableProfile::Events),
-        Some(Refusal::Unserved(defect)) => {
+        Some(TraceRefusal::Events) => Err(UnusableProfile::Events),
+        Some(TraceRefusal::Unserved(defect)) => {
             let sentence = sentence_of(alloc, text.as_slice(), &config, defect)?;
             Err(UnusableProfile::Unserved(sentence))
         }
@@ -74,14 +74,14 @@ pub fn profile_in<R: Files + AllocGlobal>(
 }
 
 /// Why a trace of this profile, with events or without, gives none of a station at this address.
-fn refusal_of(config: &Config, has_events: bool, address: Option<Node>) -> Option<Refusal>
+fn refusal_of(config: &Config, has_events: bool, address: Option<Node>) -> Option<TraceRefusal>
     ensures { result ≡ refusal_of config.now has_events address }
 {
     if has_events {
-        return Some(Refusal::Events);
+        return Some(TraceRefusal::Events);
     }
     match station_defect(config, address) {
-        Some(defect) => Some(Refusal::Unserved(defect)),
+        Some(defect) => Some(TraceRefusal::Unserved(defect)),
         None => None,
     }
 }
