@@ -106,7 +106,8 @@ impl StreamMarks {
     /// Puts what is known of the stream of a number, if there are so many.
     fn put(&mut self, stream: u16, mark: StreamMark)
         ensures put { self.new ≡ slice_set self.old stream mark }
-        ensures none { is_to_cut mark ≡ false → position is_to_cut self.old ≡ None → position is_to_cut self.new ≡ None }
+        ensures none { is_to_cut mark ≡ false → position is_to_cut self.old ≡ None
+            → position is_to_cut self.new ≡ None }
     {
         let index = usize::from(stream);
         if index < self.marks.len() {
