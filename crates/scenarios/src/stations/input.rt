@@ -16,6 +16,8 @@ pub struct PrintingInput<R> {
 }
 
 impl<R: Print> CallLines for PrintingInput<R> {
+    ghost use Rattle.std.specs.Prelude.{◌≡◌};
+
     ghost has = { λ old next new. new.rt ≡ old.rt };
 
     fn next_line(&mut self) -> Result<NextLine, OutOfMemory> {
