@@ -14,17 +14,11 @@ ROUTES = "session", "class3"
 # What devices of this repository do not serve yet, by a pattern of the words of its questions, and why. The run fails once all questions of
 # a pattern are answered as they are to be: then it goes from the list.
 LEFT = {
-    "Get_Attribute_List *": "it is refused with 08", "Set_Attribute_List *": "it is refused with 08",
-    "Multiple_Service_Packet *": "it is refused with 08", "Unconnected_Send *": "it is refused with 08",
     "Connection Manager 1 attribute *": "an adapter counts no openings and closes",
     "Ethernet Link 1 attribute [45], *": "a device has no way to the counters of its interface",
     "* set to *": "a network sets no attribute of the device's own objects",
     # messages and openings
     "items: with a third one *": "an item that nobody knows is refused",
-    "an opening, each * us*": "an actual interval is the requested one, rounded up to a millisecond", "an opening, of a * that joins a group of 10,000 us *": "another interval is refused with 0111",
-    "an opening, its path * 2004 [AB]*": "a path has its class once", "an opening, its path 21000400 C2*": "a path has its class once",
-    "an opening, with a key of format 5*": "a key has format 4",
-    "an opening, of class 3, of no size *": "a size that is refused is named as variable where it is",
 }
 
 Question = namedtuple("Question", "rule words ask wanted is_read", defaults=(False,))

@@ -6,3 +6,4 @@ pub mod Aging
 pub mod EngineEffects
 pub mod StateMessaging
 pub mod Quiet
+pub mod Packets

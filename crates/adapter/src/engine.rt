@@ -1,5 +1,6 @@
 //! An adapter over any table of connections.
 
+mod carrying;
 mod messages;
 mod objects;
 mod own;

@@ -12,14 +12,14 @@ use Rattle.cip_router.specs.declared.object_service.ObjectService.TheVariants.{R
 use Rattle.cip_router.specs.Frames.{FrameReply}
 use Rattle.cip_router.specs.Refusals.{status_fault}
 use Rattle.cip_router.specs.Replies as replies
-use Rattle.cip_router.specs.Replies.{ReplyFields, object_reply}
+use Rattle.cip_router.specs.Replies.{ReplyFields, object_reply, object_service_code}
 use Rattle.messaging.specs.declared.class3.Class3Connection as kept
 use Rattle.messaging.specs.declared.requests.Requester.{Requester}
 use Rattle.messaging.specs.declared.requests.Requester.TheVariants.{Peer, Stream, Class3Connection}
 use Rattle.messaging.specs.declared.table.Messaging.{Messaging}
 use Rattle.messaging.specs.Class3Connections.{is_last_message}
 use Rattle.adapter_table.specs.Encapsulation.{reply_frames}
-use Rattle.adapter_table.specs.Objects.{ObjectAnswer, said, denied, resetting}
+use Rattle.adapter_table.specs.Objects.{ObjectAnswer, said, denied, resetting, answering, refusing, unrouted}
 use Rattle.adapter_table.specs.Own.{OwnRequest}
 use Rattle.adapter_replies.specs.declared.routes.ConnectionRoute.{ConnectionRoute}
 use Rattle.adapter_replies.specs.declared.routes.Route.{Route}
@@ -48,11 +48,17 @@ abbrev pub object_fields : (service : ℕ) → ObjectAnswer → ReplyFields
 object_fields service (said by value) = object_reply by value
 object_fields service (denied why) = replies.refused service (status_fault why) None
 object_fields service (resetting kind) = object_reply Reset []
+object_fields service (answering by general content) = replies.own (object_service_code by) general content
+object_fields service (refusing named why) = replies.refused named (status_fault why) None
+object_fields service (unrouted words) = replies.no_route words
 
 abbrev pub object_notices : ObjectAnswer → List Notice
 object_notices (said by value) = []
 object_notices (denied why) = []
 object_notices (resetting kind) = notice.Reset kind ∷ []
+object_notices (answering by general content) = []
+object_notices (refusing named why) = []
+object_notices (unrouted words) = []
 
 -- REQUESTS TO THE APPLICATION
 

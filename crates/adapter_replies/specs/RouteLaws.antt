@@ -22,7 +22,8 @@ use Rattle.adapter_table.specs.Answering.{class3_frames, class3_keeps, responded
 use Rattle.adapter_table.specs.Class3Opening.{served_class3, stream_served}
 use Rattle.adapter_table.specs.Connected.{connected_served, fitted, most_reply}
 use Rattle.adapter_table.specs.Encapsulation.{framed, message_executed, message_replied, message_served, request_handled, request_replied}
-use Rattle.adapter_table.specs.Objects.{ObjectAnswer, said, denied, resetting, object_answer}
+use Rattle.adapter_table.specs.Objects.{ObjectAnswer, said, denied, resetting, answering, refusing, unrouted}
+use Rattle.adapter_table.specs.Carrying.{object_answer}
 use Rattle.adapter_table.specs.Own.{OwnRequest, own_of, cannot_ask}
 use Rattle.adapter_table.specs.Requests.{Served, answered, object_served, requested, requested_by, served, served_object, served_open}
 use Rattle.adapter_replies.specs.declared.routes.RequestHeader.{RequestHeader}
@@ -47,6 +48,9 @@ pub object_on : (t : AdapterTable) (way : Route) (service : ℕ) (answer : Objec
 object_on t way service (said by value) = refl
 object_on t way service (denied why) = refl
 object_on t way service (resetting kind) = refl
+object_on t way service (answering by general content) = refl
+object_on t way service (refusing named why) = refl
+object_on t way service (unrouted words) = refl
 
 -- ---- a peer
 
@@ -111,6 +115,9 @@ message_object : (t : AdapterTable) (d : kept.Class3Connection) (number : ℕ) (
 message_object t d number request_header count message service (said by value) = refl
 message_object t d number request_header count message service (denied why) = refl
 message_object t d number request_header count message service (resetting kind) = refl
+message_object t d number request_header count message service (answering by general content) = refl
+message_object t d number request_header count message service (refusing named why) = refl
+message_object t d number request_header count message service (unrouted words) = refl
 
 served_in_message : (t : AdapterTable) (d : kept.Class3Connection) (number : ℕ) (request_header : RequestHeader) (count message : ℕ) (request : RouterRequestFields) → finished t (route.Connection (message_route t d number request_header count message)) (served_on t (route.Connection (message_route t d number request_header count message)) request) ≡ framed number (view_request_header request_header) (message_served t d count message (connected_served t d.peer request))
 unfolding served_object

@@ -25,9 +25,10 @@ pub use frames::{FrameView, is_protocol, read_frame_for};
 pub use messages::repeated_answer;
 pub use object_replies::{inquiry_answer, object_notices, object_reply};
 pub use objects::{
-    Attribute, Bytes, ClassFacts, ConnectionFacts, Instance, ObjectAnswer, ObjectRequest,
-    OwnRequest, Value, Zeros, assembly_answer, described_answer, has_inquiry_length, inquiry_reply,
-    own_request,
+    Attribute, Bytes, Carried, ClassFacts, ConnectionFacts, Instance, ObjectAnswer, ObjectRequest,
+    OwnRequest, Value, Zeros, answer_within, assembly_answer, carried_request, described_answer,
+    has_inquiry_length, inquiry_reply, is_packet, is_sending, manager_answer, naming, own_request,
+    put_low, said_reply, word_of,
 };
 pub use own::{found_last, late_frames, referred_answer};
 pub use replies::{FrameReply, write_frame_reply};

@@ -25,6 +25,11 @@ pub fn object_reply<'a>(service: u8, answer: &'a ObjectAnswer<'_>) -> Reply<'a>
         ObjectAnswer::Said(by, bytes) => Reply::Object(*by, bytes.as_slice()),
         ObjectAnswer::Denied(why) => Reply::Refused(service, why.fault(), None),
         ObjectAnswer::Resetting(_) => Reply::Object(ObjectService::Reset, &[]),
+        ObjectAnswer::Answering(by, general, bytes) => {
+            Reply::Own(by.code(), *general, bytes.as_slice())
+        }
+        ObjectAnswer::Refusing(named, why) => Reply::Refused(*named, why.fault(), None),
+        ObjectAnswer::Unrouted(words) => Reply::NoRoute(*words),
     }
 }
 

@@ -6,10 +6,12 @@
 
 mod answer;
 mod assembly;
+mod carriers;
 mod classes;
 mod described;
 mod identity;
 mod instance;
+mod lists;
 mod network;
 mod own;
 mod port;
@@ -19,9 +21,11 @@ mod value;
 
 pub use answer::{Bytes, ObjectAnswer, ObjectRequest};
 pub use assembly::assembly_answer;
+pub use carriers::{Carried, carried_request, is_packet, is_sending, naming, said_reply};
 pub use classes::ClassFacts;
-pub use described::{ConnectionFacts, described_answer};
+pub use described::{ConnectionFacts, described_answer, manager_answer};
 pub use identity::{has_inquiry_length, inquiry_reply};
 pub use instance::Instance;
+pub use lists::{answer_within, word_of};
 pub use own::{OwnRequest, own_request};
-pub use value::{Attribute, Value, Zeros};
+pub use value::{Attribute, Value, Zeros, put_low};

@@ -44,7 +44,8 @@ use Rattle.adapter_table.specs.Class3Opening.{class3_refusal, served_class3, ope
 use Rattle.adapter_table.specs.Encapsulation.{handled, frame}
 use Rattle.adapter_table.specs.Inquiries.{inquiry_reply}
 use Rattle.adapter_table.specs.Messages.{messages_table}
-use Rattle.adapter_table.specs.Objects.{instance_at, object_answer}
+use Rattle.adapter_table.specs.Objects.{instance_at, alone_answer}
+use Rattle.adapter_table.specs.Carrying.{object_answer}
 use Rattle.adapter_table.specs.Requests.{Next, served_open, served_end, served_object, requested}
 use Rattle.adapter_table.specs.Streams.{without_stream, stream_cut}
 use Rattle.adapter_table.specs.Ticks.{clocked_table, expired_table, produced_table, tick}
@@ -179,7 +180,7 @@ abbrev zeros : List ℕ
 zeros = 0x8E ∷ 0x00 ∷ 0x00 ∷ 0x00 ∷ 0x00 ∷ 0x00 ∷ 0x00 ∷ 0x00 ∷ []
 
 a_message_is_executed : after (talking None [] 10000) message ≡ Ok (says reply Done [], talking (Some 7) zeros 160)
-unfolding frame inquiry_reply frame_reading handled messages.message_reading connected_reading packets.are_sockets router_request_reading requests.request_reading paths.target_reading paths.segments_at paths.segment_at paths.logical_at paths.value_at messages_table served_object object_answer instance_at values.object_reply_text changes.executed
+unfolding frame inquiry_reply frame_reading handled messages.message_reading connected_reading packets.are_sockets router_request_reading requests.request_reading paths.target_reading paths.segments_at paths.segment_at paths.logical_at paths.value_at messages_table served_object object_answer alone_answer instance_at values.object_reply_text changes.executed
 a_message_is_executed = refl
 
 -- the same bytes again
@@ -194,7 +195,7 @@ abbrev next_reply : List ℕ
 next_reply = 0x70 ∷ 0x00 ∷ 0x1E ∷ 0x00 ∷ 0x01 ∷ 0x00 ∷ 0x00 ∷ 0x00 ∷ 0x00 ∷ 0x00 ∷ 0x00 ∷ 0x00 ∷ 0x00 ∷ 0x00 ∷ 0x00 ∷ 0x00 ∷ 0x00 ∷ 0x00 ∷ 0x00 ∷ 0x00 ∷ 0x00 ∷ 0x00 ∷ 0x00 ∷ 0x00 ∷ 0x00 ∷ 0x00 ∷ 0x00 ∷ 0x00 ∷ 0x00 ∷ 0x00 ∷ 0x02 ∷ 0x00 ∷ 0xA1 ∷ 0x00 ∷ 0x04 ∷ 0x00 ∷ 0x01 ∷ 0x00 ∷ 0x00 ∷ 0x20 ∷ 0xB1 ∷ 0x00 ∷ 0x0A ∷ 0x00 ∷ 0x08 ∷ 0x00 ∷ 0x8E ∷ 0x00 ∷ 0x00 ∷ 0x00 ∷ 0x00 ∷ 0x00 ∷ 0x00 ∷ 0x00 ∷ []
 
 a_new_count_is_executed : after (talking (Some 7) zeros 160) next_message ≡ Ok (says next_reply Done [], talking (Some 8) zeros 160)
-unfolding frame inquiry_reply frame_reading handled messages.message_reading connected_reading packets.are_sockets router_request_reading requests.request_reading paths.target_reading paths.segments_at paths.segment_at paths.logical_at paths.value_at messages_table served_object object_answer instance_at values.object_reply_text changes.executed
+unfolding frame inquiry_reply frame_reading handled messages.message_reading connected_reading packets.are_sockets router_request_reading requests.request_reading paths.target_reading paths.segments_at paths.segment_at paths.logical_at paths.value_at messages_table served_object object_answer alone_answer instance_at values.object_reply_text changes.executed
 a_new_count_is_executed = refl
 
 abbrev other_id : List ℕ

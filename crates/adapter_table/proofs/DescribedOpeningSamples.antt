@@ -62,6 +62,13 @@ variable_sizes = (refl, refl)
 other_sizes : (opening_code described (request 0 plain plain) refusal.ConsumedSize ≡ 0x0127) × (opening_code described (request 0 plain plain) refusal.ProducedSize ≡ 0x0128) × (opening_code None (request 0 variable variable) refusal.ConsumedSize ≡ 0x0127)
 other_sizes = (refl, refl, refl)
 
+-- data of class 3 may be shorter in either case, so that a size of 0 is a wrong size
+abbrev message : OpenFields
+message = record (request 0 variable variable) { trigger = 0xA3 }
+
+class3_sizes : (opening_code described message refusal.ConsumedSize ≡ 0x0127) × (opening_code described message refusal.ProducedSize ≡ 0x0128)
+class3_sizes = (refl, refl)
+
 every_other_refusal : (opening_code described (request 8 variable variable) refusal.Ownership ≡ 0x0106) × (opening_code described (request 8 variable variable) refusal.Segment ≡ 0x0315)
 every_other_refusal = (refl, refl)
 

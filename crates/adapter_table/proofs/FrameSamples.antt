@@ -27,7 +27,8 @@ use Rattle.cip_router.specs.Requests.{router_request_reading}
 use Rattle.adapter_table.specs.Checks.{verdict}
 use Rattle.adapter_table.specs.Opening.{opened_row, opened_table}
 use Rattle.adapter_table.specs.Inquiries.{inquiry_reply}
-use Rattle.adapter_table.specs.Objects.{instance_at, object_answer}
+use Rattle.adapter_table.specs.Objects.{instance_at, alone_answer}
+use Rattle.adapter_table.specs.Carrying.{object_answer}
 use Rattle.adapter_table.specs.Requests.{Next, served_open, admitted_open, served_object}
 use Rattle.cip_events.specs.Answers.{plain_answer}
 use Rattle.adapter_table.specs.Streams.{with_stream, without_stream, registered_table, stream_opened, stream_cut}
@@ -299,7 +300,7 @@ abbrev got_value : List ℕ
 got_value = 0x6F ∷ 0x00 ∷ 0x18 ∷ 0x00 ∷ 0x01 ∷ 0x00 ∷ 0x00 ∷ 0x00 ∷ 0x00 ∷ 0x00 ∷ 0x00 ∷ 0x00 ∷ 0x01 ∷ 0x02 ∷ 0x03 ∷ 0x04 ∷ 0x05 ∷ 0x06 ∷ 0x07 ∷ 0x08 ∷ 0x00 ∷ 0x00 ∷ 0x00 ∷ 0x00 ∷ 0x00 ∷ 0x00 ∷ 0x00 ∷ 0x00 ∷ 0x00 ∷ 0x00 ∷ 0x02 ∷ 0x00 ∷ 0x00 ∷ 0x00 ∷ 0x00 ∷ 0x00 ∷ 0xB2 ∷ 0x00 ∷ 0x08 ∷ 0x00 ∷ 0x8E ∷ 0x00 ∷ 0x00 ∷ 0x00 ∷ 0x00 ∷ 0x00 ∷ 0x00 ∷ 0x00 ∷ []
 
 a_value_is_replied : after registered get_value ≡ replies_only registered got_value
-unfolding frame inquiry_reply frame_reading handled messages.message_reading packets.packet_reading packets.are_sockets router_request_reading requests.request_reading paths.target_reading paths.segments_at paths.segment_at paths.logical_at paths.value_at served_object object_answer instance_at values.object_reply_text
+unfolding frame inquiry_reply frame_reading handled messages.message_reading packets.packet_reading packets.are_sockets router_request_reading requests.request_reading paths.target_reading paths.segments_at paths.segment_at paths.logical_at paths.value_at served_object object_answer alone_answer instance_at values.object_reply_text
 a_value_is_replied = refl
 
 abbrev other_session : List ℕ

@@ -3,6 +3,7 @@ pub mod FadeLemmas
 pub mod ProducerLemmas
 pub mod StreamLemmas
 pub mod FrameSamples
+mod CarryingSamples
 mod DescribedFrameSamples
 mod DescribedOpeningSamples
 pub mod OrderLemmas
@@ -23,3 +24,4 @@ mod NewestSamples
 mod LimitSamples
 mod Class3Samples
 mod Samples
+mod DescribedPathSamples

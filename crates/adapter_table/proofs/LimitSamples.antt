@@ -144,6 +144,17 @@ description_first : profile_fault (record (profile (least_of 0)) { description =
 unfolding profile_fault lib.Count.ones
 description_first = refl
 
+-- it leaves instance 0 of Assembly to the class, which a heartbeat has at a device without one
+abbrev whole : Description
+whole = record described { mac = 2 ∷ 0 ∷ 0 ∷ 0 ∷ 0 ∷ 1 ∷ [] }
+
+no_point_hides_the_class :
+    (profile_fault (record (profile no_limits) { description = Some whole }) ≡ None)
+    × ((profile_fault (record (profile no_limits) { description = Some whole; input_only = 0 }) ≡ Some DescriptionFault)
+    × (profile_fault (record (profile no_limits) { input_only = 0 }) ≡ None))
+unfolding profile_fault lib.Count.ones
+no_point_hides_the_class = (refl, (refl, refl))
+
 -- ---- packet intervals
 
 abbrev params : NetParams

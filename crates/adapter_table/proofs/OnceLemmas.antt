@@ -13,13 +13,13 @@ use Rattle.cip_events.specs.declared.event.Verdict.TheVariants.{Delivered}
 use Rattle.cip_fwdopen.specs.declared.fault.ReadFault.{ReadFault}
 use Rattle.cip_fwdopen.specs.Close.{CloseFields, closed_text}
 use Rattle.cip_fwdopen.specs.Open.{OpenFields}
-use Rattle.cip_fwdopen.specs.Reply.{opened_text, refused_text}
+use Rattle.cip_fwdopen.specs.Reply.{opened_text, refused_text, intervals_text}
 use Rattle.cip_fwdopen.specs.Request.{RequestFields, request_reading}
 use Rattle.cip_fwdopen.specs.Services.{forward_close, forward_open, large_forward_open}
 use Rattle.cip_router.specs.declared.refusal.Status.TheVariants as status
 use Rattle.cip_router.specs.Frames.{FrameReply, connected}
-use Rattle.cip_router.specs.Replies.{ReplyFields, opened, closed, object_reply, own, refused as refused_reply, reply_text, object_reply_text, own_reply_text}
-use Rattle.cip_router.specs.Requests.{RouterRequestFields, nothing, refused, closing, object, opening, is_manager, request_to_open, request_to_close, request_to_manager, router_request_of, router_request_reading}
+use Rattle.cip_router.specs.Replies.{ReplyFields, opened, closed, object_reply, own, refused as refused_reply, unacceptable, reply_text, object_reply_text, own_reply_text, no_route}
+use Rattle.cip_router.specs.Requests.{RouterRequestFields, nothing, refused, closing, object, opening, is_manager, request_to_open, request_to_close, request_to_manager, router_request_of, router_request_reading, unconnected_send}
 use Rattle.messaging.specs.declared.class3.Class3Connection.{Class3Connection}
 use Rattle.messaging.specs.declared.requests.Waiting.{Waiting}
 use Rattle.messaging.specs.declared.table.Messaging.{Messaging}
@@ -39,7 +39,8 @@ use Rattle.adapter_table.specs.Laws.{StepsKeep, EffectsKeep}
 use Rattle.adapter_table.specs.MessageLaws.{MessagesExecuteOnce, AnswersSettle, SettledAreRefused, StreamsCarry, IsNamedAlone, NamesDiffer}
 use Rattle.adapter_table.specs.Messages.{messages_table}
 use Rattle.adapter_table.specs.MessagesSound.{IsCarried, IsInPlace, IsSettled}
-use Rattle.adapter_table.specs.Objects.{ObjectAnswer, said, denied, resetting, object_answer}
+use Rattle.adapter_table.specs.Objects.{ObjectAnswer, said, denied, resetting, answering, refusing, unrouted}
+use Rattle.adapter_table.specs.Carrying.{object_answer}
 use Rattle.adapter_table.specs.Opening.{opened_table}
 use Rattle.adapter_table.specs.Own.{OwnRequest, own_of, cannot_ask, referred_verdict}
 use Rattle.adapter_table.specs.Requests.{Next, open_service, router_refusal, object_served, served_object}
@@ -109,11 +110,13 @@ record Comes (t : AdapterTable) (stream : streams.Stream) (unit : ConnectedField
   fits : nat_lt d.o_t_size (2 + length unit.message) ≡ false
 
 text_some : (reply : ReplyFields) → 1 ≤ length (reply_text reply)
-unfolding opened_text closed_text object_reply_text own_reply_text refused_text
+unfolding opened_text closed_text object_reply_text own_reply_text refused_text intervals_text
 text_some (opened large o) = omega arith
 text_some (closed triad) = omega arith
 text_some (object_reply service value) = omega arith
+text_some (unacceptable service intervals triad) = omega arith
 text_some (own service status content) = omega arith
+text_some (no_route words) = omega arith
 text_some (refused_reply service fault triad) = omega arith
 
 kept_text : (d : Class3Connection) (count : ℕ) (text : List ℕ) → 1 ≤ length text → kept_reply d count text ≡ Some (connected d.t_o_id.0 count text)
@@ -156,6 +159,9 @@ again_object : (t : AdapterTable) (stream : streams.Stream) (unit : ConnectedFie
 again_object t stream unit d first service (said by value) comes = again_fitted t stream unit d first (object_served t service (said by value)).reply comes
 again_object t stream unit d first service (denied why) comes = again_fitted t stream unit d first (object_served t service (denied why)).reply comes
 again_object t stream unit d first service (resetting kind) comes = again_fitted t stream unit d first (object_served t service (resetting kind)).reply comes
+again_object t stream unit d first service (answering by general content) comes = again_fitted t stream unit d first (object_served t service (answering by general content)).reply comes
+again_object t stream unit d first service (refusing named why) comes = again_fitted t stream unit d first (object_served t service (refusing named why)).reply comes
+again_object t stream unit d first service (unrouted words) comes = again_fitted t stream unit d first (object_served t service (unrouted words)).reply comes
 
 -- there is a request
 abbrev IsRequest : RouterRequestFields → Type 0
@@ -196,7 +202,8 @@ manager_is : (service : ℕ) (body : List ℕ) → IsRequest (request_to_manager
 manager_is service body =
     either IsRequest (service == forward_open) _ _ (open_is service false _)
     (either IsRequest (service == large_forward_open) _ _ (open_is service true _)
-    (either IsRequest (service == forward_close) _ (refused service status.Service) (close_is service _) tt))
+    (either IsRequest (service == forward_close) _ _ (close_is service _)
+    (either IsRequest (service == unconnected_send) (object service 6 1 None body) (refused service status.Service) tt tt)))
 
 request_is : (service : ℕ) (reading : Result RequestFields ReadFault) → IsRequest (router_request_of service reading)
 request_is service (Err fault) = tt

@@ -5,7 +5,6 @@ use Rattle.std.specs.List.{list_any}
 use Rattle.std.specs.Option.{option_map}
 use Rattle.std.specs.Result.{result_ok}
 use Rattle.std.specs.Str.{bytes_eq}
-use Rattle.cip_types.specs.declared.names.Identity.{Identity}
 use Rattle.cip_types.specs.declared.names.Ms.{Ms}
 use Rattle.cip_types.specs.declared.names.Triad.{Triad}
 use Rattle.cip_epath.specs.declared.fault.PathFault.{PathFault}
@@ -14,7 +13,6 @@ use Rattle.cip_epath.specs.declared.key.KeyFault.{KeyFault}
 use Rattle.cip_epath.specs.declared.key.KeyFault.TheVariants.{VendorOrProduct, DeviceType, Revision}
 use Rattle.cip_epath.specs.ElectronicKey.{KeyFields, key_fault}
 use Rattle.cip_epath.specs.Path.{PathFields}
-use Rattle.cip_epath.specs.Reading.{path_reading}
 use Rattle.cip_netparams.specs.declared.ConnectionType.{ConnectionType}
 use Rattle.cip_netparams.specs.declared.ConnectionType.TheVariants.{Null, Multicast, PointToPoint, Reserved}
 use Rattle.cip_netparams.specs.declared.Trigger.{Trigger}
@@ -39,6 +37,7 @@ use Rattle.adapter_table.specs.declared.table.AdapterTable.{AdapterTable}
 use Rattle.adapter_table.specs.declared.admission.ConsumedPoint.{ConsumedPoint}
 use Rattle.adapter_table.specs.declared.admission.Admission.{Admission}
 use Rattle.adapter_table.specs.Profiles.{is_at, is_output_at}
+use Rattle.adapter_table.specs.Paths.{opening_path, names_another}
 use Rattle.adapter_table.specs.Points.{bytes_at}
 use Rattle.adapter_table.specs.Rows.{most_rows, is_established, is_timed_out, holds_triad, drives, is_member, is_supported}
 
@@ -130,10 +129,11 @@ key_refusal (Some VendorOrProduct) = Some refusal.VendorOrProduct
 key_refusal (Some DeviceType) = Some refusal.DeviceType
 key_refusal (Some Revision) = Some refusal.Revision
 
--- the key is that of another device
-abbrev pub key_check : Identity → Option KeyFields → Check
-key_check identity None = None
-key_check identity (Some key) = key_refusal (key_fault key identity)
+-- the key of the path is that of another device, or names the serial number of another one, as a key of another product
+abbrev pub key_check : Profile → List ℕ → Option KeyFields → Check
+key_check profile path None = None
+key_check profile path (Some key) =
+    first_of (key_refusal (key_fault key profile.identity) ∷ check (names_another profile.description path) refusal.VendorOrProduct ∷ [])
 
 -- TYPES, TRIGGER, RATES
 
@@ -384,8 +384,9 @@ checks view request path points =
     segment_check path
     -- 3: an established connection, or one of class 3, has the triad (0x0100)
     ∷ check view.in_use refusal.InUse
-    -- 4: the key is of another vendor or product (0x0114), device type (0x0115), revision (0x0116)
-    ∷ key_check view.profile.identity (key_of (result_ok path))
+    -- 4: the key is of another vendor or product (0x0114), device type (0x0115), revision (0x0116), or names another
+    --    serial number (0x0114)
+    ∷ key_check view.profile request.path (key_of (result_ok path))
     -- 5: the O->T type is not point to point (0x0123), the T->O type neither that nor multicast (0x0124)
     ∷ check (not (is_point_to_point request.o_t_params.kind)) refusal.ConsumedType
     ∷ check (not (is_produced_type request.t_o_params.kind)) refusal.ProducedType
@@ -485,7 +486,7 @@ judged_path view request path =
 
 -- the connection that the request is admitted as, or the refusal of the first check that it fails
 unfoldable pub verdict : View → OpenFields → Result Admitted Refusal
-verdict view request = judged_path view request (path_reading request.path)
+verdict view request = judged_path view request (opening_path view.profile.description request.path)
 
 -- the same at a table
 abbrev pub admission : AdapterTable → OpenFields → Result Admitted Refusal

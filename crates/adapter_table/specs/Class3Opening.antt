@@ -7,7 +7,6 @@ use Rattle.cip_types.specs.declared.names.Node.{Node}
 use Rattle.cip_types.specs.declared.names.Triad.{Triad}
 use Rattle.cip_epath.specs.declared.fault.PathFault.{PathFault}
 use Rattle.cip_epath.specs.ElectronicKey.{KeyFields}
-use Rattle.cip_epath.specs.MessagePath.{message_path_reading}
 use Rattle.cip_netparams.specs.Word.{is_message_trigger}
 use Rattle.cip_netparams.specs.Rate.{interval_ms, timeout}
 use Rattle.cip_fwdopen.specs.Open.{OpenFields}
@@ -20,6 +19,7 @@ use Rattle.cip_router.specs.Requests.{RouterRequestFields, opening}
 use Rattle.messaging.specs.declared.class3.Class3Connection.{Class3Connection}
 use Rattle.messaging.specs.Class3Connections.{most_class3_connections, has_class3_triad, class3_count}
 use Rattle.messaging.specs.Changes.{with_class3}
+use Rattle.adapter_table.specs.Intervals.{whole_request}
 use Rattle.adapter_table.specs.declared.maker_limits.NodeLimits.{NodeLimits}
 use Rattle.adapter_table.specs.declared.profile.Profile.{Profile}
 use Rattle.adapter_table.specs.declared.table.Stream.{Stream}
@@ -29,6 +29,7 @@ use Rattle.adapter_table.specs.Rates.{has_opened_enough_at, counted_at, with_ope
 use Rattle.adapter_table.specs.Rows.{has_triad}
 use Rattle.adapter_table.specs.Checks.{Check, check, first_of, segment_check, key_check, is_point_to_point, is_unserved, are_intervals, is_below_least}
 use Rattle.adapter_table.specs.Messages.{messages_table}
+use Rattle.adapter_table.specs.Paths.{opening_message_path}
 use Rattle.adapter_table.specs.Requests.{Served, refused_open, served}
 
 -- THE STATE THAT THE CHECKS READ
@@ -87,8 +88,9 @@ class3_checks view request path =
     segment_check path
     -- 3: a connection of any class and state has the triad (0x0100)
     ∷ check view.in_use refusal.InUse
-    -- 4: the key is of another vendor or product (0x0114), device type (0x0115), revision (0x0116)
-    ∷ key_check view.profile.identity (named_key path)
+    -- 4: the key is of another vendor or product (0x0114), device type (0x0115), revision (0x0116), or names another
+    --    serial number (0x0114)
+    ∷ key_check view.profile request.path (named_key path)
     -- 5: the O->T type (0x0123), the T->O type (0x0124) is not point to point
     ∷ check (not (is_point_to_point request.o_t_params.kind)) refusal.ConsumedType
     ∷ check (not (is_point_to_point request.t_o_params.kind)) refusal.ProducedType
@@ -114,7 +116,7 @@ class3_checks view request path =
 
 -- the refusal of the first check that fails
 unfoldable pub class3_refusal : Class3View → OpenFields → Check
-class3_refusal view request = first_of (class3_checks view request (message_path_reading request.path))
+class3_refusal view request = first_of (class3_checks view request (opening_message_path view.profile.description request.path))
 
 -- THE NEW CONNECTION
 
@@ -169,7 +171,7 @@ judged_class3 t stream large request None = admitted_class3 t large (opened_clas
 -- a Forward_Open of a class 3 connection
 unfoldable pub served_class3 : AdapterTable → Stream → Bool → OpenFields → Served
 served_class3 t stream large request =
-    judged_class3 t stream large request (class3_refusal (class3_view t stream.peer request.triad) request)
+    judged_class3 t stream large (whole_request t.profile.description request) (class3_refusal (class3_view t stream.peer request.triad) (whole_request t.profile.description request))
 
 -- REQUESTS OVER A STREAM
 

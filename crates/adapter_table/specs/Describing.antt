@@ -1,12 +1,13 @@
 -- What a described device makes of a Forward_Open beside the checks that every adapter has: it serves data of a fixed size alone, and
 -- names what it refuses by the status that the standard has for it
 -- (Volume 1, chapter 3, Connection Manager extended status codes).
-use Rattle.std.specs.Prelude.{ℕ, ◌&&◌, nat_lt, Bool, true, false, if◌then◌else◌, [], ◌∷◌, Option, Some, None, Result, Ok, Err}
+use Rattle.std.specs.Prelude.{ℕ, ◌&&◌, not, nat_lt, Bool, true, false, if◌then◌else◌, [], ◌∷◌, Option, Some, None, Result, Ok, Err}
 use Rattle.cip_types.specs.Cases.{first_case_or}
 use Rattle.cip_types.specs.declared.names.Fault.{Fault}
 use Rattle.cip_netparams.specs.declared.ConnectionType.{ConnectionType}
 use Rattle.cip_netparams.specs.declared.ConnectionType.TheVariants.{Null, Multicast, PointToPoint, Reserved}
 use Rattle.cip_netparams.specs.declared.NetParams.{NetParams}
+use Rattle.cip_netparams.specs.Word.{is_message_trigger}
 use Rattle.cip_fwdopen.specs.Open.{OpenFields}
 use Rattle.cip_router.specs.declared.refusal.Refusal.{Refusal}
 use Rattle.cip_router.specs.declared.refusal.Refusal.TheVariants as refusal
@@ -47,10 +48,10 @@ abbrev pub described_code : OpenFields → Refusal → ℕ
 described_code request refusal.Parameter = if nat_lt 7 request.multiplier then 0x0133 else 0x0125
 -- both types are null, which asks for no connection, or the O->T type alone is not served
 described_code request refusal.ConsumedType = if is_null_open request then 0x0132 else 0x0123
--- the O->T data are of variable size, or have another size than the point
-described_code request refusal.ConsumedSize = if request.o_t_params.variable then 0x011F else 0x0127
+-- the O->T data of class 1 are of variable size, or have another size than the point; those of class 3 have no size
+described_code request refusal.ConsumedSize = if request.o_t_params.variable && not (is_message_trigger request.trigger) then 0x011F else 0x0127
 -- and the T->O data
-described_code request refusal.ProducedSize = if request.t_o_params.variable then 0x0120 else 0x0128
+described_code request refusal.ProducedSize = if request.t_o_params.variable && not (is_message_trigger request.trigger) then 0x0120 else 0x0128
 described_code request why = refusal_code why
 
 -- the extended status of a refusal

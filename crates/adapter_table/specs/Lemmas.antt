@@ -1,5 +1,7 @@
 -- Lemmas that crates above cite: the checks of an opening, what each effect does to rows, values, groups and numbers, and how long the
 -- answers of objects are.
+pub mod PathLemmas
+pub mod RefusalLemmas
 pub mod CheckLemmas
 pub mod SoundLemmas
 pub mod GroupLemmas

@@ -1,7 +1,10 @@
 pub mod Answering
+pub mod Carrying
 pub mod Checks
 pub mod Closing
 pub mod Describing
+pub mod Paths
+pub mod Intervals
 pub mod Connected
 pub mod Connections
 pub mod Datagrams

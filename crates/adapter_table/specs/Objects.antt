@@ -17,13 +17,13 @@
 -- Instance 0 of a class has the attributes 1 revision, 2 largest instance, 3 number of instances, 4 optional attributes and 5
 -- optional services of its instances, 6 largest attribute of the class, 7 largest attribute of its instances. Each number is
 -- little-endian. A device without a description has its assemblies alone, with their data.
-use Rattle.std.specs.Prelude.{ℕ, ◌+◌, ◌*◌, ◌/◌, ◌%◌, ◌==◌, ◌&&◌, ◌||◌, not, nat_lt, nat_le, Bool, true, false, if◌then◌else◌, List, [], ◌∷◌, ◌++◌, length, filter, find, replicate, codes, Option, Some, None, is_some}
+use Rattle.std.specs.Prelude.{ℕ, zero, suc, ◌+◌, ◌*◌, ◌/◌, ◌%◌, ◌==◌, ◌&&◌, ◌||◌, not, nat_lt, nat_le, Bool, true, false, if◌then◌else◌, List, [], ◌∷◌, ◌++◌, length, filter, find, replicate, codes, Option, Some, None, is_some, drop}
 use Rattle.std.specs.List.{list_any, flat_map}
 use Rattle.std.specs.Int.{w16, w32, byte_at, to_le_bytes}
 use Rattle.cip_types.specs.Cases.{Case, first_case, first_case_or}
 use Rattle.cip_types.specs.declared.names.Identity.{Identity}
 use Rattle.cip_router.specs.declared.object_service.ObjectService.{ObjectService}
-use Rattle.cip_router.specs.declared.object_service.ObjectService.TheVariants.{GetAll, GetSingle}
+use Rattle.cip_router.specs.declared.object_service.ObjectService.TheVariants.{GetAll, GetSingle, GetList, SetList}
 use Rattle.cip_router.specs.declared.refusal.Status.{Status}
 use Rattle.cip_router.specs.declared.refusal.Status.TheVariants as status
 use Rattle.cip_productions.specs.Kinds.{is_owner}
@@ -130,7 +130,8 @@ single number value = record { number = Some number; value = value; listed = fal
 abbrev pub absent : List ℕ → Attribute
 absent value = record { number = None; value = value; listed = true }
 
--- an instance of an object: its attributes, and which services it has beside Get_Attribute_Single
+-- an instance of an object: its attributes, and which services it has beside Get_Attribute_Single. One that has
+-- Set_Attribute_Single has both services of lists.
 pub record Instance : Type 0 where
   pub attributes : List Attribute
   pub gets_all : Bool
@@ -163,30 +164,30 @@ pub record ClassFacts : Type 0 where
   pub largest : ℕ
 
 abbrev pub identity_class : ClassFacts
-identity_class = record { attributes = 8 ∷ 9 ∷ []; services = []; largest = 9 }
+identity_class = record { attributes = 8 ∷ 9 ∷ []; services = 0x03 ∷ 0x04 ∷ []; largest = 9 }
 
 abbrev pub router_class : ClassFacts
-router_class = record { attributes = 1 ∷ 2 ∷ 3 ∷ []; services = []; largest = 3 }
+router_class = record { attributes = 1 ∷ 2 ∷ 3 ∷ []; services = 0x03 ∷ 0x04 ∷ 0x0A ∷ []; largest = 3 }
 
 abbrev pub assembly_facts : ClassFacts
-assembly_facts = record { attributes = 4 ∷ []; services = []; largest = 4 }
+assembly_facts = record { attributes = 4 ∷ []; services = 0x03 ∷ 0x04 ∷ []; largest = 4 }
 
--- its service that may be left out is Large_Forward_Open
+-- its services that may be left out are Unconnected_Send and Large_Forward_Open
 abbrev pub manager_class : ClassFacts
-manager_class = record { attributes = []; services = 0x5B ∷ []; largest = 0 }
+manager_class = record { attributes = []; services = 0x52 ∷ 0x5B ∷ []; largest = 0 }
 
--- the service of the interface and of the link that may be left out is Get_Attributes_All
+-- the services of the interface and of the link that may be left out are Get_Attributes_All and those of lists
 abbrev pub interface_class : ClassFacts
-interface_class = record { attributes = 8 ∷ 9 ∷ 10 ∷ 11 ∷ []; services = 0x01 ∷ []; largest = 13 }
+interface_class = record { attributes = 8 ∷ 9 ∷ 10 ∷ 11 ∷ []; services = 0x01 ∷ 0x03 ∷ 0x04 ∷ []; largest = 13 }
 
 abbrev pub link_class : ClassFacts
-link_class = record { attributes = 7 ∷ 8 ∷ 9 ∷ 10 ∷ []; services = 0x01 ∷ []; largest = 11 }
+link_class = record { attributes = 7 ∷ 8 ∷ 9 ∷ 10 ∷ []; services = 0x01 ∷ 0x03 ∷ 0x04 ∷ []; largest = 11 }
 
 abbrev pub qos_class : ClassFacts
-qos_class = record { attributes = 1 ∷ 2 ∷ 3 ∷ []; services = []; largest = 8 }
+qos_class = record { attributes = 1 ∷ 2 ∷ 3 ∷ []; services = 0x03 ∷ 0x04 ∷ []; largest = 8 }
 
 abbrev pub port_class : ClassFacts
-port_class = record { attributes = []; services = []; largest = 7 }
+port_class = record { attributes = []; services = 0x03 ∷ 0x04 ∷ []; largest = 7 }
 
 -- the attributes of a class, of which the largest is given
 abbrev pub class_attributes : (revision largest count highest : ℕ) → ClassFacts → List Attribute
@@ -489,17 +490,28 @@ abbrev pub described_at : AdapterTable → (class instance : ℕ) → Option Des
 described_at t class instance None = None
 described_at t class instance (Some d) = first_case (described_cases t.profile (standing_of t) (connection_count t.rows t.messaging) d class instance)
 
+-- the Connection Manager itself: its services are of connections
+abbrev pub manager_instance : Instance
+manager_instance = record { attributes = []; gets_all = false; sets = false; resets = false }
+
 -- the instance of a class, if the device has it
 unfoldable pub instance_at : AdapterTable → (class instance : ℕ) → Option Instance
-instance_at t class instance = if class == 0x04 then assembly_at t instance else described_at t class instance t.profile.description
+instance_at t class instance = first_case_or (described_at t class instance t.profile.description) (
+    (class == 0x04, assembly_at t instance)
+    ∷ (instance == 1 && class == 0x06, Some manager_instance)
+    ∷ [])
 
 -- ANSWERS
 
--- what a service answers: data, a refusal, or a reset of a type
+-- what a service answers: data, a refusal, a reset of a type, data with a general status, the refusal of a service that it carries, or
+-- that no port leads to a route of so many words
 pub data ObjectAnswer : Type 0 where
   said : ObjectService → List ℕ → ObjectAnswer
   denied : Status → ObjectAnswer
   resetting : ℕ → ObjectAnswer
+  answering : ObjectService → (status : ℕ) → List ℕ → ObjectAnswer
+  refusing : (service : ℕ) → Status → ObjectAnswer
+  unrouted : (words : ℕ) → ObjectAnswer
 
 abbrev pub is_number : ℕ → Option ℕ → Bool
 is_number number None = false
@@ -536,6 +548,102 @@ all_values attributes = flat_map value_of (filter is_listed attributes)
 abbrev pub all_of : List Attribute → List ℕ → ObjectAnswer
 all_of attributes body = if length body == 0 then said GetAll (all_values attributes) else denied status.TooMuchData
 
+-- LISTS OF ATTRIBUTES
+--
+--   Get_Attribute_List   asked     how many (2), then of each attribute: its number (2)
+--                        answered  how many (2), then of each: its number (2), its status (2), and its value if the status is 0
+--   Set_Attribute_List   asked     how many (2), then of each attribute: its number (2), and its value
+--                        answered  how many (2), then of each: its number (2), and its status (2)
+
+-- the most bytes of data in a reply, those of the longest point
+abbrev pub most_data : ℕ
+most_data = 1400
+
+-- a number of two bytes
+abbrev pub word_of : (low high : ℕ) → ℕ
+word_of low high = low + 256 * high
+
+-- data with a general status, if a reply has room for them
+abbrev pub answer_within : ObjectService → (general : ℕ) → List ℕ → ObjectAnswer
+answer_within by general content = if nat_le (length content) most_data then answering by general content else denied status.ReplyTooLarge
+
+-- the status of the reply to a list: an attribute has one that is not 0 (0x0A), or none has
+abbrev pub list_status : (whole : Bool) → ℕ
+list_status whole = if whole then 0 else 0x0A
+
+-- how many attributes a reply has room for, with two bytes of each and its status
+abbrev pub most_listed : ℕ
+most_listed = 349
+
+-- what is answered of the attribute of a number: one that the instance has not (0x14) has no value
+abbrev pub got_item : ℕ → Option Attribute → List ℕ
+got_item number None = u16 number ++ u16 0x14
+got_item number (Some attribute) = u16 number ++ (u16 0 ++ attribute.value)
+
+-- the attributes of a list, one behind the other
+abbrev pub got_items : List Attribute → List ℕ → List ℕ
+got_items attributes [] = []
+got_items attributes (low ∷ []) = []
+got_items attributes (low ∷ high ∷ rest) = got_item (word_of low high) (find (is_numbered (word_of low high)) attributes) ++ got_items attributes rest
+
+-- the instance has each attribute of a list
+abbrev pub are_attributes : List Attribute → List ℕ → Bool
+are_attributes attributes [] = true
+are_attributes attributes (low ∷ []) = true
+are_attributes attributes (low ∷ high ∷ rest) = is_some (find (is_numbered (word_of low high)) attributes) && are_attributes attributes rest
+
+-- Get_Attribute_List
+abbrev pub get_list : List Attribute → List ℕ → ObjectAnswer
+get_list attributes [] = denied status.NotEnoughData
+get_list attributes (low ∷ []) = denied status.NotEnoughData
+get_list attributes (low ∷ high ∷ rest) =
+    first_case_or (answer_within GetList (list_status (are_attributes attributes rest)) (low ∷ high ∷ got_items attributes rest)) (
+    (nat_lt (length rest) (2 * word_of low high), denied status.NotEnoughData)
+    ∷ (nat_lt (2 * word_of low high) (length rest), denied status.TooMuchData)
+    ∷ (nat_lt most_listed (word_of low high), denied status.ReplyTooLarge)
+    ∷ [])
+
+-- what is answered of an attribute that is to be set: its number, and a status
+abbrev pub set_item : (number status : ℕ) → List ℕ
+set_item number status = u16 number ++ u16 status
+
+-- how long the value of an attribute is, if the instance has it
+abbrev pub value_len : Option Attribute → Option ℕ
+value_len None = None
+value_len (Some attribute) = Some (length attribute.value)
+
+-- it can only be read (0x0E), it is none of the instance (0x14), or its value is shorter than the one that it has (0x13)
+abbrev pub set_status : List ℕ → Option ℕ → ℕ
+set_status rest None = 0x14
+set_status rest (Some len) = if nat_lt (length rest) len then 0x13 else 0x0E
+
+-- what follows its value, which is as long as the one that it has: nothing is read behind an attribute that the instance has not
+abbrev pub behind_value : List ℕ → Option ℕ → List ℕ
+behind_value rest None = []
+behind_value rest (Some len) = drop len rest
+
+-- at most so many attributes that are to be set
+abbrev pub set_items : List Attribute → (count : ℕ) → List ℕ → List ℕ
+set_items attributes count [] = []
+set_items attributes count (low ∷ []) = []
+set_items attributes zero (low ∷ high ∷ rest) = []
+set_items attributes (suc count) (low ∷ high ∷ rest) =
+    let len = value_len (find (is_numbered (word_of low high)) attributes) in
+    set_item (word_of low high) (set_status rest len) ++ set_items attributes count (behind_value rest len)
+
+-- the reply has four bytes of each attribute that it answers
+abbrev pub set_reply : List ℕ → ObjectAnswer
+set_reply items = answering SetList (list_status (length items == 0)) (u16 (length items / 4) ++ items)
+
+-- Set_Attribute_List: each attribute can only be read
+abbrev pub set_list : List Attribute → List ℕ → ObjectAnswer
+set_list attributes [] = denied status.NotEnoughData
+set_list attributes (low ∷ []) = denied status.NotEnoughData
+set_list attributes (low ∷ high ∷ rest) = first_case_or (set_reply (set_items attributes (word_of low high) rest)) (
+    (nat_lt (length rest) (2 * word_of low high), denied status.NotEnoughData)
+    ∷ (nat_lt most_listed (word_of low high), denied status.ReplyTooLarge)
+    ∷ [])
+
 -- a reset of a type: 0 or 1, and only while no output is owned
 abbrev pub reset_of : (owned : Bool) → ℕ → ObjectAnswer
 reset_of owned kind = first_case_or (resetting kind) ((nat_lt 1 kind, denied status.InvalidParameter) ∷ (owned, denied status.StateConflict) ∷ [])
@@ -552,6 +660,8 @@ instance_answer owned service attribute body o = first_case_or (denied status.Se
     (service == 0x0E, single_of body (attribute_of o.attributes attribute))
     ∷ (service == 0x10 && o.sets, set_of (attribute_of o.attributes attribute))
     ∷ (service == 0x01 && o.gets_all, all_of o.attributes body)
+    ∷ (service == 0x03 && o.sets, get_list o.attributes body)
+    ∷ (service == 0x04 && o.sets, set_list o.attributes body)
     ∷ (service == 0x05 && o.resets, reset_by owned body)
     ∷ [])
 
@@ -560,7 +670,7 @@ abbrev pub object_said : (owned : Bool) → (service : ℕ) → Option ℕ → L
 object_said owned service attribute body None = denied status.PathDestination
 object_said owned service attribute body (Some o) = instance_answer owned service attribute body o
 
--- what a device answers to a service of an object
-unfoldable pub object_answer : AdapterTable → (service class instance : ℕ) → Option ℕ → List ℕ → ObjectAnswer
-object_answer t service class instance attribute body =
+-- what a device answers to a service of an object that carries no request
+unfoldable pub alone_answer : AdapterTable → (service class instance : ℕ) → Option ℕ → List ℕ → ObjectAnswer
+alone_answer t service class instance attribute body =
     object_said (list_any is_owning t.rows) service attribute body (instance_at t class instance)

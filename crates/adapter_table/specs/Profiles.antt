@@ -1,6 +1,6 @@
 -- The profile of an adapter, and its first fault
 -- (Volume 1, chapter 3, connection points; Volume 2, chapter 3, multicast addresses need a host id).
-use Rattle.std.specs.Prelude.{ℕ, ◌+◌, ◌-◌, ◌%◌, ◌^◌, ◌==◌, ◌&&◌, not, nat_le, Bool, true, false, List, [], ◌∷◌, ◌++◌, length, map, Option, Some, None, option_to_list, is_some}
+use Rattle.std.specs.Prelude.{ℕ, ◌+◌, ◌-◌, ◌%◌, ◌^◌, ◌==◌, ◌&&◌, ◌||◌, not, nat_le, Bool, true, false, List, [], ◌∷◌, ◌++◌, length, map, Option, Some, None, option_to_list, is_some}
 use Rattle.std.specs.Int.{is_power_of_two}
 use Rattle.std.specs.List.{list_any, list_all}
 use Rattle.cip_types.specs.Cases.{Case, first_case}
@@ -94,6 +94,14 @@ abbrev pub is_described : Option Description → Bool
 is_described None = true
 is_described (Some d) = nat_le (length d.name) 32 && (length d.mac == 6 && nat_le d.inactivity 3600)
 
+-- no point has the instance 0, by which tools ask the class itself
+abbrev pub leaves_class : Profile → Bool
+leaves_class profile = not (list_any (is_at 0) (all_points profile))
+
+-- the description is one, and the points of a device that has one leave the class of Assembly to be asked
+abbrev pub fits_description : Profile → Bool
+fits_description profile = is_described profile.description && (not (is_some profile.description) || leaves_class profile)
+
 -- LIMITS THAT THE MAKER STATES
 
 -- no limits
@@ -172,7 +180,7 @@ profile_tests profile =
     ∷ (not (are_distinct (all_points profile)), SameInstance)
     ∷ (not (are_long_enough profile), Length)
     ∷ (not (is_revision profile.identity), IdentityFault)
-    ∷ (not (is_described profile.description), DescriptionFault)
+    ∷ (not (fits_description profile), DescriptionFault)
     ∷ (not (are_limits profile.limits), Limits)
     ∷ (not (are_objects profile.objects), Objects)
     ∷ []

@@ -16,17 +16,18 @@ use Rattle.cip_fwdopen.specs.Close.{CloseFields}
 use Rattle.adapter_table.specs.Connections.{Row}
 use Rattle.adapter_table.specs.Rows.{has_triad}
 use Rattle.cip_router.specs.declared.object_service.ObjectService.TheVariants.{Reset as ResetService}
-use Rattle.adapter_table.specs.Objects.{ObjectAnswer, said, denied, resetting, object_answer}
+use Rattle.adapter_table.specs.Objects.{ObjectAnswer, said, denied, resetting, answering, refusing, unrouted}
+use Rattle.adapter_table.specs.Carrying.{object_answer}
 use Rattle.adapter_table.specs.Closing.{closed_table, closed_notices, class3_closed_table}
 use Rattle.cip_router.specs.declared.refusal.Refusal.TheVariants as refusal
-use Rattle.cip_router.specs.Replies.{ReplyFields, opened, closed, object_reply, reply_text}
+use Rattle.cip_router.specs.Replies.{ReplyFields, opened, closed, object_reply, object_service_code, reply_text}
 use Rattle.cip_router.specs.Replies as replies
 use Rattle.cip_router.specs.declared.refusal.Refusal.{Refusal}
 use Rattle.cip_router.specs.declared.refusal.Status.{Status}
 use Rattle.cip_router.specs.declared.refusal.Status.TheVariants as status
 use Rattle.cip_router.specs.Refusals.{refusal_fault, status_fault}
 use Rattle.adapter_table.specs.Checks.{Admitted}
-use Rattle.adapter_table.specs.Describing.{opening_fault}
+use Rattle.adapter_table.specs.Intervals.{open_refusal, whole_request}
 use Rattle.messaging.specs.declared.class3.Class3Connection.{Class3Connection}
 use Rattle.messaging.specs.declared.requests.Requester.TheVariants as asker
 use Rattle.messaging.specs.Class3Connections.{has_class3_triad}
@@ -53,7 +54,7 @@ open_service true = 0x5B
 -- a connection that is refused, with its triad
 abbrev pub refused_open : AdapterTable → Bool → OpenFields → Refusal → Served
 refused_open t large request why = record {
-  reply = replies.refused (open_service large) (opening_fault t.profile.description request why) (Some request.triad);
+  reply = open_refusal t.profile t.rows (open_service large) request why;
   address = None;
   notices = [];
   table = t;
@@ -75,7 +76,7 @@ judged_open t peer large request (Ok admitted) = admitted_open t peer large requ
 
 -- a Forward_Open
 unfoldable pub served_open : AdapterTable → Node → Bool → OpenFields → Served
-served_open t peer large request = judged_open t peer large request (limited_admission t peer request)
+served_open t peer large request = judged_open t peer large (whole_request t.profile.description request) (limited_admission t peer (whole_request t.profile.description request))
 
 -- a close that is refused, with its triad
 abbrev pub refused_close : AdapterTable → CloseFields → Fault → Served
@@ -142,6 +143,9 @@ abbrev pub object_served : AdapterTable → ℕ → ObjectAnswer → Served
 object_served t service (said by value) = record { reply = object_reply by value; address = None; notices = []; table = t }
 object_served t service (denied why) = router_refusal t service why
 object_served t service (resetting kind) = record { reply = object_reply ResetService []; address = None; notices = notice.Reset kind ∷ []; table = t }
+object_served t service (answering by general content) = record { reply = replies.own (object_service_code by) general content; address = None; notices = []; table = t }
+object_served t service (refusing named why) = router_refusal t named why
+object_served t service (unrouted words) = record { reply = replies.no_route words; address = None; notices = []; table = t }
 
 -- a service of another object than the Connection Manager's
 unfoldable pub served_object : AdapterTable → ℕ → ℕ → ℕ → Option ℕ → List ℕ → Served

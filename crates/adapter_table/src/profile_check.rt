@@ -2,7 +2,7 @@
 
 ghost use Rattle.std.specs.Prelude.{◌≡◌, ◌↔◌, ◌++◌, Some, None, IsOk, IfErr, map};
 ghost use Rattle.std.specs.List.{list_any, list_all};
-ghost use Rattle.adapter_table.specs.Profiles.{is_address, is_at, is_output_at, as_point, points_beside, are_distinct, are_few, has_output_len, has_input_len, has_config_len, are_long_enough, is_revision, is_described, is_point_len, is_from, are_few_places, are_node_limits, are_limits, is_class, is_free_class, are_own_classes, are_objects, profile_fault};
+ghost use Rattle.adapter_table.specs.Profiles.{is_address, is_at, is_output_at, as_point, points_beside, are_distinct, are_few, has_output_len, has_input_len, has_config_len, are_long_enough, is_revision, is_described, leaves_class, fits_description, is_point_len, is_from, are_few_places, are_node_limits, are_limits, is_class, is_free_class, are_own_classes, are_objects, profile_fault};
 
 use crate::maker_limits::{MakerLimits, NodeLimits, Places};
 use crate::profile::{Description, InputPoint, OutputPoint, Profile};
@@ -167,6 +167,12 @@ fn is_described(description: &Option<Description>) -> bool
     }
 }
 
+fn fits_description(profile: &Profile) -> bool
+    ensures { result ≡ fits_description profile.now }
+{
+    is_described(&profile.description) && (profile.description.is_none() || profile.leaves_class())
+}
+
 fn is_from(least: u32, most: u32, value: Option<u32>) -> bool
     ensures { result ≡ is_from least most value }
 {
@@ -285,7 +291,7 @@ fn fault_of(profile: &Profile) -> Option<ProfileFault>
     if !is_revision(&profile.identity) {
         return Some(ProfileFault::Identity);
     }
-    if !is_described(&profile.description) {
+    if !fits_description(profile) {
         return Some(ProfileFault::Description);
     }
     if !are_limits(&profile.limits) {
@@ -298,6 +304,13 @@ fn fault_of(profile: &Profile) -> Option<ProfileFault>
 }
 
 impl Profile {
+    /// Whether no point has the instance 0, by which tools ask the class of Assembly itself.
+    pub fn leaves_class(&self) -> bool
+        ensures { result ≡ leaves_class self.now }
+    {
+        !has_point(self.outputs.as_slice(), self, 0)
+    }
+
     /// Checks the profile: its incarnation, its address, how many points it has, that their instances
     /// differ, their lengths, its revision, its description, the limits that its maker states, and the classes of the
     /// maker's own objects, in this order. Takes no memory.

@@ -31,6 +31,8 @@ use Rattle.messaging.specs.declared.requests.Requester.TheVariants as asker
 use Rattle.messaging.specs.declared.table.Messaging.{Messaging}
 use Rattle.messaging.specs.Class3Connections.{has_class3_triad, is_class3, is_last_message, repeats_last}
 use Rattle.messaging.specs.Sound.{EachOf}
+use Rattle.adapter_table.specs.Intervals.{whole_request}
+use Rattle.adapter_table.specs.Lemmas.RefusalLemmas.{refusal_either}
 use Rattle.adapter_table.specs.Connections.{Row}
 use Rattle.adapter_table.specs.declared.table.Stream.{Stream}
 use Rattle.adapter_table.specs.declared.table.AdapterTable.{AdapterTable}
@@ -41,7 +43,8 @@ use Rattle.adapter_table.specs.Class3Opening.{class3_view, class3_refusal, judge
 use Rattle.adapter_table.specs.StatedLimits.{limited_admission, is_wrong_closer, is_wrong_ender}
 use Rattle.adapter_table.specs.Encapsulation.{Handled, refusal, session_begun, register_session, request_replied, request_handled, packet_replied, kept_reply, message_replied, message_served, message_executed, message_found, unit_replied, handled, framed, frame_answer, stream_answer, frame_of, frame, frame_for}
 use Rattle.adapter_table.specs.Inquiries.{inquiry_reply, inquired_by, inquired}
-use Rattle.adapter_table.specs.Objects.{ObjectAnswer, said, denied, resetting, object_answer}
+use Rattle.adapter_table.specs.Objects.{ObjectAnswer, said, denied, resetting, answering, refusing, unrouted}
+use Rattle.adapter_table.specs.Carrying.{object_answer}
 use Rattle.adapter_table.specs.Lemmas.MessageLemmas.{fitted_short}
 use Rattle.adapter_table.specs.Lemmas.ObjectSizes as sizes
 use Rattle.adapter_table.specs.Lemmas.ObjectSizes.{FewSaid}
@@ -66,7 +69,7 @@ one_small reply verdict notices short = both_small (reply ∷ []) [] verdict not
 
 opened_few : (t : AdapterTable) (peer : Node) (large : Bool) (request : OpenFields) (judged : Result Admitted Refusal) → GetsFew (judged_open t peer large request judged).reply
 unfolding admitted_open
-opened_few t peer large request (Err why) = tt
+opened_few t peer large request (Err why) = refusal_either GetsFew t.profile t.rows _ request why (λ fault fails. tt) (λ a. tt)
 opened_few t peer large request (Ok admitted) = tt
 
 closed_few : (t : AdapterTable) (peer : Node) (request : CloseFields) (found : Option Row) → GetsFew (close_of t peer request found).reply
@@ -82,6 +85,9 @@ object_few : (t : AdapterTable) (service : ℕ) (answer : ObjectAnswer) → FewS
 object_few t service (said by value) short = short
 object_few t service (denied why) short = tt
 object_few t service (resetting kind) short = omega arith
+object_few t service (answering by general content) short = short
+object_few t service (refusing named why) short = tt
+object_few t service (unrouted words) short = tt
 
 -- of what is served, if there is a request
 abbrev ServesFew : Option Served → Type 0
@@ -94,19 +100,19 @@ serves_few t peer nothing shaped = tt
 serves_few t peer (refused service why) shaped = tt
 serves_few t peer (closing request) shaped = ended_few t peer request (find (has_class3_triad request.triad) t.messaging.class3_connections)
 serves_few t peer (object service class instance attribute body) shaped = object_few t service (object_answer t service class instance attribute body) (sizes.object_few t service class instance attribute body shaped)
-serves_few t peer (opening large request) shaped = opened_few t peer large request (limited_admission t peer request)
+serves_few t peer (opening large request) shaped = opened_few t peer large (whole_request t.profile.description request) (limited_admission t peer (whole_request t.profile.description request))
 
 -- ---- what is served over a stream
 
 class3_few : (t : AdapterTable) (stream : Stream) (large : Bool) (request : OpenFields) (c : Check) → GetsFew (judged_class3 t stream large request c).reply
-class3_few t stream large request (Some why) = tt
+class3_few t stream large request (Some why) = refusal_either GetsFew t.profile t.rows _ request why (λ fault fails. tt) (λ a. tt)
 class3_few t stream large request None = tt
 
 over_stream_few : (t : AdapterTable) (stream : Stream) (request : RouterRequestFields) → IsShaped t.profile t.values → ServesFew (stream_served t stream request)
 unfolding served_class3
 over_stream_few t stream (opening large request) shaped =
     either ServesFew (is_message_trigger request.trigger) (Some (served_class3 t stream large request)) (served t stream.peer (opening large request))
-    (class3_few t stream large request (class3_refusal (class3_view t stream.peer request.triad) request)) (serves_few t stream.peer (opening large request) shaped)
+    (class3_few t stream large (whole_request t.profile.description request) (class3_refusal (class3_view t stream.peer request.triad) (whole_request t.profile.description request))) (serves_few t stream.peer (opening large request) shaped)
 over_stream_few t stream other shaped = serves_few t stream.peer other shaped
 
 -- ---- requests

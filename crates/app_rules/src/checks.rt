@@ -12,11 +12,12 @@ ghost use Rattle.app_rules.specs.Stages.{request_check, points_check, transport_
 
 use crate::connections::ConnectionsView;
 use crate::describing::is_variable;
+use crate::paths::{key_check, key_of, readable};
 use crate::questions::{
     NamedPoints, Transport, admission_at, changes_config, consumed_point_of, exceeds,
     has_other_o_t_size, has_other_t_o_size, is_below_least, is_known_config, is_owned, is_unserved,
-    is_unsupported, joined, joins_other_api, joins_other_inhibit, joins_other_trigger, key_check,
-    lacks_capacity, lacks_ids, lacks_pace, listens_alone, misfits_config, readable, refuse_if,
+    is_unsupported, joined, joins_other_api, joins_other_inhibit, joins_other_trigger,
+    lacks_capacity, lacks_ids, lacks_pace, listens_alone, misfits_config, refuse_if,
     served_inhibit,
 };
 use crate::view::View;
@@ -34,7 +35,8 @@ use cip_types::Node;
 ///    checks it before this call.
 /// 2. Each segment of the path reads (0x0315).
 /// 3. No established connection, and none of class 3, has the triad (0x0100).
-/// 4. The key names this device: vendor and product (0x0114), device type (0x0115), revision (0x0116).
+/// 4. The key names this device: vendor and product (0x0114), device type (0x0115), revision (0x0116), and the serial
+///    number of a described one (0x0114).
 /// 5. The O->T type is point to point (0x0123), the T->O type that or multicast (0x0124).
 /// 6. The transport class is 1, and the trigger cyclic or change of state (0x0103).
 /// 7. The multiplier is at most 7, and no redundant owner is requested (0x0108).
@@ -112,7 +114,7 @@ fn judge<'a, C: ConnectionsView>(
     ensures drawn { IfOk result (λ a. a.drawn ≡ drawn_ids a.multicast a.group) }
 {
     // 2
-    let path = readable(request.path)?;
+    let path = readable(&view.profile.description, request.path)?;
     let transport = transport_of(view, request, &path)?;
     let points = points_of(view, request, path, transport.multicast)?;
     let admission = admission_at(&points, &transport);
@@ -138,7 +140,7 @@ fn transport_of<C: ConnectionsView>(
         Refusal::InUse,
     )?;
     // 4
-    key_check(&view.profile.identity, path)?;
+    key_check(view.profile, request.path, key_of(path))?;
     // 5
     let (consumed, produced) = (request.o_t_params.kind, request.t_o_params.kind);
     let multicast = produced == Multicast;

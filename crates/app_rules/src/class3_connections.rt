@@ -6,21 +6,22 @@ ghost use Rattle.std.specs.Option.{option_map};
 ghost use Rattle.cip_epath.specs.ElectronicKey.{view_key};
 ghost use Rattle.cip_epath.specs.Reading.{seen};
 ghost use Rattle.cip_fwdopen.specs.Open.{view_open};
-ghost use Rattle.adapter_table.specs.Checks.{is_point_to_point, key_check, segment_check};
+ghost use Rattle.adapter_table.specs.Checks.{is_point_to_point, segment_check};
 ghost use Rattle.adapter_table.specs.Class3Opening.{are_enough, class3_refusal, message_path_check, named_key, node_places};
 ghost use Rattle.adapter_table.specs.Profiles.{class3_places};
 ghost use Rattle.messaging.specs.Class3Connections.{most_class3_connections};
 ghost use Rattle.app_rules.specs.Stages.{IsPassed, class3_times};
 ghost use Rattle.app_rules.specs.Views.{seen_class3_connections};
 
+use crate::paths::{key_check, opening_message_path};
 use crate::questions::{is_below_least, is_unserved, refuse_if};
 use crate::view::Class3View;
-use cip_epath::{ElectronicKey, KeyFault, PathFault, check_key, read_message_path};
+use cip_epath::{ElectronicKey, PathFault};
 use cip_fwdopen::OpenRequest;
 use cip_netparams::{ConnectionType, api_of, timeout_of};
 use cip_router::Refusal;
+use cip_types::Ms;
 use cip_types::limits::IDS_PER_INCARNATION;
-use cip_types::{Identity, Ms};
 
 /// The most class 3 connections of an adapter.
 const MOST_CLASS3_CONNECTIONS: usize = 64;
@@ -43,21 +44,13 @@ fn check_segments(path: &Result<Option<ElectronicKey>, PathFault>) -> Result<(),
     }
 }
 
-/// The refusal of a path whose key is not that of this device.
-fn check_named_key(
-    identity: &Identity,
-    path: &Result<Option<ElectronicKey>, PathFault>,
-) -> Result<(), Refusal>
-    ensures { IsPassed (key_check identity.now (named_key (seen (option_map view_key) path.now))) result }
+/// The key of a path that reads, if it has one.
+fn named_key(path: &Result<Option<ElectronicKey>, PathFault>) -> Option<ElectronicKey>
+    ensures { option_map view_key result ≡ named_key (seen (option_map view_key) path.now) }
 {
-    let Ok(Some(key)) = path else {
-        return Ok(());
-    };
-    match check_key(key, identity) {
-        Ok(()) => Ok(()),
-        Err(KeyFault::VendorOrProduct) => Err(Refusal::VendorOrProduct),
-        Err(KeyFault::DeviceType) => Err(Refusal::DeviceType),
-        Err(KeyFault::Revision) => Err(Refusal::Revision),
+    match path {
+        Ok(key) => *key,
+        Err(_) => None,
     }
 }
 
@@ -119,7 +112,8 @@ fn has_node_enough(view: &Class3View<'_>) -> bool
 ///
 /// 2. Each segment of the path reads (0x0315).
 /// 3. No connection of any class and state has the triad (0x0100).
-/// 4. The key names this device: vendor and product (0x0114), device type (0x0115), revision (0x0116).
+/// 4. The key names this device: vendor and product (0x0114), device type (0x0115), revision (0x0116), and the serial
+///    number of a described one (0x0114).
 /// 5. The O->T type (0x0123) and the T->O type (0x0124) are point to point.
 /// 7. The multiplier is at most 7, and no redundant owner is requested (0x0108).
 /// 8. Each packet interval is 1 microsecond to 10 seconds, and no shorter than the least that the maker states
@@ -140,12 +134,12 @@ pub fn admit_class3(
     ensures times { IfOk result (λ times. times ≡ class3_times (view_open request.now)) }
 {
     // 2
-    let path = read_message_path(request.path);
+    let path = opening_message_path(&view.profile.description, request.path);
     check_segments(&path)?;
     // 3
     refuse_if(view.in_use, Refusal::InUse)?;
     // 4
-    check_named_key(&view.profile.identity, &path)?;
+    key_check(view.profile, request.path, named_key(&path))?;
     // 5
     let (consumed, produced) = (request.o_t_params.kind, request.t_o_params.kind);
     refuse_if(!is_point_to_point(consumed), Refusal::ConsumedType)?;

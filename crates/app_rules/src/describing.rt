@@ -1,12 +1,13 @@
 //! What a described device makes of a request to open a connection, beside the checks that every adapter has.
 
-ghost use Rattle.std.specs.Prelude.{◌≡◌, ◌≢◌};
+ghost use Rattle.std.specs.Prelude.{◌≡◌, ◌≢◌, ◌&&◌, not};
+ghost use Rattle.cip_netparams.specs.Word.{is_message_trigger};
 ghost use Rattle.cip_fwdopen.specs.Open.{view_open};
 ghost use Rattle.adapter_table.specs.Describing.{described_code, is_null, is_null_open, is_variable, opening_code, opening_fault};
 
 use adapter_table::Description;
 use cip_fwdopen::OpenRequest;
-use cip_netparams::{ConnectionType, NetParams};
+use cip_netparams::{ConnectionType, NetParams, is_message_trigger};
 use cip_router::Refusal;
 use cip_types::Fault;
 
@@ -33,6 +34,13 @@ fn is_null_open(request: &OpenRequest<&[u8]>) -> bool
     is_null(request.o_t_params.kind) && is_null(request.t_o_params.kind)
 }
 
+/// Whether a connection of class 1 is asked for data of variable size.
+fn is_variable_data(request: &OpenRequest<&[u8]>, params: &NetParams) -> bool
+    ensures { result ≡ (params.now.variable && not (is_message_trigger request.now.trigger)) }
+{
+    params.variable && !is_message_trigger(request.trigger)
+}
+
 /// The extended status of a refusal by a described device.
 fn described_code(request: &OpenRequest<&[u8]>, why: Refusal) -> u16
     ensures { result ≡ described_code (view_open request.now) why }
@@ -41,8 +49,8 @@ fn described_code(request: &OpenRequest<&[u8]>, why: Refusal) -> u16
         Refusal::Parameter if request.multiplier > 7 => 0x0133,
         Refusal::Parameter => 0x0125,
         Refusal::ConsumedType if is_null_open(request) => 0x0132,
-        Refusal::ConsumedSize if request.o_t_params.variable => 0x011F,
-        Refusal::ProducedSize if request.t_o_params.variable => 0x0120,
+        Refusal::ConsumedSize if is_variable_data(request, &request.o_t_params) => 0x011F,
+        Refusal::ProducedSize if is_variable_data(request, &request.t_o_params) => 0x0120,
         _ => why.code(),
     }
 }
@@ -62,7 +70,7 @@ fn opening_code(
 }
 
 /// The status of a request that is refused. A described device names a multiplier above 7 (0x0133), a redundant owner
-/// (0x0125), a request for no connection (0x0132), and data of variable size (0x011F, 0x0120). Takes no memory.
+/// (0x0125), a request for no connection (0x0132), and class 1 data of variable size (0x011F, 0x0120). Takes no memory.
 ///
 /// Volume 1, chapter 3, Connection Manager extended status codes.
 pub fn opening_fault(

@@ -5,27 +5,26 @@ ghost use Rattle.std.specs.List.{list_any};
 ghost use Rattle.std.specs.Option.{option_map};
 ghost use Rattle.cip_epath.specs.Path.{view_path};
 ghost use Rattle.cip_fwdopen.specs.Open.{view_open};
-ghost use Rattle.cip_epath.specs.Reading.{path_reading};
 ghost use Rattle.cip_productions.specs.declared.kind.Kind.{Kind};
 ghost use Rattle.cip_productions.specs.Kinds.{is_owner, is_listener};
 ghost use Rattle.adapter_table.specs.Rows.{most_rows, is_established, is_timed_out, drives, is_supported};
-ghost use Rattle.adapter_table.specs.Checks.{Gives, view_admission, check, key_of, key_check, is_unserved, is_below_least, inhibit_of, lacks_pace, served_inhibit, is_known_config, consumed_point_of, group_of, joined, named_len, has_other_length, has_other_bytes, has_other_o_t_size, has_other_t_o_size, joins, has_other_trigger, has_other_inhibit, drawn_ids};
+ghost use Rattle.adapter_table.specs.Checks.{view_admission, check, is_unserved, is_below_least, inhibit_of, lacks_pace, served_inhibit, is_known_config, consumed_point_of, group_of, joined, named_len, has_other_length, has_other_bytes, has_other_o_t_size, has_other_t_o_size, joins, has_other_trigger, has_other_inhibit, drawn_ids};
 ghost use Rattle.adapter_table.specs.StatedLimits.{has_no_place, has_node_enough, exceeds};
 ghost use Rattle.app_rules.specs.Views.{view_named_points};
-ghost use Rattle.app_rules.specs.Stages.{IsPassed, readable, path_inhibit, admission_at};
+ghost use Rattle.app_rules.specs.Stages.{IsPassed, path_inhibit, admission_at};
 
 use crate::connections::ConnectionsView;
 use crate::view::View;
 use adapter_table::{
     Admission, ConsumedPoint, InputPoint, NodeLimits, Places, Profile, Row, State,
 };
-use cip_epath::{ConnPath, KeyFault, PathFault, check_key, read_path};
+use cip_epath::ConnPath;
 use cip_fwdopen::OpenRequest;
 use cip_netparams::Trigger;
 use cip_productions::Kind;
 use cip_router::Refusal;
 use cip_types::limits::IDS_PER_INCARNATION;
-use cip_types::{Identity, Ms, Node};
+use cip_types::{Ms, Node};
 
 /// The transport that a request asks for: whether its producer sends to a group, its trigger and production inhibit
 /// time, its actual packet intervals, both in milliseconds, and the time-out of its watchdog.
@@ -53,32 +52,6 @@ pub fn refuse_if(fails: bool, why: Refusal) -> Result<(), Refusal>
     ensures { IsPassed (check fails why) result }
 {
     if fails { Err(why) } else { Ok(()) }
-}
-
-/// The path of a request, if its segments read. Segments in a wrong order give no path.
-pub fn readable(bytes: &[u8]) -> Result<Option<ConnPath<'_>>, Refusal>
-    ensures { Gives (option_map view_path) result (readable (path_reading bytes.now)) }
-{
-    match read_path(bytes) {
-        Ok(path) => Ok(Some(path)),
-        Err(PathFault::Shape) => Ok(None),
-        Err(_) => Err(Refusal::Segment),
-    }
-}
-
-/// The refusal of a path whose key is not that of this device.
-pub fn key_check(identity: &Identity, path: &Option<ConnPath<'_>>) -> Result<(), Refusal>
-    ensures { IsPassed (key_check identity.now (key_of (option_map view_path path.now))) result }
-{
-    let Some(ConnPath { key: Some(key), .. }) = path else {
-        return Ok(());
-    };
-    match check_key(key, identity) {
-        Ok(()) => Ok(()),
-        Err(KeyFault::VendorOrProduct) => Err(Refusal::VendorOrProduct),
-        Err(KeyFault::DeviceType) => Err(Refusal::DeviceType),
-        Err(KeyFault::Revision) => Err(Refusal::Revision),
-    }
 }
 
 /// Whether the multiplier is out of range, or a redundant owner is requested.

@@ -119,7 +119,7 @@ message_ahead (classed k) = refl
 message_ahead (whole k) = refl
 message_ahead misplaced = refl
 
-message_folded_is : (d : MessageBuilderValue) (segments : List SegmentValue) → message_folded d segments ≡ message_total d segments
+pub message_folded_is : (d : MessageBuilderValue) (segments : List SegmentValue) → message_folded d segments ≡ message_total d segments
 message_folded_is d [] = message_ahead d
 message_folded_is d (s ∷ segments) = message_folded_is (next_message s d) segments ∙ sym (message_step d s segments)
 

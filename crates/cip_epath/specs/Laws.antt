@@ -8,3 +8,4 @@ pub mod Cuts
 pub mod Arrangements
 pub mod Texts
 pub mod PathLaws
+pub mod AnyLaws

@@ -5,6 +5,8 @@ pub mod Reading
 pub mod PathBuilder
 pub mod MessagePath
 pub mod MessageBuilder
+pub mod AnyPath
+pub mod AnyBuilder
 pub mod Written
 pub mod ReadsBack
 pub mod Laws

@@ -3,6 +3,7 @@
 //! Volume 1, appendix C, data management: segment types.
 #![tactic(auto)]
 
+mod any_path;
 mod builder;
 mod check;
 pub mod class;
@@ -16,6 +17,7 @@ mod reading;
 mod segment;
 mod write;
 
+pub use any_path::{is_other_serial, key_serial, read_any_message_path, read_any_path};
 pub use check::check_key;
 pub use fault::PathFault;
 pub use key::{ElectronicKey, KeyFault};

@@ -53,7 +53,7 @@ fn after_instance(key: Option<ElectronicKey>, instance: u32) -> MessageBuilder
 
 impl MessageBuilder {
     /// The state after one more segment.
-    fn then(self, segment: Segment<'_>) -> MessageBuilder
+    pub fn then(self, segment: Segment<'_>) -> MessageBuilder
         ensures { view_message_builder result
             ≡ next_message (view_segment segment.entry) (view_message_builder self) }
     {
@@ -74,7 +74,7 @@ impl MessageBuilder {
 }
 
 /// The key of a finished walk.
-fn finished_message(builder: MessageBuilder) -> Result<Option<ElectronicKey>, PathFault>
+pub fn finished_message(builder: MessageBuilder) -> Result<Option<ElectronicKey>, PathFault>
     ensures { Gives (option_map view_key) result (message_of (view_message_builder builder)) }
 {
     match builder {

@@ -13,7 +13,7 @@ use crate::path::{ConnPath, Target};
 use crate::reading::segment_of;
 
 /// The path of a finished walk.
-fn finished<'a>(builder: PathBuilder<'a>, inhibits: Inhibits) -> Result<ConnPath<'a>, PathFault>
+pub fn finished<'a>(builder: PathBuilder<'a>, inhibits: Inhibits) -> Result<ConnPath<'a>, PathFault>
     ensures { Gives view_path result (path_of inhibits (view_path_builder builder.entry)) }
 {
     let inhibit = match inhibits {

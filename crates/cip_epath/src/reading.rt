@@ -30,7 +30,7 @@ fn data_of(bytes: &[u8]) -> Result<(&[u8], &[u8]), PathFault>
 
 /// The fields of a key. None where there are fewer bytes.
 #[tactic(auto, unfolding(crate::specs::Reading::key_fields_at))]
-fn key_fields(bytes: &[u8]) -> Option<(ElectronicKey, &[u8])>
+pub fn key_fields(bytes: &[u8]) -> Option<(ElectronicKey, &[u8])>
     ensures { Gives (λ x. (view_key x.0, x.1.now)) (ok_or result PathFault.Truncated) (key_fields_at bytes.now) }
 {
     let (vendor, rest) = u16_at(bytes)?;

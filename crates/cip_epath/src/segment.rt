@@ -8,8 +8,11 @@ pub const LOGICAL: u8 = 0x20;
 /// The first byte of an electronic key segment.
 pub const ELECTRONIC_KEY: u8 = 0x34;
 
-/// The only format of an electronic key: vendor, device type, product code, revision.
+/// The format of an electronic key: vendor, device type, product code, revision.
 pub const KEY_FORMAT: u8 = 4;
+
+/// The format of an electronic key with a serial number behind these.
+pub const SERIAL_KEY_FORMAT: u8 = 5;
 
 /// The bytes of an electronic key segment.
 pub const KEY_LEN: usize = 10;

@@ -12,7 +12,7 @@ use Rattle.cip_fwdopen.specs.declared.fault.ReadFault.TheVariants.{NotEnough, To
 use Rattle.cip_fwdopen.specs.declared.reply.Opened.{Opened}
 use Rattle.cip_fwdopen.specs.Request.{request_reading}
 use Rattle.cip_fwdopen.specs.Open.{OpenFields, open_text, open_reading}
-use Rattle.cip_fwdopen.specs.Reply.{opened_text, opened_reply, refused_text, refused_reply, unread_reading, open_reply_reading}
+use Rattle.cip_fwdopen.specs.Reply.{opened_text, opened_reply, refused_text, refused_reply, intervals_words, intervals_text, unread_reading, open_reply_reading}
 use Rattle.cip_fwdopen.specs.Close.{CloseFields, close_text, close_reading, closed_text, closed_reply, refused_close, close_reply_reading}
 use Rattle.cip_fwdopen.specs.Get.{get_text, got_text, got_reply, refused_get, get_reply_reading}
 
@@ -182,6 +182,18 @@ opened_with_a_word = refl
 pub refused_written : refused_text 0x54 in_use (Some first) ≡ refused_bytes
 unfolding refused_text
 refused_written = refl
+
+-- a T->O interval that is too short: the least one is 2,000 us, and the O->T one of 10,000 us is accepted
+pub intervals_written :
+    intervals_text 0x54 (record { o_t_says = 0; t_o_says = 2; o_t_us = 10_000; t_o_us = 2_000 }) (Some first)
+    ≡ 0xD4 ∷ 0 ∷ 1 ∷ 6 ∷ 0x12 ∷ 1 ∷ 0 ∷ 2 ∷ 0x10 ∷ 0x27 ∷ 0 ∷ 0 ∷ 0xD0 ∷ 7 ∷ 0 ∷ 0 ∷ 1 ∷ 0 ∷ 0x34 ∷ 0x12 ∷ 0x78 ∷ 0x56 ∷ 0x34 ∷ 0x12 ∷ 0 ∷ 0 ∷ []
+unfolding intervals_text intervals_words
+intervals_written = refl
+
+-- a scanner reads the extended status, and not the words behind it
+pub intervals_read : open_reply_reading (intervals_text 0x54 (record { o_t_says = 0; t_o_says = 2; o_t_us = 10_000; t_o_us = 2_000 }) (Some first)) ≡ Ok (refused_reply 0x54 (record { general = 1; extended = Some 0x0112 }) (Some first))
+unfolding intervals_text intervals_words open_reply_reading unread_reading
+intervals_read = refl
 
 pub refused_bare_written : refused_text 0x54 (record { general = 0x13; extended = None }) None ≡ 0xD4 ∷ 0 ∷ 0x13 ∷ 0 ∷ []
 unfolding refused_text

@@ -22,6 +22,7 @@ use Rattle.cip_types.specs.Texts.{IsImage, found_image, Tailed, IsTailedText, ta
 use Rattle.cip_fwdopen.specs.declared.fault.ReadFault.{ReadFault}
 use Rattle.cip_fwdopen.specs.declared.fault.ReadFault.TheVariants.{NotEnough, TooMuch}
 use Rattle.cip_fwdopen.specs.declared.reply.Opened as made
+use Rattle.cip_fwdopen.specs.declared.reply.AcceptableIntervals.{AcceptableIntervals}
 use Rattle.cip_fwdopen.specs.declared.reply.OpenAnswer.{OpenAnswer}
 use Rattle.cip_fwdopen.specs.declared.reply.OpenAnswer.TheVariants.{Opened, Refused}
 use Rattle.cip_fwdopen.specs.declared.reply.OpenReply.{OpenReply}
@@ -75,6 +76,28 @@ failure_text (Some t) = fields_text triad_widths (triad_numbers t) ++ 0 ∷ 0 �
 -- the reply that refuses a request of the service
 unfoldable pub refused_text : ℕ → Fault → Option Triad → List ℕ
 refused_text service fault triad = reply_service service ∷ 0 ∷ fault.general ∷ extended_text fault.extended ++ failure_text triad
+
+-- A refusal for its packet intervals (general status 1, extended status 0x0112) has five words more, which say what is acceptable
+-- (Volume 1, chapter 3, Connection Manager extended status codes):
+--
+--   place  width  words of the extended status
+--   0      2      0x0112
+--   1, 2   1, 1   what is said of the O->T and of the T->O interval: 0 the requested one is accepted, 2 the least one that
+--                 is, 3 the greatest one that is, 4 the one of the data that are exchanged already
+--   3, 4   4, 4   the O->T and the T->O interval, in microseconds
+abbrev pub intervals_widths : List Width
+intervals_widths = w16 ∷ w8 ∷ w8 ∷ w32 ∷ w32 ∷ []
+
+abbrev pub intervals_numbers : AcceptableIntervals → List ℕ
+intervals_numbers a = 0x0112 ∷ a.o_t_says ∷ a.t_o_says ∷ a.o_t_us ∷ a.t_o_us ∷ []
+
+-- the number of words of the extended status, and these words
+unfoldable pub intervals_words : AcceptableIntervals → List ℕ
+intervals_words a = 6 ∷ fields_text intervals_widths (intervals_numbers a)
+
+-- the reply that refuses a request of the service for its packet intervals
+unfoldable pub intervals_text : ℕ → AcceptableIntervals → Option Triad → List ℕ
+intervals_text service a triad = reply_service service ∷ 0 ∷ 1 ∷ intervals_words a ++ failure_text triad
 
 -- the contents of the reply that refuses a request of the service
 abbrev pub refused_reply : ℕ → Fault → Option Triad → OpenReply

@@ -24,7 +24,8 @@ pub use laws::reads_back;
 pub use message::{Request, read_request};
 pub use open::{OpenRequest, read_open};
 pub use open_service::OpenService;
-pub use reply::{OpenAnswer, OpenReply, Opened, Refused, read_open_reply};
+pub use reply::{AcceptableIntervals, OpenAnswer, OpenReply, Opened, Refused, read_open_reply};
 pub use write::{
-    open_len, put_open, put_opened, put_refused, write_open, write_opened, write_refused,
+    open_len, put_open, put_opened, put_refused, put_unacceptable, write_open, write_opened,
+    write_refused, write_unacceptable,
 };

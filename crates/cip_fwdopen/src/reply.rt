@@ -35,6 +35,19 @@ pub struct Refused {
     pub triad: Option<Triad>,
 }
 
+/// The packet intervals that a target accepts in place of those of a request, in microseconds, and what is said of each.
+///
+/// Volume 1, chapter 3, Connection Manager extended status codes.
+#[derive(Clone, Copy, PartialEq, Eq)]
+pub struct AcceptableIntervals {
+    /// 0: the requested interval is accepted; 2: the least that is; 3: the greatest that is; 4: that of the data that are
+    /// exchanged already.
+    pub o_t_says: u8,
+    pub t_o_says: u8,
+    pub o_t_us: u32,
+    pub t_o_us: u32,
+}
+
 /// The answer of a reply to a Forward_Open.
 #[derive(Clone, Copy, PartialEq, Eq)]
 pub enum OpenAnswer {

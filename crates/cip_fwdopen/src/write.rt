@@ -6,12 +6,12 @@ ghost use Rattle.cip_epath.specs.Written.{path_text, AreWords};
 ghost use Rattle.std.specs.Int.{w32, to_le_bytes};
 ghost use Rattle.cip_types.specs.Fields.{fields_text};
 ghost use Rattle.cip_fwdopen.specs.Open.{OpenFields, open_contents, view_open, sent_open, params_width, params_word, greatest_size, open_text, OpenFits, IsOpenText, open_reading};
-ghost use Rattle.cip_fwdopen.specs.Reply.{opened_text, opened_reply, refused_text, refused_reply, IsOpenReplyText, open_reply_reading, extended_text, failure_text, triad_widths, triad_numbers, OpenedFits, TriadFits};
+ghost use Rattle.cip_fwdopen.specs.Reply.{opened_text, opened_reply, refused_text, refused_reply, intervals_words, intervals_text, IsOpenReplyText, open_reply_reading, extended_text, failure_text, triad_widths, triad_numbers, OpenedFits, TriadFits};
 ghost use Rattle.cip_fwdopen.specs.Services.{is_large_open};
 
 use crate::open::OpenRequest;
 use crate::open_service::OpenService;
-use crate::reply::Opened;
+use crate::reply::{AcceptableIntervals, Opened};
 use crate::service::REPLY;
 use cip_epath::{ConnPath, path_len, put_path};
 use cip_netparams::{NetParams, write16, write32};
@@ -27,6 +27,12 @@ const LARGE_FRONT_LEN: usize = 40;
 
 /// The length of the reply to a successful open, in bytes.
 const OPENED_LEN: usize = 30;
+
+/// The length of a refusal that names acceptable packet intervals, in bytes.
+const UNACCEPTABLE_LEN: usize = 26;
+
+/// The extended status of requested packet intervals that are not acceptable.
+const INTERVALS_CODE: u16 = 0x0112;
 
 fn put_params(
     out: &mut Vec<u8>,
@@ -271,5 +277,50 @@ pub fn write_refused(
 {
     let mut out = Vec::new(alloc);
     put_refused(&mut out, service, fault, triad)?;
+    Ok(out)
+}
+
+/// Appends the words of an extended status 0x0112, behind their number.
+#[tactic(auto, unfolding(crate::specs::Reply::intervals_words))]
+fn put_intervals(out: &mut Vec<u8>, intervals: &AcceptableIntervals) -> Result<(), OutOfMemory>
+    ensures { OnOk result (out.new.items ≡ out.old.items ++ intervals_words intervals.now) }
+{
+    put_u8(out, 6)?;
+    put_u16(out, INTERVALS_CODE)?;
+    put_two(out, intervals.o_t_says, intervals.t_o_says)?;
+    put_u32(out, intervals.o_t_us)?;
+    put_u32(out, intervals.t_o_us)
+}
+
+/// Appends the whole reply that refuses a request of the service for its packet intervals, with those that are acceptable, and the
+/// triad, if one is given. OutOfMemory is the only fault.
+///
+/// Volume 1, chapter 3, Forward_Open service, unsuccessful response, and Connection Manager extended status codes.
+pub fn put_unacceptable(
+    out: &mut Vec<u8>,
+    service: u8,
+    intervals: &AcceptableIntervals,
+    triad: Option<Triad>,
+) -> Result<(), OutOfMemory>
+    ensures { OnOk result (out.new.items ≡ out.old.items ++ intervals_text service intervals.now triad) }
+{
+    put_bytes(out, &[service | REPLY, 0, 1])?;
+    put_intervals(out, intervals)?;
+    put_failure(out, triad)
+}
+
+/// Writes the same.
+///
+/// Volume 1, chapter 3, Forward_Open service, unsuccessful response, and Connection Manager extended status codes.
+pub fn write_unacceptable(
+    alloc: Global,
+    service: u8,
+    intervals: &AcceptableIntervals,
+    triad: Option<Triad>,
+) -> Result<Vec<u8>, OutOfMemory>
+    ensures { IfOk result (λ v. v.items ≡ intervals_text service intervals.now triad) }
+{
+    let mut out = Vec::with_capacity(alloc, UNACCEPTABLE_LEN)?;
+    put_unacceptable(&mut out, service, intervals, triad)?;
     Ok(out)
 }

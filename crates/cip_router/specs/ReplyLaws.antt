@@ -4,13 +4,14 @@ use Rattle.cip_types.specs.declared.names.Fault.{Fault}
 use Rattle.cip_types.specs.declared.names.Triad.{Triad}
 use Rattle.cip_types.specs.Fields.{fields_text}
 use Rattle.cip_fwdopen.specs.Close.{closed_text}
+use Rattle.cip_fwdopen.specs.declared.reply.AcceptableIntervals.{AcceptableIntervals}
 use Rattle.cip_fwdopen.specs.declared.reply.Opened.{Opened}
-use Rattle.cip_fwdopen.specs.Reply.{reply_service, extended_text, failure_text, opened_text, refused_text}
+use Rattle.cip_fwdopen.specs.Reply.{reply_service, extended_text, failure_text, opened_text, refused_text, intervals_words, intervals_text}
 use Rattle.cip_encap.specs.declared.packet.SocketAddress.{SocketAddress}
 use Rattle.cip_encap.specs.Packet.{packet_widths, packet_numbers, socket_count, socket_items, packet_text}
 use Rattle.cip_encap.specs.Connected.{connected_widths, written_connected, connected_text}
 use Rattle.cip_router.specs.declared.object_service.ObjectService.{ObjectService}
-use Rattle.cip_router.specs.Replies.{ReplyFields, opened, closed, object_reply, refused, own, reply_text, object_reply_text, own_reply_text, GetsFew}
+use Rattle.cip_router.specs.Replies.{ReplyFields, opened, closed, object_reply, refused, unacceptable, own, reply_text, object_reply_text, own_reply_text, GetsFew, no_route}
 
 -- ---- a reply and its items
 
@@ -41,6 +42,10 @@ short_refused : (service : ℕ) (fault : Fault) (triad : Option Triad) → IsSho
 unfolding refused_text
 short_refused service fault triad = refusal_short service fault.general fault.extended triad
 
+short_intervals : (service : ℕ) (intervals : AcceptableIntervals) (triad : Triad) → IsShort (intervals_text service intervals (Some triad))
+unfolding intervals_text intervals_words
+short_intervals service intervals triad = record { some = omega arith; few = omega arith }
+
 short_own : (service status : ℕ) (content : List ℕ) → length content ≤ 1400 → IsShort (own_reply_text service status content)
 unfolding own_reply_text
 short_own service status content few = record { some = omega arith; few = omega (arith, few) }
@@ -50,7 +55,9 @@ reply_is_short (opened large o) few = short_opened large o
 reply_is_short (closed triad) few = short_closed triad
 reply_is_short (object_reply service value) few = short_object_reply service value few
 reply_is_short (refused service fault triad) few = short_refused service fault triad
+reply_is_short (unacceptable service intervals triad) few = short_intervals service intervals triad
 reply_is_short (own service status content) few = short_own service status content few
+reply_is_short (no_route words) few = record { some = omega arith; few = omega arith }
 
 -- and is within its length field
 pub reply_fits : (reply : ReplyFields) → GetsFew reply → length (reply_text reply) ≤ 65535

@@ -1,6 +1,6 @@
 -- Requests to the message router (Volume 1, chapter 2, message router request, and chapter 3, Connection Manager
 -- services).
-use Rattle.std.specs.Prelude.{ℕ, ◌==◌, ◌&&◌, Bool, true, false, List, [], ◌∷◌, Option, Result, Ok, Err}
+use Rattle.std.specs.Prelude.{ℕ, ◌==◌, ◌&&◌, Bool, true, false, List, [], ◌∷◌, Option, None, Result, Ok, Err}
 use Rattle.cip_types.specs.Cases.{first_case_or}
 use Rattle.cip_fwdopen.specs.declared.fault.ReadFault.{ReadFault}
 use Rattle.cip_fwdopen.specs.declared.fault.ReadFault.TheVariants.{NotEnough, TooMuch, Path}
@@ -45,12 +45,17 @@ abbrev pub request_to_close : ℕ → Result CloseFields ReadFault → RouterReq
 request_to_close service (Ok request) = closing request
 request_to_close service (Err fault) = refused service (data_status fault)
 
+-- the service that carries a request to a device behind a route
+abbrev pub unconnected_send : ℕ
+unconnected_send = 0x52
+
 -- a service of the Connection Manager
 abbrev pub request_to_manager : ℕ → List ℕ → RouterRequestFields
 request_to_manager service body = first_case_or (refused service status.Service) (
     (service == forward_open, request_to_open service false (open_reading false body))
     ∷ (service == large_forward_open, request_to_open service true (open_reading true body))
     ∷ (service == forward_close, request_to_close service (close_reading body))
+    ∷ (service == unconnected_send, object service 6 1 None body)
     ∷ [])
 
 -- the Connection Manager is class 6, instance 1

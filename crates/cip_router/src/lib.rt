@@ -14,4 +14,4 @@ pub use object_service::ObjectService;
 pub use refusal::{Refusal, Status};
 pub use reply::Reply;
 pub use router_reply::{RouterReply, read_router_reply};
-pub use router_request::{RouterRequest, read_router_request};
+pub use router_request::{RouterRequest, UNCONNECTED_SEND, read_router_request};

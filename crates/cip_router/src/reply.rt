@@ -2,13 +2,13 @@
 
 ghost use Rattle.std.specs.Prelude.{◌≡◌, ◌++◌, IfOk, OnOk, length};
 ghost use Rattle.cip_fwdopen.specs.Reply.{extended_text, failure_text};
-ghost use Rattle.cip_router.specs.Replies.{view_reply, reply_text, object_reply_text, own_reply_text, HasStatus};
+ghost use Rattle.cip_router.specs.Replies.{view_reply, reply_text, no_route_text, object_reply_text, own_reply_text, HasStatus};
 
 use crate::object_service::ObjectService;
 use cip_fwdopen::service::REPLY;
 use cip_fwdopen::{
-    OpenService, Opened, put_closed, put_opened, put_refused, write_closed, write_opened,
-    write_refused,
+    AcceptableIntervals, OpenService, Opened, put_closed, put_opened, put_refused,
+    put_unacceptable, write_closed, write_opened, write_refused, write_unacceptable,
 };
 use cip_types::fields::put_bytes;
 use cip_types::{Fault, OutOfMemory, Triad};
@@ -27,8 +27,12 @@ pub enum Reply<'a> {
     Object(ObjectService, &'a [u8]),
     /// A request of this service was refused. A refused connection has its triad.
     Refused(u8, Fault, Option<Triad>),
-    /// An object of the maker's own answers a request of this service: with this general status, and data.
+    /// A connection was refused for its packet intervals, and others are acceptable.
+    Unacceptable(u8, AcceptableIntervals, Triad),
+    /// An object answers a request of this service: with this general status, and data.
     Own(u8, u8, &'a [u8]),
+    /// No port leads to the route of an Unconnected_Send, of which so many words are left.
+    NoRoute(u8),
 }
 
 /// The number of bytes of an extended status, with its size.
@@ -107,6 +111,22 @@ fn write_own_reply(
     Ok(out)
 }
 
+/// Appends the refusal of an Unconnected_Send, since no port leads to its route, of which so many words are left.
+fn put_no_route(out: &mut Vec<u8>, words: u8) -> Result<(), OutOfMemory>
+    ensures { OnOk result (out.new.items ≡ out.old.items ++ no_route_text words) }
+{
+    put_bytes(out, &[0xD2, 0, 1, 1, 0x11, 0x03, words])
+}
+
+/// Writes the same.
+fn write_no_route(alloc: Global, words: u8) -> Result<Vec<u8>, OutOfMemory>
+    ensures { IfOk result (λ bytes. bytes.items ≡ no_route_text words) }
+{
+    let mut out = Vec::with_capacity(alloc, 7)?;
+    put_no_route(&mut out, words)?;
+    Ok(out)
+}
+
 impl Reply<'_> {
     /// The number of bytes of the reply. Takes no memory.
     pub fn len(&self) -> usize
@@ -119,7 +139,9 @@ impl Reply<'_> {
             Reply::Refused(_, fault, triad) => {
                 3 + extended_len(fault.extended) + failure_len(*triad)
             }
+            Reply::Unacceptable(_, _, _) => 26,
             Reply::Own(_, _, content) => 4 + content.len(),
+            Reply::NoRoute(_) => 7,
         }
     }
 
@@ -132,7 +154,11 @@ impl Reply<'_> {
             Reply::Closed(triad) => put_closed(out, *triad),
             Reply::Object(service, value) => put_object_reply(out, *service, value),
             Reply::Refused(service, fault, triad) => put_refused(out, *service, *fault, *triad),
+            Reply::Unacceptable(service, intervals, triad) => {
+                put_unacceptable(out, *service, intervals, Some(*triad))
+            }
             Reply::Own(service, status, content) => put_own_reply(out, *service, *status, content),
+            Reply::NoRoute(words) => put_no_route(out, *words),
         }
     }
 
@@ -146,9 +172,13 @@ impl Reply<'_> {
             Reply::Closed(triad) => write_closed(alloc, *triad),
             Reply::Object(service, value) => write_object_reply(alloc, *service, value),
             Reply::Refused(service, fault, triad) => write_refused(alloc, *service, *fault, *triad),
+            Reply::Unacceptable(service, intervals, triad) => {
+                write_unacceptable(alloc, *service, intervals, Some(*triad))
+            }
             Reply::Own(service, status, content) => {
                 write_own_reply(alloc, *service, *status, content)
             }
+            Reply::NoRoute(words) => write_no_route(alloc, *words),
         }
     }
 }

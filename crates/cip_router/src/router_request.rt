@@ -14,6 +14,11 @@ use cip_fwdopen::{
     CloseRequest, OpenRequest, OpenService, ReadFault, Request, read_close, read_open, read_request,
 };
 
+/// The service that carries a request to a device behind a route.
+///
+/// Volume 1, chapter 3, Connection Manager services.
+pub const UNCONNECTED_SEND: u8 = 0x52;
+
 /// A request to the message router, by its object and service.
 ///
 /// Volume 1, chapter 2, message router request, and chapter 3, Connection Manager services.
@@ -70,6 +75,7 @@ fn request_to_manager(service: u8, body: &[u8]) -> RouterRequest<'_>
     }
     match service {
         FORWARD_CLOSE => request_to_close(service, body),
+        UNCONNECTED_SEND => RouterRequest::Object(service, CONNECTION_MANAGER, 1, None, body),
         _ => RouterRequest::Refused(service, Status::Service),
     }
 }
@@ -93,8 +99,9 @@ fn request_to_object<'a>(request: Request<'a>) -> RouterRequest<'a>
 /// Reads a request. Takes no memory.
 ///
 /// The router refuses, in this order: bytes that end within the request path (status 0x13), a path that
-/// is no class and instance (0x04), another service of the Connection Manager than its opens and its close (0x08),
-/// their data too short (0x13) or too long (0x15). The device judges a request to another object.
+/// is no class and instance (0x04), another service of the Connection Manager than its opens, its close and
+/// Unconnected_Send (0x08), their data too short (0x13) or too long (0x15). The device judges Unconnected_Send, and a request to
+/// another object.
 #[tactic(auto, unfolding(crate::specs::Requests::router_request_reading))]
 pub fn read_router_request(bytes: &[u8]) -> RouterRequest<'_>
     ensures { view_router_request result ≡ router_request_reading bytes.now }

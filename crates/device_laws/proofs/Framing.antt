@@ -27,6 +27,8 @@ use Rattle.cip_router.specs.Replies.{ReplyFields, opened, closed, object_reply, 
 use Rattle.cip_router.specs.Replies as replies
 use Rattle.messaging.specs.declared.class3.Class3Connection.{Class3Connection}
 use Rattle.messaging.specs.Changes.{with_class3}
+use Rattle.adapter_table.specs.Intervals.{whole_request}
+use Rattle.adapter_table.specs.Lemmas.RefusalLemmas.{refusal_either}
 use Rattle.adapter_table.specs.declared.table.AdapterTable.{AdapterTable}
 use Rattle.adapter_table.specs.Checks.{Check}
 use Rattle.adapter_table.specs.Class3Opening.{class3_view, class3_refusal, opened_class3, class3_table, judged_class3, served_class3, stream_served}
@@ -67,7 +69,9 @@ reply_weaker P Q more (opened large o) holds = λ read ids. more read (holds rea
 reply_weaker P Q more (closed triad) holds = tt
 reply_weaker P Q more (object_reply by value) holds = tt
 reply_weaker P Q more (replies.refused service fault triad) holds = holds
+reply_weaker P Q more (replies.unacceptable service a triad) holds = tt
 reply_weaker P Q more (replies.own service general content) holds = holds
+reply_weaker P Q more (replies.no_route words) holds = tt
 
 register_has : (t : AdapterTable) (stream : Stream) (body : List ℕ) → HandledHas t body (register_session t stream body)
 register_has t stream body =
@@ -99,7 +103,7 @@ record IsMessageOpening (body : List ℕ) (large : Bool) (request : OpenFields) 
   trigger : is_message_trigger request.trigger ≡ true
 
 class3_has : (t : AdapterTable) (stream : Stream) (body : List ℕ) (large : Bool) (request : OpenFields) (c : Check) → IsMessageOpening body large request → NewHas t body (judged_class3 t stream large request c)
-class3_has t stream body large request (Some why) is = refl
+class3_has t stream body large request (Some why) is = refusal_either (ReplyHolds (IsOfNew t t body)) t.profile t.rows _ request why (λ fault fails. fails) (λ a. tt)
 class3_has t stream body large request None is = λ read ids. inr (record {
   packet = is.packet;
   packet_is = is.packet_is;
@@ -118,7 +122,7 @@ class3_has t stream body large request None is = λ read ids. inr (record {
 open_step : (b : Bool) (t : AdapterTable) (stream : Stream) (body : List ℕ) (packet : PacketFields) (large : Bool) (request : OpenFields) → packet_reading body ≡ Ok packet → router_request_reading packet.payload ≡ opening large request → is_message_trigger request.trigger ≡ b → IdsAreDrawn t.profile t.next_id t.rows → IfSome (cond b (Some (served_class3 t stream large request)) (served t stream.peer (opening large request))) (NewHas t body)
 unfolding served_class3
 open_step true t stream body packet large request reads opens trigger drawn =
-    class3_has t stream body large request (class3_refusal (class3_view t stream.peer request.triad) request) (record { packet = packet; packet_is = reads; opens = opens; trigger = trigger })
+    class3_has t stream body large (whole_request t.profile.description request) (class3_refusal (class3_view t stream.peer request.triad) (whole_request t.profile.description request)) (record { packet = packet; packet_is = reads; opens = opens; trigger = trigger })
 open_step false t stream body packet large request reads opens trigger drawn = of_rows t body (served t stream.peer (opening large request)) (served_has t stream.peer (opening large request) drawn)
 
 over_stream_has : (t : AdapterTable) (stream : Stream) (body : List ℕ) (packet : PacketFields) (requested : RouterRequestFields) → packet_reading body ≡ Ok packet → router_request_reading packet.payload ≡ requested → IdsAreDrawn t.profile t.next_id t.rows → IfSome (stream_served t stream requested) (NewHas t body)

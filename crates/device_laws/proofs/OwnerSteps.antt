@@ -12,7 +12,8 @@ use Rattle.cip_encap.specs.declared.packet.ItemFault.{ItemFault}
 use Rattle.cip_encap.specs.ConnectedReading.{connected_reading}
 use Rattle.cip_encap.specs.Packet.{PacketFields}
 use Rattle.cip_encap.specs.PacketReading.{packet_reading}
-use Rattle.cip_epath.specs.Reading.{path_reading}
+use Rattle.adapter_table.specs.Intervals.{whole_request}
+use Rattle.adapter_table.specs.Paths.{opening_path}
 use Rattle.cip_events.specs.declared.event.Event.{Event}
 use Rattle.cip_events.specs.declared.event.Event.TheVariants.{Request, StreamOpened, Frame, StreamCut, Datagram, Inquiry, Write, Tick, Respond}
 use Rattle.cip_events.specs.declared.event.Notice.{Notice}
@@ -43,7 +44,8 @@ use Rattle.adapter_table.specs.Connections.{Row}
 use Rattle.adapter_table.specs.declared.table.AdapterTable.{AdapterTable}
 use Rattle.adapter_table.specs.declared.table.Stream.{Stream}
 use Rattle.adapter_table.specs.Profiles.{is_at}
-use Rattle.adapter_table.specs.Objects.{ObjectAnswer, said, denied, resetting, object_answer}
+use Rattle.adapter_table.specs.Objects.{ObjectAnswer, said, denied, resetting, answering, refusing, unrouted}
+use Rattle.adapter_table.specs.Carrying.{object_answer}
 use Rattle.adapter_table.specs.Inquiries.{inquiry_reply, inquired_by, inquired}
 use Rattle.adapter_table.specs.Rows.{has_triad, holds_triad}
 use Rattle.adapter_table.specs.Checks.{Check, check, first_of, segment_check, points_of, Points, judged, view_of, verdict, Admitted, admission}
@@ -82,9 +84,9 @@ second_passes (Some other) fails why rest none = absurd cc
 triad_is_free : (t : AdapterTable) (request : OpenFields) (admitted : Admitted) → admission t request ≡ Ok admitted → list_any (holds_triad request.triad) t.rows ≡ false
 unfolding verdict
 triad_is_free t request admitted is =
-    let points = points_of (view_of t request.triad) request (result_ok (path_reading request.path)) in
+    let points = points_of (view_of t request.triad) request (result_ok (opening_path t.profile.description request.path)) in
     let talks = list_any (has_class3_triad request.triad) t.messaging.class3_connections in
-    let free = second_passes (segment_check (path_reading request.path)) (list_any (holds_triad request.triad) t.rows || list_any (has_class3_triad request.triad) t.messaging.class3_connections) InUse _ (judged_passes request points _ admitted is) in
+    let free = second_passes (segment_check (opening_path t.profile.description request.path)) (list_any (holds_triad request.triad) t.rows || list_any (has_class3_triad request.triad) t.messaging.class3_connections) InUse _ (judged_passes request points _ admitted is) in
     (or_parts (list_any (holds_triad request.triad) t.rows) talks free).0
 
 -- each opening that is admitted keeps the owner
@@ -127,6 +129,9 @@ keeps_object : (point : ℕ) (t : AdapterTable) (service : ℕ) (answer : Object
 keeps_object point t service (said by value) = unchanged point t []
 keeps_object point t service (denied why) = unchanged point t []
 keeps_object point t service (resetting kind) = unchanged point t (Reset kind ∷ [])
+keeps_object point t service (answering by general content) = unchanged point t []
+keeps_object point t service (refusing named why) = unchanged point t []
+keeps_object point t service (unrouted words) = unchanged point t []
 
 -- the same of what is served, if something is
 abbrev AnyKeeps : ℕ → AdapterTable → Option Served → Type 0
@@ -139,7 +144,7 @@ keeps_served point t opens peer nothing = tt
 keeps_served point t opens peer (refused service why) = unchanged point t []
 keeps_served point t opens peer (closing request) = keeps_end point t peer request (find (has_class3_triad request.triad) t.messaging.class3_connections)
 keeps_served point t opens peer (object service class instance attribute body) = keeps_object point t service (object_answer t service class instance attribute body)
-keeps_served point t opens peer (opening large request) = keeps_judged point t opens peer large request (limited_admission t peer request) refl
+keeps_served point t opens peer (opening large request) = keeps_judged point t opens peer large (whole_request t.profile.description request) (limited_admission t peer (whole_request t.profile.description request)) refl
 
 -- an answer and the next table keep the owner
 abbrev NextKeeps : ℕ → AdapterTable → Next → Type 0
@@ -180,7 +185,7 @@ keeps_over : (point : ℕ) (t : AdapterTable) → OpeningsKeep point t → (stre
 unfolding served_class3
 keeps_over point t opens stream (opening large request) =
     either (AnyKeeps point t) (is_message_trigger request.trigger) (Some (served_class3 t stream large request)) (served t stream.peer (opening large request))
-    (keeps_class3 point t stream large request (class3_refusal (class3_view t stream.peer request.triad) request)) (keeps_served point t opens stream.peer (opening large request))
+    (keeps_class3 point t stream large (whole_request t.profile.description request) (class3_refusal (class3_view t stream.peer request.triad) (whole_request t.profile.description request))) (keeps_served point t opens stream.peer (opening large request))
 keeps_over point t opens stream nothing = keeps_served point t opens stream.peer nothing
 keeps_over point t opens stream (refused service why) = keeps_served point t opens stream.peer (refused service why)
 keeps_over point t opens stream (closing request) = keeps_served point t opens stream.peer (closing request)

@@ -53,6 +53,7 @@ use Rattle.messaging.specs.Class3Connections.{has_class3_triad, is_on_stream, is
 use Rattle.messaging.specs.Lemmas.EachOfLemmas.{each_left, each_more}
 use Rattle.messaging.specs.Sound.{EachOf}
 use Rattle.messaging.specs.Times.{on_time, without_late_class3_connections, is_late_request, late_waiting, late_text, late_reply, late_replies, without_late_waiting, aged}
+use Rattle.adapter_table.specs.Intervals.{whole_request}
 use Rattle.adapter_table.specs.declared.profile.InputPoint.{InputPoint}
 use Rattle.adapter_table.specs.declared.table.AdapterTable.{AdapterTable}
 use Rattle.adapter_table.specs.declared.table.Stream.{Stream}
@@ -66,7 +67,8 @@ use Rattle.adapter_table.specs.Class3Opening.{served_class3, stream_served}
 use Rattle.adapter_table.specs.Encapsulation.{Handled, refusal, unanswered, session_begun, session_ended, register_session, request_replied, request_handled, packet_replied, message_found, unit_replied, handled, reply_frames, framed, frame_answer, stream_answer, frame_of, frame}
 use Rattle.adapter_table.specs.Inquiries.{inquiry_reply, inquired_by, inquired}
 use Rattle.adapter_table.specs.Messages.{messages_table}
-use Rattle.adapter_table.specs.Objects.{ObjectAnswer, said, denied, resetting, object_answer}
+use Rattle.adapter_table.specs.Objects.{ObjectAnswer, said, denied, resetting, answering, refusing, unrouted}
+use Rattle.adapter_table.specs.Carrying.{object_answer}
 use Rattle.adapter_table.specs.Opening.{opened_table}
 use Rattle.adapter_table.specs.Own.{OwnRequest, own_of, cannot_ask, is_own_class}
 use Rattle.adapter_table.specs.Profiles.{is_at}
@@ -194,6 +196,9 @@ object_plain : (t : AdapterTable) (service : ℕ) (answer : ObjectAnswer) → Is
 object_plain t service (said by value) plain = plain
 object_plain t service (denied why) plain = plain
 object_plain t service (resetting kind) plain = plain
+object_plain t service (answering by general content) plain = plain
+object_plain t service (refusing named why) plain = plain
+object_plain t service (unrouted words) plain = plain
 
 served_plain : (t : AdapterTable) (peer : Node) (request : RouterRequestFields) → IsPlainTable t → IfSome (served t peer request) ServedPlainly
 unfolding served_open served_end served_object
@@ -202,7 +207,7 @@ served_plain t peer (refused service why) plain = plain
 served_plain t peer (closing request) plain =
     ended_plain t peer request (find (has_class3_triad request.triad) t.messaging.class3_connections) (ap (find (has_class3_triad request.triad)) plain.class3_connections) plain
 served_plain t peer (object service class instance attribute body) plain = object_plain t service (object_answer t service class instance attribute body) plain
-served_plain t peer (opening large request) plain = opened_plain t peer large request (limited_admission t peer request) plain
+served_plain t peer (opening large request) plain = opened_plain t peer large (whole_request t.profile.description request) (limited_admission t peer (whole_request t.profile.description request)) plain
 
 over_step : (b : Bool) (t : AdapterTable) (stream : Stream) (large : Bool) (request : OpenFields) → b ≡ false → IsPlainTable t → IfSome (cond b (Some (served_class3 t stream large request)) (served t stream.peer (opening large request))) ServedPlainly
 over_step true t stream large request none plain = absurd (let e = none in cc)

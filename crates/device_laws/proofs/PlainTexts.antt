@@ -21,16 +21,16 @@ use Rattle.cip_fwdopen.specs.Close.{CloseFields, close_reading, closed_text}
 use Rattle.cip_fwdopen.specs.Front.{parted, front_at}
 use Rattle.cip_fwdopen.specs.Open.{OpenFields, open_widths, path_len, open_of, open_reading, open_numbers, open_text}
 use Rattle.cip_fwdopen.specs.Readings.{answer_of}
-use Rattle.cip_fwdopen.specs.Reply.{reply_service, opened_text, refused_text}
+use Rattle.cip_fwdopen.specs.Reply.{reply_service, opened_text, refused_text, intervals_text}
 use Rattle.cip_fwdopen.specs.Services.{open_service}
 use Rattle.cip_fwdopen.specs.Request.{request_widths, request_path_len, with_target, request_of, request_reading}
 use Rattle.cip_netparams.specs.Word.{is_message_trigger}
 use Rattle.cip_router.specs.declared.refusal.Status.TheVariants as status
 use Rattle.cip_router.specs.Frames.{RequestHeader, FrameReply, services, registered, other_version, router_reply, connected, socket_of, reply_message}
 use Rattle.cip_router.specs.Frames as frames
-use Rattle.cip_router.specs.Replies.{ReplyFields, opened, closed, object_reply, own, object_reply_text, own_reply_text, reply_text}
+use Rattle.cip_router.specs.Replies.{ReplyFields, opened, closed, object_reply, unacceptable, own, object_reply_text, own_reply_text, reply_text}
 use Rattle.cip_router.specs.Replies as replies
-use Rattle.cip_router.specs.Requests.{refused, is_manager, request_to_open, request_to_close, request_to_manager, router_request_of, router_request_reading}
+use Rattle.cip_router.specs.Requests.{object, refused, is_manager, request_to_open, request_to_close, request_to_manager, router_request_of, router_request_reading}
 use Rattle.scanner_table.specs.Requests.{manager_text}
 use Rattle.device_laws.specs.Lemmas.AdapterIds.{few_bytes, plain_protocol, plain_none, some_bytes}
 use Rattle.device_laws.specs.Lemmas.ConnectedTexts.{connected_bad}
@@ -88,14 +88,15 @@ plain_low service m low small other = ne_eqb _ _ (λ same. eqb-false service m o
 pub plain_service : (service : ℕ) → service < 128 → OpensNone service → IsPlainService service
 plain_service service low none = record { small = plain_low service 0x54 low (omega arith) none.small; large = plain_low service 0x5B low (omega arith) none.large }
 
-manager_plain : (service : ℕ) (body : List ℕ) → OpensNone service → IsPlainRequest (request_to_manager service body)
-manager_plain service body none =
+manager_plain : (service : ℕ) (body : List ℕ) → OpensNone service → IsPlainService service → IsPlainRequest (request_to_manager service body)
+manager_plain service body none plain =
     rw (none.small, none.large)
-    (either IsPlainRequest (service == 0x4E) (request_to_close service (close_reading body)) (refused service status.Service) (close_plain service (close_reading body)) tt)
+    (either IsPlainRequest (service == 0x4E) (request_to_close service (close_reading body)) _ (close_plain service (close_reading body))
+    (either IsPlainRequest (service == 0x52) (object service 6 1 None body) (refused service status.Service) plain tt))
 
 target_plain : (service : ℕ) (body : List ℕ) (reading : Result Target PathFault) → OpensNone service → IsPlainService service → IsPlainRequest (router_request_of service (with_target service body reading))
 target_plain service body (Err fault) none plain = tt
-target_plain service body (Ok target) none plain = either IsPlainRequest (is_manager target) (request_to_manager service body) _ (manager_plain service body none) plain
+target_plain service body (Ok target) none plain = either IsPlainRequest (is_manager target) (request_to_manager service body) _ (manager_plain service body none plain) plain
 
 front_plain : (service : ℕ) (r : Option (List ℕ × List ℕ)) → OpensNone service → IsPlainService service → IsPlainRequest (router_request_of service (request_of (parted request_path_len (then_at r (λ ns after. Some (service ∷ ns, after))))))
 front_plain service None none plain = tt
@@ -135,12 +136,14 @@ plain_reply service rest =
     (empty_plain service (take 0 rest) (drop 0 rest) (none_taken rest))
 
 reply_plain : (reply : ReplyFields) → IsPlainRequest (router_request_reading (reply_text reply))
-unfolding opened_text closed_text object_reply_text refused_text own_reply_text
+unfolding opened_text closed_text object_reply_text refused_text own_reply_text intervals_text
 reply_plain (opened large o) = plain_reply _ _
 reply_plain (closed triad) = plain_reply _ _
 reply_plain (object_reply by value) = plain_reply _ _
 reply_plain (replies.refused service fault triad) = plain_reply _ _
+reply_plain (unacceptable service a triad) = plain_reply _ _
 reply_plain (own service general content) = plain_reply _ _
+reply_plain (replies.no_route words) = plain_reply _ _
 
 -- ---- frames
 

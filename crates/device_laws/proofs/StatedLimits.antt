@@ -47,11 +47,11 @@ use Rattle.adapter_table.specs.MessagesSound.{IsInPlace}
 use Rattle.adapter_table.specs.Own.{OwnRequest, own_of}
 use Rattle.adapter_table.specs.Requests.{Next, Served, refused_close, close_of, served_close, end_of, served_end, served, answered, requested_by, requested}
 use Rattle.adapter_table.specs.Rows.{has_triad}
-use Rattle.adapter_table.specs.StatedLimits.{is_wrong_closer, accepts_at}
+use Rattle.adapter_table.specs.StatedLimits.{is_wrong_ender, is_wrong_closer, accepts_at}
 use Rattle.adapter_table.specs.Step.{adapter_step}
 use Rattle.adapter_table.specs.Streams.{has_session}
 use Rattle.adapter_table.specs.Lemmas.FrameLemmas.{answer_has}
-use Rattle.device_laws.specs.StatedLimits.{IsCloseFrame, IsStreamOf, BringsClose, AnotherNodeClosesNothing, IsFarAhead, IsNotAccepted, FarNumbersChangeNothing}
+use Rattle.device_laws.specs.StatedLimits.{IsCloseFrame, IsStreamOf, BringsClose, AnotherNodeClosesNothing, AnotherNodeEndsNothing, IsFarAhead, IsNotAccepted, FarNumbersChangeNothing}
 
 -- ---- a close that is refused
 
@@ -150,6 +150,20 @@ pub closes_nothing : AnotherNodeClosesNothing
 closes_nothing t happens peer request row next is whole brings own found other =
     let free = none_talks request.triad t.rows t.streams row t.messaging.class3_connections found whole.messages.class3_connections in
     let stays = step_stays t happens peer request (close_refused t peer request row own found other free) next is brings in
+    record { table = stays.0; notices = stays.1 }
+
+wrong_ender : (limits : MakerLimits) (peer : Node) (d : Class3Connection) → limits.own_closers ≡ true → d.peer.0 ≢ peer.0 → is_wrong_ender limits peer d ≡ true
+wrong_ender limits peer d own other = let apart = differs d.peer.0 peer.0 other in rw (own, apart) refl
+
+end_refused : (t : AdapterTable) (peer : Node) (request : CloseFields) (d : Class3Connection) → t.profile.limits.own_closers ≡ true → find (has_class3_triad request.triad) t.messaging.class3_connections ≡ Some d → d.peer.0 ≢ peer.0 → IsRefused t peer request
+unfolding served_end
+end_refused t peer request d own found other =
+    let wrong = wrong_ender t.profile.limits peer d own other in
+    ap (λ (o : Option Class3Connection). Some (end_of t peer request o)) found ∙ rw wrong refl
+
+pub ends_nothing : AnotherNodeEndsNothing
+ends_nothing t happens peer request d next is brings own found other =
+    let stays = step_stays t happens peer request (end_refused t peer request d own found other) next is brings in
     record { table = stays.0; notices = stays.1 }
 
 -- ---- a number that is far ahead

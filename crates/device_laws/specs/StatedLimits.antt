@@ -19,6 +19,8 @@ use Rattle.cip_fwdopen.specs.Close.{CloseFields}
 use Rattle.cip_productions.specs.declared.acceptance.Accepted.{Accepted}
 use Rattle.cip_productions.specs.Window.{intervals_in, since_accepted}
 use Rattle.cip_router.specs.Requests.{closing, router_request_reading}
+use Rattle.messaging.specs.declared.class3.Class3Connection.{Class3Connection}
+use Rattle.messaging.specs.Class3Connections.{has_class3_triad}
 use Rattle.adapter_table.specs.Connections.{Row}
 use Rattle.adapter_table.specs.declared.table.AdapterTable.{AdapterTable}
 use Rattle.adapter_table.specs.declared.table.Stream.{Stream}
@@ -63,6 +65,13 @@ AnotherNodeClosesNothing =
     (t : AdapterTable) (happens : Event) (peer : Node) (request : CloseFields) (row : Row) (next : Next) →
     adapter_step t happens ≡ Ok next → IsWhole t → BringsClose t happens peer request → t.profile.limits.own_closers ≡ true →
     find (has_triad request.triad) t.rows ≡ Some row → row.peer.0 ≢ peer.0 → LeavesAll t next
+
+-- so it is of a class 3 connection that another node opened
+abbrev pub AnotherNodeEndsNothing : Type 0
+AnotherNodeEndsNothing =
+    (t : AdapterTable) (happens : Event) (peer : Node) (request : CloseFields) (d : Class3Connection) (next : Next) →
+    adapter_step t happens ≡ Ok next → BringsClose t happens peer request → t.profile.limits.own_closers ≡ true →
+    find (has_class3_triad request.triad) t.messaging.class3_connections ≡ Some d → d.peer.0 ≢ peer.0 → LeavesAll t next
 
 -- NUMBERS FAR AHEAD
 

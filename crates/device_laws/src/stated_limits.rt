@@ -1,13 +1,17 @@
 //! What the limits that the maker of an adapter states keep from its connections.
 
-ghost use Rattle.device_laws.specs.StatedLimits.{AnotherNodeClosesNothing, FarNumbersChangeNothing};
+ghost use Rattle.device_laws.specs.StatedLimits.{AnotherNodeClosesNothing, AnotherNodeEndsNothing, FarNumbersChangeNothing};
 
 /// A Forward_Close of another node than the one that opened the connection leaves the table of an adapter as it is, and
-/// nothing is reported, if the maker has only openers close. So it is over a stream and over none. The law speaks of whole tables.
+/// nothing is reported, if the maker has only openers close. So it is over a stream and over none.
+///
+/// - `data`: of a connection of class 1. It speaks of whole tables.
+/// - `messages`: of a class 3 connection.
 ///
 /// Volume 1, chapter 3, Forward_Close service.
 pub fn another_node_closes_nothing()
-    ensures { AnotherNodeClosesNothing }
+    ensures data { AnotherNodeClosesNothing }
+    ensures messages { AnotherNodeEndsNothing }
 {}
 
 /// A datagram whose number is ahead of the connection's newest one by as much as the window at this time, or more, leaves

@@ -2,7 +2,9 @@
 
 use cip_datagram::{read_datagram, read_header};
 use cip_encap::{Splitter, read_connected_items, read_items, read_message};
-use cip_epath::{read_message_path, read_path, read_target};
+use cip_epath::{
+    key_serial, read_any_message_path, read_any_path, read_message_path, read_path, read_target,
+};
 use cip_fwdopen::{
     OpenService, read_close, read_close_reply, read_get_reply, read_open, read_open_reply,
     read_request,
@@ -15,6 +17,9 @@ use std::alloc::Global;
 pub fn read_all(bytes: &[u8]) {
     let _path = read_path(bytes).is_ok();
     let _router = read_message_path(bytes).is_ok();
+    let _any = read_any_path(bytes).is_ok();
+    let _any_router = read_any_message_path(bytes).is_ok();
+    let _serial = key_serial(bytes).is_some();
     let _target = read_target(bytes).is_ok();
     let _request = read_request(bytes).is_ok();
     let _open = read_open(OpenService::ForwardOpen, bytes).is_ok();

@@ -4,13 +4,13 @@ use Rattle.base_lemmas.specs.Booleans.{either}
 use Rattle.cip_fwdopen.specs.declared.fault.ReadFault.{ReadFault}
 use Rattle.cip_fwdopen.specs.Close.{CloseFields, closed_text}
 use Rattle.cip_fwdopen.specs.Open.{OpenFields}
-use Rattle.cip_fwdopen.specs.Reply.{opened_text, refused_text}
+use Rattle.cip_fwdopen.specs.Reply.{opened_text, refused_text, intervals_text}
 use Rattle.cip_fwdopen.specs.Request.{RequestFields, request_reading}
 use Rattle.cip_fwdopen.specs.Services.{forward_close, forward_open, large_forward_open}
 use Rattle.cip_router.specs.declared.refusal.Status.TheVariants as status
 use Rattle.cip_router.specs.Frames.{connected}
-use Rattle.cip_router.specs.Replies.{ReplyFields, opened, closed, object_reply, own, refused as refused_reply, reply_text, object_reply_text, own_reply_text}
-use Rattle.cip_router.specs.Requests.{RouterRequestFields, nothing, refused, closing, object, opening, is_manager, request_to_open, request_to_close, request_to_manager, router_request_of, router_request_reading}
+use Rattle.cip_router.specs.Replies.{ReplyFields, opened, closed, object_reply, own, refused as refused_reply, unacceptable, reply_text, object_reply_text, own_reply_text, no_route}
+use Rattle.cip_router.specs.Requests.{RouterRequestFields, nothing, refused, closing, object, opening, is_manager, request_to_open, request_to_close, request_to_manager, router_request_of, router_request_reading, unconnected_send}
 use Rattle.messaging.specs.declared.class3.Class3Connection.{Class3Connection}
 use Rattle.messaging.specs.declared.table.Messaging.{Messaging}
 use Rattle.messaging.specs.Changes.{executed, referred, referred_over}
@@ -19,7 +19,8 @@ use Rattle.adapter_table.specs.declared.table.AdapterTable.{AdapterTable}
 use Rattle.adapter_table.specs.Connected.{service_in, fitted, fitted_text, connected_served, next_deadline}
 use Rattle.adapter_table.specs.Encapsulation.{Handled, kept_reply, message_replied, message_served, message_executed}
 use Rattle.adapter_table.specs.Messages.{messages_table}
-use Rattle.adapter_table.specs.Objects.{ObjectAnswer, said, denied, resetting, object_answer}
+use Rattle.adapter_table.specs.Objects.{ObjectAnswer, said, denied, resetting, answering, refusing, unrouted}
+use Rattle.adapter_table.specs.Carrying.{object_answer}
 use Rattle.adapter_table.specs.Own.{OwnRequest, own_of, cannot_ask}
 use Rattle.adapter_table.specs.Requests.{Served, open_service, router_refusal, object_served, served_object}
 use Rattle.message_laws.specs.Repetitions.{has_bytes}
@@ -27,11 +28,13 @@ use Rattle.message_laws.specs.Repetitions.{has_bytes}
 -- ---- replies have bytes
 
 pub text_some : (reply : ReplyFields) → 0 < length (reply_text reply)
-unfolding opened_text closed_text object_reply_text own_reply_text refused_text
+unfolding opened_text closed_text object_reply_text own_reply_text refused_text intervals_text
 text_some (opened large o) = omega arith
 text_some (closed triad) = omega arith
 text_some (object_reply service value) = omega arith
+text_some (unacceptable service intervals triad) = omega arith
 text_some (own service status content) = omega arith
+text_some (no_route words) = omega arith
 text_some (refused_reply service fault triad) = omega arith
 
 pub kept_text : (d : Class3Connection) (count : ℕ) (text : List ℕ) → 0 < length text → kept_reply d count text ≡ Some (connected d.t_o_id.0 count text)
@@ -69,6 +72,9 @@ object_is : (t : AdapterTable) (d : Class3Connection) (count first service : ℕ
 object_is t d count first service (said by value) = replied_is t d count first (object_served t service (said by value)) refl
 object_is t d count first service (denied why) = replied_is t d count first (object_served t service (denied why)) refl
 object_is t d count first service (resetting kind) = replied_is t d count first (object_served t service (resetting kind)) refl
+object_is t d count first service (answering by general content) = replied_is t d count first (object_served t service (answering by general content)) refl
+object_is t d count first service (refusing named why) = replied_is t d count first (object_served t service (refusing named why)) refl
+object_is t d count first service (unrouted words) = replied_is t d count first (object_served t service (unrouted words)) refl
 
 abbrev IsRequest : RouterRequestFields → Type 0
 IsRequest nothing = ⊥
@@ -103,7 +109,8 @@ manager_is : (service : ℕ) (body : List ℕ) → IsRequest (request_to_manager
 manager_is service body =
     either IsRequest (service == forward_open) _ _ (open_is service false _)
     (either IsRequest (service == large_forward_open) _ _ (open_is service true _)
-    (either IsRequest (service == forward_close) _ (refused service status.Service) (close_is service _) tt))
+    (either IsRequest (service == forward_close) _ _ (close_is service _)
+    (either IsRequest (service == unconnected_send) (object service 6 1 None body) (refused service status.Service) tt tt)))
 
 reading_is : (service : ℕ) (reading : Result RequestFields ReadFault) → IsRequest (router_request_of service reading)
 reading_is service (Err fault) = tt

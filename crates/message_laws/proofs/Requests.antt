@@ -41,6 +41,7 @@ use Rattle.messaging.specs.declared.table.Messaging.{Messaging}
 use Rattle.messaging.specs.Class3Connections.{has_class3_triad, is_on_stream, is_class3}
 use Rattle.messaging.specs.Changes.{with_class3, without_class3, referred}
 use Rattle.messaging.specs.Changes as changes
+use Rattle.adapter_table.specs.Intervals.{whole_request}
 use Rattle.adapter_table.specs.declared.profile.Description.{Description}
 use Rattle.adapter_table.specs.declared.table.AdapterTable.{AdapterTable}
 use Rattle.adapter_table.specs.declared.table.Stream.{Stream}
@@ -51,7 +52,8 @@ use Rattle.adapter_table.specs.Closing.{closed_table}
 use Rattle.adapter_table.specs.Encapsulation.{Handled, refusal, unanswered, session_begun, session_ended, register_session, request_replied, request_handled, packet_replied, unit_replied, handled, reply_frames, frame_answer, stream_answer, frame_of, outside_session, frame_for}
 use Rattle.adapter_table.specs.Inquiries.{identity_of, address_of, inquiry_reply_of, inquiry_reply}
 use Rattle.adapter_table.specs.Messages.{messages_table}
-use Rattle.adapter_table.specs.Objects.{ObjectAnswer, said, denied, resetting, object_answer}
+use Rattle.adapter_table.specs.Objects.{ObjectAnswer, said, denied, resetting, answering, refusing, unrouted}
+use Rattle.adapter_table.specs.Carrying.{object_answer}
 use Rattle.adapter_table.specs.Opening.{opened_table}
 use Rattle.adapter_table.specs.Own.{OwnRequest, own_of, cannot_ask}
 use Rattle.adapter_table.specs.Requests.{Next, Served, judged_open, admitted_open, served_open, close_of, served_close, end_of, served_end, router_refusal, object_served, served_object, served}
@@ -125,6 +127,9 @@ object_goes : (d : Class3Connection) (count : ℕ) (t : AdapterTable) (service :
 object_goes d count t service (said by value) = unchanged d count t
 object_goes d count t service (denied why) = unchanged d count t
 object_goes d count t service (resetting kind) = unchanged d count t
+object_goes d count t service (answering by general content) = unchanged d count t
+object_goes d count t service (refusing named why) = unchanged d count t
+object_goes d count t service (unrouted words) = unchanged d count t
 
 pub served_goes : (d : Class3Connection) (count : ℕ) (t : AdapterTable) (peer : Node) (request : RouterRequestFields) → Differ t.messaging → IfSome (served t peer request) (ServedGoes d count t)
 unfolding served_open served_end served_object
@@ -132,7 +137,7 @@ served_goes d count t peer nothing differ = tt
 served_goes d count t peer (refused service why) differ = unchanged d count t
 served_goes d count t peer (closing request) differ = ended_goes d count t peer request (find (has_class3_triad request.triad) t.messaging.class3_connections) differ
 served_goes d count t peer (object service class instance attribute body) differ = object_goes d count t service (object_answer t service class instance attribute body)
-served_goes d count t peer (opening large request) differ = judged_goes d count t peer large request (limited_admission t peer request)
+served_goes d count t peer (opening large request) differ = judged_goes d count t peer large (whole_request t.profile.description request) (limited_admission t peer (whole_request t.profile.description request))
 
 class3_goes : (d : Class3Connection) (count : ℕ) (t : AdapterTable) (stream : Stream) (large : Bool) (request : OpenFields) (c : Check) → ServedGoes d count t (judged_class3 t stream large request c)
 class3_goes d count t stream large request (Some why) = unchanged d count t
@@ -142,7 +147,7 @@ over_goes : (d : Class3Connection) (count : ℕ) (t : AdapterTable) (stream : St
 unfolding served_class3
 over_goes d count t stream (opening large request) differ =
     either (λ (s : Option Served). IfSome s (ServedGoes d count t)) (is_message_trigger request.trigger) (Some (served_class3 t stream large request)) (served t stream.peer (opening large request))
-    (class3_goes d count t stream large request (class3_refusal (class3_view t stream.peer request.triad) request)) (served_goes d count t stream.peer (opening large request) differ)
+    (class3_goes d count t stream large (whole_request t.profile.description request) (class3_refusal (class3_view t stream.peer request.triad) (whole_request t.profile.description request))) (served_goes d count t stream.peer (opening large request) differ)
 over_goes d count t stream nothing differ = served_goes d count t stream.peer nothing differ
 over_goes d count t stream (refused service why) differ = served_goes d count t stream.peer (refused service why) differ
 over_goes d count t stream (closing request) differ = served_goes d count t stream.peer (closing request) differ

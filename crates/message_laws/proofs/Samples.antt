@@ -26,7 +26,8 @@ use Rattle.adapter_table.specs.Answering.{respond}
 use Rattle.adapter_table.specs.Encapsulation.{handled, frame}
 use Rattle.adapter_table.specs.Inquiries.{inquiry_reply}
 use Rattle.adapter_table.specs.Messages.{messages_table}
-use Rattle.adapter_table.specs.Objects.{instance_at, object_answer}
+use Rattle.adapter_table.specs.Objects.{instance_at, alone_answer}
+use Rattle.adapter_table.specs.Carrying.{object_answer}
 use Rattle.adapter_table.specs.Profiles.{no_limits}
 use Rattle.adapter_table.specs.Requests.{served_object}
 use Rattle.adapter_table.specs.Step.{adapter_table}
@@ -177,11 +178,11 @@ abbrev says : List Frame → Verdict → Outcome
 says frames verdict = Ok (record { frames = frames; datagrams = []; verdict = verdict; notices = [] })
 
 a_reply_was_sent : last_sent connection 7 None talking (gets 7 ∷ Tick 5 ∷ []) ≡ Some zeros
-unfolding step frame inquiry_reply frame_reading handled messages.message_reading connected_reading packets.are_sockets router_request_reading requests.request_reading paths.target_reading paths.segments_at paths.segment_at paths.logical_at paths.value_at messages_table served_object object_answer instance_at values.object_reply_text changes.executed tick clocked_table expired_table produced_table aged without_late_class3_connections without_late_waiting
+unfolding step frame inquiry_reply frame_reading handled messages.message_reading connected_reading packets.are_sockets router_request_reading requests.request_reading paths.target_reading paths.segments_at paths.segment_at paths.logical_at paths.value_at messages_table served_object object_answer alone_answer instance_at values.object_reply_text changes.executed tick clocked_table expired_table produced_table aged without_late_class3_connections without_late_waiting
 a_reply_was_sent = refl
 
 it_comes_again_behind_a_tick : outcomes_of talking (gets 7 ∷ Tick 5 ∷ gets 7 ∷ []) ≡ says (zeros ∷ []) Done ∷ says [] Done ∷ says (zeros ∷ []) (Delivered Duplicate) ∷ []
-unfolding step frame inquiry_reply frame_reading handled messages.message_reading connected_reading packets.are_sockets router_request_reading requests.request_reading paths.target_reading paths.segments_at paths.segment_at paths.logical_at paths.value_at messages_table served_object object_answer instance_at values.object_reply_text changes.executed changes.repeated tick clocked_table expired_table produced_table aged without_late_class3_connections without_late_waiting
+unfolding step frame inquiry_reply frame_reading handled messages.message_reading connected_reading packets.are_sockets router_request_reading requests.request_reading paths.target_reading paths.segments_at paths.segment_at paths.logical_at paths.value_at messages_table served_object object_answer alone_answer instance_at values.object_reply_text changes.executed changes.repeated tick clocked_table expired_table produced_table aged without_late_class3_connections without_late_waiting
 it_comes_again_behind_a_tick = refl
 
 nothing_was_sent_yet : last_sent connection 7 None talking (gets_own 7 ∷ Tick 5 ∷ gets_own 7 ∷ []) ≡ None
@@ -212,7 +213,7 @@ gets_long count = OnStream 0 (head 0x29 1 ++ (items 0x10 1 0x15 count ++ (get ++
 
 -- a repeated count is executed once, an older one again, and what is refused before it is executed not at all
 messages_are_counted : executions connection talking (gets 7 ∷ gets 7 ∷ gets 8 ∷ gets_long 9 ∷ empty 9 ∷ gets 7 ∷ gets_own 7 ∷ []) ≡ 7 ∷ 8 ∷ 7 ∷ []
-unfolding step frame inquiry_reply frame_reading handled messages.message_reading connected_reading packets.are_sockets router_request_reading requests.request_reading paths.target_reading paths.segments_at paths.segment_at paths.logical_at paths.value_at messages_table served_object object_answer instance_at values.object_reply_text changes.executed changes.repeated
+unfolding step frame inquiry_reply frame_reading handled messages.message_reading connected_reading packets.are_sockets router_request_reading requests.request_reading paths.target_reading paths.segments_at paths.segment_at paths.logical_at paths.value_at messages_table served_object object_answer alone_answer instance_at values.object_reply_text changes.executed changes.repeated
 messages_are_counted = refl
 
 -- the application is asked once

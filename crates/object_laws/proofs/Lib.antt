@@ -1,6 +1,9 @@
 mod InquiryLaws
 mod ServedClasses
 mod ServiceLaws
+mod RouteSteps
+mod RouteLaws
+mod PacketLaws
 mod IdentityLaws
 mod OwnedBit
 mod ListLaws

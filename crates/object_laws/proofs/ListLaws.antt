@@ -7,7 +7,8 @@ use Rattle.adapter_table.specs.declared.profile.Description.{Description}
 use Rattle.adapter_table.specs.declared.profile.Profile.{Profile}
 use Rattle.adapter_table.specs.declared.table.AdapterTable.{AdapterTable}
 use Rattle.adapter_table.specs.declared.table.PointValue.{PointValue}
-use Rattle.adapter_table.specs.Objects.{Instance, assembly_beside, assembly_found, described_at, instance_at, is_other_class, is_owning, object_answer, object_list, object_said, yielding_classes}
+use Rattle.adapter_table.specs.Objects.{Instance, assembly_beside, assembly_found, described_at, instance_at, is_other_class, is_owning, object_list, object_said, yielding_classes, alone_answer}
+use Rattle.adapter_table.specs.Carrying.{object_answer}
 use Rattle.adapter_table.specs.Own.{is_own_class}
 use Rattle.adapter_table.specs.Points.{bytes_at}
 use Rattle.adapter_table.specs.Profiles.{is_class}
@@ -146,7 +147,7 @@ each_agrees t d class is =
     })))))))))
 
 pub objects_listed : ObjectsAreListed
-unfolding object_answer instance_at
+unfolding object_answer alone_answer instance_at
 objects_listed t d is = record {
   classes = object_list t.profile.objects;
   answered = ap (λ (o : Option Description). object_said (list_any is_owning t.rows) 0x0E (Some 1) [] (described_at t 0x02 1 o)) is;
@@ -154,5 +155,5 @@ objects_listed t d is = record {
 }
 
 pub nothing_listed : NothingIsListed
-unfolding object_answer instance_at
+unfolding object_answer alone_answer instance_at
 nothing_listed t is = ap (λ (o : Option Description). object_said (list_any is_owning t.rows) 0x0E (Some 1) [] (described_at t 0x02 1 o)) is

@@ -7,7 +7,8 @@ use Rattle.adapter_table.specs.declared.maker_limits.MakerLimits.{MakerLimits}
 use Rattle.adapter_table.specs.declared.profile.Action.TheVariants.{Zero}
 use Rattle.adapter_table.specs.declared.profile.Description.{Description}
 use Rattle.adapter_table.specs.declared.profile.Profile.{Profile}
-use Rattle.adapter_table.specs.Objects.{ObjectAnswer, said, denied, instance_at, object_answer, status_word, consistency, link_capability, node_segment, most_connections, object_list}
+use Rattle.adapter_table.specs.Objects.{ObjectAnswer, said, denied, instance_at, status_word, consistency, link_capability, node_segment, most_connections, object_list, alone_answer}
+use Rattle.adapter_table.specs.Carrying.{object_answer}
 use Rattle.adapter_table.specs.Opening.{multicast_address}
 use Rattle.adapter_table.specs.Profiles.{no_limits}
 use Rattle.adapter_table.specs.Step.{adapter_table}
@@ -69,7 +70,7 @@ the_objects_and_their_connections :
     map (got described 0x02 1) (1 ∷ 2 ∷ 3 ∷ 4 ∷ [])
     ≡ is (0x09 ∷ 0x00 ∷ 0x01 ∷ 0x00 ∷ 0x02 ∷ 0x00 ∷ 0x04 ∷ 0x00 ∷ 0x06 ∷ 0x00 ∷ 0xF5 ∷ 0x00 ∷ 0xF6 ∷ 0x00 ∷ 0x48 ∷ 0x00 ∷ 0xF4 ∷ 0x00 ∷ 0x64 ∷ 0x00 ∷ [])
     ∷ is (0x80 ∷ 0x00 ∷ []) ∷ is (0x00 ∷ 0x00 ∷ []) ∷ unknown ∷ []
-unfolding object_answer instance_at status_word
+unfolding object_answer alone_answer instance_at status_word
 the_objects_and_their_connections = refl
 
 -- two owners, four readers and a listener; five of class 3, or 64 where they are not stated
@@ -84,7 +85,7 @@ connections_that_there_may_be = refl
 
 -- a device without a description has no Message Router to ask
 no_list_of_objects : map (got plain 0x02 1) (1 ∷ 2 ∷ 3 ∷ []) ≡ absent ∷ absent ∷ absent ∷ []
-unfolding object_answer instance_at
+unfolding object_answer alone_answer instance_at
 no_list_of_objects = refl
 
 -- ---- classes: optional attributes and services, largest attribute of the class and of its instances
@@ -92,21 +93,21 @@ no_list_of_objects = refl
 class_of_the_router :
     map (got described 0x02 0) (1 ∷ 2 ∷ 3 ∷ 4 ∷ 5 ∷ 6 ∷ 7 ∷ 8 ∷ [])
     ≡ is (0x01 ∷ 0x00 ∷ []) ∷ is (0x01 ∷ 0x00 ∷ []) ∷ is (0x01 ∷ 0x00 ∷ [])
-    ∷ is (0x03 ∷ 0x00 ∷ 0x01 ∷ 0x00 ∷ 0x02 ∷ 0x00 ∷ 0x03 ∷ 0x00 ∷ []) ∷ is (0x00 ∷ 0x00 ∷ []) ∷ is (0x07 ∷ 0x00 ∷ []) ∷ is (0x03 ∷ 0x00 ∷ []) ∷ unknown ∷ []
-unfolding object_answer instance_at status_word
+    ∷ is (0x03 ∷ 0x00 ∷ 0x01 ∷ 0x00 ∷ 0x02 ∷ 0x00 ∷ 0x03 ∷ 0x00 ∷ []) ∷ is (0x03 ∷ 0x00 ∷ 0x03 ∷ 0x00 ∷ 0x04 ∷ 0x00 ∷ 0x0A ∷ 0x00 ∷ []) ∷ is (0x07 ∷ 0x00 ∷ []) ∷ is (0x03 ∷ 0x00 ∷ []) ∷ unknown ∷ []
+unfolding object_answer alone_answer instance_at status_word
 class_of_the_router = refl
 
 class_of_identity :
     map (got described 0x01 0) (4 ∷ 5 ∷ 6 ∷ 7 ∷ [])
-    ≡ is (0x02 ∷ 0x00 ∷ 0x08 ∷ 0x00 ∷ 0x09 ∷ 0x00 ∷ []) ∷ is (0x00 ∷ 0x00 ∷ []) ∷ is (0x07 ∷ 0x00 ∷ []) ∷ is (0x09 ∷ 0x00 ∷ []) ∷ []
-unfolding object_answer instance_at status_word
+    ≡ is (0x02 ∷ 0x00 ∷ 0x08 ∷ 0x00 ∷ 0x09 ∷ 0x00 ∷ []) ∷ is (0x02 ∷ 0x00 ∷ 0x03 ∷ 0x00 ∷ 0x04 ∷ 0x00 ∷ []) ∷ is (0x07 ∷ 0x00 ∷ []) ∷ is (0x09 ∷ 0x00 ∷ []) ∷ []
+unfolding object_answer alone_answer instance_at status_word
 class_of_identity = refl
 
--- of the Connection Manager Large_Forward_Open may be left out
+-- of the Connection Manager Unconnected_Send and Large_Forward_Open may be left out
 class_of_the_connection_manager :
     map (got described 0x06 0) (4 ∷ 5 ∷ 6 ∷ 7 ∷ [])
-    ≡ is (0x00 ∷ 0x00 ∷ []) ∷ is (0x01 ∷ 0x00 ∷ 0x5B ∷ 0x00 ∷ []) ∷ is (0x07 ∷ 0x00 ∷ []) ∷ is (0x00 ∷ 0x00 ∷ []) ∷ []
-unfolding object_answer instance_at status_word
+    ≡ is (0x00 ∷ 0x00 ∷ []) ∷ is (0x02 ∷ 0x00 ∷ 0x52 ∷ 0x00 ∷ 0x5B ∷ 0x00 ∷ []) ∷ is (0x07 ∷ 0x00 ∷ []) ∷ is (0x00 ∷ 0x00 ∷ []) ∷ []
+unfolding object_answer alone_answer instance_at status_word
 class_of_the_connection_manager = refl
 
 -- ---- assemblies
@@ -115,22 +116,22 @@ class_of_the_connection_manager = refl
 class_of_assemblies :
     map (got described 0x04 0) (2 ∷ 3 ∷ 4 ∷ 7 ∷ [])
     ≡ is (0x99 ∷ 0x00 ∷ []) ∷ is (0x05 ∷ 0x00 ∷ []) ∷ is (0x01 ∷ 0x00 ∷ 0x04 ∷ 0x00 ∷ []) ∷ is (0x04 ∷ 0x00 ∷ []) ∷ []
-unfolding object_answer instance_at status_word
+unfolding object_answer alone_answer instance_at status_word
 class_of_assemblies = refl
 
 heartbeats_have_no_data :
     map (got described 0x04 152) (3 ∷ 4 ∷ 5 ∷ []) ++ map (got described 0x04 153) (3 ∷ 4 ∷ [])
     ≡ is [] ∷ is (0x00 ∷ 0x00 ∷ []) ∷ unknown ∷ is [] ∷ is (0x00 ∷ 0x00 ∷ []) ∷ []
-unfolding object_answer instance_at status_word
+unfolding object_answer alone_answer instance_at status_word
 heartbeats_have_no_data = refl
 
 -- instance 0 is the class, though a heartbeat has this number too
 the_class_before_a_heartbeat : got (record described { input_only = 0 }) 0x04 0 2 ≡ is (0x99 ∷ 0x00 ∷ [])
-unfolding object_answer instance_at status_word
+unfolding object_answer alone_answer instance_at status_word
 the_class_before_a_heartbeat = refl
 
 no_heartbeats : got plain 0x04 152 3 ∷ got plain 0x04 0 1 ∷ got plain 0x04 100 3 ∷ got plain 0x04 100 4 ∷ [] ≡ absent ∷ absent ∷ is (0 ∷ 0 ∷ 0 ∷ 0 ∷ []) ∷ unknown ∷ []
-unfolding object_answer instance_at
+unfolding object_answer alone_answer instance_at
 no_heartbeats = refl
 
 -- ---- the Identity object
@@ -142,11 +143,11 @@ values_of_configurations :
 values_of_configurations = refl
 
 state_and_consistency : map (got described 0x01 1) (8 ∷ 9 ∷ 10 ∷ []) ≡ is (0x03 ∷ []) ∷ is (0x00 ∷ 0x00 ∷ []) ∷ unknown ∷ []
-unfolding object_answer instance_at status_word
+unfolding object_answer alone_answer instance_at status_word
 state_and_consistency = refl
 
 without_a_configuration : got (record described { config = None }) 0x01 1 9 ≡ is (0x00 ∷ 0x00 ∷ [])
-unfolding object_answer instance_at status_word
+unfolding object_answer alone_answer instance_at status_word
 without_a_configuration = refl
 
 -- ---- the TCP/IP Interface object
@@ -156,7 +157,7 @@ interface_behind_the_host_name :
     map (got described 0xF5 1) (7 ∷ 8 ∷ 9 ∷ 10 ∷ 11 ∷ 12 ∷ 13 ∷ [])
     ≡ unknown ∷ is (0x01 ∷ []) ∷ is (0x00 ∷ 0x00 ∷ 0x01 ∷ 0x00 ∷ 0x20 ∷ 0x02 ∷ 0xC0 ∷ 0xEF ∷ []) ∷ is (0x00 ∷ []) ∷ is (replicate 35 0) ∷ unknown
     ∷ is (0x78 ∷ 0x00 ∷ []) ∷ []
-unfolding object_answer instance_at status_word
+unfolding object_answer alone_answer instance_at status_word
 interface_behind_the_host_name = refl
 
 -- six zeros in place of attribute 7, and one in place of 12
@@ -166,7 +167,7 @@ the_whole_interface :
     (0x01 ∷ 0x00 ∷ 0x00 ∷ 0x00 ∷ 0x00 ∷ 0x00 ∷ 0x00 ∷ 0x00 ∷ 0x00 ∷ 0x00 ∷ 0x00 ∷ 0x00 ∷ 0x02 ∷ 0x00 ∷ 0x20 ∷ 0xF6 ∷ 0x24 ∷ 0x01
     ∷ 0x0A ∷ 0x01 ∷ 0xA8 ∷ 0xC0 ∷ 0x00 ∷ 0xFF ∷ 0xFF ∷ 0xFF ∷ replicate 14 0 ++ (0x00 ∷ 0x00 ∷ replicate 6 0 ++ (0x01
     ∷ 0x00 ∷ 0x00 ∷ 0x01 ∷ 0x00 ∷ 0x20 ∷ 0x02 ∷ 0xC0 ∷ 0xEF ∷ 0x00 ∷ replicate 35 0 ++ (0x00 ∷ 0x78 ∷ 0x00 ∷ []))))
-unfolding object_answer instance_at status_word
+unfolding object_answer alone_answer instance_at status_word
 the_whole_interface = refl
 
 -- the first group is the one that a multicast connection of the first input is given
@@ -179,7 +180,7 @@ link_behind_the_physical_address :
     map (got described 0xF6 1) (4 ∷ 5 ∷ 6 ∷ 7 ∷ 8 ∷ 9 ∷ 10 ∷ 11 ∷ 12 ∷ [])
     ≡ unknown ∷ unknown ∷ unknown ∷ is (0x02 ∷ []) ∷ is (0x01 ∷ []) ∷ is (0x01 ∷ [])
     ∷ is (0x08 ∷ 0x45 ∷ 0x74 ∷ 0x68 ∷ 0x65 ∷ 0x72 ∷ 0x6E ∷ 0x65 ∷ 0x74 ∷ []) ∷ is (0x02 ∷ 0x00 ∷ 0x00 ∷ 0x00 ∷ 0x01 ∷ 0x64 ∷ 0x00 ∷ 0x01 ∷ []) ∷ unknown ∷ []
-unfolding object_answer instance_at status_word
+unfolding object_answer alone_answer instance_at status_word
 link_behind_the_physical_address = refl
 
 -- 96 zeros in place of the counters and the control
@@ -188,7 +189,7 @@ the_whole_link :
     ≡ said GetAll
     (0x64 ∷ 0x00 ∷ 0x00 ∷ 0x00 ∷ 0x0F ∷ 0x00 ∷ 0x00 ∷ 0x00 ∷ 0x02 ∷ 0x00 ∷ 0x5E ∷ 0x10 ∷ 0x00 ∷ 0x07 ∷ replicate 96 0 ++ (0x02 ∷ 0x01 ∷ 0x01
     ∷ 0x08 ∷ 0x45 ∷ 0x74 ∷ 0x68 ∷ 0x65 ∷ 0x72 ∷ 0x6E ∷ 0x65 ∷ 0x74 ∷ 0x02 ∷ 0x00 ∷ 0x00 ∷ 0x00 ∷ 0x01 ∷ 0x64 ∷ 0x00 ∷ 0x01 ∷ []))
-unfolding object_answer instance_at status_word
+unfolding object_answer alone_answer instance_at status_word
 the_whole_link = refl
 
 -- forced to 10 Mbit/s half duplex, and 100 Gbit/s, which two bytes do not hold
@@ -202,7 +203,7 @@ other_links = refl
 code_points :
     map (got described 0x48 1) (1 ∷ 2 ∷ 3 ∷ 4 ∷ 5 ∷ 6 ∷ 7 ∷ 8 ∷ 9 ∷ [])
     ≡ is (0 ∷ []) ∷ is (59 ∷ []) ∷ is (47 ∷ []) ∷ is (55 ∷ []) ∷ is (47 ∷ []) ∷ is (43 ∷ []) ∷ is (31 ∷ []) ∷ is (27 ∷ []) ∷ unknown ∷ []
-unfolding object_answer instance_at status_word
+unfolding object_answer alone_answer instance_at status_word
 code_points = refl
 
 -- type 4, number 2, the TCP/IP Interface object, its name, and 192.168.1.10 in a port segment
@@ -211,7 +212,7 @@ the_port :
     ≡ is (0x04 ∷ 0x00 ∷ []) ∷ is (0x02 ∷ 0x00 ∷ []) ∷ is (0x02 ∷ 0x00 ∷ 0x20 ∷ 0xF5 ∷ 0x24 ∷ 0x01 ∷ [])
     ∷ is (0x10 ∷ 0x45 ∷ 0x74 ∷ 0x68 ∷ 0x65 ∷ 0x72 ∷ 0x4E ∷ 0x65 ∷ 0x74 ∷ 0x2F ∷ 0x49 ∷ 0x50 ∷ 0x20 ∷ 0x70 ∷ 0x6F ∷ 0x72 ∷ 0x74 ∷ []) ∷ unknown
     ∷ is (0x12 ∷ 0x0C ∷ 0x31 ∷ 0x39 ∷ 0x32 ∷ 0x2E ∷ 0x31 ∷ 0x36 ∷ 0x38 ∷ 0x2E ∷ 0x31 ∷ 0x2E ∷ 0x31 ∷ 0x30 ∷ []) ∷ []
-unfolding object_answer instance_at status_word
+unfolding object_answer alone_answer instance_at status_word
 the_port = refl
 
 -- 10.0.0.99 has nine characters, so a zero follows
@@ -223,14 +224,14 @@ classes_of_both :
     ≡ is (0x01 ∷ 0x00 ∷ []) ∷ is (0x03 ∷ 0x00 ∷ 0x01 ∷ 0x00 ∷ 0x02 ∷ 0x00 ∷ 0x03 ∷ 0x00 ∷ []) ∷ is (0x07 ∷ 0x00 ∷ []) ∷ is (0x08 ∷ 0x00 ∷ []) ∷ unknown
     ∷ is (0x01 ∷ 0x00 ∷ []) ∷ is (0x09 ∷ 0x00 ∷ []) ∷ is (0x07 ∷ 0x00 ∷ []) ∷ is (0x01 ∷ 0x00 ∷ [])
     ∷ is (0x00 ∷ 0x00 ∷ 0x00 ∷ 0x00 ∷ 0x04 ∷ 0x00 ∷ 0x02 ∷ 0x00 ∷ []) ∷ []
-unfolding object_answer instance_at status_word
+unfolding object_answer alone_answer instance_at status_word
 classes_of_both = refl
 
 -- all at once is no service of theirs, and no attribute can be set
 refused_services :
     all described 0x48 ∷ all described 0xF4 ∷ object_answer (adapter_table described) 0x10 0x48 1 (Some 4) (46 ∷ []) ∷ []
     ≡ denied status.Service ∷ denied status.Service ∷ denied status.NotSettable ∷ []
-unfolding object_answer instance_at status_word
+unfolding object_answer alone_answer instance_at status_word
 refused_services = refl
 
 -- an object of the maker's own stands in the place of QoS, and is listed once
@@ -239,7 +240,7 @@ own_qos = record described { objects = 0x48 ∷ [] }
 
 the_makers_own_before_ours :
     got own_qos 0x48 1 4 ∷ got own_qos 0x48 0 1 ∷ got own_qos 0xF4 1 2 ∷ [] ≡ absent ∷ absent ∷ is (0x02 ∷ 0x00 ∷ []) ∷ []
-unfolding object_answer instance_at status_word
+unfolding object_answer alone_answer instance_at status_word
 the_makers_own_before_ours = refl
 
 listed_once :
@@ -248,5 +249,5 @@ listed_once :
 listed_once = refl
 
 neither_without_a_description : map (got plain 0x48 1) (1 ∷ 4 ∷ []) ++ map (got plain 0xF4 1) (1 ∷ 7 ∷ []) ≡ absent ∷ absent ∷ absent ∷ absent ∷ []
-unfolding object_answer instance_at
+unfolding object_answer alone_answer instance_at
 neither_without_a_description = refl

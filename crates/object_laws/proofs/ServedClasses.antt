@@ -66,13 +66,18 @@ described_none t class instance (Some d) own none =
     let link = or_parts (0xF6 == class) _ interface.1 in
     rw (other_way 0x01 class one.0, other_way 0x02 class two.0, other_way 0x06 class six.0, other_way 0xF5 class interface.0, other_way 0xF6 class link.0, left_none t.profile.objects 0x48 class own, left_none t.profile.objects 0xF4 class own) refl
 
+unmanaged : (b : Bool) → (b && false) ≡ false
+unmanaged true = refl
+unmanaged false = refl
+
 instance_none : (t : AdapterTable) (class instance : ℕ) → is_own_class t.profile.objects class ≡ true → list_any (is_class class) served_classes ≡ false → instance_at t class instance ≡ None
 unfolding instance_at
 instance_none t class instance own none =
     let one = or_parts (0x01 == class) _ none in
     let two = or_parts (0x02 == class) _ one.1 in
     let four = or_parts (0x04 == class) _ two.1 in
-    rw (other_way 0x04 class four.0) (described_none t class instance t.profile.description own none)
+    let six = or_parts (0x06 == class) _ four.1 in
+    rw (other_way 0x04 class four.0, other_way 0x06 class six.0, unmanaged (instance == 1)) (described_none t class instance t.profile.description own none)
 
 -- ---- both
 

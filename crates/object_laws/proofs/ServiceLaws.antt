@@ -1,5 +1,5 @@
 -- What the services of objects leave and report.
-use Rattle.std.proofs.Common.{◌≡◌, ◌≤◌, ◌⊎◌, inl, inr, ℕ, ◌==◌, ◌&&◌, nat_lt, Bool, true, false, cond, List, [], ◌∷◌, length, find, Option, Some, None, Result, Ok, refl, sym, ◌∙◌, ap, subst, arith}
+use Rattle.std.proofs.Common.{◌≡◌, ◌≤◌, ◌⊎◌, inl, inr, ℕ, ◌==◌, ◌&&◌, ◌+◌, ◌*◌, ◌%◌, drop, nat_lt, nat_le, not, is_some, take, Bool, true, false, cond, List, [], ◌∷◌, length, find, Option, Some, None, Result, Ok, refl, sym, ◌∙◌, ap, subst, arith}
 use Rattle.std.specs.List.{list_any}
 use Rattle.std.proofs.lemmas.Bool.{le-ltb}
 use Rattle.std.proofs.lemmas.Bool.Decides.{nat_tests}
@@ -14,30 +14,24 @@ use Rattle.cip_encap.specs.Packet.{PacketFields}
 use Rattle.cip_events.specs.declared.event.Event.{Event}
 use Rattle.cip_events.specs.declared.event.Event.TheVariants as event
 use Rattle.cip_events.specs.declared.event.Notice.{Notice}
-use Rattle.cip_events.specs.declared.event.StepFault.{StepFault}
-use Rattle.cip_events.specs.Answers.{plain_answer}
-use Rattle.cip_router.specs.declared.refusal.Status.TheVariants as status
 use Rattle.cip_router.specs.Commands.{command_of, is_silent}
 use Rattle.cip_router.specs.Frames.{request_header_of, frame_fields, frame_reading, request_header_in, wrong_length_of}
 use Rattle.cip_router.specs.Requests.{RouterRequestFields, object, router_request_reading}
 use Rattle.cip_router.specs.declared.object_service.ObjectService.TheVariants.{GetSingle}
-use Rattle.messaging.specs.declared.requests.Requester.TheVariants as asker
-use Rattle.messaging.specs.Changes.{referred}
 use Rattle.adapter_table.specs.declared.profile.Description.{Description}
 use Rattle.adapter_table.specs.declared.table.AdapterTable.{AdapterTable}
 use Rattle.adapter_table.specs.declared.table.Stream.{Stream}
 use Rattle.adapter_table.specs.Encapsulation.{Handled, request_handled, packet_replied, handled, frame_answer, stream_answer, frame_of, frame}
 use Rattle.adapter_table.specs.Inquiries.{inquiry_reply}
 use Rattle.adapter_table.specs.Lemmas.RequestLemmas.{next_is}
-use Rattle.adapter_table.specs.Objects.{Attribute, Instance, identity_instance, standing_of, described_at, instance_at, is_numbered, is_owning, ObjectAnswer, said, denied, resetting, attribute_of, single_of, set_of, all_of, reset_of, reset_by, instance_answer, object_said, object_answer}
-use Rattle.adapter_table.specs.Messages.{messages_table}
-use Rattle.adapter_table.specs.Own.{OwnRequest, own_of, cannot_ask, is_own_class, referred_verdict, referred_table}
-use Rattle.adapter_table.specs.Requests.{Next, router_refusal, object_served, served_object, served, replied, requested_by, requested}
+use Rattle.adapter_table.specs.Objects.{Attribute, Instance, identity_instance, standing_of, described_at, instance_at, is_numbered, is_owning, ObjectAnswer, said, denied, resetting, attribute_of, single_of, set_of, all_of, reset_of, reset_by, instance_answer, object_said, alone_answer, get_list, set_list, got_items, most_listed, word_of, answering, refusing, unrouted}
+use Rattle.adapter_table.specs.Carrying.{Carried, barred, asking, carried, are_placed, inner_answer, is_packet, is_sending, member_replies, most_members, naming, object_answer, packed_answer, packet_answer, packet_data, routed_answer, sent_answer}
+use Rattle.adapter_table.specs.Own.{OwnRequest, own_of, is_own_class}
+use Rattle.adapter_table.specs.Requests.{Next, object_served, served_object, served, requested_by, requested}
 use Rattle.adapter_table.specs.Step.{adapter_step}
 use Rattle.adapter_table.specs.Streams.{is_stream, has_session}
 use Rattle.adapter_table.specs.Lemmas.FrameLemmas.{answer_has}
-use Rattle.object_laws.proofs.ServedClasses.{served_itself}
-use Rattle.object_laws.specs.Services.{IsServiceRequest, IsServiceFrame, Brings, IsGet, GetsChangeNothing, IsOneReset, ResetsChangeNothing, ResetsAreReported, AttributesReadBack, AsksAlone, OwnServicesAskAlone}
+use Rattle.object_laws.specs.Services.{IsServiceRequest, IsServiceFrame, Brings, IsGet, GetsChangeNothing, IsOneReset, ResetsChangeNothing}
 
 -- ---- what an event that brings a service leaves
 
@@ -60,6 +54,9 @@ object_stays : (t : AdapterTable) (service : ℕ) (answer : ObjectAnswer) → (o
 object_stays t service (said by value) = refl
 object_stays t service (denied why) = refl
 object_stays t service (resetting kind) = refl
+object_stays t service (answering by general content) = refl
+object_stays t service (refusing named why) = refl
+object_stays t service (unrouted words) = refl
 
 service_leaves : (N : List Notice → Type 0) (t : AdapterTable) (service : ℕ) → Serves N t service → (class instance : ℕ) (attribute : Option ℕ) (body : List ℕ) → Leaves N t (served_object t service class instance attribute body).table (served_object t service class instance attribute body).notices
 unfolding served_object
@@ -67,7 +64,7 @@ service_leaves N t service serves class instance attribute body =
     (object_stays t service (object_answer t service class instance attribute body), serves.each class instance attribute body)
 
 -- the class is none of the maker's own
-none_own : (objects : List ℕ) (service class instance : ℕ) (attribute : Option ℕ) (body : List ℕ) → is_own_class objects class ≡ false → own_of objects (object service class instance attribute body) ≡ None
+pub none_own : (objects : List ℕ) (service class instance : ℕ) (attribute : Option ℕ) (body : List ℕ) → is_own_class objects class ≡ false → own_of objects (object service class instance attribute body) ≡ None
 none_own objects service class instance attribute body served = rw served refl
 
 answered_leaves : (N : List Notice → Type 0) (t : AdapterTable) (service : ℕ) → Serves N t service → (peer : Node) (class instance : ℕ) (attribute : Option ℕ) (body : List ℕ) (asks : Option OwnRequest) → asks ≡ None → NextLeaves N t (requested_by t peer (object service class instance attribute body) asks)
@@ -130,6 +127,9 @@ abbrev IsNoReset : ObjectAnswer → Type 0
 IsNoReset (said by value) = Unit {0}
 IsNoReset (denied why) = Unit {0}
 IsNoReset (resetting kind) = ⊥
+IsNoReset (answering by general content) = Unit {0}
+IsNoReset (refusing named why) = Unit {0}
+IsNoReset (unrouted words) = Unit {0}
 
 single_gets : (body : List ℕ) (found : Option Attribute) → IsNoReset (single_of body found)
 single_gets body None = tt
@@ -152,13 +152,28 @@ quiet_served : (t : AdapterTable) (service : ℕ) (answer : ObjectAnswer) → Is
 quiet_served t service (said by value) none = refl
 quiet_served t service (denied why) none = refl
 quiet_served t service (resetting kind) none = absurd none
+quiet_served t service (answering by general content) none = refl
+quiet_served t service (refusing named why) none = refl
+quiet_served t service (unrouted words) none = refl
+
+-- a Get carries no request
+get_is_alone : (t : AdapterTable) (service class instance : ℕ) (attribute : Option ℕ) (body : List ℕ) → IsGet service → object_answer t service class instance attribute body ≡ alone_answer t service class instance attribute body
+unfolding object_answer
+get_is_alone t service class instance attribute body (inl is) =
+    subst (λ (s : ℕ). object_answer t s class instance attribute body ≡ alone_answer t s class instance attribute body) (sym is) refl
+get_is_alone t service class instance attribute body (inr is) =
+    subst (λ (s : ℕ). object_answer t s class instance attribute body ≡ alone_answer t s class instance attribute body) (sym is) refl
+
+alone_gets : (t : AdapterTable) (service class instance : ℕ) (attribute : Option ℕ) (body : List ℕ) → IsGet service → IsNoReset (alone_answer t service class instance attribute body)
+unfolding alone_answer
+alone_gets t service class instance attribute body get = object_gets (list_any is_owning t.rows) service attribute body (instance_at t class instance) get
 
 get_serves : (t : AdapterTable) (service : ℕ) → IsGet service → Serves (λ notices. notices ≡ []) t service
-unfolding object_answer
 get_serves t service get = record {
   none = refl;
   each = λ class instance attribute body.
-      quiet_served t service (object_answer t service class instance attribute body) (object_gets (list_any is_owning t.rows) service attribute body (instance_at t class instance) get);
+      quiet_served t service (object_answer t service class instance attribute body)
+      (subst IsNoReset (sym (get_is_alone t service class instance attribute body get)) (alone_gets t service class instance attribute body get));
 }
 
 pub gets_stay : GetsChangeNothing
@@ -173,6 +188,9 @@ abbrev IsSmallReset : ObjectAnswer → Type 0
 IsSmallReset (said by value) = Unit {0}
 IsSmallReset (denied why) = Unit {0}
 IsSmallReset (resetting kind) = kind ≤ 1
+IsSmallReset (answering by general content) = Unit {0}
+IsSmallReset (refusing named why) = Unit {0}
+IsSmallReset (unrouted words) = Unit {0}
 
 at_most : (kind : ℕ) → nat_lt 1 kind ≡ false → kind ≤ 1
 at_most kind is = grind (arith, nat_tests)
@@ -197,12 +215,29 @@ set_resets : (found : Option Attribute) → IsSmallReset (set_of found)
 set_resets None = tt
 set_resets (Some attribute) = tt
 
+got_list_resets : (attributes : List Attribute) (body : List ℕ) → IsSmallReset (get_list attributes body)
+got_list_resets attributes [] = tt
+got_list_resets attributes (low ∷ []) = tt
+got_list_resets attributes (low ∷ high ∷ rest) =
+    either IsSmallReset (nat_lt (length rest) (2 * word_of low high)) _ _ tt
+    (either IsSmallReset (nat_lt (2 * word_of low high) (length rest)) _ _ tt
+    (either IsSmallReset (nat_lt most_listed (word_of low high)) _ _ tt
+    (either IsSmallReset (nat_le (length (low ∷ high ∷ got_items attributes rest)) 1400) _ _ tt tt)))
+
+set_list_resets : (attributes : List Attribute) (body : List ℕ) → IsSmallReset (set_list attributes body)
+set_list_resets attributes [] = tt
+set_list_resets attributes (low ∷ []) = tt
+set_list_resets attributes (low ∷ high ∷ rest) =
+    either IsSmallReset (nat_lt (length rest) (2 * word_of low high)) _ _ tt (either IsSmallReset (nat_lt most_listed (word_of low high)) _ _ tt tt)
+
 instance_resets : (owned : Bool) (service : ℕ) (attribute : Option ℕ) (body : List ℕ) (o : Instance) → IsSmallReset (instance_answer owned service attribute body o)
 instance_resets owned service attribute body o =
     either IsSmallReset (service == 0x0E) _ _ (single_resets body (attribute_of o.attributes attribute))
     (either IsSmallReset (service == 0x10 && o.sets) _ _ (set_resets (attribute_of o.attributes attribute))
     (either IsSmallReset (service == 0x01 && o.gets_all) _ _ (either IsSmallReset (length body == 0) _ _ tt tt)
-    (either IsSmallReset (service == 0x05 && o.resets) _ _ (body_resets owned body) tt)))
+    (either IsSmallReset (service == 0x03 && o.sets) _ _ (got_list_resets o.attributes body)
+    (either IsSmallReset (service == 0x04 && o.sets) _ _ (set_list_resets o.attributes body)
+    (either IsSmallReset (service == 0x05 && o.resets) _ _ (body_resets owned body) tt)))))
 
 object_resets : (owned : Bool) (service : ℕ) (attribute : Option ℕ) (body : List ℕ) (found : Option Instance) → IsSmallReset (object_said owned service attribute body found)
 object_resets owned service attribute body None = tt
@@ -215,72 +250,86 @@ reset_served : (t : AdapterTable) (service : ℕ) (answer : ObjectAnswer) → Is
 reset_served t service (said by value) small = inl refl
 reset_served t service (denied why) small = inl refl
 reset_served t service (resetting kind) small = inr (record { kind = kind; small = small; alone = refl })
+reset_served t service (answering by general content) small = inl refl
+reset_served t service (refusing named why) small = inl refl
+reset_served t service (unrouted words) small = inl refl
+
+alone_resets : (t : AdapterTable) (service class instance : ℕ) (attribute : Option ℕ) (body : List ℕ) → IsSmallReset (alone_answer t service class instance attribute body)
+unfolding alone_answer
+alone_resets t service class instance attribute body = object_resets (list_any is_owning t.rows) service attribute body (instance_at t class instance)
+
+packet_resets : (t : AdapterTable) (body : List ℕ) → IsSmallReset (packet_answer t body)
+packet_resets t [] = tt
+packet_resets t (low ∷ []) = tt
+packet_resets t (low ∷ high ∷ rest) =
+    either IsSmallReset (nat_lt (length rest) (2 * word_of low high)) _ _ tt
+    (either IsSmallReset (nat_lt most_members (word_of low high)) _ _ tt
+    (either IsSmallReset (not (are_placed (low ∷ high ∷ rest) (take (2 * word_of low high) rest))) _ _ tt
+    (either IsSmallReset (nat_le (length (packet_data low high (member_replies t (low ∷ high ∷ rest) (take (2 * word_of low high) rest)))) 1400) _ _ tt tt)))
+
+packed_resets : (t : AdapterTable) (service class instance : ℕ) (attribute : Option ℕ) (body : List ℕ) → IsSmallReset (packed_answer t service class instance attribute body)
+packed_resets t service class instance attribute body =
+    either IsSmallReset (is_packet (is_some t.profile.description) service class instance) _ _ (packet_resets t body) (alone_resets t service class instance attribute body)
+
+naming_resets : (service : ℕ) (answer : ObjectAnswer) → IsSmallReset answer → IsSmallReset (naming service answer)
+naming_resets service (said by value) small = tt
+naming_resets service (denied why) small = tt
+naming_resets service (resetting kind) small = small
+naming_resets service (answering by general content) small = tt
+naming_resets service (refusing named why) small = tt
+naming_resets service (unrouted words) small = tt
+
+inner_resets : (t : AdapterTable) (inner : Carried) → IsSmallReset (inner_answer t inner)
+inner_resets t (barred service why) = tt
+inner_resets t (asking service class instance attribute body) =
+    naming_resets service (packed_answer t service class instance attribute body) (packed_resets t service class instance attribute body)
+
+routed_resets : (t : AdapterTable) (inner behind : List ℕ) → IsSmallReset (routed_answer t inner behind)
+routed_resets t inner [] = tt
+routed_resets t inner (words ∷ []) = tt
+routed_resets t inner (words ∷ reserved ∷ route) =
+    either IsSmallReset (nat_lt (length route) (2 * words)) _ _ tt
+    (either IsSmallReset (nat_lt (2 * words) (length route)) _ _ tt
+    (either IsSmallReset (not (words == 0)) _ _ tt (inner_resets t (carried 0x52 t.profile.objects (router_request_reading inner)))))
+
+sent_resets : (t : AdapterTable) (body : List ℕ) → IsSmallReset (sent_answer t body)
+sent_resets t [] = tt
+sent_resets t (tick ∷ []) = tt
+sent_resets t (tick ∷ ticks ∷ []) = tt
+sent_resets t (tick ∷ ticks ∷ low ∷ []) = tt
+sent_resets t (tick ∷ ticks ∷ low ∷ high ∷ rest) = routed_resets t (take (word_of low high) rest) (drop (word_of low high + word_of low high % 2) rest)
+
+any_resets : (t : AdapterTable) (service class instance : ℕ) (attribute : Option ℕ) (body : List ℕ) → IsSmallReset (object_answer t service class instance attribute body)
+unfolding object_answer
+any_resets t service class instance attribute body =
+    either IsSmallReset (is_sending (is_some t.profile.description) service class instance) _ _ (sent_resets t body) (packed_resets t service class instance attribute body)
 
 reset_serves : (t : AdapterTable) (service : ℕ) → Serves AtMostAReset t service
-unfolding object_answer
 reset_serves t service = record {
   none = inl refl;
   each = λ class instance attribute body.
-      reset_served t service (object_answer t service class instance attribute body) (object_resets (list_any is_owning t.rows) service attribute body (instance_at t class instance));
+      reset_served t service (object_answer t service class instance attribute body) (any_resets t service class instance attribute body);
 }
 
 pub resets_stay : ResetsChangeNothing
-resets_stay t happens next is brings =
-    let left = step_leaves AtMostAReset t 0x05 (reset_serves t 0x05) happens next is brings in
+resets_stay t happens service next is brings =
+    let left = step_leaves AtMostAReset t service (reset_serves t service) happens next is brings in
     record { table = left.0; notices = left.1 }
 
 -- ---- exact answers
-
-abbrev done : Next → Result Next StepFault
-done next = Ok next
-
--- the step of a request for a service, by what the object answers
-answered_as : (t : AdapterTable) (peer : Node) (bytes : List ℕ) (service class instance : ℕ) (attribute : Option ℕ) (body : List ℕ) (answer : ObjectAnswer) → router_request_reading bytes ≡ object service class instance attribute body → is_own_class t.profile.objects class ≡ false → object_answer t service class instance attribute body ≡ answer → adapter_step t (event.Request peer bytes) ≡ done (replied peer (object_served t service answer))
-unfolding requested served_object
-answered_as t peer bytes service class instance attribute body answer reads free is =
-    ap (λ (r : RouterRequestFields). done (requested_by t peer r (own_of t.profile.objects r))) reads
-    ∙ ap (λ (o : Option OwnRequest). done (requested_by t peer (object service class instance attribute body) o)) (none_own t.profile.objects service class instance attribute body free) ∙ ap (λ (a : ObjectAnswer). done (replied peer (object_served t service a))) is
 
 -- the Identity object of a device that is described
 pub identity_found : (t : AdapterTable) (d : Description) → t.profile.description ≡ Some d → instance_at t 0x01 1 ≡ Some (identity_instance t.profile.identity d (standing_of t))
 unfolding instance_at
 identity_found t d is = ap (described_at t 0x01 1) is
 
-reset_said : (t : AdapterTable) (d : Description) (attribute : Option ℕ) (kind : ℕ) → t.profile.description ≡ Some d → list_any is_owning t.rows ≡ false → kind ≤ 1 → object_answer t 0x05 0x01 1 attribute (kind ∷ []) ≡ resetting kind
-unfolding object_answer
+pub reset_said : (t : AdapterTable) (d : Description) (attribute : Option ℕ) (kind : ℕ) → t.profile.description ≡ Some d → list_any is_owning t.rows ≡ false → kind ≤ 1 → object_answer t 0x05 0x01 1 attribute (kind ∷ []) ≡ resetting kind
+unfolding object_answer alone_answer
 reset_said t d attribute kind is free small =
     let fits : nat_lt 1 kind ≡ false = le-ltb _ _ small in
     ap (object_said (list_any is_owning t.rows) 0x05 attribute (kind ∷ [])) (identity_found t d is) ∙ rw (free, fits) refl
 
-pub resets_said : ResetsAreReported
-resets_said t peer bytes d attribute kind whole is free small reads =
-    let served = served_itself t 0x01 1 (identity_instance t.profile.identity d (standing_of t)) whole (identity_found t d is) in
-    answered_as t peer bytes 0x05 0x01 1 attribute (kind ∷ []) (resetting kind) reads served (reset_said t d attribute kind is free small)
-
-single_said : (t : AdapterTable) (class instance number : ℕ) (o : Instance) (attribute : Attribute) → instance_at t class instance ≡ Some o → find (is_numbered number) o.attributes ≡ Some attribute → object_answer t 0x0E class instance (Some number) [] ≡ said GetSingle attribute.value
-unfolding object_answer
+pub single_said : (t : AdapterTable) (class instance number : ℕ) (o : Instance) (attribute : Attribute) → instance_at t class instance ≡ Some o → find (is_numbered number) o.attributes ≡ Some attribute → object_answer t 0x0E class instance (Some number) [] ≡ said GetSingle attribute.value
+unfolding object_answer alone_answer
 single_said t class instance number o attribute is found =
     ap (object_said (list_any is_owning t.rows) 0x0E (Some number) []) is ∙ ap (single_of []) found
-
-pub attributes_said : AttributesReadBack
-attributes_said t peer bytes class instance number o attribute whole is found reads =
-    answered_as t peer bytes 0x0E class instance (Some number) [] (said GetSingle attribute.value) reads (served_itself t class instance o whole is) (single_said t class instance number o attribute is found)
-
--- ---- objects of the maker's own
-
-same_messages : (t : AdapterTable) → t ≡ messages_table t t.next_id t.messaging
-unfolding messages_table
-same_messages t = refl
-
-own_asks : (t : AdapterTable) (peer : Node) (request : RouterRequestFields) (asks : OwnRequest) → AsksAlone t (requested_by t peer request (Some asks))
-own_asks t peer request asks =
-    either (AsksAlone t) (cannot_ask t peer) (replied peer (router_refusal t asks.service status.ResourceUnavailable)) (plain_answer (referred_verdict t asks), referred_table t peer (asker.Peer peer) asks)
-    (record { messages = t.messaging; table = same_messages t; notices = refl }) (record { messages = referred t.messaging peer (asker.Peer peer) asks.service t.clock; table = refl; notices = refl })
-
-requested_asks : (t : AdapterTable) (peer : Node) (bytes : List ℕ) (asks : OwnRequest) → own_of t.profile.objects (router_request_reading bytes) ≡ Some asks → AsksAlone t (requested t peer bytes)
-unfolding requested
-requested_asks t peer bytes asks is =
-    subst (λ (o : Option OwnRequest). AsksAlone t (requested_by t peer (router_request_reading bytes) o)) (sym is) (own_asks t peer (router_request_reading bytes) asks)
-
-pub own_services_ask : OwnServicesAskAlone
-own_services_ask t peer bytes asks next is own = subst (AsksAlone t) (next_is _ _ is) (requested_asks t peer bytes asks own)

@@ -6,7 +6,8 @@ use Rattle.list_identity.specs.Identity.{identity_item, item_head, view_socket}
 use Rattle.adapter_table.specs.declared.profile.Description.{Description}
 use Rattle.adapter_table.specs.declared.table.AdapterTable.{AdapterTable}
 use Rattle.adapter_table.specs.Inquiries.{identity_of, address_of}
-use Rattle.adapter_table.specs.Objects.{said, object_answer, operational, status_word}
+use Rattle.adapter_table.specs.Objects.{said, operational, status_word}
+use Rattle.adapter_table.specs.Carrying.{object_answer}
 use Rattle.adapter_table.specs.Profiles.{is_output_at}
 use Rattle.adapter_table.specs.Rows.{drivers}
 use Rattle.adapter_table.specs.Whole.{IsWhole}

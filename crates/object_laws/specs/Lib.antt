@@ -1,3 +1,5 @@
 pub mod Inquiries
+pub mod Routes
+pub mod Packets
 pub mod Services
 pub mod Identities

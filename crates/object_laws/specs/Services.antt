@@ -2,31 +2,30 @@
 -- object).
 use Rattle.std.specs.Prelude.{ℕ, ◌≡◌, ◌≤◌, ◌⊎◌, ◌||◌, Bool, false, List, [], ◌∷◌, find, Option, Some, None, Ok, is_some}
 use Rattle.std.specs.List.{list_any}
-use Rattle.cip_types.specs.declared.names.Node.{Node}
 use Rattle.cip_encap.specs.Message.{MessageFields}
 use Rattle.cip_encap.specs.Packet.{PacketFields}
 use Rattle.cip_encap.specs.PacketReading.{packet_reading}
 use Rattle.cip_encap.specs.Reading.{message_reading}
-use Rattle.cip_events.specs.declared.event.Answer.{Answer}
 use Rattle.cip_events.specs.declared.event.Event.{Event}
 use Rattle.cip_events.specs.declared.event.Event.TheVariants as event
 use Rattle.cip_events.specs.declared.event.Notice.{Notice}
 use Rattle.cip_events.specs.declared.event.Notice.TheVariants as notice
-use Rattle.cip_events.specs.declared.event.Verdict.TheVariants.{Done}
 use Rattle.cip_router.specs.declared.object_service.ObjectService.TheVariants.{GetSingle, Reset}
 use Rattle.cip_router.specs.declared.refusal.Status.TheVariants as status
-use Rattle.cip_router.specs.Replies.{ReplyFields, object_reply}
-use Rattle.cip_router.specs.Requests.{object, router_request_reading}
+use Rattle.cip_router.specs.Replies.{object_reply}
+use Rattle.cip_router.specs.Requests.{RouterRequestFields, closing, object, opening, router_request_reading}
 use Rattle.messaging.specs.declared.table.Messaging.{Messaging}
 use Rattle.adapter_table.specs.declared.profile.Description.{Description}
 use Rattle.adapter_table.specs.declared.table.AdapterTable.{AdapterTable}
-use Rattle.adapter_table.specs.Objects.{Attribute, Instance, denied, instance_at, is_numbered, is_owning, numbers, object_answer, said}
+use Rattle.adapter_table.specs.Objects.{Attribute, Instance, denied, instance_at, is_numbered, is_owning, numbers, said}
+use Rattle.adapter_table.specs.Carrying.{object_answer}
 use Rattle.adapter_table.specs.Messages.{with_messages}
 use Rattle.adapter_table.specs.Own.{OwnRequest, own_of, is_own_class}
 use Rattle.adapter_table.specs.Profiles.{is_class}
-use Rattle.adapter_table.specs.Requests.{Next, reply_frame}
+use Rattle.adapter_table.specs.Requests.{Next}
 use Rattle.adapter_table.specs.Step.{adapter_step}
 use Rattle.adapter_table.specs.Whole.{IsWhole}
+use Rattle.object_laws.specs.Routes.{BringsRequest, IsServed, SendsMessage, answered_with}
 
 -- REQUESTS
 
@@ -84,33 +83,30 @@ pub record IsResetAlone (t : AdapterTable) (next : Next) : Type 0 where
   pub table : next.1 ≡ t
   pub notices : (next.0.notices ≡ []) ⊎ IsOneReset next.0.notices
 
--- so it is after every Reset that is dealt with
+-- so it is after every service that is dealt with: a Reset is a service of the Identity object, or an Unconnected_Send carries it
 abbrev pub ResetsChangeNothing : Type 0
 ResetsChangeNothing =
-    (t : AdapterTable) (happens : Event) (next : Next) →
-    adapter_step t happens ≡ Ok next → Brings t happens 0x05 → IsResetAlone t next
+    (t : AdapterTable) (happens : Event) (service : ℕ) (next : Next) →
+    adapter_step t happens ≡ Ok next → Brings t happens service → IsResetAlone t next
 
--- an answer of one reply with these notices
-abbrev pub replied_with : Node → ReplyFields → List Notice → Answer
-replied_with peer reply notices = record { frames = reply_frame peer reply ∷ []; datagrams = []; verdict = Done; notices = notices }
-
--- of a whole table, a Reset of type 0 or 1 of a described device of which no output is owned succeeds, and is reported
+-- of a whole table, a Reset of type 0 or 1 of a described device of which no output is owned succeeds, and is reported, over every
+-- route
 abbrev pub ResetsAreReported : Type 0
 ResetsAreReported =
-    (t : AdapterTable) (peer : Node) (bytes : List ℕ) (d : Description) (attribute : Option ℕ) (kind : ℕ) →
+    (t : AdapterTable) (happens : Event) (request : List ℕ) (d : Description) (attribute : Option ℕ) (kind : ℕ) (next : Next) →
     IsWhole t → t.profile.description ≡ Some d → list_any is_owning t.rows ≡ false → kind ≤ 1 →
-    router_request_reading bytes ≡ object 0x05 0x01 1 attribute (kind ∷ []) →
-    adapter_step t (event.Request peer bytes) ≡ Ok (replied_with peer (object_reply Reset []) (notice.Reset kind ∷ []), t)
+    router_request_reading request ≡ object 0x05 0x01 1 attribute (kind ∷ []) → BringsRequest t happens request →
+    adapter_step t happens ≡ Ok next → IsServed t (answered_with t (object_reply Reset []) (notice.Reset kind ∷ [])) next
 
 -- ATTRIBUTES
 
--- each attribute of each instance of a whole table is read back
+-- each attribute of each instance of a whole table is read back, over every route
 abbrev pub AttributesReadBack : Type 0
 AttributesReadBack =
-    (t : AdapterTable) (peer : Node) (bytes : List ℕ) (class instance number : ℕ) (o : Instance) (attribute : Attribute) →
+    (t : AdapterTable) (happens : Event) (request : List ℕ) (class instance number : ℕ) (o : Instance) (attribute : Attribute) (next : Next) →
     IsWhole t → instance_at t class instance ≡ Some o → find (is_numbered number) o.attributes ≡ Some attribute →
-    router_request_reading bytes ≡ object 0x0E class instance (Some number) [] →
-    adapter_step t (event.Request peer bytes) ≡ Ok (replied_with peer (object_reply GetSingle attribute.value) [], t)
+    router_request_reading request ≡ object 0x0E class instance (Some number) [] → BringsRequest t happens request →
+    adapter_step t happens ≡ Ok next → IsServed t (answered_with t (object_reply GetSingle attribute.value) []) next
 
 -- WHICH OBJECTS THERE ARE
 
@@ -134,14 +130,28 @@ NothingIsListed = (t : AdapterTable) → t.profile.description ≡ None → obje
 
 -- OBJECTS OF THE MAKER'S OWN
 
--- all but the requests that wait stays, and nothing is reported
+-- all but the requests that wait and the class 3 connections' last messages stays, and nothing is reported
 pub record AsksAlone (t : AdapterTable) (next : Next) : Type 0 where
   pub messages : Messaging
   pub table : next.1 ≡ with_messages t messages
   pub notices : next.0.notices ≡ []
 
--- so it is after every request of a peer to such an object
+-- a request that opens or closes a connection
+abbrev pub IsConnecting : RouterRequestFields → Type 0
+IsConnecting (closing fields) = Unit {0}
+IsConnecting (opening large fields) = Unit {0}
+IsConnecting other = ⊥
+
+-- so it is after every message of a class 3 connection that would open or close one: it does neither
+abbrev pub MessagesConnectNothing : Type 0
+MessagesConnectNothing =
+    (t : AdapterTable) (number : ℕ) (bytes request : List ℕ) (next : Next) →
+    adapter_step t (event.Frame number bytes) ≡ Ok next → SendsMessage t number bytes request → IsConnecting (router_request_reading request) →
+    AsksAlone t next
+
+-- so it is after every request to such an object, over every route
 abbrev pub OwnServicesAskAlone : Type 0
 OwnServicesAskAlone =
-    (t : AdapterTable) (peer : Node) (bytes : List ℕ) (asks : OwnRequest) (next : Next) →
-    adapter_step t (event.Request peer bytes) ≡ Ok next → own_of t.profile.objects (router_request_reading bytes) ≡ Some asks → AsksAlone t next
+    (t : AdapterTable) (happens : Event) (request : List ℕ) (asks : OwnRequest) (next : Next) →
+    adapter_step t happens ≡ Ok next → BringsRequest t happens request → own_of t.profile.objects (router_request_reading request) ≡ Some asks →
+    AsksAlone t next

@@ -11,6 +11,6 @@ mod services;
 pub use identities::{identities_agree, the_owned_bit_says_owners};
 pub use inquiries::inquiries_change_nothing;
 pub use services::{
-    attributes_read_back, gets_change_nothing, objects_are_listed, own_services_ask_alone,
-    resets_are_reported,
+    attributes_read_back, gets_change_nothing, messages_connect_nothing, objects_are_listed,
+    own_services_ask_alone, packets_are_their_services, resets_are_reported, routes_serve_alike,
 };

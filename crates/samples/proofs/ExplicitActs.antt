@@ -9,7 +9,8 @@ use Rattle.cip_events.specs.declared.event.Verdict.{Verdict}
 use Rattle.cip_events.specs.declared.event.Verdict.TheVariants.{Done, Ignored, Replied}
 use Rattle.cip_router.specs.Replies.{object_reply_text}
 use Rattle.cip_router.specs.RouterReplies.{router_reply_reading}
-use Rattle.adapter_table.specs.Objects.{instance_at, object_answer}
+use Rattle.adapter_table.specs.Objects.{instance_at, alone_answer}
+use Rattle.adapter_table.specs.Carrying.{object_answer}
 use Rattle.segment_world.specs.declared.transit.direction.Direction.TheVariants.{Forth, Back}
 use Rattle.segment_world.specs.declared.act.Act.{Act}
 use Rattle.segment_world.specs.declared.act.Act.TheVariants.{Local, NextFrame, CutStream}
@@ -51,12 +52,12 @@ plain verdict = Some (verdict, [])
 
 -- the request goes forth, and the reply, four zeros, comes back with the application's number
 a_reply : outcomes (says met (asks 7 get_input ∷ NextFrame 0 Forth ∷ NextFrame 0 Back ∷ [])) ≡ plain Done ∷ plain Done ∷ plain (Replied 7 0 [] (0 ∷ 0 ∷ 0 ∷ 0 ∷ [])) ∷ []
-unfolding playing instance_at object_answer object_reply_text router_reply_reading
+unfolding playing instance_at object_answer alone_answer object_reply_text router_reply_reading
 a_reply = refl
 
 -- an object that the adapter has not: path destination unknown
 no_such_object : outcomes (says met (asks 9 (0x0E ∷ 0x02 ∷ 0x20 ∷ 0x99 ∷ 0x24 ∷ 0x01 ∷ []) ∷ NextFrame 0 Forth ∷ NextFrame 0 Back ∷ [])) ≡ plain Done ∷ plain Done ∷ plain (Replied 9 5 [] []) ∷ []
-unfolding playing instance_at object_answer object_reply_text router_reply_reading
+unfolding playing instance_at object_answer alone_answer object_reply_text router_reply_reading
 no_such_object = refl
 
 -- ---- none
@@ -68,7 +69,7 @@ lost = refl
 
 -- the reply comes after the open time-out
 late : outcomes (says met (asks 7 get_input ∷ NextFrame 0 Forth ∷ Local 1 (call.Tick 2000) ∷ NextFrame 0 Back ∷ [])) ≡ plain Done ∷ plain Done ∷ Some (Done, notice.Unanswered 7 TimedOut ∷ []) ∷ plain Ignored ∷ []
-unfolding playing instance_at object_answer object_reply_text
+unfolding playing instance_at object_answer alone_answer object_reply_text
 late = refl
 
 -- ---- refusals

@@ -7,7 +7,9 @@ use Rattle.base_lemmas.specs.Numbers.{same_if_not}
 use Rattle.cip_types.specs.declared.names.Node.{Node}
 use Rattle.cip_epath.specs.declared.fault.PathFault.{PathFault}
 use Rattle.cip_epath.specs.Path.{PathFields}
-use Rattle.cip_epath.specs.Reading.{path_reading}
+use Rattle.adapter_table.specs.declared.profile.Description.{Description}
+use Rattle.adapter_table.specs.Intervals.{whole_request}
+use Rattle.adapter_table.specs.Paths.{opening_path}
 use Rattle.cip_fwdopen.specs.Open.{OpenFields}
 use Rattle.cip_productions.specs.declared.kind.Kind.{Kind}
 use Rattle.cip_productions.specs.declared.kind.Kind.TheVariants.{ExclusiveOwner}
@@ -79,18 +81,18 @@ judged_by view request reading (Err why) None admitted named first is = absurd (
 judged_by view request reading (Ok points) None admitted named first is =
     record { points = points; named = named; passed = all_pass (checks view request reading (Ok points)) first; said = admitted_same (admitted_at request points) admitted is }
 
-is_judged : (t : AdapterTable) (request : OpenFields) (admitted : Admitted) → admission t request ≡ Ok admitted → IsJudged (view_of t request.triad) request (path_reading request.path) admitted
+is_judged : (t : AdapterTable) (request : OpenFields) (admitted : Admitted) → admission t request ≡ Ok admitted → IsJudged (view_of t request.triad) request (opening_path t.profile.description request.path) admitted
 unfolding verdict
 is_judged t request admitted is =
-    judged_by (view_of t request.triad) request (path_reading request.path) (points_of (view_of t request.triad) request (result_ok (path_reading request.path)))
-    (first_of (checks (view_of t request.triad) request (path_reading request.path) (points_of (view_of t request.triad) request (result_ok (path_reading request.path))))) admitted refl refl is
+    judged_by (view_of t request.triad) request (opening_path t.profile.description request.path) (points_of (view_of t request.triad) request (result_ok (opening_path t.profile.description request.path)))
+    (first_of (checks (view_of t request.triad) request (opening_path t.profile.description request.path) (points_of (view_of t request.triad) request (result_ok (opening_path t.profile.description request.path))))) admitted refl refl is
 
 -- ---- what a request and its connection have in common
 
 -- the connection has the points of the request's path, with the request's sizes
 pub record IsAsRequested (request : OpenFields) (profile : Profile) (row : Row) : Type 0 where
   pub path : PathFields
-  pub reads : path_reading request.path ≡ Ok path
+  pub reads : opening_path profile.description request.path ≡ Ok path
   pub consumed : row.consumed ≡ path.consumed
   pub produced : row.produced ≡ path.produced
   pub multicast : row.multicast ≡ is_multicast request.t_o_params.kind
@@ -102,7 +104,7 @@ pub record IsAsRequested (request : OpenFields) (profile : Profile) (row : Row) 
   pub input_is : input_of profile path.produced ≡ Some input
   pub t_o : request.t_o_params.size ≡ adapters.t_o_size input
 
-admitted_requested : (t : AdapterTable) (peer : Node) (request : OpenFields) (points : Points) → ReadsAndFinds t.profile (path_reading request.path) points → AllPass (checks (view_of t request.triad) request (path_reading request.path) (Ok points)) → IsAsRequested request t.profile (opened_row t peer request (admitted_at request points))
+admitted_requested : (t : AdapterTable) (peer : Node) (request : OpenFields) (points : Points) → ReadsAndFinds t.profile (opening_path t.profile.description request.path) points → AllPass (checks (view_of t request.triad) request (opening_path t.profile.description request.path) (Ok points)) → IsAsRequested request t.profile (opened_row t peer request (admitted_at request points))
 unfolding opened_row
 admitted_requested t peer request points reads first =
     let found = reads.found in
@@ -127,7 +129,24 @@ pub opened_requested : (t : AdapterTable) (peer : Node) (request : OpenFields) (
 opened_requested t peer request admitted is =
     let j = is_judged t request admitted is in
     subst (λ (a : Admitted). IsAsRequested request t.profile (opened_row t peer request a)) j.said
-    (admitted_requested t peer request j.points (path_found t request (path_reading request.path) j.points j.named) j.passed)
+    (admitted_requested t peer request j.points (path_found t request (opening_path t.profile.description request.path) j.points j.named) j.passed)
+
+-- the request that a device takes a request for has its points and sizes
+pub as_read : (d : Option Description) (request : OpenFields) (profile : Profile) (row : Row) → IsAsRequested (whole_request d request) profile row → IsAsRequested request profile row
+as_read d request profile row is = record {
+  path = is.path;
+  reads = is.reads;
+  consumed = is.consumed;
+  produced = is.produced;
+  multicast = is.multicast;
+  consumer = is.consumer;
+  consumer_is = is.consumer_is;
+  kind = is.kind;
+  o_t = is.o_t;
+  input = is.input;
+  input_is = is.input_is;
+  t_o = is.t_o;
+}
 
 -- ---- the points of a slot
 

@@ -18,6 +18,7 @@ use Rattle.cip_events.specs.declared.event.Event.TheVariants as event
 use Rattle.cip_events.specs.declared.event.Frame.{Frame}
 use Rattle.cip_fwdopen.specs.Open.{OpenFields}
 use Rattle.cip_types.specs.declared.names.Node.{Node}
+use Rattle.adapter_table.specs.Intervals.{whole_request}
 use Rattle.adapter_table.specs.declared.profile.Profile.{Profile}
 use Rattle.adapter_table.specs.declared.table.AdapterTable.{AdapterTable}
 use Rattle.adapter_table.specs.Checks.{Admitted, admission}
@@ -62,7 +63,7 @@ use Rattle.device_laws.specs.Lemmas.Books.{end_is}
 use Rattle.device_laws.specs.Lemmas.OpenedRows.{MessageMakes}
 use Rattle.schedule_laws.specs.MadeOnce.{AnIdOpensOneConnection}
 use Rattle.schedule_laws.specs.JoinedPoints.{HasPath, HasPaths, HavePaths, SchedulesJoinPoints}
-use Rattle.schedule_laws.proofs.Admitting.{joins, joins_on, opened_requested}
+use Rattle.schedule_laws.proofs.Admitting.{joins, joins_on, opened_requested, as_read}
 use Rattle.schedule_laws.proofs.Asking.{OpeningsCome}
 use Rattle.schedule_laws.proofs.ConnectionRows.{EventMakes, Lasts, step_rows}
 use Rattle.schedule_laws.proofs.Requested.{NamesSlots, FrameAsks, IsLater, JoinsSlots, names_later, joins_later, same_later, step_asks, step_later}
@@ -221,10 +222,10 @@ unfolding opened_row
 opened_number t peer request admitted = refl
 
 -- the connection that a frame opens
-new_joins : (w new : World) (opened more : List Opened) (device : ℕ) (t u : AdapterTable) (n : ℕ) (bytes : List ℕ) (other : ℕ) (peer : Node) (request : OpenFields) (admitted : Admitted) → AdapterEvent w new opened device t u → Opens w device t u n bytes other more → Asks w other device bytes → IsOpening bytes request → admission t request ≡ Ok admitted → RowJoins new (opened ++ more) device u.profile (opened_row t peer request admitted)
+new_joins : (w new : World) (opened more : List Opened) (device : ℕ) (t u : AdapterTable) (n : ℕ) (bytes : List ℕ) (other : ℕ) (peer : Node) (request : OpenFields) (admitted : Admitted) → AdapterEvent w new opened device t u → Opens w device t u n bytes other more → Asks w other device bytes → IsOpening bytes request → admission t (whole_request t.profile.description request) ≡ Ok admitted → RowJoins new (opened ++ more) device u.profile (opened_row t peer (whole_request t.profile.description request) admitted)
 new_joins w new opened more device t u n bytes other peer request admitted known opens asks is admits e found s at =
-    let row = opened_row t peer request admitted in
-    let number : row.opening ≡ t.next_id = opened_number t peer request admitted in
+    let row = opened_row t peer (whole_request t.profile.description request) admitted in
+    let number : row.opening ≡ t.next_id = opened_number t peer (whole_request t.profile.description request) admitted in
     let passes = found_passes (opens_row (end_at device row.opening)) (opened ++ more) e found in
     let same : e.row ≡ end_at device t.next_id = end_is (end_at device row.opening) e.row passes ∙ ap (end_at device) number in
     let there : Contains (opened ++ more) e = found_holds (Contains (opened ++ more)) (opens_row (end_at device row.opening)) (opened ++ more) e (all_contained (opened ++ more) [] (opened ++ more) refl) found in
@@ -234,11 +235,11 @@ new_joins w new opened more device t u n bytes other peer request admitted known
     let was = known.later e.slot.device s at in
     let names_slots : NamesSlots was.table e.slot.number request = subst (λ (k : ℕ). NamesSlots was.table k request) context (asks was.table (ap (slice_get w.tables) (sym one) ∙ was.there) request is) in
     let now : NamesSlots s e.slot.number request = names_later was.table s e.slot.number request was.later names_slots in
-    let joined : JoinsSlots s e.slot.number t.profile (opened_row t peer request admitted) = record {
+    let joined : JoinsSlots s e.slot.number t.profile (opened_row t peer (whole_request t.profile.description request) admitted) = record {
       last = now.last;
-      slots = λ place at_place has. joins place.config request t.profile (opened_row t peer request admitted) (now.slots place at_place has) (opened_requested t peer request admitted admits);
+      slots = λ place at_place has. joins place.config request t.profile (opened_row t peer (whole_request t.profile.description request) admitted) (now.slots place at_place has) (as_read t.profile.description request t.profile (opened_row t peer (whole_request t.profile.description request) admitted) (opened_requested t peer (whole_request t.profile.description request) admitted admits));
     } in
-    subst (λ (p : Profile). JoinsSlots s e.slot.number p (opened_row t peer request admitted)) (sym known.profile) joined
+    subst (λ (p : Profile). JoinsSlots s e.slot.number p (opened_row t peer (whole_request t.profile.description request) admitted)) (sym known.profile) joined
 
 row_lasts : (w : World) (opened : List Opened) (device : ℕ) (profile : Profile) → Lasts (RowJoins w opened device profile)
 row_lasts w opened device profile old row one was e found s at =

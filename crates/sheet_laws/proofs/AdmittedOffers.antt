@@ -9,6 +9,8 @@ use Rattle.cip_types.specs.declared.names.Ms.{Ms}
 use Rattle.cip_types.specs.declared.names.Node.{Node}
 use Rattle.cip_epath.specs.Path.{PathFields}
 use Rattle.cip_epath.specs.Reading.{path_reading}
+use Rattle.adapter_table.specs.Paths.{opening_path}
+use Rattle.adapter_table.specs.Lemmas.PathLemmas.{opening_reads}
 use Rattle.cip_epath.specs.Written.{PathFits}
 use Rattle.cip_epath.specs.Laws.PathLaws.{path_text_reads}
 use Rattle.cip_netparams.specs.declared.ConnectionType.{ConnectionType}
@@ -212,8 +214,8 @@ module _ (profile : Profile) (none : profile_fault profile ≡ None) (kind : Kin
     abbrev view : View
     view = view_of (adapter_table profile) request.triad
 
-    reads : path_reading request.path ≡ Ok path
-    reads = ap path_reading made.path ∙ path_text_reads path fits
+    reads : opening_path profile.description request.path ≡ Ok path
+    reads = opening_reads profile.description request.path path (ap path_reading made.path ∙ path_text_reads path fits)
 
     found : points_of view request (Some path) ≡ Ok points
     found = rw (joined_none (is_multicast request.t_o_params.kind), known profile.config, served.consumer, served.input) refl

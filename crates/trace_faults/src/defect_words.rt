@@ -60,9 +60,10 @@ pub fn push_defect(
         } => push_group(out, (slot, other), (target, point), earlier),
         Defect::Waiting(wait, ms) => push_waiting(out, wait, ms),
         Defect::Openings(_) | Defect::NoSerial => push_opening(out, defect),
-        Defect::NameLen(_) | Defect::AddressLen(_) | Defect::Inactivity(_) => {
-            push_described(out, defect)
-        }
+        Defect::ClassInstance
+        | Defect::NameLen(_)
+        | Defect::AddressLen(_)
+        | Defect::Inactivity(_) => push_described(out, defect),
         Defect::Limit(stated) => push_stated(out, stated),
         Defect::ExtraClass(_) | Defect::OtherClass(_) | Defect::SameClass(_) => {
             push_class(out, defect)
@@ -145,6 +146,10 @@ fn push_waiting(out: &mut String, wait: WaitingTime, ms: u64) -> Result<(), OutO
 /// A value of a description that is none.
 fn push_described(out: &mut String, defect: Defect) -> Result<(), OutOfMemory> {
     match defect {
+        Defect::ClassInstance => push_text(
+            out,
+            "a point has the instance 0, by which a tool asks the class of Assembly itself",
+        ),
         Defect::NameLen(len) => Ok(write!(
             out,
             "the name has {len} bytes, and a name has 0 to {LONGEST_NAME}"

@@ -1,24 +1,25 @@
 //! Services of objects beside the Connection Manager, and inquiries.
 
-ghost use Rattle.std.specs.Prelude.{◌≡◌, ◌≤◌, Ok, Some, None, IfOk, false, ◌==◌, length};
+ghost use Rattle.std.specs.Prelude.{◌≡◌, ◌≤◌, Ok, Some, None, IfOk, false, ◌==◌, ◌&&◌, length};
 ghost use Rattle.std.specs.Option.{option_map};
 ghost use Rattle.adapter_replies.specs.Messages.{object_fields, object_notices};
 ghost use Rattle.adapter_replies.specs.Routes.{kept_text, routed_answer};
 ghost use Rattle.adapter_replies.specs.Serving.{finished};
 ghost use Rattle.cip_events.specs.Outcomes.{Follows};
-ghost use Rattle.adapter_table.specs.Objects.{connection_count, object_answer};
+ghost use Rattle.adapter_table.specs.Objects.{alone_answer, connection_count};
 ghost use Rattle.adapter_table.specs.Rows.{kind_count};
 ghost use Rattle.adapter_table.specs.Inquiries.{inquiry_reply, inquired};
+ghost use Rattle.adapter_table.specs.Carrying.{object_answer};
 ghost use Rattle.adapter_table.specs.Requests.{served_object};
-ghost use Rattle.adapter_table.specs.Lemmas.ObjectSizes.{FewSaid};
 ghost use Rattle.adapter_replies.specs.Objects.Views.{view_answer};
 
 use super::Adapter;
 use adapter_replies::{
     ConnectionFacts, ObjectAnswer, ObjectRequest, Route, assembly_answer, described_answer,
-    has_inquiry_length, inquiry_answer, object_notices, object_reply, reply_and_text,
+    has_inquiry_length, inquiry_answer, manager_answer, object_notices, object_reply,
+    reply_and_text,
 };
-use cip_epath::class::ASSEMBLY;
+use cip_epath::class::{ASSEMBLY, CONNECTION_MANAGER};
 use cip_events::Recipient;
 use cip_productions::Kind;
 use cip_tables::{Answer, Outcome, Status, Verdict};
@@ -58,11 +59,11 @@ impl<T: ConnectionTable> Adapter<T> {
         instance: u32,
         request: ObjectRequest<'_>,
     ) -> Result<ObjectAnswer<'_>, OutOfMemory>
-        requires { (class == 0x04) ≡ false }
-        ensures value { IfOk result (λ answer. view_answer answer
-            ≡ object_answer self.now request.entry.service class instance request.entry.attribute
+        requires assembly { (class == 0x04) ≡ false }
+        requires manager { (instance == 1 && class == 0x06) ≡ false }
+        ensures { IfOk result (λ answer. view_answer answer
+            ≡ alone_answer self.now request.entry.service class instance request.entry.attribute
             request.entry.body.now) }
-        ensures few { IfOk result (λ answer. FewSaid (view_answer answer)) }
     {
         let Some(description) = &self.state.profile().description else {
             return Ok(ObjectAnswer::Denied(Status::PathDestination));
@@ -82,18 +83,17 @@ impl<T: ConnectionTable> Adapter<T> {
         )
     }
 
-    /// What the device answers to a service of an object.
-    #[tactic(auto, using(adapter_replies::specs::Objects::SaidLaws::assembly_is))]
-    fn object_answer(
+    /// What the device answers to a service of an object that carries no request.
+    #[tactic(auto, using(adapter_replies::specs::Objects::SaidLaws::assembly_is, adapter_replies::specs::Objects::SaidLaws::manager_is))]
+    pub(crate) fn alone_answer(
         &self,
         class: u32,
         instance: u32,
         request: ObjectRequest<'_>,
     ) -> Result<ObjectAnswer<'_>, OutOfMemory>
-        ensures value { IfOk result (λ answer. view_answer answer
-            ≡ object_answer self.now request.entry.service class instance request.entry.attribute
+        ensures { IfOk result (λ answer. view_answer answer
+            ≡ alone_answer self.now request.entry.service class instance request.entry.attribute
             request.entry.body.now) }
-        ensures few { IfOk result (λ answer. FewSaid (view_answer answer)) }
     {
         if class == ASSEMBLY {
             return assembly_answer(
@@ -102,6 +102,9 @@ impl<T: ConnectionTable> Adapter<T> {
                 instance,
                 request,
             );
+        }
+        if instance == 1 && class == CONNECTION_MANAGER {
+            return manager_answer(self.state.alloc(), request);
         }
         self.described_answer(class, instance, request)
     }
@@ -124,6 +127,8 @@ impl<T: ConnectionTable> Adapter<T> {
             class instance request.entry.attribute request.entry.body.now))) }
         ensures few { IfOk result (λ made. length made.1.items ≤ 1404) }
     {
+        // Gives the prover that the points have the lengths of their profile, so that an answer is short.
+        self.state.is_whole();
         let answer = self.object_answer(class, instance, request)?;
         let notices = object_notices(self.state.alloc(), &answer)?;
         let reply = object_reply(request.service, &answer);

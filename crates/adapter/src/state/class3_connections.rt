@@ -17,7 +17,7 @@ ghost use Rattle.cip_events.specs.declared.event.Notice.TheVariants as notice;
 use super::AdapterState;
 use adapter_replies::{Route, class3_opened, one_notice, reply_answer};
 use adapter_table::laws::tables_are_whole;
-use app_rules::{Class3Times, Class3View, admit_class3};
+use app_rules::{Class3Times, Class3View, admit_class3, whole_request};
 use cip_events::Notice;
 use cip_fwdopen::{OpenRequest, OpenService};
 use cip_productions::first_deadline;
@@ -117,6 +117,7 @@ impl<T: ConnectionTable> AdapterState<T> {
         ensures { Follows (Ok (routed self.old route (Some (served_class3 self.old stream.now
             (is_large_open service) (view_open request.now))))) self.old result self.new }
     {
+        let request = &whole_request(&self.assemblies.profile().description, request);
         match admit_class3(&self.class3_view(stream.peer, request.triad), request) {
             Ok(times) => self.open_class3(route, stream, service, request, times),
             Err(why) => self.refuse_open(route, service, request, why),

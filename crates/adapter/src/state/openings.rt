@@ -19,7 +19,7 @@ use adapter_replies::{
     Route, address_of, opened_address, opened_reply, opening_notices, reply_answer,
 };
 use adapter_table::laws::{admitted_requests_fit, tables_are_whole};
-use app_rules::{View, admit, opening_fault};
+use app_rules::{View, admit, opening_refusal, whole_request};
 use assembly_set::AssemblySet;
 use cip_fwdopen::{OpenRequest, OpenService};
 use cip_netparams::is_message_trigger;
@@ -170,8 +170,8 @@ impl<T: ConnectionTable> AdapterState<T> {
         ensures { Follows (Ok (routed self.old route (Some (refused_open self.old (is_large_open service)
             (view_open request.now) why)))) self.old result self.new }
     {
-        let fault = opening_fault(&self.assemblies.profile().description, request, why);
-        let reply = Reply::Refused(service.code(), fault, Some(request.triad));
+        let profile = self.assemblies.profile();
+        let reply = opening_refusal(profile, &self.table, service, request, why);
         Ok(self.reply(route, reply)?)
     }
 
@@ -187,6 +187,7 @@ impl<T: ConnectionTable> AdapterState<T> {
             (Some (served_open self.old (peer_of route) (is_large_open service)
             (view_open request.now))))) self.old result self.new }
     {
+        let request = &whole_request(&self.assemblies.profile().description, request);
         match self.judge(route.peer(), request) {
             Ok(admitted) => self.open(route, service, request, &admitted),
             Err(why) => self.refuse_open(route, service, request, why),

@@ -20,7 +20,7 @@ use Rattle.adapter_table.specs.declared.table.PointValue.{PointValue}
 use Rattle.adapter_table.specs.declared.table.AdapterTable.{AdapterTable}
 use Rattle.adapter_table.specs.Points.{bytes_at}
 use Rattle.adapter_table.specs.Inquiries.{inquiry_reply, inquiry_reply_of}
-use Rattle.adapter_table.specs.Objects.{ObjectAnswer, Instance, denied, io_state_of, is_owning, connection_count, status_word, assembly_found, assembly_beside, assembly_instance, class_instance, assembly_facts, assembly_count, is_heartbeat, in_two_bytes, largest_assembly, described_at, instance_at, object_answer, object_said, instance_answer, reset_by}
+use Rattle.adapter_table.specs.Objects.{ObjectAnswer, Instance, denied, io_state_of, is_owning, connection_count, status_word, assembly_found, assembly_beside, assembly_instance, class_instance, assembly_facts, assembly_count, is_heartbeat, in_two_bytes, largest_assembly, described_at, instance_at, alone_answer, object_said, instance_answer, reset_by, manager_instance}
 use Rattle.assembly_set.specs.Assemblies.{Assemblies}
 use Rattle.adapter_replies.specs.Objects.Said.{described_said, assembly_said, station_in, address_in}
 
@@ -30,21 +30,21 @@ points_of t = record { profile = t.profile; values = t.values }
 
 -- ---- the class decides
 
-other_class : (t : AdapterTable) (class instance : ℕ) → (class == 0x04) ≡ false → instance_at t class instance ≡ described_at t class instance t.profile.description
+other_class : (t : AdapterTable) (class instance : ℕ) → (class == 0x04) ≡ false → (instance == 1 && class == 0x06) ≡ false → instance_at t class instance ≡ described_at t class instance t.profile.description
 unfolding instance_at
-other_class t class instance other = rw other refl
+other_class t class instance other unmanaged = rw (other, unmanaged) refl
 
 -- a described device answers to a service of another object than an assembly
-pub described_is : (t : AdapterTable) (d : Description) (service class instance : ℕ) (attribute : Option ℕ) (body : List ℕ) → t.profile.description ≡ Some d → (class == 0x04) ≡ false → object_answer t service class instance attribute body ≡ described_said (points_of t) (io_state_of t.rows) (connection_count t.rows t.messaging) d service class instance attribute body
-unfolding object_answer described_said status_word
-described_is t d service class instance attribute body is other =
-    ap (object_said (list_any is_owning t.rows) service attribute body) (other_class t class instance other ∙ ap (described_at t class instance) is)
+pub described_is : (t : AdapterTable) (d : Description) (service class instance : ℕ) (attribute : Option ℕ) (body : List ℕ) → t.profile.description ≡ Some d → (class == 0x04) ≡ false → (instance == 1 && class == 0x06) ≡ false → alone_answer t service class instance attribute body ≡ described_said (points_of t) (io_state_of t.rows) (connection_count t.rows t.messaging) d service class instance attribute body
+unfolding alone_answer described_said status_word
+described_is t d service class instance attribute body is other unmanaged =
+    ap (object_said (list_any is_owning t.rows) service attribute body) (other_class t class instance other unmanaged ∙ ap (described_at t class instance) is)
 
 -- a device without a description has no other object
-pub undescribed_is : (t : AdapterTable) (service class instance : ℕ) (attribute : Option ℕ) (body : List ℕ) → t.profile.description ≡ None → (class == 0x04) ≡ false → object_answer t service class instance attribute body ≡ denied status.PathDestination
-unfolding object_answer
-undescribed_is t service class instance attribute body is other =
-    ap (object_said (list_any is_owning t.rows) service attribute body) (other_class t class instance other ∙ ap (described_at t class instance) is)
+pub undescribed_is : (t : AdapterTable) (service class instance : ℕ) (attribute : Option ℕ) (body : List ℕ) → t.profile.description ≡ None → (class == 0x04) ≡ false → (instance == 1 && class == 0x06) ≡ false → alone_answer t service class instance attribute body ≡ denied status.PathDestination
+unfolding alone_answer
+undescribed_is t service class instance attribute body is other unmanaged =
+    ap (object_said (list_any is_owning t.rows) service attribute body) (other_class t class instance other unmanaged ∙ ap (described_at t class instance) is)
 
 -- ---- an assembly resets nothing
 
@@ -55,6 +55,11 @@ never_resets false owned body otherwise = refl
 -- who owns an output makes no difference to an instance that cannot be reset
 unowned : (owned : Bool) (service : ℕ) (attribute : Option ℕ) (body : List ℕ) (o : Instance) → o.resets ≡ false → instance_answer owned service attribute body o ≡ instance_answer false service attribute body o
 unowned owned service attribute body o none = rw none (rw (never_resets (service == 0x05) owned body (denied status.Service), never_resets (service == 0x05) false body (denied status.Service)) refl)
+
+-- the Connection Manager has no service of an object
+pub manager_is : (t : AdapterTable) (service : ℕ) (attribute : Option ℕ) (body : List ℕ) → alone_answer t service 0x06 1 attribute body ≡ instance_answer false service attribute body manager_instance
+unfolding alone_answer instance_at
+manager_is t service attribute body = unowned (list_any is_owning t.rows) service attribute body manager_instance refl
 
 -- the class of the assemblies
 abbrev class_of : Profile → List PointValue → Instance
@@ -74,8 +79,8 @@ found_said owned service instance attribute body profile values None = beside_sa
 found_said owned service instance attribute body profile values (Some value) = unowned owned service attribute body (assembly_instance (is_some profile.description) value) refl
 
 -- a device answers to a service of an assembly
-pub assembly_is : (t : AdapterTable) (service instance : ℕ) (attribute : Option ℕ) (body : List ℕ) → object_answer t service 0x04 instance attribute body ≡ assembly_said (points_of t) service instance attribute body
-unfolding object_answer instance_at assembly_said
+pub assembly_is : (t : AdapterTable) (service instance : ℕ) (attribute : Option ℕ) (body : List ℕ) → alone_answer t service 0x04 instance attribute body ≡ assembly_said (points_of t) service instance attribute body
+unfolding alone_answer instance_at assembly_said
 assembly_is t service instance attribute body = found_said (list_any is_owning t.rows) service instance attribute body t.profile t.values (bytes_at t.values instance)
 
 -- ---- inquiries

@@ -2,6 +2,7 @@
 use Rattle.std.specs.Prelude.{ℕ, Bool, true, false, List, [], ◌∷◌, ◌++◌, flat_map, map, replicate}
 use Rattle.adapter_table.specs.Objects as objects
 use Rattle.adapter_table.specs.Objects.{u16, u32, link_capability, link_path, no_conflict, no_safety_number, node_segment, numbers, object_list}
+use Rattle.adapter_table.specs.Carrying as carrying
 use Rattle.adapter_table.specs.Own as own
 use Rattle.adapter_table.specs.declared.profile.Description.{Description}
 use Rattle.adapter_table.specs.declared.objects.IoState.{IoState}
@@ -20,6 +21,8 @@ use Rattle.adapter_replies.specs.declared.objects.answer.Bytes.TheVariants as by
 use Rattle.adapter_replies.specs.declared.objects.answer.ObjectRequest.{ObjectRequest}
 use Rattle.adapter_replies.specs.declared.objects.answer.ObjectAnswer.{ObjectAnswer}
 use Rattle.adapter_replies.specs.declared.objects.answer.ObjectAnswer.TheVariants as answer
+use Rattle.adapter_replies.specs.declared.objects.carriers.Carried.{Carried}
+use Rattle.adapter_replies.specs.declared.objects.carriers.Carried.TheVariants as carried
 use Rattle.adapter_replies.specs.declared.objects.own.OwnRequest.{OwnRequest}
 
 abbrev pub view_zeros : Zeros → List ℕ
@@ -68,6 +71,9 @@ abbrev pub view_answer : ObjectAnswer → objects.ObjectAnswer
 view_answer (answer.Said service said) = objects.said service (view_bytes said)
 view_answer (answer.Denied why) = objects.denied why
 view_answer (answer.Resetting kind) = objects.resetting kind
+view_answer (answer.Answering by general content) = objects.answering by general (view_bytes content)
+view_answer (answer.Refusing named why) = objects.refusing named why
+view_answer (answer.Unrouted words) = objects.unrouted words
 
 -- the TCP/IP Interface object by its addresses, its multicast groups and its inactivity time-out
 abbrev pub interface_by : (addresses groups : List ℕ) → (inactivity : ℕ) → objects.Instance
@@ -81,6 +87,11 @@ interface_by addresses groups inactivity = record {
   sets = true;
   resets = false;
 }
+
+-- a request that a service carries
+abbrev pub view_carried : Carried → carrying.Carried
+view_carried (carried.Barred service why) = carrying.barred service why
+view_carried (carried.Asking class instance request) = carrying.asking request.service class instance request.attribute request.body.now
 
 -- ---- what a request of the program asks
 

@@ -6,6 +6,7 @@ ghost use Rattle.adapter_table.specs.Objects.{is_numbered, attribute_of, single_
 ghost use Rattle.adapter_replies.specs.Objects.Views.{requested, view_attribute, view_instance, view_value, view_bytes, view_answer};
 
 use crate::objects::instance::Instance;
+use crate::objects::lists::{get_list, set_list};
 use crate::objects::value::{Attribute, Value, put_all};
 use cip_router::{ObjectService, Status};
 use cip_types::OutOfMemory;
@@ -56,10 +57,16 @@ pub enum ObjectAnswer<'a> {
     Denied(Status),
     /// A reset of a type, which the device reports.
     Resetting(u8),
+    /// Data with a general status.
+    Answering(ObjectService, u8, Bytes<'a>),
+    /// The refusal of a service that is carried.
+    Refusing(u8, Status),
+    /// No port of the device leads to a route of so many words.
+    Unrouted(u8),
 }
 
 /// The attribute of a number.
-fn find_attribute<'a>(attributes: &[Attribute<'a>], number: u32) -> Option<Attribute<'a>>
+pub(crate) fn find_attribute<'a>(attributes: &[Attribute<'a>], number: u32) -> Option<Attribute<'a>>
     ensures { option_map view_attribute result ≡ find (is_numbered number) (map view_attribute attributes.now) }
 {
     for attribute in attributes {
@@ -81,7 +88,7 @@ fn named_attribute<'a>(attributes: &[Attribute<'a>], named: Option<u32>) -> Opti
 }
 
 /// The bytes of a value. Bytes that are kept elsewhere are lent.
-fn bytes_of<'a>(alloc: Global, value: Value<'a>) -> Result<Bytes<'a>, OutOfMemory>
+pub(crate) fn bytes_of<'a>(alloc: Global, value: Value<'a>) -> Result<Bytes<'a>, OutOfMemory>
     ensures { IfOk result (λ bytes. view_bytes bytes ≡ view_value value.entry) }
 {
     if let Value::Lent(bytes) = value {
@@ -187,6 +194,12 @@ pub(crate) fn instance_answer<'a>(
     }
     if request.service == ObjectService::GetAll.code() && instance.gets_all {
         return get_all(alloc, attributes, request.body);
+    }
+    if request.service == ObjectService::GetList.code() && instance.sets {
+        return get_list(alloc, attributes, request.body);
+    }
+    if request.service == ObjectService::SetList.code() && instance.sets {
+        return set_list(alloc, attributes, request.body);
     }
     if request.service == ObjectService::Reset.code() && instance.resets {
         return Ok(reset(owned, request.body));

@@ -31,7 +31,7 @@ fn identity_class<'a>() -> ClassFacts<'a>
 {
     ClassFacts {
         attributes: &[8, 9],
-        services: &[],
+        services: &[0x03, 0x04],
         largest: 9,
     }
 }
@@ -42,7 +42,7 @@ fn router_class<'a>() -> ClassFacts<'a>
 {
     ClassFacts {
         attributes: &[1, 2, 3],
-        services: &[],
+        services: &[0x03, 0x04, 0x0A],
         largest: 3,
     }
 }
@@ -53,18 +53,18 @@ pub(crate) fn assembly_facts<'a>() -> ClassFacts<'a>
 {
     ClassFacts {
         attributes: &[4],
-        services: &[],
+        services: &[0x03, 0x04],
         largest: 4,
     }
 }
 
-/// Of the Connection Manager, which has Large_Forward_Open.
+/// Of the Connection Manager, which has Unconnected_Send and Large_Forward_Open.
 fn manager_class<'a>() -> ClassFacts<'a>
     ensures { view_facts result ≡ manager_class }
 {
     ClassFacts {
         attributes: &[],
-        services: &[0x5B],
+        services: &[0x52, 0x5B],
         largest: 0,
     }
 }
@@ -75,7 +75,7 @@ fn interface_class<'a>() -> ClassFacts<'a>
 {
     ClassFacts {
         attributes: &[8, 9, 10, 11],
-        services: &[0x01],
+        services: &[0x01, 0x03, 0x04],
         largest: 13,
     }
 }
@@ -86,7 +86,7 @@ fn link_class<'a>() -> ClassFacts<'a>
 {
     ClassFacts {
         attributes: &[7, 8, 9, 10],
-        services: &[0x01],
+        services: &[0x01, 0x03, 0x04],
         largest: 11,
     }
 }
@@ -97,7 +97,7 @@ fn qos_class<'a>() -> ClassFacts<'a>
 {
     ClassFacts {
         attributes: &[1, 2, 3],
-        services: &[],
+        services: &[0x03, 0x04],
         largest: 8,
     }
 }

@@ -1,7 +1,7 @@
 //! The objects of a described device beside its assemblies.
 
-ghost use Rattle.std.specs.Prelude.{◌≡◌, ◌≤◌, IfOk, Some, length};
-ghost use Rattle.adapter_table.specs.Objects.{identity_instance};
+ghost use Rattle.std.specs.Prelude.{◌≡◌, ◌≤◌, IfOk, Some, false, length};
+ghost use Rattle.adapter_table.specs.Objects.{identity_instance, manager_instance};
 ghost use Rattle.adapter_table.specs.Lemmas.ObjectSizes.{FewSaid};
 ghost use Rattle.adapter_replies.specs.Objects.Said.{standing_in};
 ghost use Rattle.adapter_replies.specs.Objects.Views.{requested, described_requested, view_answer};
@@ -86,6 +86,24 @@ fn identity_answer<'a>(
         resets: true,
     };
     instance_answer(alloc, &instance, io.owned, request)
+}
+
+/// The answer to a service of an object of the Connection Manager, which has none and no attribute: out of memory is the only fault.
+///
+/// Volume 1, chapter 3, Connection Manager.
+pub fn manager_answer<'a>(
+    alloc: Global,
+    request: ObjectRequest<'_>,
+) -> Result<ObjectAnswer<'a>, OutOfMemory>
+    ensures { IfOk result (λ answer. view_answer answer ≡ requested false request.entry manager_instance) }
+{
+    let instance = Instance {
+        attributes: &[],
+        gets_all: false,
+        sets: false,
+        resets: false,
+    };
+    instance_answer(alloc, &instance, false, request)
 }
 
 /// The answer of a described device to a service of another object than an assembly. An instance that it has not is

@@ -22,7 +22,7 @@ pub struct OwnRequest<'b> {
 }
 
 /// Whether the class is one of the maker's own.
-fn is_own_class(objects: &[u32], class: u32) -> bool
+pub(crate) fn is_own_class(objects: &[u32], class: u32) -> bool
     ensures { result ≡ is_own_class objects.now class }
 {
     objects.iter().any(|own| *own == class)

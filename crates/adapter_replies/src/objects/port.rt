@@ -138,7 +138,7 @@ fn port_class_answer<'a>(
         Attribute::Single(2, Value::Word(1)),
         Attribute::Single(3, Value::Word(1)),
         Attribute::Single(4, Value::Numbers(&[])),
-        Attribute::Single(5, Value::Numbers(&[])),
+        Attribute::Single(5, Value::Numbers(&[0x03, 0x04])),
         Attribute::Single(6, Value::Word(9)),
         Attribute::Single(7, Value::Word(7)),
         Attribute::Single(8, Value::Word(1)),

@@ -188,7 +188,7 @@ fn put_capability(out: &mut Vec<u8>, speed: u32, flags: u32) -> Result<(), OutOf
 }
 
 /// Appends the lowest two bytes of a number.
-pub(crate) fn put_low(out: &mut Vec<u8>, number: u64) -> Result<(), OutOfMemory>
+pub fn put_low(out: &mut Vec<u8>, number: u64) -> Result<(), OutOfMemory>
     ensures { OnOk result (out.new.items ≡ out.old.items ++ u16 number) }
 {
     let bytes = number.to_le_bytes();

@@ -10,7 +10,6 @@ use Rattle.cip_router.specs.declared.refusal.Refusal.{Refusal}
 use Rattle.cip_router.specs.declared.refusal.Refusal.TheVariants as refusal
 use Rattle.cip_epath.specs.declared.fault.PathFault.{PathFault}
 use Rattle.cip_epath.specs.Path.{PathFields}
-use Rattle.cip_epath.specs.Reading.{path_reading}
 use Rattle.cip_netparams.specs.Rate.{interval_ms, timeout}
 use Rattle.cip_fwdopen.specs.Open.{OpenFields}
 use Rattle.cip_productions.specs.declared.kind.Kind.{Kind}
@@ -22,6 +21,7 @@ use Rattle.adapter_table.specs.declared.profile.Profile.{Profile}
 use Rattle.adapter_table.specs.declared.table.AdapterTable.{AdapterTable}
 use Rattle.adapter_table.specs.declared.admission.ConsumedPoint.{ConsumedPoint}
 use Rattle.adapter_table.specs.Rows.{holds_triad, is_timed_out, drives, is_supported}
+use Rattle.adapter_table.specs.Paths.{opening_path}
 use Rattle.adapter_table.specs.Checks.{Check, check, first_of, View, view_of, Points, points_of, named_points, path_check, consumed_point_of, input_of, is_known_config, is_multicast, named_len, has_other_length, stored, is_unserved, are_intervals, group_of, joined, joins, drawn_ids, checks, judged, verdict, admission, Admitted, admitted_at}
 
 -- each check passes
@@ -105,12 +105,12 @@ judged_by view request path (Err why) None admitted named first e = absurd cc
 judged_by view request path (Ok points) None admitted named first e =
     record { points = points; named = named; passed = all_pass (checks view request path (Ok points)) first; said = done_is (admitted_at request points) admitted e }
 
-is_judged : (view : View) (request : OpenFields) (admitted : Admitted) → verdict view request ≡ Ok admitted → IsJudged view request (path_reading request.path) admitted
+is_judged : (view : View) (request : OpenFields) (admitted : Admitted) → verdict view request ≡ Ok admitted → IsJudged view request (opening_path view.profile.description request.path) admitted
 unfolding verdict
 is_judged view request admitted e =
-    let path = path_reading request.path in
-    let points = points_of view request (result_ok (path_reading request.path)) in
-    judged_by view request (path_reading request.path) (points_of view request (result_ok (path_reading request.path))) (first_of (checks view request (path_reading request.path) (points_of view request (result_ok (path_reading request.path))))) admitted refl refl e
+    let path = opening_path view.profile.description request.path in
+    let points = points_of view request (result_ok (opening_path view.profile.description request.path)) in
+    judged_by view request (opening_path view.profile.description request.path) (points_of view request (result_ok (opening_path view.profile.description request.path))) (first_of (checks view request (opening_path view.profile.description request.path) (points_of view request (result_ok (opening_path view.profile.description request.path))))) admitted refl refl e
 
 -- what a joiner has in common with the connection that it joins
 abbrev pub HasSameApi : ℕ → Option Row → Type 0
@@ -158,7 +158,7 @@ ids_left next_id drawn left = grind (arith, nat_tests)
 pub admitted_is : (t : AdapterTable) (request : OpenFields) (admitted : Admitted) → admission t request ≡ Ok admitted → IsAdmitted t request admitted
 admitted_is t request admitted e =
     let j = is_judged (view_of t request.triad) request admitted e in
-    let named = are_named t request (result_ok (path_reading request.path)) j.points j.named in
+    let named = are_named t request (result_ok (opening_path t.profile.description request.path)) j.points j.named in
     -- the answers of checks 2 to 9, of 10 to 13, and of 14 and 15
     let first = j.passed in
     let second = first.1.1.1.1.1.1.1.1.1.1.1.1 in

@@ -6,7 +6,6 @@ use Rattle.std.proofs.lemmas.Bool.Decides.{nat_tests}
 use Rattle.cip_types.specs.declared.names.ConnId.{ConnId}
 use Rattle.cip_types.specs.declared.names.Ms.{Ms}
 use Rattle.cip_types.specs.declared.names.Node.{Node}
-use Rattle.cip_epath.specs.MessagePath.{message_path_reading}
 use Rattle.cip_netparams.specs.Rate.{is_interval, interval_ms}
 use Rattle.cip_netparams.specs.Timeouts.{timeout_fits}
 use Rattle.cip_fwdopen.specs.Open.{OpenFields}
@@ -33,6 +32,7 @@ use Rattle.adapter_table.specs.Rates.{has_opened_enough_at}
 use Rattle.adapter_table.specs.Rows.{has_triad}
 use Rattle.adapter_table.specs.Checks.{is_unserved, are_intervals}
 use Rattle.adapter_table.specs.Messages.{messages_table, with_messages}
+use Rattle.adapter_table.specs.Paths.{opening_message_path}
 use Rattle.adapter_table.specs.Class3Opening.{class3_view, class3_checks, class3_refusal, opened_class3}
 use Rattle.adapter_table.specs.Connected.{most_reply, fitted_text}
 use Rattle.adapter_table.specs.Answering.{class3_keeps, with_reply}
@@ -239,7 +239,7 @@ unfolding class3_refusal
 admitted_class3_is t peer request passes =
     let view = class3_view t peer request.triad in
     -- the answers of checks 2 to 7, of 8 to 11, and of 15 and 16
-    let first = all_pass (class3_checks view request (message_path_reading request.path)) passes in
+    let first = all_pass (class3_checks view request (opening_message_path t.profile.description request.path)) passes in
     let second = first.1.1.1.1.1.1 in
     let third = second.1.1.1.1.1 in
     let free = or_parts (list_any (has_triad request.triad) t.rows) _ (check_passes _ _ first.1.0) in
@@ -260,7 +260,7 @@ pub class3_is_paced : (t : AdapterTable) (peer : Node) (request : OpenFields) â†
 unfolding class3_refusal
 class3_is_paced t peer request passes =
     let view = class3_view t peer request.triad in
-    let first = all_pass (class3_checks view request (message_path_reading request.path)) passes in
+    let first = all_pass (class3_checks view request (opening_message_path t.profile.description request.path)) passes in
     let third = first.1.1.1.1.1.1.1.1.1.1.1 in
     check_passes _ _ third.1.1.1.1.0
 

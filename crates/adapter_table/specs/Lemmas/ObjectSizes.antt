@@ -1,5 +1,5 @@
 -- What an object answers is short: at most 1,400 bytes.
-use Rattle.std.proofs.Common.{◌≡◌, ◌≤◌, ◌+◌, ◌%◌, ℕ, suc, ◌==◌, ◌&&◌, Bool, true, false, cond, List, [], ◌∷◌, ◌++◌, length, filter, find, Option, Some, None, is_some, refl, sym, ap, ◌∙◌, arith, length-append, nat_lt, nat_le}
+use Rattle.std.proofs.Common.{◌≡◌, ◌≤◌, ◌+◌, ◌%◌, ℕ, zero, suc, ◌*◌, ◌==◌, ◌&&◌, not, Bool, true, false, cond, List, [], ◌∷◌, ◌++◌, length, filter, find, take, drop, Option, Some, None, is_some, refl, sym, ap, ◌∙◌, arith, length-append, nat_lt, nat_le}
 use Rattle.std.specs.List.{flat_map, list_any}
 use Rattle.std.specs.Int.{byte_at}
 use Rattle.std.proofs.lemmas.Bool.{not-false, and_parts}
@@ -7,27 +7,33 @@ use Rattle.std.proofs.lemmas.Bool.Decides.{nat_tests}
 use Rattle.cip_types.specs.Cases.{Case, first_case}
 use Rattle.cip_types.specs.declared.names.Identity.{Identity}
 use Rattle.cip_productions.specs.declared.kind.Kind.{Kind}
-use Rattle.cip_router.specs.declared.object_service.ObjectService.TheVariants.{GetSingle, GetAll}
+use Rattle.cip_router.specs.declared.object_service.ObjectService.{ObjectService}
+use Rattle.cip_router.specs.declared.object_service.ObjectService.TheVariants.{GetSingle, GetAll, GetList, Packet}
 use Rattle.cip_router.specs.declared.refusal.Status.TheVariants as status
+use Rattle.cip_router.specs.Requests.{router_request_reading}
 use Rattle.adapter_table.specs.declared.profile.Description.{Description}
 use Rattle.adapter_table.specs.declared.profile.Profile.{Profile}
 use Rattle.adapter_table.specs.declared.table.PointValue.{PointValue}
 use Rattle.adapter_table.specs.declared.table.AdapterTable.{AdapterTable}
 use Rattle.adapter_table.specs.Points.{bytes_at}
-use Rattle.adapter_table.specs.Profiles.{profile_fault, profile_tests, is_described, are_objects, are_own_classes}
+use Rattle.adapter_table.specs.Profiles.{profile_fault, profile_tests, is_described, fits_description, are_objects, are_own_classes}
 use Rattle.adapter_table.specs.Connections.{Row}
 use Rattle.adapter_table.specs.Rows.{is_of_kind, kind_count}
 use Rattle.adapter_table.specs.Shapes.{IsShaped}
 use Rattle.adapter_table.specs.Whole.{IsWhole}
 use Rattle.adapter_table.specs.Shaping.{all_pass}
 use Rattle.adapter_table.specs.Limits.{bytes_short}
-use Rattle.adapter_table.specs.Objects.{ObjectAnswer, said, denied, resetting, Attribute, Instance, ClassFacts, IdentityState, standing_of, u16, yielding_classes, is_other_class, decimal_byte, node_text, qos_class, qos_instance, port_instance, port_class_instance, is_owning, is_numbered, attribute_of, all_values, single_of, set_of, reset_of, reset_by, instance_answer, object_said, object_answer, class_instance, identity_class, router_class, assembly_facts, manager_class, interface_class, link_class, identity_instance, router_instance, interface_instance, link_behind, link_instance, assembly_instance, assembly_found, assembly_beside, assembly_at, in_two_bytes, largest_assembly, assembly_count, is_heartbeat, connection_count, described_cases, described_at, instance_at}
+use Rattle.adapter_table.specs.Carrying.{Carried, barred, asking, carried, naming, inner_answer, routed_answer, sent_answer, is_sending, packet_answer, packet_replied, packet_data, packet_status, are_successes, are_placed, member_replies, most_members, is_packet, packed_answer, object_answer}
+use Rattle.adapter_table.specs.Objects.{ObjectAnswer, said, denied, resetting, answering, refusing, unrouted, word_of, most_listed, list_status, answer_within, got_items, are_attributes, get_list, behind_value, value_len, set_items, set_reply, set_list, alone_answer, manager_instance, Attribute, Instance, ClassFacts, IdentityState, standing_of, u16, yielding_classes, is_other_class, decimal_byte, node_text, qos_class, qos_instance, port_instance, port_class_instance, is_owning, is_numbered, attribute_of, all_values, single_of, set_of, reset_of, reset_by, instance_answer, object_said, class_instance, identity_class, router_class, assembly_facts, manager_class, interface_class, link_class, identity_instance, router_instance, interface_instance, link_behind, link_instance, assembly_instance, assembly_found, assembly_beside, assembly_at, in_two_bytes, largest_assembly, assembly_count, is_heartbeat, connection_count, described_cases, described_at, instance_at}
 
 -- the answer has at most 1,400 bytes
 abbrev pub FewSaid : ObjectAnswer → Type 0
 FewSaid (said by value) = length value ≤ 1400
 FewSaid (denied why) = Unit {0}
 FewSaid (resetting kind) = Unit {0}
+FewSaid (answering by general content) = length content ≤ 1400
+FewSaid (refusing named why) = Unit {0}
+FewSaid (unrouted words) = Unit {0}
 
 -- ---- of an instance whose attributes are short
 
@@ -76,13 +82,53 @@ reset_few owned [] = reset_of_few owned 0
 reset_few owned (kind ∷ []) = reset_of_few owned kind
 reset_few owned (kind ∷ more ∷ rest) = tt
 
+-- an answer that a reply has room for is short
+within_few : (by : ObjectService) (general : ℕ) (content : List ℕ) → FewSaid (answer_within by general content)
+within_few by general content = split (nat_le (length content) 1400) refl
+  where
+    split : (b : Bool) → nat_le (length content) 1400 ≡ b → FewSaid (cond b (answering by general content) (denied status.ReplyTooLarge))
+    split true is = grind (arith, nat_tests)
+    split false is = tt
+
+get_list_few : (attributes : List Attribute) (body : List ℕ) → FewSaid (get_list attributes body)
+get_list_few attributes [] = tt
+get_list_few attributes (low ∷ []) = tt
+get_list_few attributes (low ∷ high ∷ rest) =
+    either (nat_lt (length rest) (2 * word_of low high)) (denied status.NotEnoughData) _ tt
+    (either (nat_lt (2 * word_of low high) (length rest)) (denied status.TooMuchData) _ tt
+    (either (nat_lt most_listed (word_of low high)) (denied status.ReplyTooLarge) _ tt
+    (within_few GetList (list_status (are_attributes attributes rest)) (low ∷ high ∷ got_items attributes rest))))
+
+-- the answered attributes have four bytes each
+set_items_few : (attributes : List Attribute) (count : ℕ) (body : List ℕ) → length (set_items attributes count body) ≤ 4 * count
+set_items_few attributes count [] = omega arith
+set_items_few attributes count (low ∷ []) = omega arith
+set_items_few attributes zero (low ∷ high ∷ rest) = omega arith
+set_items_few attributes (suc count) (low ∷ high ∷ rest) =
+    omega (arith, set_items_few attributes count (behind_value rest (value_len (find (is_numbered (word_of low high)) attributes))))
+
+set_reply_few : (count : ℕ) (items : List ℕ) → nat_lt most_listed count ≡ false → length items ≤ 4 * count → FewSaid (set_reply items)
+set_reply_few count items most few = let bound : count ≤ 349 = grind (arith, nat_tests) in omega (arith, bound, few)
+
+set_list_few : (attributes : List Attribute) (body : List ℕ) → FewSaid (set_list attributes body)
+set_list_few attributes [] = tt
+set_list_few attributes (low ∷ []) = tt
+set_list_few attributes (low ∷ high ∷ rest) = split (nat_lt most_listed (word_of low high)) (nat_lt (length rest) (2 * word_of low high)) refl
+  where
+    split : (large short : Bool) → nat_lt most_listed (word_of low high) ≡ large → FewSaid (cond short (denied status.NotEnoughData) (cond large (denied status.ReplyTooLarge) (set_reply (set_items attributes (word_of low high) rest))))
+    split large true is = tt
+    split true false is = tt
+    split false false is = set_reply_few (word_of low high) (set_items attributes (word_of low high) rest) is (set_items_few attributes (word_of low high) rest)
+
 -- a short instance has short answers
 instance_few : (owned : Bool) (service : ℕ) (attribute : Option ℕ) (body : List ℕ) (o : Instance) → IsFew o → FewSaid (instance_answer owned service attribute body o)
 instance_few owned service attribute body o few =
     either (service == 0x0E) _ _ (single_few body (attribute_of o.attributes attribute) (named_few o.attributes attribute few.each))
     (either (service == 0x10 && o.sets) _ _ (set_few (attribute_of o.attributes attribute))
     (either (service == 0x01 && o.gets_all) _ _ (either (length body == 0) (said GetAll (all_values o.attributes)) (denied status.TooMuchData) few.together tt)
-    (either (service == 0x05 && o.resets) _ _ (reset_few owned body) tt)))
+    (either (service == 0x03 && o.sets) _ _ (get_list_few o.attributes body)
+    (either (service == 0x04 && o.sets) _ _ (set_list_few o.attributes body)
+    (either (service == 0x05 && o.resets) _ _ (reset_few owned body) tt)))))
 
 abbrev pub FewInstance : Option Instance → Type 0
 FewInstance None = Unit {0}
@@ -107,7 +153,7 @@ limited_by d fits = let parts = and_parts (nat_le (length d.name) 32) _ fits in 
 
 described_true : (profile : Profile) → profile_fault profile ≡ None → is_described profile.description ≡ true
 unfolding profile_fault
-described_true profile none = not-false (is_described profile.description) (all_pass (profile_tests profile) none).1.1.1.1.1.1.0
+described_true profile none = (and_parts (is_described profile.description) _ (not-false (fits_description profile) (all_pass (profile_tests profile) none).1.1.1.1.1.1.0)).0
 
 -- the description of a faultless profile is within its limits
 pub description_limited : (profile : Profile) (d : Description) → profile_fault profile ≡ None → profile.description ≡ Some d → FitsDescription d
@@ -315,14 +361,70 @@ class_step : (b : Bool) (first second : Option Instance) → FewInstance first �
 class_step true first second few more = few
 class_step false first second few more = more
 
+-- what carries no request is short
+alone_few : (t : AdapterTable) (service class instance : ℕ) (attribute : Option ℕ) (body : List ℕ) → IsShaped t.profile t.values → FewSaid (alone_answer t service class instance attribute body)
+unfolding alone_answer instance_at
+alone_few t service class instance attribute body shaped =
+    said_few (list_any is_owning t.rows) service attribute body (instance_at t class instance)
+    (class_step (class == 0x04) (assembly_at t instance) _
+    (assembly_found_few t.profile t.values instance (bytes_at t.values instance) shaped refl)
+    (class_step (instance == 1 && class == 0x06) (Some manager_instance) (described_at t class instance t.profile.description)
+    (record { each = tt; together = omega arith })
+    (described_at_few t class instance t.profile.description refl shaped.faultless)))
+
+-- a packet is short
+pub packet_few : (t : AdapterTable) (body : List ℕ) → FewSaid (packet_answer t body)
+packet_few t [] = tt
+packet_few t (low ∷ []) = tt
+packet_few t (low ∷ high ∷ rest) =
+    let body = low ∷ high ∷ rest in
+    let starts = take (2 * word_of low high) rest in
+    let members = member_replies t body starts in
+    either (nat_lt (length rest) (2 * word_of low high)) (denied status.NotEnoughData) _ tt
+    (either (nat_lt most_members (word_of low high)) (denied status.ReplyTooLarge) _ tt
+    (either (not (are_placed body starts)) (denied status.InvalidParameter) (packet_replied low high members) tt
+    (within_few Packet (packet_status (are_successes members)) (packet_data low high members))))
+
+packed_few : (t : AdapterTable) (service class instance : ℕ) (attribute : Option ℕ) (body : List ℕ) → IsShaped t.profile t.values → FewSaid (packed_answer t service class instance attribute body)
+packed_few t service class instance attribute body shaped =
+    either (is_packet (is_some t.profile.description) service class instance) (packet_answer t body) (alone_answer t service class instance attribute body)
+    (packet_few t body) (alone_few t service class instance attribute body shaped)
+
+naming_few : (service : ℕ) (answer : ObjectAnswer) → FewSaid answer → FewSaid (naming service answer)
+naming_few service (said by value) few = few
+naming_few service (denied why) few = tt
+naming_few service (resetting kind) few = tt
+naming_few service (answering by general content) few = few
+naming_few service (refusing named why) few = tt
+naming_few service (unrouted words) few = tt
+
+inner_few : (t : AdapterTable) (inner : Carried) → IsShaped t.profile t.values → FewSaid (inner_answer t inner)
+inner_few t (barred service why) shaped = tt
+inner_few t (asking service class instance attribute body) shaped =
+    naming_few service (packed_answer t service class instance attribute body) (packed_few t service class instance attribute body shaped)
+
+routed_few : (t : AdapterTable) (inner behind : List ℕ) → IsShaped t.profile t.values → FewSaid (routed_answer t inner behind)
+routed_few t inner [] shaped = tt
+routed_few t inner (words ∷ []) shaped = tt
+routed_few t inner (words ∷ reserved ∷ route) shaped =
+    either (nat_lt (length route) (2 * words)) (denied status.NotEnoughData) _ tt
+    (either (nat_lt (2 * words) (length route)) (denied status.TooMuchData) _ tt
+    (either (not (words == 0)) (unrouted words) _ tt (inner_few t (carried 0x52 t.profile.objects (router_request_reading inner)) shaped)))
+
+-- what an Unconnected_Send answers is short
+pub sent_few : (t : AdapterTable) (body : List ℕ) → IsShaped t.profile t.values → FewSaid (sent_answer t body)
+sent_few t [] shaped = tt
+sent_few t (tick ∷ []) shaped = tt
+sent_few t (tick ∷ ticks ∷ []) shaped = tt
+sent_few t (tick ∷ ticks ∷ low ∷ []) shaped = tt
+sent_few t (tick ∷ ticks ∷ low ∷ high ∷ rest) shaped = routed_few t (take (word_of low high) rest) (drop (word_of low high + word_of low high % 2) rest) shaped
+
 -- what a device answers is short
 pub object_few : (t : AdapterTable) (service class instance : ℕ) (attribute : Option ℕ) (body : List ℕ) → IsShaped t.profile t.values → FewSaid (object_answer t service class instance attribute body)
-unfolding object_answer instance_at
+unfolding object_answer
 object_few t service class instance attribute body shaped =
-    said_few (list_any is_owning t.rows) service attribute body (instance_at t class instance)
-    (class_step (class == 0x04) (assembly_at t instance) (described_at t class instance t.profile.description)
-    (assembly_found_few t.profile t.values instance (bytes_at t.values instance) shaped refl)
-    (described_at_few t class instance t.profile.description refl shaped.faultless))
+    either (is_sending (is_some t.profile.description) service class instance) (sent_answer t body) (packed_answer t service class instance attribute body)
+    (sent_few t body shaped) (packed_few t service class instance attribute body shaped)
 
 -- ---- how many connections
 

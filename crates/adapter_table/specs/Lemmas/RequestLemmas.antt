@@ -29,6 +29,7 @@ use Rattle.messaging.specs.declared.requests.Waiting.{Waiting}
 use Rattle.messaging.specs.declared.table.Messaging.{Messaging}
 use Rattle.messaging.specs.Class3Connections.{has_class3_triad, has_class3_id, is_class3, repeats_last}
 use Rattle.messaging.specs.Changes.{longest_answer, has_request_number, lacks_room}
+use Rattle.adapter_table.specs.Intervals.{whole_request}
 use Rattle.adapter_table.specs.Connections.{Row}
 use Rattle.adapter_table.specs.declared.opening_rates.rates.NodeOpenings.{NodeOpenings}
 use Rattle.adapter_table.specs.declared.table.Stream.{Stream}
@@ -45,7 +46,8 @@ use Rattle.adapter_table.specs.Connected.{service_in, fitted_text, connected_ser
 use Rattle.adapter_table.specs.Answering.{responded, respond_of, respond}
 use Rattle.adapter_table.specs.Opening.{opened_row, opened_table}
 use Rattle.adapter_table.specs.Closing.{closed_table}
-use Rattle.adapter_table.specs.Objects.{ObjectAnswer, said, denied, resetting, object_answer}
+use Rattle.adapter_table.specs.Objects.{ObjectAnswer, said, denied, resetting, answering, refusing, unrouted}
+use Rattle.adapter_table.specs.Carrying.{object_answer}
 use Rattle.cip_router.specs.Requests.{RouterRequestFields, nothing, refused, closing, object, opening, router_request_reading}
 use Rattle.adapter_table.specs.Requests.{Next, Served, open_service, served_open, judged_open, admitted_open, served_close, close_of, refused_close, known_close, known_class3_close, end_of, served_end, router_refusal, object_served, served_object, served, replied, answered, requested_by, requested}
 use Rattle.cip_events.specs.Answers.{plain_answer}
@@ -122,6 +124,9 @@ does_object : (R : AdapterTable → AdapterTable → Type 0) → LimitedDo R →
 does_object R does t service (said by value) = does.stays t
 does_object R does t service (denied why) = does.stays t
 does_object R does t service (resetting kind) = does.stays t
+does_object R does t service (answering by general content) = does.stays t
+does_object R does t service (refusing named why) = does.stays t
+does_object R does t service (unrouted words) = does.stays t
 
 -- the table after what is served of a request, where there is one
 abbrev pub served_table : AdapterTable → Option Served → AdapterTable
@@ -134,7 +139,7 @@ served_does R does t peer nothing = does.stays t
 served_does R does t peer (refused service why) = does.stays t
 served_does R does t peer (closing request) = does_end R does t peer request (find (has_class3_triad request.triad) t.messaging.class3_connections)
 served_does R does t peer (object service class instance attribute body) = does_object R does t service (object_answer t service class instance attribute body)
-served_does R does t peer (opening large request) = does_judged R does t peer large request (limited_admission t peer request) refl
+served_does R does t peer (opening large request) = does_judged R does t peer large (whole_request t.profile.description request) (limited_admission t peer (whole_request t.profile.description request)) refl
 
 answered_by : (P : AdapterTable → Type 0) (t : AdapterTable) (peer : Node) (s : Option Served) → P (served_table t s) → P (answered t peer s).1
 answered_by P t peer None does = does
@@ -192,7 +197,7 @@ does_class3 R does t stream large request None is carried = does.connected t str
 
 does_stream_open : (R : AdapterTable → AdapterTable → Type 0) → LimitedDo R → (t : AdapterTable) (stream : Stream) (large : Bool) (request : OpenFields) (b : Bool) → IsCarried t.streams stream.number → R t (served_table t (cond b (Some (served_class3 t stream large request)) (served t stream.peer (opening large request))))
 unfolding served_class3
-does_stream_open R does t stream large request true carried = does_class3 R does t stream large request (class3_refusal (class3_view t stream.peer request.triad) request) refl carried
+does_stream_open R does t stream large request true carried = does_class3 R does t stream large (whole_request t.profile.description request) (class3_refusal (class3_view t stream.peer request.triad) (whole_request t.profile.description request)) refl carried
 does_stream_open R does t stream large request false carried = served_does R does t stream.peer (opening large request)
 
 stream_served_does : (R : AdapterTable → AdapterTable → Type 0) → LimitedDo R → (t : AdapterTable) (stream : Stream) (router_request : RouterRequestFields) → IsCarried t.streams stream.number → R t (served_table t (stream_served t stream router_request))
@@ -220,6 +225,9 @@ message_object : (R : AdapterTable → AdapterTable → Type 0) → LimitedDo R 
 message_object R does t d count first service (said by value) = executed_does R does t d count first (object_served t service (said by value)).reply
 message_object R does t d count first service (denied why) = executed_does R does t d count first (object_served t service (denied why)).reply
 message_object R does t d count first service (resetting kind) = executed_does R does t d count first (object_served t service (resetting kind)).reply
+message_object R does t d count first service (answering by general content) = executed_does R does t d count first (object_served t service (answering by general content)).reply
+message_object R does t d count first service (refusing named why) = executed_does R does t d count first (object_served t service (refusing named why)).reply
+message_object R does t d count first service (unrouted words) = executed_does R does t d count first (object_served t service (unrouted words)).reply
 
 message_served_does : (R : AdapterTable → AdapterTable → Type 0) → LimitedDo R → (t : AdapterTable) (d : kept.Class3Connection) (count first : ℕ) (router_request : RouterRequestFields) → R t (message_served t d count first (connected_served t d.peer router_request)).table
 unfolding served_object

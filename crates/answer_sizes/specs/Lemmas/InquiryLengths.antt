@@ -1,7 +1,7 @@
 -- How long the replies to inquiries are.
 use Rattle.std.proofs.Common.{◌≡◌, ◌≤◌, ℕ, true, List, [], ◌∷◌, length, Option, Some, None, refl, arith, length-append}
 use Rattle.std.specs.Option.{IfSome, option_map}
-use Rattle.std.proofs.lemmas.Bool.{not-false}
+use Rattle.std.proofs.lemmas.Bool.{not-false, and_parts}
 use Rattle.std.proofs.lemmas.Bool.Decides.{nat_tests}
 use Rattle.cip_types.specs.Fields.{fields_text}
 use Rattle.cip_encap.specs.Message.{MessageFields, header_widths, header_numbers, message_text}
@@ -15,7 +15,7 @@ use Rattle.adapter_table.specs.declared.profile.Description.{Description}
 use Rattle.adapter_table.specs.declared.profile.Profile.{Profile}
 use Rattle.adapter_table.specs.declared.table.AdapterTable.{AdapterTable}
 use Rattle.adapter_table.specs.Inquiries.{identity_of, address_of, inquiry_reply_of, inquiry_reply}
-use Rattle.adapter_table.specs.Profiles.{profile_fault, profile_tests, is_described}
+use Rattle.adapter_table.specs.Profiles.{profile_fault, profile_tests, is_described, fits_description}
 use Rattle.adapter_table.specs.Shaping.{all_pass}
 
 -- ---- a description
@@ -36,7 +36,7 @@ brief_if (Some d) is = brief_by d is
 pub description_brief : (profile : Profile) → profile_fault profile ≡ None → IfSome profile.description IsBrief
 unfolding profile_fault
 description_brief profile none =
-    brief_if profile.description (not-false (is_described profile.description) (all_pass (profile_tests profile) none).1.1.1.1.1.1.0)
+    brief_if profile.description (and_parts (is_described profile.description) _ (not-false (fits_description profile) (all_pass (profile_tests profile) none).1.1.1.1.1.1.0)).0
 
 -- ---- a reply
 

@@ -32,13 +32,13 @@ revision_taken b lt =
     ]
 
 -- the fields of a key, behind its format
-abbrev key_rest : KeyFields → List ℕ
+abbrev pub key_rest : KeyFields → List ℕ
 key_rest k = to_le_bytes w16 k.vendor ++ (to_le_bytes w16 k.device_type ++ (to_le_bytes w16 k.product ++ (revision_byte k ∷ k.minor ∷ [])))
 
 key_moved : (bs : List ℕ) (k k' : KeyFields) (rest rest' : List ℕ) → gives k rest ≡ Ok (k', rest') → KeyFits k → Takes bs (key_rest k) rest → KeyFits k' × Takes bs (key_rest k') rest'
 key_moved bs k k' rest rest' e fits t = subst (λ (y : KeyFields × List ℕ). KeyFits y.0 × Takes bs (key_rest y.0) y.1) (ok_is (k, rest) (k', rest') e) (fits, t)
 
-key_fields_taken : (bs : List ℕ) (k : KeyFields) (rest : List ℕ) → IsBytes bs → key_fields_at bs ≡ Ok (k, rest) → KeyFits k × Takes bs (key_rest k) rest
+pub key_fields_taken : (bs : List ℕ) (k : KeyFields) (rest : List ℕ) → IsBytes bs → key_fields_at bs ≡ Ok (k, rest) → KeyFits k × Takes bs (key_rest k) rest
 unfolding key_fields_at
 key_fields_taken bs k rest fits e =
     let made = λ (vendor device_type product revision : ℕ) (minor : ℕ × List ℕ). let made : KeyFields = record { vendor = vendor; device_type = device_type; product = product; compatible = leb 128 revision; major = revision % 128; minor = minor.0 } in gives made minor.1 in

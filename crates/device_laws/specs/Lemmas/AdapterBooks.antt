@@ -10,7 +10,7 @@ use Rattle.cip_datagram.specs.declared.datagram.DatagramFault.{DatagramFault}
 use Rattle.cip_datagram.specs.Datagram.{DatagramFields}
 use Rattle.cip_datagram.specs.Reading.{datagram_reading}
 use Rattle.cip_epath.specs.Path.{PathFields}
-use Rattle.cip_epath.specs.Reading.{path_reading}
+use Rattle.adapter_table.specs.Paths.{opening_path}
 use Rattle.cip_events.specs.declared.event.Event.{Event}
 use Rattle.cip_events.specs.declared.event.Event.TheVariants.{Datagram, Write, Tick}
 use Rattle.cip_events.specs.Answers.{is_accepted}
@@ -83,7 +83,7 @@ judged_input profile request (Ok points) None ok = ok
 
 admission_input : (t : AdapterTable) (request : OpenFields) → AdmitsInput t.profile (admission t request)
 unfolding verdict
-admission_input t request = judged_input t.profile request (points_of (view_of t request.triad) request (result_ok (path_reading request.path))) _ (points_input t request (result_ok (path_reading request.path)))
+admission_input t request = judged_input t.profile request (points_of (view_of t request.triad) request (result_ok (opening_path t.profile.description request.path))) _ (points_input t request (result_ok (opening_path t.profile.description request.path)))
 
 opened_produces : (t : AdapterTable) (peer : Node) (request : OpenFields) (admitted : Admitted) → admission t request ≡ Ok admitted → RowsProduceInputs t → RowsProduceInputs (opened_table t (opened_row t peer request admitted) admitted)
 unfolding opened_table opened_row

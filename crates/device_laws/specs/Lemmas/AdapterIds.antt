@@ -5,6 +5,8 @@ use Rattle.std.specs.List.{AllByRecursion, filter_map, flat_map}
 use Rattle.std.specs.Option.{IfSome, option_map}
 use Rattle.std.specs.Result.{result_ok}
 use Rattle.std.specs.Str.{bytes_eq}
+use Rattle.adapter_table.specs.Intervals.{open_refusal, whole_request}
+use Rattle.adapter_table.specs.Lemmas.RefusalLemmas.{refusal_either}
 use Rattle.adapter_table.specs.Lemmas.CheckLemmas.{draws_some}
 use Rattle.cip_types.specs.declared.names.Ms.{Ms}
 use Rattle.cip_types.specs.declared.names.Node.{Node}
@@ -24,10 +26,10 @@ use Rattle.cip_encap.specs.Packet.{PacketFields, packet_widths, packet_numbers, 
 use Rattle.cip_encap.specs.PacketReading.{behind_socket, are_sockets, packet_reading}
 use Rattle.cip_encap.specs.ReadsBack.{ItemsReadBack}
 use Rattle.cip_epath.specs.Path.{PathFields}
-use Rattle.cip_epath.specs.Reading.{path_reading}
+use Rattle.adapter_table.specs.Paths.{opening_path}
 use Rattle.cip_fwdopen.specs.Open.{OpenFields}
 use Rattle.cip_fwdopen.specs.Close.{CloseFields, closed_text}
-use Rattle.cip_fwdopen.specs.Reply.{reply_service, opened_text, refused_text}
+use Rattle.cip_fwdopen.specs.Reply.{reply_service, opened_text, refused_text, intervals_text}
 use Rattle.cip_events.specs.declared.event.Event.{Event}
 use Rattle.cip_events.specs.declared.event.Event.TheVariants as event
 use Rattle.cip_events.specs.declared.event.StepFault.{StepFault}
@@ -64,6 +66,7 @@ use Rattle.messaging.specs.declared.table.Messaging.{Messaging}
 use Rattle.messaging.specs.Class3Connections.{has_class3_triad, is_last_message}
 use Rattle.messaging.specs.Times.{without_late_class3_connections, late_waiting}
 use Rattle.adapter_table.specs.declared.profile.InputPoint.{InputPoint}
+use Rattle.adapter_table.specs.declared.profile.Profile.{Profile}
 use Rattle.adapter_table.specs.Connections.{Row}
 use Rattle.adapter_table.specs.declared.row.State.{State}
 use Rattle.adapter_table.specs.declared.row.State.TheVariants.{Established, TimedOut}
@@ -71,7 +74,8 @@ use Rattle.adapter_table.specs.declared.table.AdapterTable.{AdapterTable}
 use Rattle.adapter_table.specs.declared.table.Stream.{Stream}
 use Rattle.adapter_table.specs.declared.admission.ConsumedPoint.{ConsumedPoint}
 use Rattle.adapter_table.specs.Profiles.{is_at}
-use Rattle.adapter_table.specs.Objects.{ObjectAnswer, said, denied, resetting, object_answer}
+use Rattle.adapter_table.specs.Objects.{ObjectAnswer, said, denied, resetting, answering, refusing, unrouted}
+use Rattle.adapter_table.specs.Carrying.{object_answer}
 use Rattle.adapter_table.specs.Inquiries.{frame_alone, inquiry_reply, inquired_by, inquired}
 use Rattle.adapter_table.specs.Rows.{has_triad, is_member, written_state, written_row}
 use Rattle.adapter_table.specs.Checks.{Check, Points, Admitted, drawn_ids, group_of, joined, named_points, points_of, path_check, consumed_point_of, input_of, is_multicast, judged, view_of, verdict, admission}
@@ -97,13 +101,13 @@ use Rattle.answer_sizes.specs.Sizes.{IsShortFrame, IsSmall}
 use Rattle.device_laws.specs.Ids.{RequestIds, PayloadIds, PacketIds, MessageIds, FrameIds, HasFrameIds, HasDatagramId, AnswerIds, RowIds, FromTo, IdsFromTo, EventIds, WayIds, AnsweredIds}
 use Rattle.device_laws.specs.Lemmas.Lists.{all_both, all_more, all_filtered, all_mapped, all_found, all_ordered, all_firsts, all_made}
 use Rattle.device_laws.specs.Lemmas.Texts.{either, Cuts, message_ids, packet_ids, datagram_id}
-use Rattle.device_laws.specs.Lemmas.Payloads.{opened_ids, closed_ids, object_ids, refused_ids, own_refused_ids}
+use Rattle.device_laws.specs.Lemmas.Payloads.{opened_ids, closed_ids, object_ids, refused_ids, unacceptable_ids, own_refused_ids, own_object_ids, no_route_ids}
 use Rattle.device_laws.specs.Lemmas.ConnectedTexts.{connected_bad}
 use Rattle.device_laws.specs.Lemmas.MessageSteps.{IsItemless, IsOfMessages, unit_of, respond_holds}
 use Rattle.device_laws.specs.Lemmas.InquiryTexts.{IsPlainText, plain_services, plain_ids, inquiry_plain}
 use Rattle.adapter_table.specs.Lemmas.PassiveLemmas.{passive_holds}
 use Rattle.adapter_table.specs.Lemmas.FrameLemmas.{answer_has}
-use Rattle.adapter_table.specs.Describing.{is_variable, fixed, opening_fault}
+use Rattle.adapter_table.specs.Describing.{is_variable, fixed}
 
 abbrev pub RowsHold : (P Q : ℕ → Type 0) → List Row → Type 0
 RowsHold P Q rows = AllByRecursion (RowIds P Q) rows
@@ -169,7 +173,7 @@ judged_holds P request (Ok points) None holds = holds
 admission_holds : (P Q : ℕ → Type 0) (t : AdapterTable) (request : OpenFields) → RowsHold P Q t.rows → AdmittedHolds P (admission t request)
 unfolding verdict
 admission_holds P Q t request rows =
-    judged_holds P request (points_of (view_of t request.triad) request (result_ok (path_reading request.path))) _ (points_hold P Q t request (result_ok (path_reading request.path)) rows)
+    judged_holds P request (points_of (view_of t request.triad) request (result_ok (opening_path t.profile.description request.path))) _ (points_hold P Q t request (result_ok (opening_path t.profile.description request.path)) rows)
 
 fixed_step : (P : ℕ → Type 0) (a b : Bool) (admitted : Admitted) → GroupHolds P admitted.group → AdmittedHolds P (cond a (Err refused_as.ConsumedSize) (cond b (Err refused_as.ProducedSize) (Ok admitted)))
 fixed_step P true b admitted holds = tt
@@ -225,9 +229,14 @@ refusal_holds P Q t service why rows = (refused_ids P service (status_fault why)
 abbrev pub HasDrawn : (P Q : ℕ → Type 0) → AdapterTable → ℕ → Type 0
 HasDrawn P Q t to = IdsFromTo P t.profile.incarnation t.next_id to × FromTo Q t.next_id to
 
+-- a request to open that is refused has a reply with no id
+refusal_ids : (P : ℕ → Type 0) (profile : Profile) (rows : List Row) (service : ℕ) (request : OpenFields) (why : Refusal) → PayloadIds P (reply_text (open_refusal profile rows service request why))
+refusal_ids P profile rows service request why =
+    refusal_either (λ reply. PayloadIds P (reply_text reply)) profile rows service request why (λ fault fails. refused_ids P service fault (Some request.triad) fails) (λ a. unacceptable_ids P service a request.triad)
+
 open_holds : (P Q : ℕ → Type 0) → Cuts P → (t : AdapterTable) (peer : Node) (large : Bool) (request : OpenFields) (said : Result Admitted Refusal) (to : ℕ) → (judged_open t peer large request said).table.next_id ≤ to → HasDrawn P Q t to → AdmittedHolds P said → P request.t_o_id.0 → RowsHold P Q t.rows → ServedHolds P Q (judged_open t peer large request said)
 unfolding admitted_open opened_table opened_row
-open_holds P Q cuts t peer large request (Err why) to below drawn joins requested rows = (refused_ids P _ (opening_fault t.profile.description request why) (Some request.triad) refl, rows)
+open_holds P Q cuts t peer large request (Err why) to below drawn joins requested rows = (refusal_ids P t.profile t.rows _ request why, rows)
 open_holds P Q cuts t peer large request (Ok admitted) to below drawn joins requested rows =
     let one = draws_some admitted.multicast admitted.group in
     let o_t = drawn.0 t.next_id (omega arith) (omega (arith, below, one)) in
@@ -255,6 +264,9 @@ object_holds : (P Q : ℕ → Type 0) (t : AdapterTable) (service : ℕ) (answer
 object_holds P Q t service (said by value) rows = (object_ids P by value, rows)
 object_holds P Q t service (denied why) rows = refusal_holds P Q t service why rows
 object_holds P Q t service (resetting kind) rows = (object_ids P Reset [], rows)
+object_holds P Q t service (answering by general content) rows = (own_object_ids P by general content, rows)
+object_holds P Q t service (refusing named why) rows = refusal_holds P Q t named why rows
+object_holds P Q t service (unrouted words) rows = (no_route_ids P words, rows)
 
 -- the same, if something is served
 abbrev AnyHolds : (P Q : ℕ → Type 0) → Option Served → Type 0
@@ -271,14 +283,14 @@ served_holds P Q cuts t peer (refused service why) to below drawn ids rows = ref
 served_holds P Q cuts t peer (closing request) to below drawn ids rows = end_holds P Q t peer request (find (has_class3_triad request.triad) t.messaging.class3_connections) rows
 served_holds P Q cuts t peer (object service class instance attribute body) to below drawn ids rows = object_holds P Q t service (object_answer t service class instance attribute body) rows
 served_holds P Q cuts t peer (opening large request) to below drawn ids rows =
-    open_holds P Q cuts t peer large request (limited_admission t peer request) to below drawn
+    open_holds P Q cuts t peer large (whole_request t.profile.description request) (limited_admission t peer (whole_request t.profile.description request)) to below drawn
     (paced_holds P (has_opened_enough_at t peer) _ (limited_holds P t.profile.limits t.rows peer _ (fixed_holds P t request (admission t request) (admission_holds P Q t request rows)))) ids rows
 
 -- ---- what is replied over a stream
 
 class3_holds : (P Q : ℕ → Type 0) → Cuts P → (t : AdapterTable) (stream : Stream) (large : Bool) (request : OpenFields) (c : Check) (to : ℕ) → (judged_class3 t stream large request c).table.next_id ≤ to → HasDrawn P Q t to → P request.t_o_id.0 → RowsHold P Q t.rows → ServedHolds P Q (judged_class3 t stream large request c)
 unfolding messages_table opened_class3
-class3_holds P Q cuts t stream large request (Some why) to below drawn requested rows = (refused_ids P _ (opening_fault t.profile.description request why) (Some request.triad) refl, rows)
+class3_holds P Q cuts t stream large request (Some why) to below drawn requested rows = (refusal_ids P t.profile t.rows _ request why, rows)
 class3_holds P Q cuts t stream large request None to below drawn requested rows =
     let o_t = drawn.0 t.next_id (omega arith) (omega (arith, below)) in
     (opened_ids P large _ (cuts _ o_t) (cuts _ requested), rows)
@@ -286,7 +298,7 @@ class3_holds P Q cuts t stream large request None to below drawn requested rows 
 over_stream_step : (P Q : ℕ → Type 0) → Cuts P → (b : Bool) (t : AdapterTable) (stream : Stream) (large : Bool) (request : OpenFields) (to : ℕ) → next_of to (cond b (Some (served_class3 t stream large request)) (served t stream.peer (opening large request))) ≤ to → HasDrawn P Q t to → P request.t_o_id.0 → RowsHold P Q t.rows → AnyHolds P Q (cond b (Some (served_class3 t stream large request)) (served t stream.peer (opening large request)))
 unfolding served_class3
 over_stream_step P Q cuts true t stream large request to below drawn requested rows =
-    class3_holds P Q cuts t stream large request (class3_refusal (class3_view t stream.peer request.triad) request) to below drawn requested rows
+    class3_holds P Q cuts t stream large (whole_request t.profile.description request) (class3_refusal (class3_view t stream.peer request.triad) (whole_request t.profile.description request)) to below drawn requested rows
 over_stream_step P Q cuts false t stream large request to below drawn requested rows = served_holds P Q cuts t stream.peer (opening large request) to below drawn requested rows
 
 over_stream_holds : (P Q : ℕ → Type 0) → Cuts P → (t : AdapterTable) (stream : Stream) (request : RouterRequestFields) (to : ℕ) → next_of to (stream_served t stream request) ≤ to → HasDrawn P Q t to → RequestIds P request → RowsHold P Q t.rows → AnyHolds P Q (stream_served t stream request)
@@ -375,12 +387,14 @@ unfolding packet_reading are_sockets behind_socket
 plain_none = refl
 
 pub some_bytes : (reply : ReplyFields) → 1 ≤ length (reply_text reply)
-unfolding opened_text closed_text object_reply_text refused_text own_reply_text
+unfolding opened_text closed_text object_reply_text refused_text own_reply_text intervals_text
 some_bytes (opened large o) = omega arith
 some_bytes (closed triad) = omega arith
 some_bytes (object_reply by value) = omega arith
 some_bytes (replies.refused service fault triad) = omega arith
+some_bytes (replies.unacceptable service a triad) = omega arith
 some_bytes (replies.own service general content) = omega arith
+some_bytes (replies.no_route words) = omega arith
 
 pub few_bytes : (m : MessageFields) (payload : List ℕ) (socket : Option SocketAddress) → m.payload ≡ packet_text payload socket → length (message_text m) ≤ 2048 → length payload ≤ 65535
 few_bytes m payload socket is short =

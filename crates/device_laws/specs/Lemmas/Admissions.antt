@@ -6,7 +6,7 @@ use Rattle.std.proofs.lemmas.Bool.{and_parts}
 use Rattle.std.proofs.lemmas.Option.{same_Some}
 use Rattle.base_lemmas.specs.Lists.{found_passes}
 use Rattle.cip_types.specs.declared.names.Node.{Node}
-use Rattle.cip_epath.specs.Reading.{path_reading}
+use Rattle.adapter_table.specs.Paths.{opening_path}
 use Rattle.cip_fwdopen.specs.Open.{OpenFields}
 use Rattle.cip_router.specs.declared.refusal.Refusal.{Refusal}
 use Rattle.adapter_table.specs.Connections.{Row}
@@ -40,7 +40,7 @@ judged_multicast request (Ok points) None admitted is = ap (λ (a : Admitted). a
 
 multicast_is : (t : AdapterTable) (request : OpenFields) (admitted : Admitted) → admission t request ≡ Ok admitted → admitted.multicast ≡ is_multicast request.t_o_params.kind
 unfolding verdict
-multicast_is t request admitted is = judged_multicast request (points_of (view_of t request.triad) request (result_ok (path_reading request.path))) _ admitted is
+multicast_is t request admitted is = judged_multicast request (points_of (view_of t request.triad) request (result_ok (opening_path t.profile.description request.path))) _ admitted is
 
 -- ---- the new connection
 

@@ -27,7 +27,8 @@ use Rattle.adapter_table.specs.Answering.{responded, respond_of, respond}
 use Rattle.adapter_table.specs.Connected.{service_in, fitted_text, connected_served, next_deadline, executed_table}
 use Rattle.adapter_table.specs.Encapsulation.{Handled, refusal, undelivered, kept_reply, message_repeated, message_replied, message_served, message_executed, message_found, unit_replied}
 use Rattle.adapter_table.specs.Messages.{messages_table}
-use Rattle.adapter_table.specs.Objects.{ObjectAnswer, said, denied, resetting, object_answer}
+use Rattle.adapter_table.specs.Objects.{ObjectAnswer, said, denied, resetting, answering, refusing, unrouted}
+use Rattle.adapter_table.specs.Carrying.{object_answer}
 use Rattle.adapter_table.specs.Own.{OwnRequest, own_of, cannot_ask}
 use Rattle.adapter_table.specs.Requests.{Next, Served, open_service, router_refusal, object_served, served_object}
 
@@ -69,6 +70,9 @@ object_table : (t : AdapterTable) (service : ℕ) (answer : ObjectAnswer) → (o
 object_table t service (said by value) = refl
 object_table t service (denied why) = refl
 object_table t service (resetting kind) = refl
+object_table t service (answering by general content) = refl
+object_table t service (refusing named why) = refl
+object_table t service (unrouted words) = refl
 
 served_of : (t : AdapterTable) (d : Class3Connection) (count first : ℕ) (request : RouterRequestFields) → IsOfMessages t (message_served t d count first (connected_served t d.peer request))
 unfolding served_object

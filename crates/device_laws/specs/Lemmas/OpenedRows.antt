@@ -29,6 +29,7 @@ use Rattle.cip_router.specs.Frames.{RequestHeader, request_header_of, request_he
 use Rattle.messaging.specs.declared.class3.Class3Connection.{Class3Connection}
 use Rattle.messaging.specs.declared.table.Messaging.{Messaging}
 use Rattle.messaging.specs.Class3Connections.{has_class3_triad}
+use Rattle.adapter_table.specs.Intervals.{whole_request}
 use Rattle.adapter_table.specs.declared.table.AdapterTable.{AdapterTable}
 use Rattle.adapter_table.specs.declared.table.Stream.{Stream}
 use Rattle.adapter_table.specs.Checks.{Check, Admitted, admission}
@@ -39,7 +40,8 @@ use Rattle.adapter_table.specs.Closing.{stays, without_triad, closed_table}
 use Rattle.adapter_table.specs.Connections.{Row}
 use Rattle.adapter_table.specs.Encapsulation.{Handled, refusal, unanswered, session_begun, session_ended, register_session, request_replied, request_handled, packet_replied, unit_replied, handled, framed, frame_answer, stream_answer, frame_of, outside_session}
 use Rattle.adapter_table.specs.Inquiries.{inquiry_reply}
-use Rattle.adapter_table.specs.Objects.{ObjectAnswer, object_answer}
+use Rattle.adapter_table.specs.Objects.{ObjectAnswer}
+use Rattle.adapter_table.specs.Carrying.{object_answer}
 use Rattle.adapter_table.specs.Objects as objects
 use Rattle.adapter_table.specs.Opening.{opened_row, opened_table}
 use Rattle.adapter_table.specs.Requests.{Next, Served, judged_open, admitted_open, served_open, close_of, served_close, end_of, served_end, router_refusal, object_served, served_object, served}
@@ -56,7 +58,7 @@ use Rattle.device_laws.specs.Lemmas.Texts.{either}
 
 -- it holds of each connection that a request to open makes
 abbrev pub Makes : (Row → Type 0) → AdapterTable → RouterRequestFields → Type 0
-Makes O t requested = (large : Bool) (request : OpenFields) → requested ≡ opening large request → (peer : Node) (admitted : Admitted) → admission t request ≡ Ok admitted → O (opened_row t peer request admitted)
+Makes O t requested = (large : Bool) (request : OpenFields) → requested ≡ opening large request → (peer : Node) (admitted : Admitted) → admission t (whole_request t.profile.description request) ≡ Ok admitted → O (opened_row t peer (whole_request t.profile.description request) admitted)
 
 abbrev pub RowsAre : (Row → Type 0) → AdapterTable → Type 0
 RowsAre O t = AllByRecursion O t.rows
@@ -89,6 +91,9 @@ object_rows : (O : Row → Type 0) (t : AdapterTable) (service : ℕ) (answer : 
 object_rows O t service (objects.said by value) rows = rows
 object_rows O t service (objects.denied why) rows = rows
 object_rows O t service (objects.resetting kind) rows = rows
+object_rows O t service (objects.answering by general content) rows = rows
+object_rows O t service (objects.refusing named why) rows = rows
+object_rows O t service (objects.unrouted words) rows = rows
 
 served_rows : (O : Row → Type 0) (t : AdapterTable) (peer : Node) (requested : RouterRequestFields) → Makes O t requested → RowsAre O t → IfSome (served t peer requested) (ServedRows O)
 unfolding served_open served_end served_object
@@ -96,7 +101,7 @@ served_rows O t peer nothing makes rows = tt
 served_rows O t peer (refused service why) makes rows = rows
 served_rows O t peer (closing request) makes rows = end_rows O t peer request (find (has_class3_triad request.triad) t.messaging.class3_connections) rows
 served_rows O t peer (object service class instance attribute body) makes rows = object_rows O t service (object_answer t service class instance attribute body) rows
-served_rows O t peer (opening large request) makes rows = open_rows O t peer large request (limited_admission t peer request) refl (makes large request refl peer) rows
+served_rows O t peer (opening large request) makes rows = open_rows O t peer large (whole_request t.profile.description request) (limited_admission t peer (whole_request t.profile.description request)) refl (makes large request refl peer) rows
 
 -- ---- a frame
 
@@ -132,7 +137,7 @@ over_stream_rows : (O : Row → Type 0) (t : AdapterTable) (stream : Stream) (re
 unfolding served_class3
 over_stream_rows O t stream (opening large request) makes rows =
     either (λ (s : Option Served). IfSome s (ServedRows O)) (is_message_trigger request.trigger) (Some (served_class3 t stream large request)) (served t stream.peer (opening large request))
-    (class3_rows O t stream large request (class3_refusal (class3_view t stream.peer request.triad) request) rows) (served_rows O t stream.peer (opening large request) makes rows)
+    (class3_rows O t stream large (whole_request t.profile.description request) (class3_refusal (class3_view t stream.peer request.triad) (whole_request t.profile.description request)) rows) (served_rows O t stream.peer (opening large request) makes rows)
 over_stream_rows O t stream nothing makes rows = served_rows O t stream.peer nothing makes rows
 over_stream_rows O t stream (refused service why) makes rows = served_rows O t stream.peer (refused service why) makes rows
 over_stream_rows O t stream (closing request) makes rows = served_rows O t stream.peer (closing request) makes rows

@@ -21,12 +21,13 @@ use Rattle.cip_fwdopen.specs.Front.{parted, front_at}
 use Rattle.cip_fwdopen.specs.Request.{request_widths, request_path_len, with_target, request_of, request_reading}
 use Rattle.cip_fwdopen.specs.Open.{OpenFields, open_widths, path_len, open_of, open_reading, open_numbers, open_text}
 use Rattle.cip_fwdopen.specs.Close.{CloseFields, close_reading, closed_text}
-use Rattle.cip_fwdopen.specs.Reply.{reply_service, opened_service, opened_widths, opened_numbers, opened_text, extended_text, failure_text, refused_text, reply_widths, extended_len, fault_of, application_len, opened_of, failure_reading, opened_reading, refused_by, answer_reading, with_answer, unread, unread_reading, reply_of, open_reply_reading}
-use Rattle.cip_router.specs.Requests.{request_to_open, request_to_close, request_to_manager, is_manager, router_request_of, router_request_reading, refused}
+use Rattle.cip_fwdopen.specs.declared.reply.AcceptableIntervals.{AcceptableIntervals}
+use Rattle.cip_fwdopen.specs.Reply.{reply_service, opened_service, opened_widths, opened_numbers, opened_text, extended_text, failure_text, refused_text, intervals_words, intervals_text, reply_widths, extended_len, fault_of, application_len, opened_of, failure_reading, opened_reading, refused_by, answer_reading, with_answer, unread, unread_reading, reply_of, open_reply_reading}
+use Rattle.cip_router.specs.Requests.{request_to_open, request_to_close, request_to_manager, is_manager, router_request_of, router_request_reading, refused, object}
 use Rattle.cip_router.specs.declared.object_service.ObjectService.{ObjectService}
 use Rattle.cip_router.specs.declared.object_service.ObjectService.TheVariants as object_service
 use Rattle.cip_router.specs.declared.refusal.Status.TheVariants as status
-use Rattle.cip_router.specs.Replies.{object_reply_text, own_reply_text}
+use Rattle.cip_router.specs.Replies.{no_route_text, object_reply_text, object_service_code, own_reply_text}
 use Rattle.scanner_table.specs.Requests.{manager, manager_text}
 use Rattle.scanner_table.specs.Replies.{serviced, reply_answer}
 use Rattle.device_laws.specs.Ids.{RequestIds, ReplyIds, PayloadIds}
@@ -42,7 +43,8 @@ pub record OpensNone (service : ℕ) : Type 0 where
 requested_manager_ids : (P : ℕ → Type 0) (service : ℕ) (body : List ℕ) → OpensNone service → RequestIds P (request_to_manager service body)
 requested_manager_ids P service body none =
     rw (none.small, none.large)
-    (either (RequestIds P) (service == 0x4E) (request_to_close service (close_reading body)) (refused service status.Service) (closes (close_reading body)) tt)
+    (either (RequestIds P) (service == 0x4E) (request_to_close service (close_reading body)) _ (closes (close_reading body))
+    (either (RequestIds P) (service == 0x52) (object service 6 1 None body) (refused service status.Service) tt tt))
   where
     closes : (reading : Result CloseFields ReadFault) → RequestIds P (request_to_close service reading)
     closes (Ok request) = tt
@@ -168,7 +170,10 @@ closed_ids P triad = other_ids P 0xCE _ (record { small = refl; large = refl }) 
 pub object_ids : (P : ℕ → Type 0) (by : ObjectService) (value : List ℕ) → PayloadIds P (object_reply_text by value)
 unfolding object_reply_text
 object_ids P object_service.GetAll value = other_ids P 0x81 _ (record { small = refl; large = refl }) (record { small = refl; large = refl })
+object_ids P object_service.GetList value = other_ids P 0x83 _ (record { small = refl; large = refl }) (record { small = refl; large = refl })
+object_ids P object_service.SetList value = other_ids P 0x84 _ (record { small = refl; large = refl }) (record { small = refl; large = refl })
 object_ids P object_service.Reset value = other_ids P 0x85 _ (record { small = refl; large = refl }) (record { small = refl; large = refl })
+object_ids P object_service.Packet value = other_ids P 0x8A _ (record { small = refl; large = refl }) (record { small = refl; large = refl })
 object_ids P object_service.GetSingle value = other_ids P 0x8E _ (record { small = refl; large = refl }) (record { small = refl; large = refl })
 
 above : (n m : ℕ) → m < n → (n == m) ≡ false
@@ -191,10 +196,35 @@ pub refused_ids : (P : ℕ → Type 0) (service : ℕ) (fault : Fault) (triad : 
 unfolding refused_text
 refused_ids P service fault triad fails = refused_parts P service fault.general fault.extended (failure_text triad) fails
 
+-- one that names acceptable intervals
+pub unacceptable_ids : (P : ℕ → Type 0) (service : ℕ) (a : AcceptableIntervals) (triad : Triad) → PayloadIds P (intervals_text service a (Some triad))
+unfolding intervals_text intervals_words
+unacceptable_ids P service a triad = record {
+  requested = requests_none P (reply_service service) _ (replies_open_none service);
+  replied = λ large. reports_refusal P (reply_service service) 1 6 _ large refl;
+}
+
+-- the refusal of an Unconnected_Send
+pub no_route_ids : (P : ℕ → Type 0) (words : ℕ) → PayloadIds P (no_route_text words)
+no_route_ids P words = refused_parts P 0x52 1 (Some 0x0311) (words ∷ []) refl
+
 -- a reply of the application to a service whose reply opens none
 pub own_ids : (P : ℕ → Type 0) (service status : ℕ) (content : List ℕ) → AnswersNone (reply_service service) → PayloadIds P (own_reply_text service status content)
 unfolding own_reply_text
 own_ids P service status content none = other_ids P (reply_service service) _ (replies_open_none service) none
+
+-- the reply to no service of an object opens one
+pub object_answers_none : (by : ObjectService) → AnswersNone (reply_service (object_service_code by))
+object_answers_none object_service.GetAll = record { small = refl; large = refl }
+object_answers_none object_service.GetList = record { small = refl; large = refl }
+object_answers_none object_service.SetList = record { small = refl; large = refl }
+object_answers_none object_service.Reset = record { small = refl; large = refl }
+object_answers_none object_service.Packet = record { small = refl; large = refl }
+object_answers_none object_service.GetSingle = record { small = refl; large = refl }
+
+-- data of an object with any general status
+pub own_object_ids : (P : ℕ → Type 0) (by : ObjectService) (status : ℕ) (content : List ℕ) → PayloadIds P (own_reply_text (object_service_code by) status content)
+own_object_ids P by status content = own_ids P (object_service_code by) status content (object_answers_none by)
 
 -- one with another status than that of a success opens none, whatever its service
 pub own_refused_ids : (P : ℕ → Type 0) (service status : ℕ) (content : List ℕ) → (status == 0) ≡ false → PayloadIds P (own_reply_text service status content)

@@ -1,5 +1,5 @@
 -- What a text that was written can be read as: a success of an opening with its ids, and a request to open one.
-use Rattle.std.proofs.Common.{◌≡◌, ◌⊎◌, inl, inr, ◌<◌, ℕ, zero, suc, get_or, ◌==◌, ltb, Bool, true, false, List, [], ◌∷◌, length, Option, Result, Ok, Err, refl, sym, ◌∙◌, ap, subst, arith}
+use Rattle.std.proofs.Common.{◌≡◌, ◌⊎◌, inl, inr, ◌<◌, ℕ, zero, suc, get_or, ◌==◌, ltb, Bool, true, false, List, [], ◌∷◌, length, Option, Some, Result, Ok, Err, refl, sym, ◌∙◌, ap, subst, arith}
 use Rattle.std.specs.Int.{w16, w32, w64, to_le_bytes, from_le_bytes}
 use Rattle.std.proofs.lemmas.Nat.{le_bytes_8}
 use Rattle.cip_fwdopen.specs.Close.{closed_text}
@@ -16,15 +16,15 @@ use Rattle.cip_fwdopen.specs.declared.reply.Opened.{Opened}
 use Rattle.cip_fwdopen.specs.declared.reply.OpenAnswer.{OpenAnswer}
 use Rattle.cip_fwdopen.specs.declared.reply.OpenAnswer.TheVariants as answer
 use Rattle.cip_fwdopen.specs.Readings.{answer_of, seen}
-use Rattle.cip_fwdopen.specs.Reply.{reply_service, opened_service, opened_widths, opened_numbers, opened_text, refused_text, extended_len, application_len, opened_of, opened_reading, answer_reading, with_answer, unread, unread_reading, reply_of, open_reply_reading}
+use Rattle.cip_fwdopen.specs.Reply.{reply_service, opened_service, opened_widths, opened_numbers, opened_text, refused_text, intervals_text, extended_len, application_len, opened_of, opened_reading, answer_reading, with_answer, unread, unread_reading, reply_of, open_reply_reading}
 use Rattle.cip_fwdopen.specs.Front.{parted}
-use Rattle.cip_router.specs.Replies.{ReplyFields, opened, closed, object_reply, object_reply_text, own_reply_text, reply_text}
+use Rattle.cip_router.specs.Replies.{ReplyFields, opened, closed, object_reply, object_reply_text, own_reply_text, reply_text, no_route_text}
 use Rattle.cip_router.specs.Replies as replies
 use Rattle.scanner_table.specs.Replies.{reply_answer}
 use Rattle.device_laws.specs.Ids.{RequestIds, ReplyIds, PayloadIds}
 use Rattle.device_laws.specs.Lemmas.Texts.{either, cut, fields_cut, all_cut}
 use Rattle.cip_router.specs.Requests.{router_request_reading}
-use Rattle.device_laws.specs.Lemmas.Payloads.{OpensNone, AnswersNone, requests_none, replies_open_none, closed_ids, object_ids, refused_ids, own_ids, own_refused_ids, front_bytes}
+use Rattle.device_laws.specs.Lemmas.Payloads.{OpensNone, AnswersNone, requests_none, replies_open_none, closed_ids, object_ids, refused_ids, unacceptable_ids, own_ids, own_refused_ids, front_bytes, no_route_ids}
 use Rattle.device_laws.specs.Frames.{again, SuccessIs, ContextFits}
 
 -- ---- a message that was written
@@ -137,7 +137,9 @@ ReplyHolds Q (opened large o) = (read : Opened) → IsReadBack o read → Q read
 ReplyHolds Q (closed triad) = Unit {0}
 ReplyHolds Q (object_reply by value) = Unit {0}
 ReplyHolds Q (replies.refused service fault triad) = (fault.general == 0) ≡ false
+ReplyHolds Q (replies.unacceptable service a triad) = Unit {0}
 ReplyHolds Q (replies.own service general content) = AnswersNone (reply_service service) ⊎ ((general == 0) ≡ false)
+ReplyHolds Q (replies.no_route words) = Unit {0}
 
 -- the bytes of a reply are a success only where the reply is one
 pub reply_says : (Q : Opened → Type 0) (reply : ReplyFields) → ReplyHolds Q reply → PayloadSays Q (reply_text reply)
@@ -145,8 +147,10 @@ reply_says Q (opened large o) holds = opened_says Q large o holds
 reply_says Q (closed triad) holds = payload_none Q (closed_text triad) (closed_ids (λ id. ⊥) triad)
 reply_says Q (object_reply by value) holds = payload_none Q (object_reply_text by value) (object_ids (λ id. ⊥) by value)
 reply_says Q (replies.refused service fault triad) holds = payload_none Q (refused_text service fault triad) (refused_ids (λ id. ⊥) service fault triad holds)
+reply_says Q (replies.unacceptable service a triad) holds = payload_none Q (intervals_text service a (Some triad)) (unacceptable_ids (λ id. ⊥) service a triad)
 reply_says Q (replies.own service general content) (inl none) = payload_none Q (own_reply_text service general content) (own_ids (λ id. ⊥) service general content none)
 reply_says Q (replies.own service general content) (inr fails) = payload_none Q (own_reply_text service general content) (own_refused_ids (λ id. ⊥) service general content fails)
+reply_says Q (replies.no_route words) holds = payload_none Q (no_route_text words) (no_route_ids (λ id. ⊥) words)
 
 -- ---- a reply of the application
 

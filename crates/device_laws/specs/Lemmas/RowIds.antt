@@ -43,6 +43,7 @@ use Rattle.cip_router.specs.Frames.{RequestHeader, request_header_of, request_he
 use Rattle.messaging.specs.declared.class3.Class3Connection.{Class3Connection}
 use Rattle.messaging.specs.declared.table.Messaging.{Messaging}
 use Rattle.messaging.specs.Class3Connections.{has_class3_triad}
+use Rattle.adapter_table.specs.Intervals.{whole_request}
 use Rattle.adapter_table.specs.declared.profile.InputPoint.{InputPoint}
 use Rattle.adapter_table.specs.Connections.{Row}
 use Rattle.adapter_table.specs.declared.row.State.{State}
@@ -61,7 +62,8 @@ use Rattle.adapter_table.specs.Datagrams.{is_for, accepted_row, accepted_if_for,
 use Rattle.adapter_table.specs.Encapsulation.{Handled, refusal, unanswered, session_begun, session_ended, register_session, request_replied, request_handled, packet_replied, unit_replied, handled, framed, frame_answer, stream_answer, frame_of, frame, outside_session, frame_for}
 use Rattle.adapter_table.specs.Newest.{was_opened_as}
 use Rattle.adapter_table.specs.Opening.{opened_row, opened_table}
-use Rattle.adapter_table.specs.Objects.{ObjectAnswer, object_answer}
+use Rattle.adapter_table.specs.Objects.{ObjectAnswer}
+use Rattle.adapter_table.specs.Carrying.{object_answer}
 use Rattle.adapter_table.specs.Objects as objects
 use Rattle.adapter_table.specs.Inquiries.{inquiry_reply, inquired_by, inquired}
 use Rattle.adapter_table.specs.Productions.{producer_of, produced_state, produced_row, changed_state, changed_row}
@@ -201,12 +203,12 @@ opened_rows O t peer request row admitted so produced new is = record {
   streams = were_open t;
 }
 
-open_after : (O : OpenFields → Type 0) (t : AdapterTable) (peer : Node) (large : Bool) (request : OpenFields) (said : Result Admitted Refusal) → limited_admission t peer request ≡ said → O request → IdsAreDrawn t.profile t.next_id t.rows → TableAfter O t peer (judged_open t peer large request said).table
+open_after : (O : OpenFields → Type 0) (t : AdapterTable) (peer : Node) (large : Bool) (request : OpenFields) (said : Result Admitted Refusal) → limited_admission t peer (whole_request t.profile.description request) ≡ said → O request → IdsAreDrawn t.profile t.next_id t.rows → TableAfter O t peer (judged_open t peer large (whole_request t.profile.description request) said).table
 unfolding admitted_open
 open_after O t peer large request (Err why) is so drawn = stays_so O t peer
 open_after O t peer large request (Ok admitted) is so drawn =
-    opened_rows O t peer request (opened_row t peer request admitted) admitted so (opening_produced t peer request admitted (all_contained t.rows [] t.rows refl) (limited_is t peer request admitted is).admitted)
-    (new_row_found t peer request admitted drawn) (new_peer t peer request admitted)
+    opened_rows O t peer request (opened_row t peer (whole_request t.profile.description request) admitted) admitted so (opening_produced t peer (whole_request t.profile.description request) admitted (all_contained t.rows [] t.rows refl) (limited_is t peer (whole_request t.profile.description request) admitted is).admitted)
+    (new_row_found t peer (whole_request t.profile.description request) admitted drawn) (new_peer t peer (whole_request t.profile.description request) admitted)
 
 abbrev ServedAfter : (OpenFields → Type 0) → AdapterTable → Node → Served → Type 0
 ServedAfter O t peer s = TableAfter O t peer s.table
@@ -235,6 +237,9 @@ object_after : (O : OpenFields → Type 0) (t : AdapterTable) (peer : Node) (ser
 object_after O t peer service (objects.said by value) = stays_so O t peer
 object_after O t peer service (objects.denied why) = stays_so O t peer
 object_after O t peer service (objects.resetting kind) = stays_so O t peer
+object_after O t peer service (objects.answering by general content) = stays_so O t peer
+object_after O t peer service (objects.refusing named why) = stays_so O t peer
+object_after O t peer service (objects.unrouted words) = stays_so O t peer
 
 served_after : (O : OpenFields → Type 0) (t : AdapterTable) (peer : Node) (requested : RouterRequestFields) → ((large : Bool) (request : OpenFields) → requested ≡ opening large request → O request) → IdsAreDrawn t.profile t.next_id t.rows → IfSome (served t peer requested) (ServedAfter O t peer)
 unfolding served_open served_end served_object
@@ -242,7 +247,7 @@ served_after O t peer nothing asks drawn = tt
 served_after O t peer (refused service why) asks drawn = stays_so O t peer
 served_after O t peer (closing request) asks drawn = end_after O t peer request (find (has_class3_triad request.triad) t.messaging.class3_connections)
 served_after O t peer (object service class instance attribute body) asks drawn = object_after O t peer service (object_answer t service class instance attribute body)
-served_after O t peer (opening large request) asks drawn = open_after O t peer large request (limited_admission t peer request) refl (asks large request refl) drawn
+served_after O t peer (opening large request) asks drawn = open_after O t peer large request (limited_admission t peer (whole_request t.profile.description request)) refl (asks large request refl) drawn
 
 -- ---- messages
 
@@ -290,7 +295,7 @@ over_stream_after : (O : OpenFields → Type 0) (t : AdapterTable) (stream : Str
 unfolding served_class3
 over_stream_after O t stream (opening large request) asks drawn =
     either (λ (s : Option Served). IfSome s (ServedAfter O t stream.peer)) (is_message_trigger request.trigger) (Some (served_class3 t stream large request)) (served t stream.peer (opening large request))
-    (class3_after O t stream large request (class3_refusal (class3_view t stream.peer request.triad) request)) (served_after O t stream.peer (opening large request) asks drawn)
+    (class3_after O t stream large (whole_request t.profile.description request) (class3_refusal (class3_view t stream.peer request.triad) (whole_request t.profile.description request))) (served_after O t stream.peer (opening large request) asks drawn)
 over_stream_after O t stream nothing asks drawn = served_after O t stream.peer nothing asks drawn
 over_stream_after O t stream (refused service why) asks drawn = served_after O t stream.peer (refused service why) asks drawn
 over_stream_after O t stream (closing request) asks drawn = served_after O t stream.peer (closing request) asks drawn

@@ -1,7 +1,8 @@
 -- What an adapter serves: the reply of a success is that of the connection which the request opened.
-use Rattle.std.proofs.Common.{◌≡◌, ℕ, Bool, true, false, List, [], ◌∷◌, ◌++◌, find, Option, Some, None, Result, Ok, Err, refl}
+use Rattle.std.proofs.Common.{◌≡◌, inl, ℕ, Bool, true, false, List, [], ◌∷◌, ◌++◌, find, Option, Some, None, Result, Ok, Err, refl}
 use Rattle.std.specs.List.{AllByRecursion}
 use Rattle.std.specs.Option.{IfSome}
+use Rattle.device_laws.specs.Lemmas.Payloads.{object_answers_none}
 use Rattle.device_laws.specs.Lemmas.AdapterIds.{nonzero}
 use Rattle.base_lemmas.specs.Numbers.{less_other, number_same}
 use Rattle.cip_types.specs.declared.names.Node.{Node}
@@ -11,6 +12,8 @@ use Rattle.messaging.specs.declared.class3.Class3Connection.{Class3Connection}
 use Rattle.messaging.specs.Class3Connections.{has_class3_triad}
 use Rattle.cip_router.specs.declared.refusal.Refusal.{Refusal}
 use Rattle.cip_router.specs.Requests.{RouterRequestFields, nothing, refused, closing, object, opening}
+use Rattle.adapter_table.specs.Intervals.{whole_request}
+use Rattle.adapter_table.specs.Lemmas.RefusalLemmas.{refusal_either}
 use Rattle.adapter_table.specs.declared.profile.Profile.{Profile}
 use Rattle.adapter_table.specs.Connections.{Row}
 use Rattle.adapter_table.specs.declared.table.AdapterTable.{AdapterTable}
@@ -18,7 +21,8 @@ use Rattle.adapter_table.specs.Checks.{Admitted}
 use Rattle.adapter_table.specs.StatedLimits.{limited_admission, is_wrong_closer, is_wrong_ender}
 use Rattle.adapter_table.specs.Newest.{was_opened_as}
 use Rattle.adapter_table.specs.Opening.{opened_row, opened_table}
-use Rattle.adapter_table.specs.Objects.{ObjectAnswer, said, denied, resetting, object_answer}
+use Rattle.adapter_table.specs.Objects.{ObjectAnswer, said, denied, resetting, answering, refusing, unrouted}
+use Rattle.adapter_table.specs.Carrying.{object_answer}
 use Rattle.adapter_table.specs.Requests.{Served, judged_open, admitted_open, served_open, close_of, served_close, end_of, served_end, object_served, served_object, served}
 use Rattle.adapter_table.specs.Rows.{has_triad}
 use Rattle.adapter_table.specs.Sound.{IdsAreDrawn}
@@ -52,7 +56,7 @@ new_row_found t peer request admitted drawn =
 
 open_has : (t : AdapterTable) (peer : Node) (large : Bool) (request : OpenFields) (said : Result Admitted Refusal) → IdsAreDrawn t.profile t.next_id t.rows → ServedHas t (judged_open t peer large request said)
 unfolding admitted_open
-open_has t peer large request (Err why) drawn = refl
+open_has t peer large request (Err why) drawn = refusal_either (ReplyHolds (IsOfRow t t)) t.profile t.rows _ request why (λ fault fails. fails) (λ a. tt)
 open_has t peer large request (Ok admitted) drawn = λ read ids. record {
   row = opened_row t peer request admitted;
   new = new_row_found t peer request admitted drawn;
@@ -75,6 +79,9 @@ object_has : (t : AdapterTable) (service : ℕ) (answer : ObjectAnswer) → Serv
 object_has t service (said by value) = tt
 object_has t service (denied why) = nonzero why
 object_has t service (resetting kind) = tt
+object_has t service (answering by general content) = inl (object_answers_none by)
+object_has t service (refusing named why) = nonzero why
+object_has t service (unrouted words) = tt
 
 pub served_has : (t : AdapterTable) (peer : Node) (requested : RouterRequestFields) → IdsAreDrawn t.profile t.next_id t.rows → IfSome (served t peer requested) (ServedHas t)
 unfolding served_open served_end served_object
@@ -82,4 +89,4 @@ served_has t peer nothing drawn = tt
 served_has t peer (refused service why) drawn = nonzero why
 served_has t peer (closing request) drawn = end_has t peer request (find (has_class3_triad request.triad) t.messaging.class3_connections)
 served_has t peer (object service class instance attribute body) drawn = object_has t service (object_answer t service class instance attribute body)
-served_has t peer (opening large request) drawn = open_has t peer large request (limited_admission t peer request) drawn
+served_has t peer (opening large request) drawn = open_has t peer large (whole_request t.profile.description request) (limited_admission t peer (whole_request t.profile.description request)) drawn

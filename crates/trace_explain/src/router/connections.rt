@@ -1,7 +1,10 @@
 //! The parameters and the path of a connection in words.
 
 use crate::router::values::{push_data, push_interval};
-use cip_epath::{ConnPath, ElectronicKey, read_message_path, read_path};
+use cip_epath::{
+    ConnPath, ElectronicKey, key_serial, read_any_message_path, read_any_path, read_message_path,
+    read_path,
+};
 use cip_netparams::{ConnectionType, NetParams, Trigger, is_message_trigger};
 use cip_tables::Config;
 use cip_types::OutOfMemory;
@@ -63,8 +66,17 @@ pub fn push_path(
     size: u16,
     path: &[u8],
 ) -> Result<(), OutOfMemory> {
-    match read_path(path) {
-        Ok(path) => push_points(alloc, out, kind_words(config, size, path.consumed), &path),
+    let read = if is_described(config) {
+        read_any_path(path)
+    } else {
+        read_path(path)
+    };
+    match read {
+        Ok(read) => {
+            let kind = kind_words(config, size, read.consumed);
+            push_points(alloc, out, kind, &read)?;
+            push_serial(out, path)
+        }
         Err(fault) => {
             write!(out, "a path that does not read ({fault}), ")?;
             push_data(alloc, out, path)
@@ -75,17 +87,44 @@ pub fn push_path(
 /// The path of a class 3 connection: the message router, and its key.
 ///
 /// Volume 1, chapter 3, connection path.
-pub fn push_message_path(alloc: Global, out: &mut String, path: &[u8]) -> Result<(), OutOfMemory> {
-    match read_message_path(path) {
+pub fn push_message_path(
+    alloc: Global,
+    out: &mut String,
+    config: &Config,
+    path: &[u8],
+) -> Result<(), OutOfMemory> {
+    let read = if is_described(config) {
+        read_any_message_path(path)
+    } else {
+        read_message_path(path)
+    };
+    match read {
         Ok(Some(key)) => {
             push_text(out, "message router")?;
-            push_key(out, key)
+            push_key(out, key)?;
+            push_serial(out, path)
         }
         Ok(None) => push_text(out, "message router"),
         Err(fault) => {
             write!(out, "a path that is not the message router's ({fault}), ")?;
             push_data(alloc, out, path)
         }
+    }
+}
+
+/// Whether it is an adapter that is described, which reads a path in any form.
+fn is_described(config: &Config) -> bool {
+    match config {
+        Config::Adapter(profile) => profile.description.is_some(),
+        Config::Scanner(_) => false,
+    }
+}
+
+/// The serial number that the key of a path names, if it names one.
+fn push_serial(out: &mut String, path: &[u8]) -> Result<(), OutOfMemory> {
+    match key_serial(path) {
+        Some(serial) => Ok(write!(out, ", serial number {serial}")?),
+        None => Ok(()),
     }
 }
 

@@ -68,15 +68,19 @@ pub fn push_object(
     push_data(alloc, out, data)
 }
 
-/// The name of a service of many objects.
+/// The name of a service of many objects, or of Unconnected_Send.
 ///
-/// Volume 1, appendix A, common services.
+/// Volume 1, appendix A, common services, and chapter 3, Connection Manager services.
 pub fn service_name(service: u8) -> Option<&'static str> {
     match service {
         0x01 => Some("Get_Attributes_All"),
+        0x03 => Some("Get_Attribute_List"),
+        0x04 => Some("Set_Attribute_List"),
         0x05 => Some("Reset"),
+        0x0A => Some("Multiple_Service_Packet"),
         0x0E => Some("Get_Attribute_Single"),
         0x10 => Some("Set_Attribute_Single"),
+        0x52 => Some("Unconnected_Send"),
         _ => None,
     }
 }
@@ -127,7 +131,7 @@ fn push_open(
     push_trigger(out, request.trigger)?;
     push_text(out, "; ")?;
     if is_message_trigger(request.trigger) {
-        return push_message_path(alloc, out, request.path);
+        return push_message_path(alloc, out, config, request.path);
     }
     push_path(alloc, out, config, request.o_t_params.size, request.path)
 }

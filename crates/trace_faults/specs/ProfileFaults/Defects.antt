@@ -27,6 +27,7 @@ defect_fault (defect.CyclicInhibit slot ms) = fault.Timing
 defect_fault (defect.Inhibit slot ms api) = fault.Timing
 defect_fault (defect.Major major) = fault.Identity
 defect_fault (defect.Minor minor) = fault.Identity
+defect_fault defect.ClassInstance = fault.Description
 defect_fault (defect.NameLen len) = fault.Description
 defect_fault (defect.AddressLen len) = fault.Description
 defect_fault (defect.Inactivity seconds) = fault.Description

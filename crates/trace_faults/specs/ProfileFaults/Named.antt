@@ -96,6 +96,7 @@ IsWordOf defect.NoSerial word = word ≡ decimal 0
 IsWordOf (defect.Waiting wait ms) word = word ≡ decimal ms
 IsWordOf (defect.Major major) word = word ≡ decimal major
 IsWordOf (defect.Minor minor) word = word ≡ decimal minor
+IsWordOf defect.ClassInstance word = word ≡ codes "describe"
 IsWordOf (defect.NameLen len) word = AreBytes word len
 IsWordOf (defect.AddressLen len) word = AreBytes word len
 IsWordOf (defect.Inactivity seconds) word = word ≡ decimal seconds

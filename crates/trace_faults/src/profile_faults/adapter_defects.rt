@@ -1,9 +1,9 @@
 //! The first defect of an adapter's profile: that of its first fault, and of the lines that have it the first.
 
-ghost use Rattle.std.specs.Prelude.{◌≡◌, IfOk, IfSome, codes};
+ghost use Rattle.std.specs.Prelude.{◌≡◌, ◌||◌, not, is_some, IfOk, IfSome, codes};
 ghost use Rattle.std.specs.List.{list_all};
 ghost use Rattle.cip_events.specs.declared.profile_fault.ProfileFault.TheVariants as fault;
-ghost use Rattle.adapter_table.specs.Profiles.{profile_fault, is_address, are_few, has_output_len, has_input_len, has_config_len, are_long_enough, is_revision, is_described, is_point_len};
+ghost use Rattle.adapter_table.specs.Profiles.{profile_fault, is_address, are_few, has_output_len, has_input_len, has_config_len, are_long_enough, is_revision, is_described, leaves_class, fits_description, is_point_len};
 ghost use Rattle.trace_faults.specs.ProfileFaults.Defects.{Explains, reason_at, reason_fault};
 ghost use Rattle.trace_faults.specs.ProfileFaults.Named.{NamesWord, NamesItemWord, NamesConfigWord, NamesDescribedWord};
 ghost use Rattle.trace_lines.specs.WrittenProfiles.{output_words, point_words};
@@ -175,13 +175,30 @@ fn revision_reason(profile: &Profile) -> Option<ProfileReason>
     None
 }
 
-/// What is wrong with the description, if there is one.
+/// What is wrong with the description, if there is one: itself, or that a point has the instance of the class.
 #[tactic(auto, using(crate::proofs::Named::named_described))]
 fn described_reason(profile: &Profile) -> Option<ProfileReason>
-    ensures fault { Explains result (is_described profile.now.description) fault.Description }
+    ensures fault { Explains result (fits_description profile.now) fault.Description }
     ensures named { IfSome result (NamesWord profile.now) }
 {
-    description_reason(&profile.description)
+    if let Some(reason) = description_reason(&profile.description) {
+        return Some(reason);
+    }
+    class_reason(profile)
+}
+
+/// A point with the instance by which tools ask the class, at a device that is described.
+fn class_reason(profile: &Profile) -> Option<ProfileReason>
+    ensures fault { Explains result (not (is_some profile.now.description) || leaves_class profile.now) fault.Description }
+    ensures named { IfSome result (NamesDescribedWord profile.now.description) }
+{
+    let Some(_) = profile.description else {
+        return None;
+    };
+    if profile.leaves_class() {
+        return None;
+    }
+    Some(at_description(1, Defect::ClassInstance))
 }
 
 /// What is wrong with a description: its name, its physical address, or its inactivity time-out.

@@ -118,6 +118,8 @@ pub enum Defect {
     Major(u8),
     /// The minor revision.
     Minor(u8),
+    /// A point of the instance 0, by which tools ask the class of Assembly, at a device that is described.
+    ClassInstance,
     /// The bytes of the name of a description.
     NameLen(usize),
     /// The bytes of the physical address of a description.
@@ -182,9 +184,10 @@ impl Defect {
             | Defect::Inhibit(_, _, _)
             | Defect::Waiting(_, _) => ProfileFault::Timing,
             Defect::Major(_) | Defect::Minor(_) => ProfileFault::Identity,
-            Defect::NameLen(_) | Defect::AddressLen(_) | Defect::Inactivity(_) => {
-                ProfileFault::Description
-            }
+            Defect::ClassInstance
+            | Defect::NameLen(_)
+            | Defect::AddressLen(_)
+            | Defect::Inactivity(_) => ProfileFault::Description,
             Defect::Limit(_) | Defect::NoPace(_) | Defect::Openings(_) | Defect::NoSerial => {
                 ProfileFault::Limits
             }

@@ -4,6 +4,10 @@ use Rattle.adapter_replies.proofs.Points.{differ, other_cases}
 use Rattle.adapter_replies.proofs.objects.described.answer_of.Goals as goal
 use Rattle.adapter_replies.proofs.objects.described.answer_of.Goals.{in_default-via-in-1+in_default, in_default-via-in-2+in_default, in_default-via-in-6+in_default, in_default-via-in-245+in_default, in_default-via-in-246+in_default, in_default-via-in_default}
 
+pub returns-in-2-eq1 : goal.returns-in-2-eq1
+unfolding described_said
+returns-in-2-eq1 c = rw (c.in-2-eq1.is-0, c.in-2-eq1.is-1) (rw c.profile.ensures.value at c.router_answer.ensures)
+
 pub returns-in_default : goal.returns-in_default
 unfolding described_said
 returns-in_default c =

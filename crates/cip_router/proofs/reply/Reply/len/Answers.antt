@@ -1,6 +1,6 @@
 use Rattle.std.proofs.Common.{arith, sym}
 use Rattle.cip_fwdopen.specs.Services.{is_large_open}
-use Rattle.cip_router.proofs.Lengths.{opened_len, closed_len, object_reply_len, refused_len, own_reply_len}
+use Rattle.cip_router.proofs.Lengths.{opened_len, closed_len, object_reply_len, refused_len, intervals_len, own_reply_len}
 use Rattle.cip_router.proofs.reply.Reply.len.Goals as goal
 
 pub returns-in-Opened : goal.returns-in-Opened
@@ -16,6 +16,9 @@ pub returns-in-Refused : goal.returns-in-Refused
 returns-in-Refused c =
     let sum = refused_len c.in-Refused.field-0 c.in-Refused.fault c.in-Refused.triad in
     rw c.in-Refused.is (omega (arith, sum, c.extended_len.ensures, c.failure_len.ensures))
+
+pub returns-in-Unacceptable : goal.returns-in-Unacceptable
+returns-in-Unacceptable c = rw c.in-Unacceptable.is (sym (intervals_len c.in-Unacceptable.field-0 c.in-Unacceptable.field-1 c.in-Unacceptable.field-2))
 
 pub returns-in-Own : goal.returns-in-Own
 returns-in-Own c = rw c.in-Own.is (sym (own_reply_len c.in-Own.field-0 c.in-Own.field-1 c.in-Own.content.now))
