@@ -7,6 +7,7 @@ use crate::opening::ports::OpenedPort;
 use crate::place::rates_of;
 use cip_events::NewFault;
 use cip_tables::{Config, Device};
+use cip_types::OutOfMemory;
 use command_lines::Options;
 use fast_device::FastDevice;
 use page_feed::PageFeed;
@@ -15,8 +16,9 @@ use socket_port::SystemClock;
 use station::{Reporting, Station, StationObserver};
 use station_lines::LineSink;
 use station_port::{StationPlace, StationPort};
-use station_record::Recorder;
+use station_record::{RecordSink, Recorder};
 use station_rim::Entries;
+use std::alloc::Global;
 use std::fs::File;
 use std::net::Net;
 use std::rt::{Clock, Files};
@@ -53,6 +55,26 @@ where
 {
     let alloc = rt.alloc();
     let OpenedPort { port, place, .. } = opened;
+    let observer = observer_of(alloc, config, outputs)?;
+    let device = FastDevice::new(alloc, config.copy(alloc)?)?;
+    let port = ordered_port_of(rt, options, port)?;
+    let reporting = reporting_of(options, &place);
+    let clock = SystemClock::new(rt);
+    Ok(Station::new(alloc, config, port, clock, device, observer, reporting)?)
+}
+
+/// What looks on at a station of this configuration, and tells these outputs what it sees.
+fn observer_of<W, O, E>(
+    alloc: Global,
+    config: &Config,
+    outputs: StationOutputs<W, O, E>,
+) -> Result<StationObserver<W, O, E>, OutOfMemory>
+where
+    W: RecordSink + Drop,
+    O: LineSink + Drop,
+    E: LineSink + Drop,
+    ensures { IfOk result (λ observer. observer.recorder ≡ outputs.recorder) }
+{
     let StationOutputs {
         recorder,
         out,
@@ -63,12 +85,21 @@ where
     if let Some(page) = page {
         observer.feed(page);
     }
-    let device = FastDevice::new(alloc, config.copy(alloc)?)?;
+    Ok(observer)
+}
+
+/// This port with faults at the rates of these options, and with room for orders.
+fn ordered_port_of<R>(
+    rt: R,
+    options: &Options,
+    port: StationPort<R>,
+) -> Result<OpenPort<R>, OutOfMemory>
+where
+    R: AllocGlobal + Net + Clock + Wait + Copy + Drop,
+{
+    let alloc = rt.alloc();
     let port = FaultyPort::new(alloc, port, SystemClock::new(rt), rates_of(options));
-    let port = OrderPort::new(alloc, rt, port)?;
-    let reporting = reporting_of(options, &place);
-    let clock = SystemClock::new(rt);
-    Ok(Station::new(alloc, config, port, clock, device, observer, reporting)?)
+    OrderPort::new(alloc, rt, port)
 }
 
 /// What a station with these options, at this place, says beside its outcomes.
