@@ -189,7 +189,8 @@ fn described_reason(profile: &Profile) -> Option<ProfileReason>
 
 /// A point with the instance by which tools ask the class, at a device that is described.
 fn class_reason(profile: &Profile) -> Option<ProfileReason>
-    ensures fault { Explains result (not (is_some profile.now.description) || leaves_class profile.now) fault.Description }
+    ensures fault { Explains result (not (is_some profile.now.description) || leaves_class profile.now)
+        fault.Description }
     ensures named { IfSome result (NamesDescribedWord profile.now.description) }
 {
     let Some(_) = profile.description else {
