@@ -106,6 +106,9 @@ class Profile:
         self.input_only, self.listen_only = map(int, of("heartbeat")[0])
         # what the maker states: the shortest packet interval, places by kind, and numbers that are not far ahead
         self.least = max([1000] + [int(line[0]) for line in of("least-rpi")])
+        # .. of a described device in whole milliseconds, rounded up
+        if of("describe"):
+            self.least = -(-self.least // 1000) * 1000
         counts = [list(map(int, line[:3])) for line in of("places")]
         self.places = dict(zip(("exclusive owner", "input only", "listen only"), counts[0] if counts else (64, 64, 64)))
         self.most = sum(counts[0]) if counts else 64

@@ -103,13 +103,31 @@ an_empty_name = refl
 abbrev slow : MakerLimits
 slow = record no_limits { least_rpi = Some 20000; places = Some (record { owners = 0; readers = 4; listeners = 2; class3_connections = None }); newer = Some 1000 }
 
-intervals_by_the_maker : map offered_intervals (no_limits ∷ slow ∷ record no_limits { least_rpi = Some 500 } ∷ record no_limits { least_rpi = Some 9000 } ∷ [])
+intervals_by_the_maker : map (λ limits. offered_intervals (record island { limits = limits })) (no_limits ∷ slow ∷ record no_limits { least_rpi = Some 500 } ∷ record no_limits { least_rpi = Some 9000 } ∷ record no_limits { least_rpi = Some 1500 } ∷ [])
     ≡ record { least = 1000; most = 10000000; first = 10000 }
     ∷ record { least = 20000; most = 10000000; first = 20000 }
     ∷ record { least = 1000; most = 10000000; first = 10000 }
     ∷ record { least = 9000; most = 10000000; first = 10000 }
+    ∷ record { least = 1500; most = 10000000; first = 10000 }
     ∷ []
+unfolding island
 intervals_by_the_maker = refl
+
+-- a described device takes 1,999 us for 1,000, so that from a least of 1,500 on it admits 2,000
+intervals_of_a_described_device : map (λ limits. offered_intervals (record island { description = described (codes "Rack 7"); limits = limits })) (no_limits ∷ record no_limits { least_rpi = Some 500 } ∷ record no_limits { least_rpi = Some 1500 } ∷ record no_limits { least_rpi = Some 10001 } ∷ record no_limits { least_rpi = Some 10000000 } ∷ [])
+    ≡ record { least = 1000; most = 10000000; first = 10000 }
+    ∷ record { least = 1000; most = 10000000; first = 10000 }
+    ∷ record { least = 2000; most = 10000000; first = 10000 }
+    ∷ record { least = 11000; most = 10000000; first = 11000 }
+    ∷ record { least = 10000000; most = 10000000; first = 10000000 }
+    ∷ []
+unfolding island
+intervals_of_a_described_device = refl
+
+-- .. which is 500 datagrams of a second
+the_rate_of_a_described_device : (capacity_of (record island { description = described (codes "Rack 7"); limits = record no_limits { least_rpi = Some 1500 } })).rate ≡ 500
+unfolding island
+the_rate_of_a_described_device = refl
 
 capacity_by_the_maker : map (λ limits. capacity_of (record island { limits = limits })) (no_limits ∷ slow ∷ record no_limits { least_rpi = Some 30000 } ∷ [])
     ≡ record { rate = 1000; connections = 64; producers = 1; messages = 64 }

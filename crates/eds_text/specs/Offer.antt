@@ -6,7 +6,9 @@ use Rattle.cip_types.specs.declared.limits.TheConstants.{LONGEST_RPI_US, MOST_CO
 use Rattle.cip_productions.specs.declared.kind.Kind.{Kind}
 use Rattle.adapter_table.specs.declared.maker_limits.MakerLimits.{MakerLimits}
 use Rattle.adapter_table.specs.declared.maker_limits.Places.{Places}
+use Rattle.adapter_table.specs.declared.profile.Description.{Description}
 use Rattle.adapter_table.specs.declared.profile.Profile.{Profile}
+use Rattle.adapter_table.specs.Intervals.{least_us}
 use Rattle.adapter_table.specs.Objects.{most_class3}
 use Rattle.adapter_table.specs.Profiles.{all_places, class3_places}
 use Rattle.adapter_table.specs.StatedLimits.{places_of}
@@ -19,9 +21,19 @@ use Rattle.eds_text.specs.declared.offer.TheConstants.{SHORTEST_OFFERED_US, USUA
 abbrev pub intervals_from : ℕ → OfferedIntervals
 intervals_from least = record { least = least; most = LONGEST_RPI_US; first = max USUAL_RPI_US least }
 
--- from the maker's least one on, and never below a millisecond; the first one is 10 ms, or the least
-abbrev pub offered_intervals : MakerLimits → OfferedIntervals
-offered_intervals limits = intervals_from (max SHORTEST_OFFERED_US (unwrap_or limits.least_rpi 0))
+-- the least that the device admits: the maker's. A described device takes each interval for one of whole milliseconds, rounded down, so
+-- that its least is in whole milliseconds
+abbrev pub admitted_least : Option Description → Option ℕ → ℕ
+admitted_least None least = unwrap_or least 0
+admitted_least (Some d) least = least_us least
+
+-- from that one on, and never below a millisecond
+abbrev pub offered_least : Option Description → Option ℕ → ℕ
+offered_least description least = max SHORTEST_OFFERED_US (admitted_least description least)
+
+-- the first one is 10 ms, or the least
+abbrev pub offered_intervals : Profile → OfferedIntervals
+offered_intervals profile = intervals_from (offered_least profile.description profile.limits.least_rpi)
 
 -- TRIGGERS
 
@@ -54,7 +66,7 @@ all_of (Some places) = all_places places
 -- datagrams of a connection at the shortest interval; connections; producers of groups, one for each input; connections of class 3
 abbrev pub capacity_of : Profile → SheetCapacity
 capacity_of profile = record {
-  rate = rate_at (offered_intervals profile.limits);
+  rate = rate_at (offered_intervals profile);
   connections = all_of profile.limits.places;
   producers = length profile.inputs;
   messages = most_class3 (class3_places profile.limits.places);

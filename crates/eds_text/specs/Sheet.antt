@@ -43,7 +43,7 @@ unfoldable pub sheet_text : ShownNames → Profile → List ℕ
 sheet_text names profile =
     file_text
     ++ (device_text (sheet_names names profile.description) profile.identity
-    ++ (params_text (offered_intervals profile.limits)
+    ++ (params_text (offered_intervals profile)
     ++ (points_text profile
     ++ (manager_text profile.config (connections_of profile)
     ++ (port_text

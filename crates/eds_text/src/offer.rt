@@ -3,9 +3,10 @@
 
 ghost use Rattle.std.specs.Prelude.{◌≡◌, ◌<◌};
 ghost use Rattle.adapter_table.specs.Objects.{most_class3};
-ghost use Rattle.eds_text.specs.Offer.{all_of, capacity_of, has_place, offered_intervals, offers_changes, rate_at};
+ghost use Rattle.adapter_table.specs.Intervals.{least_us};
+ghost use Rattle.eds_text.specs.Offer.{admitted_least, all_of, capacity_of, has_place, offered_intervals, offers_changes, rate_at};
 
-use adapter_table::{MakerLimits, Places, Profile};
+use adapter_table::{Description, MakerLimits, Places, Profile};
 use cip_productions::Kind;
 use cip_types::limits::{LONGEST_RPI_US, MOST_CONNECTIONS};
 
@@ -42,13 +43,39 @@ pub struct SheetCapacity {
     pub messages: u64,
 }
 
-/// The packet intervals that are offered: none is below the least that the maker states.
+/// The maker's least packet interval in whole milliseconds, in microseconds: a millisecond where the maker states none.
+fn least_us(least: Option<u32>) -> u32
+    ensures { result ≡ least_us least }
+{
+    let Some(least) = least else {
+        return 1_000;
+    };
+    let ms = least.div_ceil(1_000);
+    if ms > 10_000 {
+        LONGEST_RPI_US
+    } else {
+        1_000 * ms
+    }
+}
+
+/// The least packet interval that the device admits. A described one takes each for one of whole milliseconds, rounded down.
+fn admitted_least(description: &Option<Description>, least: Option<u32>) -> u32
+    ensures { result ≡ admitted_least description.now least }
+{
+    match description {
+        Some(_) => least_us(least),
+        None => least.unwrap_or(0),
+    }
+}
+
+/// The packet intervals that are offered: none is below the least that the device admits.
 ///
 /// Volume 1, chapter 3, requested and actual packet interval.
-pub fn offered_intervals(limits: &MakerLimits) -> OfferedIntervals
-    ensures { result ≡ offered_intervals limits.now }
+pub fn offered_intervals(profile: &Profile) -> OfferedIntervals
+    ensures { result ≡ offered_intervals profile.now }
 {
-    let least = SHORTEST_OFFERED_US.max(limits.least_rpi.unwrap_or(0));
+    let admitted = admitted_least(&profile.description, profile.limits.least_rpi);
+    let least = SHORTEST_OFFERED_US.max(admitted);
     OfferedIntervals {
         least,
         most: LONGEST_RPI_US,
@@ -85,7 +112,7 @@ pub fn capacity_of(profile: &Profile) -> SheetCapacity
     ensures { result ≡ capacity_of profile.now }
 {
     SheetCapacity {
-        rate: rate_at(offered_intervals(&profile.limits)),
+        rate: rate_at(offered_intervals(profile)),
         connections: all_of(profile.limits.places),
         producers: profile.inputs.as_slice().len() as u64,
         messages: most_class3(profile.limits.class3_places()),

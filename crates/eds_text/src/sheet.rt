@@ -36,7 +36,7 @@ pub fn write_sheet(
     push_file(&mut out)?;
     let names = sheet_names(names, &profile.description);
     push_device(&mut out, &names, profile.identity)?;
-    push_params(&mut out, offered_intervals(&profile.limits))?;
+    push_params(&mut out, offered_intervals(profile))?;
     push_points(&mut out, profile)?;
     push_manager(alloc, &mut out, profile.config, connections.as_slice())?;
     push_port(&mut out)?;

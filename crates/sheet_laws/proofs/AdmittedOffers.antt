@@ -1,6 +1,6 @@
 -- A fresh adapter admits what its data sheet offers.
 use Rattle.std.proofs.Common.{◌≡◌, ◌≤◌, inl, inr, ℕ, ◌+◌, ◌==◌, ◌&&◌, ◌||◌, Bool, true, false, not, List, [], ◌∷◌, ◌++◌, map, find, Option, Some, None, option_to_list, Result, Ok, Err, refl, ap, sym, ◌∙◌, subst, arith}
-use Rattle.std.specs.Prelude.{nat_lt, nat_le, is_none, unwrap_or, max}
+use Rattle.std.specs.Prelude.{nat_lt, nat_le, is_none, max}
 use Rattle.std.specs.List.{list_any}
 use Rattle.std.specs.Option.{option_map}
 use Rattle.std.proofs.lemmas.Bool.{not-false, and_parts}
@@ -22,9 +22,9 @@ use Rattle.cip_router.specs.declared.refusal.Refusal.TheVariants as refusal
 use Rattle.cip_productions.specs.declared.kind.Kind.{Kind}
 use Rattle.cip_productions.specs.declared.kind.Kind.TheVariants.{ExclusiveOwner, InputOnly, ListenOnly}
 use Rattle.messaging.specs.Sound.{EachOf}
-use Rattle.adapter_table.specs.declared.maker_limits.MakerLimits.{MakerLimits}
 use Rattle.adapter_table.specs.declared.maker_limits.NodeLimits.{NodeLimits}
 use Rattle.adapter_table.specs.declared.maker_limits.Places.{Places}
+use Rattle.adapter_table.specs.declared.profile.Description.{Description}
 use Rattle.adapter_table.specs.declared.profile.InputPoint.{InputPoint}
 use Rattle.adapter_table.specs.declared.profile.OutputPoint.{OutputPoint}
 use Rattle.adapter_table.specs.declared.profile.Profile.{Profile}
@@ -36,11 +36,12 @@ use Rattle.adapter_table.specs.Step.{adapter_table}
 use Rattle.adapter_table.specs.Rates.{has_opened_enough_at}
 use Rattle.adapter_table.specs.OpeningRates.Rates.{has_opened_enough}
 use Rattle.adapter_table.specs.Describing.{fixed}
+use Rattle.adapter_table.specs.Intervals.{whole_us, whole_request, ms_us, least_us}
 use Rattle.eds_text.specs.declared.connections.SheetConnection.{SheetConnection}
 use Rattle.eds_text.specs.Connections.{connections_of, offered, owner_of, owners_of, reader_of}
 use Rattle.eds_text.specs.Manager.{sheet_path}
-use Rattle.eds_text.specs.Offer.{has_place, has_place_of, offered_intervals, offers_changes}
-use Rattle.sheet_laws.specs.Offers.{IsInRange, sheet_o_t_size, IsSheetType, IsSheetTrigger, IsMadeOf, IsAdmittedAs, IsTaken, SheetsAreAdmitted}
+use Rattle.eds_text.specs.Offer.{admitted_least, has_place, has_place_of, offered_intervals, offered_least, offers_changes}
+use Rattle.sheet_laws.specs.Offers.{IsInRange, sheet_o_t_size, IsSheetType, IsSheetTrigger, IsMadeOf, IsAdmittedAs, IsAnswered, IsTaken, SheetsAreAdmitted}
 use Rattle.sheet_laws.proofs.OfferedPoints.{each_append, each_map, each_flat, each_if, each_so, same, any_back, inputs_found, outputs_found, no_output}
 
 -- WHAT A CONNECTION OF THE SHEET NAMES
@@ -147,18 +148,76 @@ no_node_opened (Some limits) clock peer hold = by_number limits.openings (and_pa
     by_number None is = refl
     by_number (Some most) is = one_is_not most (and_parts _ _ is).0
 
-not_below : (least : Option ℕ) (request : OpenFields) → max 1000 (unwrap_or least 0) ≤ request.o_t_rpi → max 1000 (unwrap_or least 0) ≤ request.t_o_rpi → is_below_least least request ≡ false
-not_below None request o_t t_o = refl
-not_below (Some least) request o_t t_o = rw (at_least request.o_t_rpi o_t, at_least request.t_o_rpi t_o) refl
+-- the least interval that the device admits is no shorter than the maker's
+admits_above : (description : Option Description) (least : ℕ) → is_from 1 10000000 (Some least) ≡ true → least ≤ admitted_least description (Some least)
+admits_above None least few = omega arith
+admits_above (Some d) least few = in_whole least (few_least few)
   where
-    at_least : (us : ℕ) → max 1000 least ≤ us → nat_lt us least ≡ false
-    at_least us is = grind (arith, nat_tests)
+    few_least : (nat_le 1 least && nat_le least 10000000) ≡ true → least ≤ 10000000
+    few_least few = grind (arith, nat_tests)
 
-is_an_interval : (limits : MakerLimits) (us : ℕ) → IsInRange (offered_intervals limits) us → is_interval us ≡ true
-is_an_interval limits us range = within (unwrap_or limits.least_rpi 0) range.least range.most
+    in_whole : (us : ℕ) → us ≤ 10000000 → us ≤ ms_us (interval_ms us)
+    in_whole us few = split (nat_lt 10000 (interval_ms us)) few (omega arith)
+
+not_below : (description : Option Description) (least : Option ℕ) (request : OpenFields) → is_from 1 10000000 least ≡ true → offered_least description least ≤ request.o_t_rpi → offered_least description least ≤ request.t_o_rpi → is_below_least least request ≡ false
+not_below description None request few o_t t_o = refl
+not_below description (Some least) request few o_t t_o = rw (at_least request.o_t_rpi o_t, at_least request.t_o_rpi t_o) refl
+  where
+    from_least : (admitted us : ℕ) → least ≤ admitted → max 1000 admitted ≤ us → nat_lt us least ≡ false
+    from_least admitted us above is = grind (arith, nat_tests)
+
+    at_least : (us : ℕ) → offered_least description (Some least) ≤ us → nat_lt us least ≡ false
+    at_least us is = from_least (admitted_least description (Some least)) us (admits_above description least few) is
+
+is_an_interval : (profile : Profile) (us : ℕ) → IsInRange (offered_intervals profile) us → is_interval us ≡ true
+is_an_interval profile us range = within (admitted_least profile.description profile.limits.least_rpi) range.least range.most
   where
     within : (least : ℕ) → max 1000 least ≤ us → us ≤ 10000000 → is_interval us ≡ true
     within least from to = grind (arith, nat_tests)
+
+-- WHAT A REQUEST IS TAKEN FOR
+
+-- an interval of whole milliseconds from whole milliseconds on is one of whole milliseconds from there on
+whole_from : (ms us : ℕ) → 1000 * ms ≤ us → 1000 * ms ≤ 1000 * (us / 1000)
+whole_from ms us from = omega arith
+
+least_whole : (least : Option ℕ) (us : ℕ) → us ≤ 10000000 → max 1000 (least_us least) ≤ us → max 1000 (least_us least) ≤ 1000 * (us / 1000)
+least_whole None us to from = whole_from 1 us from
+least_whole (Some least) us to from = of_ms (interval_ms least) from
+  where
+    of_ms : (ms : ℕ) → max 1000 (ms_us ms) ≤ us → max 1000 (ms_us ms) ≤ 1000 * (us / 1000)
+    of_ms ms from = split (nat_lt 10000 ms) (omega arith) (omega arith)
+
+whole_range : (profile : Profile) (us : ℕ) → IsInRange (offered_intervals profile) us → IsInRange (offered_intervals profile) (whole_us profile.description us)
+whole_range profile us range = by profile.description refl
+  where
+    by : (description : Option Description) → profile.description ≡ description → IsInRange (offered_intervals profile) (whole_us description us)
+    by None is = range
+    by (Some d) is = rw (is_an_interval profile us range) (record {
+      least = rw is (least_whole profile.limits.least_rpi us range.most (subst (λ (e : Option Description). offered_least e profile.limits.least_rpi ≤ us) is range.least));
+      most = below us range.most;
+    })
+
+    below : (us : ℕ) → us ≤ 10000000 → 1000 * (us / 1000) ≤ 10000000
+    below us to = omega arith
+
+-- a request is made of the connection, and so is what it is taken for
+whole_made : (profile : Profile) (c : SheetConnection) (request : OpenFields) → IsMadeOf profile c request → IsMadeOf profile c (whole_request profile.description request)
+whole_made profile c request made = record {
+  o_t_rpi = whole_range profile request.o_t_rpi made.o_t_rpi;
+  t_o_rpi = whole_range profile request.t_o_rpi made.t_o_rpi;
+  o_t_kind = made.o_t_kind;
+  t_o_kind = made.t_o_kind;
+  o_t_size = made.o_t_size;
+  t_o_size = made.t_o_size;
+  o_t_single = made.o_t_single;
+  t_o_single = made.t_o_single;
+  o_t_fixed = made.o_t_fixed;
+  t_o_fixed = made.t_o_fixed;
+  multiplier = made.multiplier;
+  trigger = made.trigger;
+  path = made.path;
+}
 
 known : (config : Option InputPoint) → is_known_config config (option_map (λ point. point.instance) config) ≡ true
 known None = refl
@@ -223,6 +282,9 @@ module _ (profile : Profile) (none : profile_fault profile ≡ None) (kind : Kin
     holds : are_limits profile.limits ≡ true
     holds = limits_hold profile none
 
+    least_holds : is_from 1 10000000 profile.limits.least_rpi ≡ true
+    least_holds = (and_parts _ _ holds).0
+
     nodes_hold : are_node_limits profile.limits.node_connections ≡ true
     nodes_hold = (and_parts _ _ (and_parts _ _ (and_parts _ _ holds).1).1).0
 
@@ -230,7 +292,7 @@ module _ (profile : Profile) (none : profile_fault profile ≡ None) (kind : Kin
     not_unserved = rw (few_multiplier request.multiplier made.multiplier, made.o_t_single, made.t_o_single) refl
 
     intervals : not (are_intervals request) ≡ false
-    intervals = rw (is_an_interval profile.limits request.o_t_rpi made.o_t_rpi, is_an_interval profile.limits request.t_o_rpi made.t_o_rpi) refl
+    intervals = rw (is_an_interval profile request.o_t_rpi made.o_t_rpi, is_an_interval profile request.t_o_rpi made.t_o_rpi) refl
 
     to_size : not (request.t_o_params.size == t_o_len + 2) ≡ false
     to_size = rw (made.t_o_size, same (t_o_len + 2)) refl
@@ -247,7 +309,7 @@ module _ (profile : Profile) (none : profile_fault profile ≡ None) (kind : Kin
         (next (is_none (trigger_of request.trigger)) refusal.Trigger _ said (has_trigger changes request.trigger made.trigger)
         (next (is_unserved request) refusal.Parameter _ said not_unserved
         (next (not (are_intervals request)) refusal.PacketInterval _ said intervals
-        (next (is_below_least profile.limits.least_rpi request) refusal.PacketInterval _ said (not_below profile.limits.least_rpi request made.o_t_rpi.least made.t_o_rpi.least)
+        (next (is_below_least profile.limits.least_rpi request) refusal.PacketInterval _ said (not_below profile.description profile.limits.least_rpi request least_holds made.o_t_rpi.least made.t_o_rpi.least)
         (next (has_inhibit_fault request (Some path)) refusal.InhibitTime _ said (no_inhibit (is_change_of_state (trigger_of request.trigger)) (interval_ms request.t_o_rpi))
         (next (lacks_pace profile.limits.newer request (Some path)) refusal.InhibitTime rest said (has_pace profile.limits.newer changes request path served.changes made.trigger) more)))))))
 
@@ -276,7 +338,13 @@ module _ (profile : Profile) (none : profile_fault profile ≡ None) (kind : Kin
     is_refused : (why : Refusal) → first_of (checks view request (Ok path) (Ok points)) ≡ Some why → limited_admission (adapter_table profile) peer request ≡ Err why
     is_refused why is = ap (λ v. paced (has_opened_enough_at (adapter_table profile) peer) (limited profile.limits [] peer (fixed profile.description request v))) (judged_as (Some why) is)
 
-taken : (profile : Profile) (none : profile_fault profile ≡ None) (kind : Kind) (triggers : Bool) (consumed o_t_len produced t_o_len : ℕ) → IsServed profile (c profile none kind triggers consumed o_t_len produced t_o_len) → IsTaken profile (c profile none kind triggers consumed o_t_len produced t_o_len)
+-- the adapter answers each request of intervals that are in the range as they are
+abbrev IsAnsweredAt : Profile → SheetConnection → Type 0
+IsAnsweredAt profile c =
+    (peer : Node) (request : OpenFields) → PathFits (sheet_path profile.config c) → IsMadeOf profile c request →
+    IsAnswered c.kind c (limited_admission (adapter_table profile) peer request)
+
+taken : (profile : Profile) (none : profile_fault profile ≡ None) (kind : Kind) (triggers : Bool) (consumed o_t_len produced t_o_len : ℕ) → IsServed profile (c profile none kind triggers consumed o_t_len produced t_o_len) → IsAnsweredAt profile (c profile none kind triggers consumed o_t_len produced t_o_len)
 taken profile none ExclusiveOwner triggers consumed o_t_len produced t_o_len served peer request fits made =
     is_admitted profile none ExclusiveOwner triggers consumed o_t_len produced t_o_len served peer request fits made
     (to_eight profile none ExclusiveOwner triggers consumed o_t_len produced t_o_len served peer request fits made _ None
@@ -294,4 +362,4 @@ taken profile none ListenOnly triggers consumed o_t_len produced t_o_len served 
     (next (not (is_multicast request.t_o_params.kind)) refusal.ProducedType _ (Some refusal.NoSupport) (rw made.t_o_kind refl) refl)))
 
 pub sheets_are_admitted : SheetsAreAdmitted
-sheets_are_admitted profile none = each_so (IsServed profile) (IsTaken profile) (connections_of profile) (λ c served. taken profile none c.kind c.changes c.consumed c.o_t_len c.produced c.t_o_len served) (all_served profile none)
+sheets_are_admitted profile none = each_so (IsServed profile) (IsTaken profile) (connections_of profile) (λ c served peer request fits made. taken profile none c.kind c.changes c.consumed c.o_t_len c.produced c.t_o_len served peer (whole_request profile.description request) fits (whole_made profile c request made)) (all_served profile none)

@@ -16,6 +16,7 @@ use Rattle.messaging.specs.Sound.{EachOf}
 use Rattle.adapter_table.specs.declared.profile.Profile.{Profile}
 use Rattle.adapter_table.specs.Checks.{Admitted}
 use Rattle.adapter_table.specs.Profiles.{profile_fault}
+use Rattle.adapter_table.specs.Intervals.{whole_request}
 use Rattle.adapter_table.specs.StatedLimits.{limited_admission}
 use Rattle.adapter_table.specs.Step.{adapter_table}
 use Rattle.adapter_table.specs.Describing.{is_variable}
@@ -50,8 +51,8 @@ IsSheetTrigger true byte = (trigger_of byte ≡ Some Cyclic) ⊎ (trigger_of byt
 
 -- the request is made of this connection of the sheet of a profile: all else, as ids, priorities and multiplier, is as it is
 pub record IsMadeOf (profile : Profile) (c : SheetConnection) (request : OpenFields) : Type 0 where
-  pub o_t_rpi : IsInRange (offered_intervals profile.limits) request.o_t_rpi
-  pub t_o_rpi : IsInRange (offered_intervals profile.limits) request.t_o_rpi
+  pub o_t_rpi : IsInRange (offered_intervals profile) request.o_t_rpi
+  pub t_o_rpi : IsInRange (offered_intervals profile) request.t_o_rpi
   pub o_t_kind : request.o_t_params.kind ≡ PointToPoint
   pub t_o_kind : IsSheetType c.kind request.t_o_params.kind
   pub o_t_size : request.o_t_params.size ≡ sheet_o_t_size c.kind c.o_t_len
@@ -77,11 +78,12 @@ abbrev pub IsAnswered : Kind → SheetConnection → Result Admitted Refusal →
 IsAnswered ListenOnly c said = said ≡ Err NoSupport
 IsAnswered other c said = IsAdmittedAs c said
 
--- so a fresh adapter answers each request that is made of the connection; the numbers of points are in their fields
+-- So a fresh adapter answers each request that is made of the connection. A described device takes it for a request of whole milliseconds
+-- (whole_request). The numbers of points are in their fields.
 abbrev pub IsTaken : Profile → SheetConnection → Type 0
 IsTaken profile c =
     (peer : Node) (request : OpenFields) → PathFits (sheet_path profile.config c) → IsMadeOf profile c request →
-    IsAnswered c.kind c (limited_admission (adapter_table profile) peer request)
+    IsAnswered c.kind c (limited_admission (adapter_table profile) peer (whole_request profile.description request))
 
 -- so it is of each connection of the sheet of a faultless profile
 abbrev pub SheetsAreAdmitted : Type 0
