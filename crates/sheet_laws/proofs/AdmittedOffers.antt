@@ -1,6 +1,6 @@
 -- A fresh adapter admits what its data sheet offers.
-use Rattle.std.proofs.Common.{◌≡◌, ◌≤◌, inl, inr, ℕ, ◌+◌, ◌==◌, ◌&&◌, ◌||◌, Bool, true, false, not, List, [], ◌∷◌, ◌++◌, map, find, Option, Some, None, option_to_list, Result, Ok, Err, refl, ap, sym, ◌∙◌, subst, arith}
-use Rattle.std.specs.Prelude.{nat_lt, nat_le, is_none, max}
+use Rattle.std.proofs.Common.{◌≡◌, ◌≤◌, inl, inr, ℕ, ◌+◌, ◌*◌, ◌/◌, ◌==◌, ◌&&◌, ◌||◌, Bool, true, false, not, List, [], ◌∷◌, ◌++◌, map, find, Option, Some, None, option_to_list, Result, Ok, Err, refl, ap, sym, ◌∙◌, subst, arith}
+use Rattle.std.specs.Prelude.{if◌then◌else◌, nat_lt, nat_le, is_none, max}
 use Rattle.std.specs.List.{list_any}
 use Rattle.std.specs.Option.{option_map}
 use Rattle.std.proofs.lemmas.Bool.{not-false, and_parts}
@@ -156,8 +156,12 @@ admits_above (Some d) least few = in_whole least (few_least few)
     few_least : (nat_le 1 least && nat_le least 10000000) ≡ true → least ≤ 10000000
     few_least few = grind (arith, nat_tests)
 
+    by : (b : Bool) (us : ℕ) → us ≤ 10000000 → us ≤ (if b then 10000000 else 1000 * interval_ms us)
+    by true us few = few
+    by false us few = omega arith
+
     in_whole : (us : ℕ) → us ≤ 10000000 → us ≤ ms_us (interval_ms us)
-    in_whole us few = split (nat_lt 10000 (interval_ms us)) few (omega arith)
+    in_whole us few = by (nat_lt 10000 (interval_ms us)) us few
 
 not_below : (description : Option Description) (least : Option ℕ) (request : OpenFields) → is_from 1 10000000 least ≡ true → offered_least description least ≤ request.o_t_rpi → offered_least description least ≤ request.t_o_rpi → is_below_least least request ≡ false
 not_below description None request few o_t t_o = refl
@@ -185,21 +189,31 @@ least_whole : (least : Option ℕ) (us : ℕ) → us ≤ 10000000 → max 1000 (
 least_whole None us to from = whole_from 1 us from
 least_whole (Some least) us to from = of_ms (interval_ms least) from
   where
+    at_most : max 1000 10000000 ≤ us → max 1000 10000000 ≤ 1000 * (us / 1000)
+    at_most from = omega (arith, to, from)
+
+    from_ms : (ms : ℕ) → max 1000 (1000 * ms) ≤ us → max 1000 (1000 * ms) ≤ 1000 * (us / 1000)
+    from_ms ms from = grind arith
+
+    by : (b : Bool) (ms : ℕ) → max 1000 (if b then 10000000 else 1000 * ms) ≤ us → max 1000 (if b then 10000000 else 1000 * ms) ≤ 1000 * (us / 1000)
+    by true ms from = at_most from
+    by false ms from = from_ms ms from
+
     of_ms : (ms : ℕ) → max 1000 (ms_us ms) ≤ us → max 1000 (ms_us ms) ≤ 1000 * (us / 1000)
-    of_ms ms from = split (nat_lt 10000 ms) (omega arith) (omega arith)
+    of_ms ms from = by (nat_lt 10000 ms) ms from
 
 whole_range : (profile : Profile) (us : ℕ) → IsInRange (offered_intervals profile) us → IsInRange (offered_intervals profile) (whole_us profile.description us)
 whole_range profile us range = by profile.description refl
   where
+    below : us ≤ 10000000 → 1000 * (us / 1000) ≤ 10000000
+    below to = omega (arith, to)
+
     by : (description : Option Description) → profile.description ≡ description → IsInRange (offered_intervals profile) (whole_us description us)
     by None is = range
-    by (Some d) is = rw (is_an_interval profile us range) (record {
-      least = rw is (least_whole profile.limits.least_rpi us range.most (subst (λ (e : Option Description). offered_least e profile.limits.least_rpi ≤ us) is range.least));
-      most = below us range.most;
-    })
-
-    below : (us : ℕ) → us ≤ 10000000 → 1000 * (us / 1000) ≤ 10000000
-    below us to = omega arith
+    by (Some d) is =
+        let from : max 1000 (least_us profile.limits.least_rpi) ≤ us = subst (λ (e : Option Description). offered_least e profile.limits.least_rpi ≤ us) is range.least in
+        let whole : offered_least profile.description profile.limits.least_rpi ≤ 1000 * (us / 1000) = subst (λ (e : Option Description). offered_least e profile.limits.least_rpi ≤ 1000 * (us / 1000)) (sym is) (least_whole profile.limits.least_rpi us range.most from) in
+        rw (is_an_interval profile us range) (record { least = whole; most = below range.most })
 
 -- a request is made of the connection, and so is what it is taken for
 whole_made : (profile : Profile) (c : SheetConnection) (request : OpenFields) → IsMadeOf profile c request → IsMadeOf profile c (whole_request profile.description request)
