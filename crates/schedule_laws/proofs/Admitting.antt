@@ -10,6 +10,7 @@ use Rattle.cip_epath.specs.Path.{PathFields}
 use Rattle.adapter_table.specs.declared.profile.Description.{Description}
 use Rattle.adapter_table.specs.Intervals.{whole_request}
 use Rattle.adapter_table.specs.Paths.{opening_path}
+use Rattle.adapter_table.specs.Lemmas.PathLemmas.{opening_reads}
 use Rattle.cip_fwdopen.specs.Open.{OpenFields}
 use Rattle.cip_productions.specs.declared.kind.Kind.{Kind}
 use Rattle.cip_productions.specs.declared.kind.Kind.TheVariants.{ExclusiveOwner}
@@ -187,7 +188,7 @@ path_same a b e = cc
 -- a connection that has what a slot requests joins the points of the slot
 pub joins : (slot : SlotConfig) (request : OpenFields) (profile : Profile) (row : Row) → AsksFor slot request → IsAsRequested request profile row → JoinsPoints slot profile row
 joins slot request profile row asks is =
-    let path : is.path ≡ slot_path slot = path_same is.path (slot_path slot) (sym is.reads ∙ asks.path) in
+    let path : is.path ≡ slot_path slot = path_same is.path (slot_path slot) (sym is.reads ∙ opening_reads profile.description request.path (slot_path slot) asks.path) in
     let consumed : is.path.consumed ≡ slot.consumed = ap (λ (p : PathFields). p.consumed) path in
     let produced : is.path.produced ≡ slot.produced = ap (λ (p : PathFields). p.produced) path in
     let sizes : IsOfSlot (is_owner is.consumer.kind) is.consumer.len slot.out_len (is_owner slot.kind) =
