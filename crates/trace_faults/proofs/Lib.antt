@@ -5,3 +5,5 @@ pub mod Groups
 pub mod Named
 pub mod Placed
 pub mod PlacedWords
+pub mod NumberedLines
+mod LineSamples

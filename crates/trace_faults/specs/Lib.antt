@@ -1,3 +1,4 @@
 pub mod Lexical
 pub mod Reasons
 pub mod ProfileFaults
+pub mod ProfileLines
