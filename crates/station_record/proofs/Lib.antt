@@ -4,3 +4,6 @@ mod Samples
 mod NumberTexts
 mod ReadBack
 mod KeptStateSamples
+mod NameSamples
+pub mod Padding
+pub mod LastSplits

@@ -1,1 +1,3 @@
+pub mod FileWords
 pub mod StateFiles
+pub mod Timestamps
