@@ -12,6 +12,7 @@ use Rattle.cip_encap.specs.Reading.{message_reading}
 use Rattle.cip_events.specs.declared.event.StepFault.{StepFault}
 use Rattle.cip_fwdopen.specs.Open.{OpenFields}
 use Rattle.cip_router.specs.Requests.{opening, router_request_reading}
+use Rattle.adapter_table.specs.Intervals.{whole_request}
 use Rattle.adapter_table.specs.declared.profile.Profile.{Profile}
 use Rattle.adapter_table.specs.Connections.{Row}
 use Rattle.adapter_table.specs.declared.table.AdapterTable.{AdapterTable}
@@ -82,5 +83,5 @@ new_rows_requested t number bytes answer next is whole =
     let sound = whole.sound in
     subst (λ (said : Result Next StepFault). IfOk said (NextRows (IsOldOrRequested t bytes))) is
     (frame_rows (IsOldOrRequested t bytes) t bytes (find (is_stream number) t.streams)
-    (λ m one packet two large request three peer admitted admits. row_requested t bytes peer request admitted whole.sound (requested_by bytes m packet large request one two three) admits)
+    (λ m one packet two large request three peer admitted admits. row_requested t bytes peer (whole_request t.profile.description request) admitted whole.sound (requested_by bytes m packet large request one two three) admits)
     (old_rows t bytes t.rows sound.ids_are_drawn))

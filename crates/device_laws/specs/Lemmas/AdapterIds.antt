@@ -92,7 +92,7 @@ use Rattle.adapter_table.specs.Closing.{stays, without_triad, closed_table}
 use Rattle.adapter_table.specs.Datagrams.{is_for, accepted_row, accepted_if_for, row_delivery, accepted_table, delivered, found_datagram, datagram_of, received}
 use Rattle.adapter_table.specs.Productions as productions
 use Rattle.adapter_table.specs.Productions.{state_producer, producer_in, producers, production_of, is_due, due_producers, produced_state, produced_row, produces_on_change, producers_on_change, changed_state, changed_row}
-use Rattle.adapter_table.specs.Requests.{Next, Served, judged_open, admitted_open, served_open, close_of, served_close, end_of, served_end, router_refusal, object_served, served_object, served}
+use Rattle.adapter_table.specs.Requests.{Next, Served, open_service, judged_open, admitted_open, served_open, close_of, served_close, end_of, served_end, router_refusal, object_served, served_object, served}
 use Rattle.adapter_table.specs.Streams.{is_stream, is_taken, with_stream, without_stream, has_session, registered_table, stream_opened, cut_of, stream_cut}
 use Rattle.adapter_table.specs.Encapsulation.{Handled, refusal, unanswered, session_begun, session_ended, register_session, request_replied, request_handled, packet_replied, unit_replied, handled, reply_frames, framed, frame_answer, stream_answer, frame_of, frame, outside_session}
 use Rattle.adapter_table.specs.Ticks.{has_expired, expired_row, expired_rows, clocked_table, expired_table, produced_table, advanced, late_frames, aged_next, tick}
@@ -236,7 +236,7 @@ refusal_ids P profile rows service request why =
 
 open_holds : (P Q : ℕ → Type 0) → Cuts P → (t : AdapterTable) (peer : Node) (large : Bool) (request : OpenFields) (said : Result Admitted Refusal) (to : ℕ) → (judged_open t peer large request said).table.next_id ≤ to → HasDrawn P Q t to → AdmittedHolds P said → P request.t_o_id.0 → RowsHold P Q t.rows → ServedHolds P Q (judged_open t peer large request said)
 unfolding admitted_open opened_table opened_row
-open_holds P Q cuts t peer large request (Err why) to below drawn joins requested rows = (refusal_ids P t.profile t.rows _ request why, rows)
+open_holds P Q cuts t peer large request (Err why) to below drawn joins requested rows = (refusal_ids P t.profile t.rows (open_service large) request why, rows)
 open_holds P Q cuts t peer large request (Ok admitted) to below drawn joins requested rows =
     let one = draws_some admitted.multicast admitted.group in
     let o_t = drawn.0 t.next_id (omega arith) (omega (arith, below, one)) in
@@ -283,14 +283,15 @@ served_holds P Q cuts t peer (refused service why) to below drawn ids rows = ref
 served_holds P Q cuts t peer (closing request) to below drawn ids rows = end_holds P Q t peer request (find (has_class3_triad request.triad) t.messaging.class3_connections) rows
 served_holds P Q cuts t peer (object service class instance attribute body) to below drawn ids rows = object_holds P Q t service (object_answer t service class instance attribute body) rows
 served_holds P Q cuts t peer (opening large request) to below drawn ids rows =
-    open_holds P Q cuts t peer large (whole_request t.profile.description request) (limited_admission t peer (whole_request t.profile.description request)) to below drawn
-    (paced_holds P (has_opened_enough_at t peer) _ (limited_holds P t.profile.limits t.rows peer _ (fixed_holds P t request (admission t request) (admission_holds P Q t request rows)))) ids rows
+    let whole : OpenFields = whole_request t.profile.description request in
+    open_holds P Q cuts t peer large whole (limited_admission t peer whole) to below drawn
+    (paced_holds P (has_opened_enough_at t peer) _ (limited_holds P t.profile.limits t.rows peer _ (fixed_holds P t whole (admission t whole) (admission_holds P Q t whole rows)))) ids rows
 
 -- ---- what is replied over a stream
 
 class3_holds : (P Q : ℕ → Type 0) → Cuts P → (t : AdapterTable) (stream : Stream) (large : Bool) (request : OpenFields) (c : Check) (to : ℕ) → (judged_class3 t stream large request c).table.next_id ≤ to → HasDrawn P Q t to → P request.t_o_id.0 → RowsHold P Q t.rows → ServedHolds P Q (judged_class3 t stream large request c)
 unfolding messages_table opened_class3
-class3_holds P Q cuts t stream large request (Some why) to below drawn requested rows = (refusal_ids P t.profile t.rows _ request why, rows)
+class3_holds P Q cuts t stream large request (Some why) to below drawn requested rows = (refusal_ids P t.profile t.rows (open_service large) request why, rows)
 class3_holds P Q cuts t stream large request None to below drawn requested rows =
     let o_t = drawn.0 t.next_id (omega arith) (omega (arith, below)) in
     (opened_ids P large _ (cuts _ o_t) (cuts _ requested), rows)
