@@ -102,13 +102,14 @@ record IsMessageOpening (body : List ℕ) (large : Bool) (request : OpenFields) 
   opens : router_request_reading packet.payload ≡ opening large request
   trigger : is_message_trigger request.trigger ≡ true
 
-class3_has : (t : AdapterTable) (stream : Stream) (body : List ℕ) (large : Bool) (request : OpenFields) (c : Check) → IsMessageOpening body large request → NewHas t body (judged_class3 t stream large request c)
-class3_has t stream body large request (Some why) is = refusal_either (ReplyHolds (IsOfNew t t body)) t.profile t.rows _ request why (λ fault fails. fails) (λ a. tt)
-class3_has t stream body large request None is = λ read ids. inr (record {
+-- the request as it is read, and what the device takes it for
+class3_has : (t : AdapterTable) (stream : Stream) (body : List ℕ) (large : Bool) (asked request : OpenFields) (c : Check) → IsMessageOpening body large asked → NewHas t body (judged_class3 t stream large request c)
+class3_has t stream body large asked request (Some why) is = refusal_either (ReplyHolds (IsOfNew t t body)) t.profile t.rows _ request why (λ fault fails. fails) (λ a. tt)
+class3_has t stream body large asked request None is = λ read ids. inr (record {
   packet = is.packet;
   packet_is = is.packet_is;
   large = large;
-  request = request;
+  request = asked;
   opens = is.opens;
   trigger = is.trigger;
   class3 = opened_class3 t stream request;
@@ -122,7 +123,7 @@ class3_has t stream body large request None is = λ read ids. inr (record {
 open_step : (b : Bool) (t : AdapterTable) (stream : Stream) (body : List ℕ) (packet : PacketFields) (large : Bool) (request : OpenFields) → packet_reading body ≡ Ok packet → router_request_reading packet.payload ≡ opening large request → is_message_trigger request.trigger ≡ b → IdsAreDrawn t.profile t.next_id t.rows → IfSome (cond b (Some (served_class3 t stream large request)) (served t stream.peer (opening large request))) (NewHas t body)
 unfolding served_class3
 open_step true t stream body packet large request reads opens trigger drawn =
-    class3_has t stream body large (whole_request t.profile.description request) (class3_refusal (class3_view t stream.peer request.triad) (whole_request t.profile.description request)) (record { packet = packet; packet_is = reads; opens = opens; trigger = trigger })
+    class3_has t stream body large request (whole_request t.profile.description request) (class3_refusal (class3_view t stream.peer request.triad) (whole_request t.profile.description request)) (record { packet = packet; packet_is = reads; opens = opens; trigger = trigger })
 open_step false t stream body packet large request reads opens trigger drawn = of_rows t body (served t stream.peer (opening large request)) (served_has t stream.peer (opening large request) drawn)
 
 over_stream_has : (t : AdapterTable) (stream : Stream) (body : List ℕ) (packet : PacketFields) (requested : RouterRequestFields) → packet_reading body ≡ Ok packet → router_request_reading packet.payload ≡ requested → IdsAreDrawn t.profile t.next_id t.rows → IfSome (stream_served t stream requested) (NewHas t body)
