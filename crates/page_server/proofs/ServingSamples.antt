@@ -1,8 +1,14 @@
 -- Where a page is served, who is served, and how long a browser may take, worked by hand.
-use Rattle.std.proofs.Common.{◌≡◌, ℕ, ◌∷◌, [], true, false, Some, None, refl}
+use Rattle.std.proofs.Common.{◌≡◌, ℕ, ◌∷◌, [], true, false, Some, None, Ok, Err, refl}
+use Rattle.std.specs.declared.io.ErrorKind.TheVariants as kind
 use Rattle.page_server.specs.IdleThreads.{IdleThreads, after_call, fresh_threads, has_thread, page_node, with_idle}
+use Rattle.page_server.specs.Reads.{after_read, request_in}
 use Rattle.page_server.specs.Waits.{is_whole, piece_wait_ms, request_wait_ms, write_wait_ms}
+use Rattle.page_server.specs.declared.page.answers.PageRefusal.TheVariants.{Late, TooLarge}
 use Rattle.page_server.specs.declared.page.request.Body.TheVariants.{Bytes, TooLong}
+use Rattle.page_server.specs.declared.page.request.PageRequest.{PageRequest}
+use Rattle.page_server.specs.declared.page.requests.RequestReading.TheVariants as reading
+use Rattle.page_server.specs.declared.talk.Unheard.TheVariants.{Left, Refused}
 
 -- 127 x 2^24 + 1
 this_host_alone : page_node None ≡ record { 0 = 2130706433 }
@@ -60,3 +66,18 @@ a_body_that_has_come = refl
 
 a_refused_body_is_not_waited_for : is_whole TooLong 100 100 ≡ true
 a_refused_body_is_not_waited_for = refl
+
+-- a head that never ends is refused with its 12,288th byte, and so is a body that is not whole by then
+a_head_without_end : (request_in reading.Partial 12287 ≡ Ok None) × (request_in reading.Partial 12288 ≡ Err (Refused TooLarge))
+a_head_without_end = (refl, refl)
+
+a_body_of_many_bytes : (asked : PageRequest) → request_in (reading.Whole (record asked { body = Bytes 4096 }) 8193) 12288 ≡ Err (Refused TooLarge)
+a_body_of_many_bytes asked = refl
+
+a_whole_request : (asked : PageRequest) → request_in (reading.Whole (record asked { body = Bytes 4096 }) 8192) 12288 ≡ Ok (Some (record asked { body = Bytes 4096 }, 8192))
+a_whole_request asked = refl
+
+-- the end of the stream, 17 bytes, a signal, two waits that are over, and a stream that was reset
+what_reads_bring : (after_read (Ok 0) ≡ Err Left) × ((after_read (Ok 17) ≡ Ok 17) × ((after_read (Err kind.Interrupted) ≡ Ok 0)
+    × ((after_read (Err kind.WouldBlock) ≡ Err (Refused Late)) × ((after_read (Err kind.TimedOut) ≡ Err (Refused Late)) × (after_read (Err kind.ConnectionReset) ≡ Err Left)))))
+what_reads_bring = (refl, (refl, (refl, (refl, (refl, refl)))))

@@ -1,6 +1,7 @@
 //! What is said to one browser.
 
 ghost use Rattle.std.specs.Prelude.{◌≡◌};
+ghost use Rattle.page_server.specs.Reads.{after_read, request_in};
 ghost use Rattle.page_server.specs.Waits.{is_whole};
 
 use crate::calls::call_line;
@@ -85,15 +86,9 @@ fn read_whole<R: Clock>(
         return Err(Unheard::Left);
     };
     for _ in 0..u64::MAX {
-        match read_request(bytes.as_slice(), &context.names) {
-            RequestReading::Whole(request, head) if is_whole(request, head, bytes.len()) => {
-                return Ok((request, head));
-            }
-            RequestReading::Bad => return Err(Unheard::Refused(PageRefusal::Bad)),
-            _ => {}
-        }
-        if bytes.len() >= MOST_BYTES {
-            return Err(Unheard::Refused(PageRefusal::TooLarge));
+        let reading = read_request(bytes.as_slice(), &context.names);
+        if let Some(whole) = request_in(reading, bytes.len())? {
+            return Ok(whole);
         }
         if !bytes.is_empty() {
             // (a request that comes byte by byte is not read as often)
@@ -102,6 +97,24 @@ fn read_whole<R: Clock>(
         read_more(rt, begin, stream, bytes)?;
     }
     Err(Unheard::Left)
+}
+
+/// The request that is whole with so many bytes, and the length of its head. None if more is to be read. The faults: `Bad` if the
+/// bytes are no request, `TooLarge` if there are as many as a request may have.
+fn request_in(
+    reading: RequestReading,
+    arrived: usize,
+) -> Result<Option<(PageRequest, usize)>, Unheard>
+    ensures { result ≡ request_in reading arrived }
+{
+    match reading {
+        RequestReading::Whole(request, head) if is_whole(request, head, arrived) => {
+            Ok(Some((request, head)))
+        }
+        RequestReading::Bad => Err(Unheard::Refused(PageRefusal::Bad)),
+        _ if arrived >= MOST_BYTES => Err(Unheard::Refused(PageRefusal::TooLarge)),
+        _ => Ok(None),
+    }
 }
 
 /// Whether the body that a head announces has arrived. One that is refused is not waited for.
@@ -127,17 +140,29 @@ fn read_more<R: Clock>(
         return Err(Unheard::Refused(PageRefusal::Late));
     }
     let mut chunk = [0u8; CHUNK_BYTES];
-    match stream.read(&mut chunk) {
+    let read = match stream.read(&mut chunk) {
+        Ok(count) => Ok(count),
+        Err(error) => Err(error.kind()),
+    };
+    let count = after_read(read)?;
+    match bytes.extend_from_slice(chunk.get(..count).unwrap_or(&[])) {
+        Ok(()) => Ok(()),
+        Err(_) => Err(Unheard::Refused(PageRefusal::Busy)),
+    }
+}
+
+/// How many bytes a read brought; none if it was interrupted. The faults: the browser has left, or its time is over.
+fn after_read(read: Result<usize, ErrorKind>) -> Result<usize, Unheard>
+    ensures { result ≡ after_read read }
+{
+    match read {
         Ok(0) => Err(Unheard::Left),
-        Ok(count) => match bytes.extend_from_slice(chunk.get(..count).unwrap_or(&[])) {
-            Ok(()) => Ok(()),
-            Err(_) => Err(Unheard::Refused(PageRefusal::Busy)),
-        },
-        Err(error) => match error.kind() {
-            ErrorKind::Interrupted => Ok(()),
-            ErrorKind::WouldBlock | ErrorKind::TimedOut => Err(Unheard::Refused(PageRefusal::Late)),
-            _ => Err(Unheard::Left),
-        },
+        Ok(count) => Ok(count),
+        Err(ErrorKind::Interrupted) => Ok(0),
+        Err(ErrorKind::WouldBlock | ErrorKind::TimedOut) => {
+            Err(Unheard::Refused(PageRefusal::Late))
+        }
+        Err(_) => Err(Unheard::Left),
     }
 }
 
