@@ -2,8 +2,8 @@
 use Rattle.std.proofs.Common.{◌≡◌, ℕ, suc, ◌+◌, ◌-◌, ◌^◌, ◌/◌, ◌%◌, true, false, ◌++◌, length, append-nil, ap, ◌∙◌, arith}
 use Rattle.std.specs.Prelude.{codes, decimal, nat_lt, replicate}
 use Rattle.std.proofs.lemmas.Bool.{cond-true, cond-false}
-use Rattle.core.specs.declared.fmt.formatter.FormatSpec.{FormatSpec}
-use Rattle.core.specs.Fmt.{char_count, format_spec, padded_integral, styled_decimal}
+use Rattle.std.specs.declared.fmt.FormatSpec.{FormatSpec}
+use Rattle.std.specs.Fmt.{char_count, format_spec, padded_integral, styled_decimal}
 use Rattle.station_record.specs.declared.kept_files.timestamp.Day.{Day}
 use Rattle.station_record.specs.KeptFiles.Timestamps.{day_among, day_text, day_within, digits, month_lens, time_text, year_len}
 

@@ -4,7 +4,7 @@ use Rattle.std.specs.Prelude.{if◌then◌else◌}
 use Rattle.std.specs.Bool.{Decides}
 use Rattle.std.specs.Option.{option_eq}
 use Rattle.std.proofs.lemmas.Bool.{cond-true}
-use Rattle.core.specs.Cmp.Lexicographic.{bytes_decides}
+use Rattle.std.specs.Cmp.Lexicographic.{bytes_decides}
 use Rattle.trace_words.specs.Reader.{meaning}
 use Rattle.trace_words.specs.Words.{is_word}
 use Rattle.trace_lines.specs.declared.limit_lines.LimitName.{LimitName}
