@@ -1,10 +1,11 @@
 -- The lives of a plant's devices, worked by hand.
-use Rattle.std.specs.Prelude.{◌≡◌, ◌++◌, codes, decimal, true, false, Some, None, Err, refl}
+use Rattle.std.specs.Prelude.{◌≡◌, ◌∷◌, [], ◌++◌, codes, decimal, true, false, Some, None, Err, refl}
 use Rattle.plant_rim.specs.declared.failure.DeviceFailure.TheVariants.{RecordEnd}
 use Rattle.station.specs.declared.step.LifeEnd.TheVariants.{Over, Restart}
 use Rattle.station_port.specs.declared.place.StationPlace.{StationPlace}
 use Rattle.station_record.specs.declared.fault.RecordFault.TheVariants.{Refused}
 use Rattle.trace_words.specs.Words.{node_word}
+use Rattle.plant_command.specs.DeviceLines.{device_line, device_lines}
 use Rattle.plant_command.specs.Endings.{is_over, is_stillborn, life_end, next_incarnation, seconds_of}
 use Rattle.plant_command.specs.Lives.{life_text, start_text}
 use Rattle.plant_command.specs.Paths.{path_in}
@@ -35,3 +36,10 @@ starts place = refl
 
 lives : life_text 2 17 ≡ codes "life " ++ (decimal 2 ++ (codes ", incarnation " ++ (decimal 17 ++ codes "\n")))
 lives = refl
+
+-- the second and the fourth line; a line whose word only begins so is none, and a last line needs no LF
+device_numbers : (device_lines (codes "# plant\ndevice a a.profile\ndevices b\n  device b b.profile") ≡ 2 ∷ 4 ∷ []) × (device_lines (codes "seconds 5\ndevice\n") ≡ [])
+device_numbers = (refl, refl)
+
+device_places : (device_line (2 ∷ 4 ∷ []) 1 ≡ 4) × (device_line (2 ∷ 4 ∷ []) 2 ≡ 0)
+device_places = (refl, refl)

@@ -1,3 +1,4 @@
+pub mod DeviceLines
 pub mod Endings
 pub mod Lives
 pub mod Paths

@@ -1,6 +1,7 @@
 //! The file of a plant.
 
-ghost use Rattle.std.specs.Prelude.{◌≡◌, ◌≤◌, length};
+ghost use Rattle.std.specs.Prelude.{◌≡◌, ◌++◌, IfOk, OnOk};
+ghost use Rattle.plant_command.specs.DeviceLines.{device_lines, device_number, is_device_line};
 ghost use Rattle.plant_command.specs.Statuses.{unread_plant};
 
 use crate::failure::PlantFailure;
@@ -14,6 +15,7 @@ use std::alloc::Global;
 use std::rt::Files;
 use std::sync::Wait;
 use trace_files::{FileFault, read_regular};
+use trace_text::first_line;
 
 /// The words of a plant: its file, its options, the folder of its records if an option names one, and its page if it has one.
 #[derive(Clone, Copy)]
@@ -75,32 +77,37 @@ where
     }
 }
 
-/// The numbers of the lines of devices in the text of a plant. OutOfMemory is the only fault.
-fn device_lines(alloc: Global, text: &[u8]) -> Result<Vec<u64>, OutOfMemory> {
+/// The numbers of the lines of devices in the text of a plant, from 1. OutOfMemory is the only fault.
+fn device_lines(alloc: Global, text: &[u8]) -> Result<Vec<u64>, OutOfMemory>
+    ensures { IfOk result (λ numbers. numbers.items ≡ device_lines text.now) }
+{
     let mut numbers = Vec::new(alloc);
+    let mut number = 1u64;
     let mut rest = text;
-    for number in 1..u64::MAX {
-        let end = line_end(rest);
-        let (line, after) = rest.split_at(end);
-        if line.trim_ascii().starts_with(b"device ") {
-            numbers.push(number)?;
-        }
-        match after {
-            [_, behind @ ..] => rest = behind,
-            [] => break,
-        }
+    while let Some((line, after)) = first_line(rest) {
+        push_device_line(&mut numbers, number, line)?;
+        number += 1;
+        rest = after;
     }
+    push_device_line(&mut numbers, number, rest)?;
     Ok(numbers)
 }
 
-/// Where the first line of a text ends.
-fn line_end(text: &[u8]) -> usize
-    ensures { result ≤ length text.now }
+/// Appends the number of a line, if it is the line of a device. OutOfMemory is the only fault.
+fn push_device_line(numbers: &mut Vec<u64>, number: u64, line: &[u8]) -> Result<(), OutOfMemory>
+    ensures { OnOk result (numbers.new.items ≡ numbers.old.items ++ device_number number line.now) }
 {
-    match text.iter().position(|byte| *byte == b'\n') {
-        Some(end) => end,
-        None => text.len(),
+    if is_device_line(line) {
+        numbers.push(number)?;
     }
+    Ok(())
+}
+
+/// Whether a line is that of a device: its first word, behind blanks.
+fn is_device_line(line: &[u8]) -> bool
+    ensures { result ≡ is_device_line line.now }
+{
+    line.trim_ascii().starts_with(b"device ")
 }
 
 /// The text of a file. The faults: `OutOfMemory` if it is not read for want of memory, else `Unread`.

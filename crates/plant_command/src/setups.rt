@@ -2,6 +2,7 @@
 
 ghost use Rattle.std.specs.Prelude.{◌≡◌, ◌<◌, None, length, map, position, IfOk, IfSome};
 ghost use Rattle.trace_words.specs.PointNames.Things.{devices_in};
+ghost use Rattle.plant_command.specs.DeviceLines.{device_line};
 ghost use Rattle.plant_command.specs.Setups.{AreApart, address_word, device_entry, is_at, node_of, options_of, span_at, with_node};
 
 use crate::failure::PlantFailure;
@@ -52,13 +53,13 @@ struct AddressWord<'a> {
     word: u32,
 }
 
-impl AddressWord<'_> {
-    /// The line of the device of this number.
-    fn line(&self, place: usize) -> u64 {
-        match self.lines.get(place) {
-            Some(line) => *line,
-            None => 0,
-        }
+/// The line of the device of this number; 0 if there is none.
+fn device_line(lines: &[u64], place: usize) -> u64
+    ensures { result ≡ device_line lines.now place }
+{
+    match lines.get(place) {
+        Some(line) => *line,
+        None => 0,
     }
 }
 
@@ -278,7 +279,9 @@ where
         return Ok(());
     };
     let (one, two) = (setups[place].member.name.as_str(), member.name.as_str());
-    let (line, word, earlier) = (at.line(setups.len()), at.word, at.line(place));
+    let line = device_line(at.lines, setups.len());
+    let earlier = device_line(at.lines, place);
+    let word = at.word;
     let mut text = format!(in rt.alloc(); "eip_station: {}: line {line}: word {word}: ", at.file)?;
     write!(text, "{two} has the address of {one} in line {earlier}\n")?;
     report_line(rt, rim, text.as_bytes());
