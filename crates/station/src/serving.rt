@@ -58,14 +58,7 @@ pub struct Station<P, C, D, W, O, E> {
     failures: u32,
 }
 
-impl<P: GroupPort, C: Clock, D: Device, W: RecordSink + Drop, O: LineSink, E: LineSink> Station<
-    P,
-    C,
-    D,
-    W,
-    O,
-    E,
-> {
+impl<P: Drop, C: Drop, D: Drop, W: Drop, O: Drop, E: Drop> Station<P, C, D, W, O, E> {
     /// A device of this configuration at a port. The fault: an allocation was refused.
     pub fn new(
         alloc: Global,
@@ -77,11 +70,6 @@ impl<P: GroupPort, C: Clock, D: Device, W: RecordSink + Drop, O: LineSink, E: Li
         reporting: Reporting,
     ) -> Result<Self, OutOfMemory>
     where
-        P: Drop,
-        C: Drop,
-        D: Drop,
-        O: Drop,
-        E: Drop,
         ensures recorder { IfOk result (λ station. station.observer.recorder ≡ observer.recorder) }
         ensures device { IfOk result (λ station. station.device ≡ device) }
         ensures closing { IfOk result (λ station. station.closing_ms ≡ closing_ms config.now) }
@@ -101,7 +89,16 @@ impl<P: GroupPort, C: Clock, D: Device, W: RecordSink + Drop, O: LineSink, E: Li
             failures: 0,
         })
     }
+}
 
+impl<P: GroupPort, C: Clock, D: Device, W: RecordSink + Drop, O: LineSink, E: LineSink> Station<
+    P,
+    C,
+    D,
+    W,
+    O,
+    E,
+> {
     /// The milliseconds that have passed at the device.
     pub fn now_ms(&self) -> u64
         ensures { result ≡ self.now.observer.now_ms }
