@@ -71,11 +71,11 @@ a_refused_body_is_not_waited_for = refl
 a_head_without_end : (request_in reading.Partial 12287 ≡ Ok None) × (request_in reading.Partial 12288 ≡ Err (Refused TooLarge))
 a_head_without_end = (refl, refl)
 
-a_body_of_many_bytes : (asked : PageRequest) → request_in (reading.Whole (record asked { body = Bytes 4096 }) 8193) 12288 ≡ Err (Refused TooLarge)
-a_body_of_many_bytes asked = refl
+a_body_of_many_bytes : (given : PageRequest) → request_in (reading.Whole (record given { body = Bytes 4096 }) 8193) 12288 ≡ Err (Refused TooLarge)
+a_body_of_many_bytes given = refl
 
-a_whole_request : (asked : PageRequest) → request_in (reading.Whole (record asked { body = Bytes 4096 }) 8192) 12288 ≡ Ok (Some (record asked { body = Bytes 4096 }, 8192))
-a_whole_request asked = refl
+a_whole_request : (given : PageRequest) → request_in (reading.Whole (record given { body = Bytes 4096 }) 8192) 12288 ≡ Ok (Some (record given { body = Bytes 4096 }, 8192))
+a_whole_request given = refl
 
 -- the end of the stream, 17 bytes, a signal, two waits that are over, and a stream that was reset
 what_reads_bring : (after_read (Ok 0) ≡ Err Left) × ((after_read (Ok 17) ≡ Ok 17) × ((after_read (Err kind.Interrupted) ≡ Ok 0)
