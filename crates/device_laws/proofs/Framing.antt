@@ -103,13 +103,13 @@ record IsMessageOpening (body : List ℕ) (large : Bool) (request : OpenFields) 
   trigger : is_message_trigger request.trigger ≡ true
 
 -- the request as it is read, and what the device takes it for
-class3_has : (t : AdapterTable) (stream : Stream) (body : List ℕ) (large : Bool) (asked request : OpenFields) (c : Check) → IsMessageOpening body large asked → NewHas t body (judged_class3 t stream large request c)
-class3_has t stream body large asked request (Some why) is = refusal_either (ReplyHolds (IsOfNew t t body)) t.profile t.rows _ request why (λ fault fails. fails) (λ a. tt)
-class3_has t stream body large asked request None is = λ read ids. inr (record {
+class3_has : (t : AdapterTable) (stream : Stream) (body : List ℕ) (large : Bool) (requested request : OpenFields) (c : Check) → IsMessageOpening body large requested → NewHas t body (judged_class3 t stream large request c)
+class3_has t stream body large requested request (Some why) is = refusal_either (ReplyHolds (IsOfNew t t body)) t.profile t.rows _ request why (λ fault fails. fails) (λ a. tt)
+class3_has t stream body large requested request None is = λ read ids. inr (record {
   packet = is.packet;
   packet_is = is.packet_is;
   large = large;
-  request = asked;
+  request = requested;
   opens = is.opens;
   trigger = is.trigger;
   class3 = opened_class3 t stream request;

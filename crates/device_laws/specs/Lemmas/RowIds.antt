@@ -205,17 +205,17 @@ opened_rows O t peer request row admitted so produced new is = record {
 }
 
 -- what the device takes a request for asks for the same id
-as_asked : (d : Option Description) (t next : AdapterTable) (request : OpenFields) (row : Row) → IsProduced t next (whole_request d request) row → IsProduced t next request row
-as_asked d t next request row (inl joins) = inl joins
-as_asked d t next request row (inr (inl starts)) = inr (inl starts)
-as_asked d t next request row (inr (inr single)) = inr (inr (record { single = single.single; t_o = single.t_o; producer = single.producer }))
+as_requested : (d : Option Description) (t next : AdapterTable) (request : OpenFields) (row : Row) → IsProduced t next (whole_request d request) row → IsProduced t next request row
+as_requested d t next request row (inl joins) = inl joins
+as_requested d t next request row (inr (inl starts)) = inr (inl starts)
+as_requested d t next request row (inr (inr single)) = inr (inr (record { single = single.single; t_o = single.t_o; producer = single.producer }))
 
 open_after : (O : OpenFields → Type 0) (t : AdapterTable) (peer : Node) (large : Bool) (request : OpenFields) (said : Result Admitted Refusal) → limited_admission t peer (whole_request t.profile.description request) ≡ said → O request → IdsAreDrawn t.profile t.next_id t.rows → TableAfter O t peer (judged_open t peer large (whole_request t.profile.description request) said).table
 unfolding admitted_open
 open_after O t peer large request (Err why) is so drawn = stays_so O t peer
 open_after O t peer large request (Ok admitted) is so drawn =
     opened_rows O t peer request (opened_row t peer (whole_request t.profile.description request) admitted) admitted so
-    (as_asked t.profile.description t (opened_table t (opened_row t peer (whole_request t.profile.description request) admitted) admitted) request (opened_row t peer (whole_request t.profile.description request) admitted)
+    (as_requested t.profile.description t (opened_table t (opened_row t peer (whole_request t.profile.description request) admitted) admitted) request (opened_row t peer (whole_request t.profile.description request) admitted)
     (opening_produced t peer (whole_request t.profile.description request) admitted (all_contained t.rows [] t.rows refl) (limited_is t peer (whole_request t.profile.description request) admitted is).admitted))
     (new_row_found t peer (whole_request t.profile.description request) admitted drawn) (new_peer t peer (whole_request t.profile.description request) admitted)
 

@@ -55,12 +55,49 @@ where
 {
     let alloc = rt.alloc();
     let OpenedPort { port, place, .. } = opened;
-    let observer = observer_of(alloc, config, outputs)?;
-    let device = FastDevice::new(alloc, config.copy(alloc)?)?;
-    let port = ordered_port_of(rt, options, port)?;
     let reporting = reporting_of(options, &place);
-    let clock = SystemClock::new(rt);
-    Ok(Station::new(alloc, config, port, clock, device, observer, reporting)?)
+    let device = device_of(alloc, config)?;
+    let port = ordered_port_of(rt, options, port)?;
+    let parts = StationParts {
+        port,
+        clock: SystemClock::new(rt),
+        device,
+    };
+    Ok(watched_station(alloc, config, parts, outputs, reporting)?)
+}
+
+/// What a station is made of beside what looks on at it.
+#[derive(Drop)]
+struct StationParts<P, C, D> {
+    port: P,
+    clock: C,
+    device: D,
+}
+
+/// A station of these parts, and what looks on at it and tells these outputs what it sees. The fault: an allocation was refused.
+fn watched_station<P, C, D, W, O, E>(
+    alloc: Global,
+    config: &Config,
+    parts: StationParts<P, C, D>,
+    outputs: StationOutputs<W, O, E>,
+    reporting: Reporting,
+) -> Result<Station<P, C, D, W, O, E>, OutOfMemory>
+where
+    P: Drop,
+    C: Drop,
+    D: Drop,
+    W: RecordSink + Drop,
+    O: LineSink + Drop,
+    E: LineSink + Drop,
+    ensures { IfOk result (λ station. station.observer.recorder ≡ outputs.recorder) }
+{
+    let observer = observer_of(alloc, config, outputs)?;
+    let StationParts {
+        port,
+        clock,
+        device,
+    } = parts;
+    Station::new(alloc, config, port, clock, device, observer, reporting)
 }
 
 /// What looks on at a station of this configuration, and tells these outputs what it sees.
@@ -86,6 +123,11 @@ where
         observer.feed(page);
     }
     Ok(observer)
+}
+
+/// A device of this configuration in which nothing has happened.
+fn device_of(alloc: Global, config: &Config) -> Result<FastDevice, NewFault> {
+    FastDevice::new(alloc, config.copy(alloc)?)
 }
 
 /// This port with faults at the rates of these options, and with room for orders.
