@@ -78,7 +78,7 @@ BAD_PROFILES = [
      "bad profile 7: line 1: word 9: the minor revision is 0, and it is 1 to 255"),
     # an adapter: its description
     (adapter(points=POINTS + "describe 1 50 44818 100 0 02a1b2c3d4e5 60\n", heartbeat="heartbeat 0 153\n"),
-     "bad profile 8: line 4: word 1: a point has the instance 0, by which a tool asks the class of Assembly itself"),
+     "bad profile 8: line 4: a point has the instance 0, by which a tool asks the class of Assembly itself"),
     # an adapter: the limits of its maker's
     (adapter(points=POINTS + "least-rpi 0\n"),
      "bad profile 9: line 4: word 2: the least packet interval is 0 microseconds, and it is 1 to 10,000,000"),
