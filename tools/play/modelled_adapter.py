@@ -24,7 +24,7 @@ config 151 0
 """
 DESCRIBED = "describe 305419896 50756d70 44818 100 15 02a1b2c3d4e5 120\n"
 MOST_WAITING, MOST_OF_NODE, MOST_CONNECTIONS, MOST_COUNTED = 16, 4, 64, 64
-ANSWER_MS, FIRST_DEADLINE_MS, LONGEST_TICK_MS = 10_000, 10_000, 60_000
+ANSWER_MS, FIRST_DEADLINE_MS, LONGEST_TICK_MS, LONGEST_US = 10_000, 10_000, 60_000, 10_000_000
 LONGEST_ANSWER, LONGEST_REPLY = 1400, 1404
 
 
@@ -60,7 +60,7 @@ def key_fault(key):
 
 
 def reply_of(service, status, data=b"", extended=None):
-    words = b"" if extended is None else struct.pack("<H", extended)
+    words = b"" if extended is None else extended if isinstance(extended, bytes) else struct.pack("<H", extended)
     return bytes([service | 0x80, 0, status, len(words) // 2]) + words + data
 
 
@@ -77,13 +77,25 @@ def connected(connection, count, data, items=2, timeout=0):
     return struct.pack("<IHHHHIHHH", 0, timeout, items, 0xA1, 4, connection, 0xB1, len(data) + 2, count) + data
 
 
+def in_whole_ms(rpi):
+    """The packet interval for which a described device takes this one (7.13)."""
+    return rpi // 1000 * 1000 if rpi <= LONGEST_US else rpi
+
+
+def accepted(least, rpi):
+    """What is said of a packet interval, and the one that is accepted (7.14)."""
+    return (2, least) if rpi < least else (3, LONGEST_US) if rpi > LONGEST_US else (0, rpi)
+
+
 class Opening:
     """The fields of a Forward_Open of either size (7), and what follows from them."""
 
-    def __init__(self, service, data):
+    def __init__(self, service, data, described):
         self.service, large = service, service == LARGE_OPEN
         self.t_o_id, *triad, self.multiplier = struct.unpack_from("<IHHIB", data, 6)
         self.o_rpi, o_word, self.t_rpi, t_word = struct.unpack_from("<IIII" if large else "<IHIH", data, 22)
+        if described:
+            self.o_rpi, self.t_rpi = in_whole_ms(self.o_rpi), in_whole_ms(self.t_rpi)
         self.triad, self.trigger, self.path = tuple(triad), data[38 if large else 34], path_of(data[40 if large else 36:])
         kind, size = (29, 16) if large else (13, 9)  # the first bit of a word's type, and the bits of its size (5)
         self.sizes = [word & (1 << size) - 1 for word in (o_word, t_word)]
@@ -231,7 +243,7 @@ class Adapter:
         """The reply and the notices to an opening or a close (7, 8, 36)."""
         if service == CLOSE:
             return self.close(struct.unpack_from("<HHI", data, 2), node)
-        opening = Opening(service, data)
+        opening = Opening(service, data, self.described)
         class_3 = opening.trigger == 0xA3 and stream is not None
         extended = self.refusal(opening, class_3, node)
         if extended:
@@ -274,12 +286,12 @@ class Adapter:
             return key_fault(it.key)
         points = [("class", 4), ("point", CONSUMED), ("point", INPUT)]
         named = self.described  # (7.11)
-        sizes = [own if named and varies else size for own, size, varies in zip((0x011F, 0x0120), (0x0127, 0x0128), it.variable)]
+        sizes = [own if named and varies and not class_3 else size for own, size, varies in zip((0x011F, 0x0120), (0x0127, 0x0128), it.variable)]
         checks = [
             (it.types[0] != 2, 0x0132 if named and it.types == [0, 0] else 0x0123), (it.types[1] != 2 if class_3 else it.types[1] in (0, 3), 0x0124),
             (not class_3 and it.trigger & 0x7F != 1, 0x0103),
             (it.multiplier > 7 or it.redundant, 0x0108 if not named else 0x0133 if it.multiplier > 7 else 0x0125),
-            (not all(max(1, self.least) <= rpi <= 10_000_000 for rpi in (it.o_rpi, it.t_rpi)), 0x0111),
+            (not all(max(1, self.least) <= rpi <= LONGEST_US for rpi in (it.o_rpi, it.t_rpi)), self.acceptable(it) if named else 0x0111),
             (not arranged if class_3 else it.rest != points, 0x0117),
             (not it.sizes[0] if class_3 else it.sizes[0] != 2, sizes[0]),
             (not it.sizes[1] if class_3 else it.sizes[1] != len(self.points[INPUT]) + 2, sizes[1]),
@@ -290,6 +302,12 @@ class Adapter:
             (self.openings and self.opened_in_second(node)[1] >= self.openings, 0x0113),
         ]
         return next((extended for fails, extended in checks if fails), None)
+
+    def acceptable(self, it):
+        """The extended status of intervals that are not accepted, and those that are (7.14)."""
+        least = max(1000, -(-self.least // 1000) * 1000)
+        (o_says, o_us), (t_says, t_us) = accepted(least, it.o_rpi), accepted(least, it.t_rpi)
+        return struct.pack("<HBBII", 0x0112, o_says, t_says, o_us, t_us)
 
     def close(self, triad, node):
         found = [it for it in self.rows + self.class3_connections if it.triad == triad]
