@@ -325,8 +325,10 @@ def run_plant_files(bench):
     plant = Plant(bench, both, "--record", bench.file("taken"), log="taken")
     sure(plant.status() == 6 and any("its record cannot be written" in line for line in plant.said()), "a device whose first record cannot be made ends the plant")
     plants = [Plant(bench, f"seconds 1\n{device}", "--no-input", log="seconds"),
-              Plant(bench, f"seconds 600\ndevice a plant_adapter.profile {nodes[2]}\n", "--no-input", "--seconds", "1", log="own_seconds")]
+              Plant(bench, f"seconds 600\ndevice a plant_adapter.profile {nodes[2]}\n", "--no-input", "--seconds", "1", "--quiet", log="own_seconds")]
     sure([it.status() for it in plants] == [0, 0], "a plant whose file says its seconds ends by itself, or where --seconds says others")
+    told = [it.said() for it in plants]
+    sure(any("a: adapter at" in line for line in told[0]) and not told[1], f"the life of a device is said in a line, and nothing with --quiet: {told}")
     run_taken_port(bench, device)
 
 

@@ -76,9 +76,10 @@ def gone(bench, asked):
         done = subprocess.run([*asked.at, bench.program, *words], stdout=writer, stderr=subprocess.PIPE, stdin=subprocess.DEVNULL, timeout=20)
         os.close(writer)
         need(done.stderr == b"" and done.returncode in (0, 1), f"{words[0]} without a reader: {done.returncode}, {done.stderr}")
-    with open("/dev/full", "wb") as full:
-        done = subprocess.run([*asked.at, bench.program, "explain", trace], stdout=full, stderr=subprocess.PIPE, stdin=subprocess.DEVNULL, timeout=20)
-    need(done.returncode == 1 and done.stderr != b"", "a full output is said so")
+    for words in ["explain", trace], ["--help"], ["--version"]:
+        with open("/dev/full", "wb") as full:
+            done = subprocess.run([*asked.at, bench.program, *words], stdout=full, stderr=subprocess.PIPE, stdin=subprocess.DEVNULL, timeout=20)
+        need(done.returncode == 1 and done.stderr != b"", f"{words[0]} to a full output: {done.returncode}, {done.stderr}")
     sure(True, "who reads no further gets no message")
 
 
@@ -129,7 +130,8 @@ def run_profiles_unserved(bench):
     bench.write("itself.profile", (SCANNER + OWNS + ITSELF).format(**address))
     file = bench.file
     asked.says(3, "no_port.profile: line 4: word 4: ", "adapter", file("no_port.profile"))
-    asked.says(3, f"twice.profile: line 4: word 5: slot 1 owns the output 150 of {address['adapter']}", "scanner", file("twice.profile"))
+    asked.says(3, f"twice.profile: line 4: word 5: slot 1 owns the output 150 of {address['adapter']}, which has one owner: slot 0 in line 2",
+               "scanner", file("twice.profile"))
     asked.says(3, f"itself.profile: line 3: word 2: the target of slot 1 is {address['owner']}", "scanner", file("itself.profile"))
     asked.says(3, f"owner.profile: line 2: word 2: the target of slot 0 is {address['adapter']}", "scanner", file("owner.profile"), "--address", address["adapter"])
     for name, text, part in (

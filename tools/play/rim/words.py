@@ -249,6 +249,11 @@ def run_destinations(bench):
              f"--multicast: datagrams go to the group {connection.group} alone, at port 2222")
         need(station.end() == 0, "it ends with status 0")
     bench.clear()
+    port = free_port()
+    station, scanner = bench.adapter("--tcp", str(port), port=port, log="tcp_adapter"), bench.scanner("owner", "--tcp", str(port), log="tcp_scanner")
+    wait(scanner.is_established, f"--tcp {port}: a scanner opens its streams to this port of its targets")
+    need(scanner.end() == 0 == station.end(), "both end with status 0")
+    bench.clear()
 
 
 def arrives(udp, source, seconds=5.0):
