@@ -423,6 +423,15 @@ class Bench:
             self.write(f"{name}.profile", text.format(cast="multicast", **self.address))
         self.write("single.profile", OWNER.format(cast="p2p", owner=self.address["owner"], adapter=self.address["peer"]))
 
+    def keep_only(self, names):
+        """Removes all but these names from the folder: a part that is played again makes its folders and its pipes again."""
+        for name in set(os.listdir(self.folder)) - names:
+            path = self.file(name)
+            if os.path.isdir(path) and not os.path.islink(path):
+                shutil.rmtree(path)
+            else:
+                os.remove(path)
+
     def file(self, name):
         return os.path.join(self.folder, name)
 
