@@ -4,3 +4,5 @@ pub mod PacketLaws
 pub mod Samples
 mod ConnectedLaws
 mod ConnectedSamples
+mod AnyItemLaws
+mod AnyItemSamples

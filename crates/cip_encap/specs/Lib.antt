@@ -7,4 +7,6 @@ pub mod PacketReading
 pub mod Connected
 pub mod ConnectedReading
 pub mod ConnectedHeader
+pub mod AnyItems
 pub mod ReadsBack
+pub mod Lemmas

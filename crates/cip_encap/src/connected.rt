@@ -7,10 +7,11 @@ ghost use Rattle.cip_encap.specs.Connected.{ConnectedFields, view_connected, IsC
 ghost use Rattle.cip_encap.specs.ConnectedHeader.{address_widths, written_address};
 ghost use Rattle.cip_encap.specs.Reading.{seen};
 ghost use Rattle.cip_encap.specs.ConnectedReading.{connected_reading};
+ghost use Rattle.cip_encap.specs.AnyItems.{any_connected_reading};
 
 use crate::connected_header::ConnectedHeader;
 use crate::item::{CONNECTED_ADDRESS, CONNECTED_TRANSPORT};
-use crate::packet::{ItemFault, are_sockets};
+use crate::packet::{ItemFault, are_items, are_sockets};
 use cip_types::fields::{put_bytes, put_u16, put_u32};
 use cip_types::{ConnId, OutOfMemory};
 
@@ -67,6 +68,35 @@ pub fn read_connected_items(bytes: &[u8]) -> Result<ConnectedPacket<'_>, ItemFau
     ensures value { seen view_connected result ≡ connected_reading bytes.now }
 {
     parsed(bytes)
+}
+
+/// Reads the same, and behind the message items of any type, which are dropped. `Bad` for all other bytes.
+///
+/// Volume 2, chapter 2, common packet format.
+#[tactic(auto, unfolding(crate::specs::AnyItems::any_connected_reading))]
+pub fn read_any_connected_items(bytes: &[u8]) -> Result<ConnectedPacket<'_>, ItemFault>
+    ensures { seen view_connected result ≡ any_connected_reading bytes.now }
+{
+    let Some((header, rest)) = ConnectedHeader::at(bytes) else {
+        return Err(ItemFault::Bad);
+    };
+    if !header.is_right() {
+        return Err(ItemFault::Bad);
+    }
+    let len = header.len as usize - 2;
+    if rest.len() < len {
+        return Err(ItemFault::Bad);
+    }
+    let (message, items) = rest.split_at(len);
+    if !are_items(header.items - 2, items) {
+        return Err(ItemFault::Bad);
+    }
+    let connection = ConnId(header.connection);
+    Ok(ConnectedPacket {
+        connection,
+        count: header.count,
+        message,
+    })
 }
 
 /// The bytes of the items before the message.

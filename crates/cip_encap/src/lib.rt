@@ -17,13 +17,16 @@ mod read;
 mod splitter;
 mod write;
 
-pub use connected::{ConnectedPacket, connected_len, put_connected_header, read_connected_items};
+pub use connected::{
+    ConnectedPacket, connected_len, put_connected_header, read_any_connected_items,
+    read_connected_items,
+};
 pub use header::{MessageHeader, read_message_header};
 pub use laws::reads_back;
 pub use message::{EncapFault, MessageView};
 pub use packet::{
-    CommonPacket, ItemFault, SocketAddress, items_len, put_items_header, put_socket, read_items,
-    write_items,
+    CommonPacket, ItemFault, SocketAddress, after_item, items_len, put_items_header, put_socket,
+    read_any_items, read_items, write_items,
 };
 pub use read::read_message;
 pub use splitter::{Message, SplitFault, Splitter};

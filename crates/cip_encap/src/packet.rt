@@ -7,6 +7,7 @@ ghost use Rattle.cip_encap.specs.declared.packet.ItemFault.{ItemFault};
 ghost use Rattle.cip_encap.specs.Packet.{PacketFields, view_packet, IsPacketText, IsPacketReading, packet_widths, written_numbers, socket_items, packet_text};
 ghost use Rattle.cip_encap.specs.Reading.{seen};
 ghost use Rattle.cip_encap.specs.PacketReading.{behind_socket, are_sockets as sockets_test, packet_reading};
+ghost use Rattle.cip_encap.specs.AnyItems.{any_packet_reading, are_items as items_test, behind_item, is_socket_kind};
 
 use crate::item::{O_T_SOCKET_ADDRESS, T_O_SOCKET_ADDRESS, UNCONNECTED_DATA};
 use crate::packet_header::PacketHeader;
@@ -72,6 +73,45 @@ pub fn are_sockets(count: u16, bytes: &[u8]) -> bool
     rest.is_empty()
 }
 
+/// Whether items of this type are socket addresses.
+fn is_socket_kind(kind: u16) -> bool
+    ensures { result ≡ is_socket_kind kind }
+{
+    kind == O_T_SOCKET_ADDRESS || kind == T_O_SOCKET_ADDRESS
+}
+
+/// The bytes after the item at the front, of any type. None where no whole item is, or a socket address of another length.
+///
+/// Volume 2, chapter 2, common packet format.
+#[tactic(auto, unfolding(crate::specs::AnyItems::behind_item))]
+pub fn after_item(bytes: &[u8]) -> Option<&[u8]>
+    ensures { option_map (λ x. x.now) result ≡ behind_item bytes.now }
+{
+    let (kind, rest) = u16_at(bytes)?;
+    let (len, rest) = u16_at(rest)?;
+    let len = len as usize;
+    if rest.len() >= len && (!is_socket_kind(kind) || len == 16) {
+        let (_item, after) = rest.split_at(len);
+        Some(after)
+    } else {
+        None
+    }
+}
+
+/// Whether the bytes are this number of items, of any types.
+pub fn are_items(count: u16, bytes: &[u8]) -> bool
+    ensures { result ≡ items_test count bytes.now }
+{
+    let mut rest = bytes;
+    for done in 0..count {
+        match after_item(rest) {
+            Some(after) => rest = after,
+            None => return false,
+        }
+    }
+    rest.is_empty()
+}
+
 /// The items of the numbers before the data and the bytes after them.
 #[tactic(auto, unfolding(crate::specs::PacketReading::packet_reading))]
 fn parsed(bytes: &[u8]) -> Result<CommonPacket<'_>, ItemFault>
@@ -108,6 +148,30 @@ pub fn read_items(bytes: &[u8]) -> Result<CommonPacket<'_>, ItemFault>
     ensures value { seen view_packet result ≡ packet_reading bytes.now }
 {
     parsed(bytes)
+}
+
+/// Reads the same, and behind the data items of any type, which are dropped. `Bad` for all other bytes.
+///
+/// Volume 2, chapter 2, common packet format.
+#[tactic(auto, unfolding(crate::specs::AnyItems::any_packet_reading))]
+pub fn read_any_items(bytes: &[u8]) -> Result<CommonPacket<'_>, ItemFault>
+    ensures { seen view_packet result ≡ any_packet_reading bytes.now }
+{
+    let Some((packet_header, rest)) = PacketHeader::at(bytes) else {
+        return Err(ItemFault::Bad);
+    };
+    let len = packet_header.len as usize;
+    if !packet_header.is_right() || rest.len() < len {
+        return Err(ItemFault::Bad);
+    }
+    let (data, items) = rest.split_at(len);
+    if !are_items(packet_header.count - 2, items) {
+        return Err(ItemFault::Bad);
+    }
+    Ok(CommonPacket {
+        timeout: packet_header.timeout,
+        data,
+    })
 }
 
 /// The bytes of the items before the data, and those of a socket address item.
