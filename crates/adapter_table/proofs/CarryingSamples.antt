@@ -135,7 +135,7 @@ with_a_route : sent (0x0A ∷ 0x0E ∷ 0x08 ∷ 0x00 ∷ 0x0E ∷ 0x03 ∷ 0x20 
 unfolding object_answer alone_answer instance_at status_word router_request_reading requests.request_reading closes.close_reading opens.open_reading paths.path_reading paths.target_reading paths.segments_at paths.segment_at paths.logical_at paths.value_at words.params16 values.object_reply_text values.own_reply_text refusals.refused_text
 with_a_route = refl
 
-the_reply_to_a_route : reply_text (object_served (table (Some description)) 0x52 (unrouted 1)).reply ≡ (0xD2 ∷ 0x00 ∷ 0x01 ∷ 0x01 ∷ 0x11 ∷ 0x03 ∷ 0x01 ∷ [])
+the_reply_to_a_route : reply_text (object_served (table (Some description)) 0x52 (unrouted 1)).reply ≡ (0xD2 ∷ 0x00 ∷ 0x01 ∷ 0x01 ∷ 0x11 ∷ 0x03 ∷ 0x01 ∷ 0x00 ∷ [])
 unfolding object_answer alone_answer instance_at status_word router_request_reading requests.request_reading closes.close_reading opens.open_reading paths.path_reading paths.target_reading paths.segments_at paths.segment_at paths.logical_at paths.value_at words.params16 values.object_reply_text values.own_reply_text refusals.refused_text
 the_reply_to_a_route = refl
 

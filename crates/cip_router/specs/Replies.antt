@@ -30,10 +30,10 @@ object_reply_text service value = reply_service (object_service_code service) �
 unfoldable pub own_reply_text : (service status : ℕ) → List ℕ → List ℕ
 own_reply_text service status content = reply_service service ∷ 0 ∷ status ∷ 0 ∷ content
 
--- the refusal of an Unconnected_Send, of service 0x52: no port leads on (general status 1, extended status 0x0311), and the words of the
--- route that are left (Volume 1, chapter 3, Unconnected_Send)
+-- the refusal of an Unconnected_Send, of service 0x52: no port leads on (general status 1, extended status 0x0311), the words of the
+-- route that are left, and a reserved byte (Volume 1, chapter 3, Unconnected_Send)
 abbrev pub no_route_text : ℕ → List ℕ
-no_route_text words = 0xD2 ∷ 0 ∷ 1 ∷ 1 ∷ 0x11 ∷ 0x03 ∷ words ∷ []
+no_route_text words = 0xD2 ∷ 0 ∷ 1 ∷ 1 ∷ 0x11 ∷ 0x03 ∷ words ∷ 0 ∷ []
 
 -- the contents of a reply
 pub data ReplyFields : Type 0 where

@@ -115,14 +115,14 @@ fn write_own_reply(
 fn put_no_route(out: &mut Vec<u8>, words: u8) -> Result<(), OutOfMemory>
     ensures { OnOk result (out.new.items ≡ out.old.items ++ no_route_text words) }
 {
-    put_bytes(out, &[0xD2, 0, 1, 1, 0x11, 0x03, words])
+    put_bytes(out, &[0xD2, 0, 1, 1, 0x11, 0x03, words, 0])
 }
 
 /// Writes the same.
 fn write_no_route(alloc: Global, words: u8) -> Result<Vec<u8>, OutOfMemory>
     ensures { IfOk result (λ bytes. bytes.items ≡ no_route_text words) }
 {
-    let mut out = Vec::with_capacity(alloc, 7)?;
+    let mut out = Vec::with_capacity(alloc, 8)?;
     put_no_route(&mut out, words)?;
     Ok(out)
 }
@@ -141,7 +141,7 @@ impl Reply<'_> {
             }
             Reply::Unacceptable(_, _, _) => 26,
             Reply::Own(_, _, content) => 4 + content.len(),
-            Reply::NoRoute(_) => 7,
+            Reply::NoRoute(_) => 8,
         }
     }
 

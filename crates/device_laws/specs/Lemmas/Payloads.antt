@@ -23,10 +23,9 @@ use Rattle.cip_fwdopen.specs.Open.{OpenFields, open_widths, path_len, open_of, o
 use Rattle.cip_fwdopen.specs.Close.{CloseFields, close_reading, closed_text}
 use Rattle.cip_fwdopen.specs.declared.reply.AcceptableIntervals.{AcceptableIntervals}
 use Rattle.cip_fwdopen.specs.Reply.{reply_service, opened_service, opened_widths, opened_numbers, opened_text, extended_text, failure_text, refused_text, intervals_words, intervals_text, reply_widths, extended_len, fault_of, application_len, opened_of, failure_reading, opened_reading, refused_by, answer_reading, with_answer, unread, unread_reading, reply_of, open_reply_reading}
-use Rattle.cip_router.specs.Requests.{request_to_open, request_to_close, request_to_manager, is_manager, router_request_of, router_request_reading, refused, object}
+use Rattle.cip_router.specs.Requests.{request_to_open, request_to_close, request_to_manager, is_manager, router_request_of, router_request_reading, object}
 use Rattle.cip_router.specs.declared.object_service.ObjectService.{ObjectService}
 use Rattle.cip_router.specs.declared.object_service.ObjectService.TheVariants as object_service
-use Rattle.cip_router.specs.declared.refusal.Status.TheVariants as status
 use Rattle.cip_router.specs.Replies.{no_route_text, object_reply_text, object_service_code, own_reply_text}
 use Rattle.scanner_table.specs.Requests.{manager, manager_text}
 use Rattle.scanner_table.specs.Replies.{serviced, reply_answer}
@@ -40,11 +39,11 @@ pub record OpensNone (service : ℕ) : Type 0 where
   pub small : (service == 0x54) ≡ false
   pub large : (service == 0x5B) ≡ false
 
-requested_manager_ids : (P : ℕ → Type 0) (service : ℕ) (body : List ℕ) → OpensNone service → RequestIds P (request_to_manager service body)
-requested_manager_ids P service body none =
+requested_manager_ids : (P : ℕ → Type 0) (service : ℕ) (attribute : Option ℕ) (body : List ℕ) → OpensNone service → RequestIds P (request_to_manager service attribute body)
+requested_manager_ids P service attribute body none =
     rw (none.small, none.large)
     (either (RequestIds P) (service == 0x4E) (request_to_close service (close_reading body)) _ (closes (close_reading body))
-    (either (RequestIds P) (service == 0x52) (object service 6 1 None body) (refused service status.Service) tt tt))
+    (either (RequestIds P) (service == 0x52) (object service 6 1 None body) (object service 6 1 attribute body) tt tt))
   where
     closes : (reading : Result CloseFields ReadFault) → RequestIds P (request_to_close service reading)
     closes (Ok request) = tt
@@ -53,7 +52,7 @@ requested_manager_ids P service body none =
 requested_of_ids : (P : ℕ → Type 0) (service : ℕ) (body : List ℕ) (reading : Result Target PathFault) → OpensNone service → RequestIds P (router_request_of service (with_target service body reading))
 requested_of_ids P service body (Err fault) none = tt
 requested_of_ids P service body (Ok target) none =
-    either (RequestIds P) (is_manager target) (request_to_manager service body) _ (requested_manager_ids P service body none) tt
+    either (RequestIds P) (is_manager target) (request_to_manager service target.attribute body) _ (requested_manager_ids P service target.attribute body none) tt
 
 requested_front_ids : (P : ℕ → Type 0) (service : ℕ) (r : Option (List ℕ × List ℕ)) → OpensNone service → RequestIds P (router_request_of service (request_of (parted request_path_len (then_at r (λ ns after. Some (service ∷ ns, after))))))
 requested_front_ids P service None none = tt
@@ -206,7 +205,7 @@ unacceptable_ids P service a triad = record {
 
 -- the refusal of an Unconnected_Send
 pub no_route_ids : (P : ℕ → Type 0) (words : ℕ) → PayloadIds P (no_route_text words)
-no_route_ids P words = refused_parts P 0x52 1 (Some 0x0311) (words ∷ []) refl
+no_route_ids P words = refused_parts P 0x52 1 (Some 0x0311) (words ∷ 0 ∷ []) refl
 
 -- a reply of the application to a service whose reply opens none
 pub own_ids : (P : ℕ → Type 0) (service status : ℕ) (content : List ℕ) → AnswersNone (reply_service service) → PayloadIds P (own_reply_text service status content)
@@ -269,7 +268,7 @@ open_read P large request holds =
 abbrev open_service : Bool → ℕ
 open_service large = cond large 0x5B 0x54
 
-requested_of_manager : (P : ℕ → Type 0) (service : ℕ) (body : List ℕ) → RequestIds P (request_to_manager service body) → RequestIds P (router_request_reading (service ∷ 2 ∷ 0x20 ∷ 6 ∷ 0x24 ∷ 1 ∷ body))
+requested_of_manager : (P : ℕ → Type 0) (service : ℕ) (body : List ℕ) → RequestIds P (request_to_manager service None body) → RequestIds P (router_request_reading (service ∷ 2 ∷ 0x20 ∷ 6 ∷ 0x24 ∷ 1 ∷ body))
 unfolding router_request_reading request_reading
 requested_of_manager P service body holds =
     subst (λ (f : Option (Tailed × List ℕ)). RequestIds P (router_request_of service (request_of f))) (sym (manager_front service body))

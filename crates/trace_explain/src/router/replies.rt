@@ -8,8 +8,8 @@ use cip_fwdopen::{
     read_get_reply, read_open_reply,
 };
 use cip_router::read_router_reply;
-use cip_types::OutOfMemory;
 use cip_types::fields::u16_at;
+use cip_types::{Fault, OutOfMemory};
 use std::alloc::Global;
 use trace_words::{push_fault, push_general, push_text};
 
@@ -98,6 +98,11 @@ fn push_further(out: &mut String, bytes: &[u8]) -> Result<(), OutOfMemory> {
     let Some((_extended, further)) = u16_at(reply.additional) else {
         return Ok(());
     };
+    push_further_words(out, further)
+}
+
+/// The words behind an extended status, if there are any.
+fn push_further_words(out: &mut String, further: &[u8]) -> Result<(), OutOfMemory> {
     if further.is_empty() {
         return Ok(());
     }
@@ -161,13 +166,25 @@ fn push_other_reply(
     fault: ReadFault,
 ) -> Result<(), OutOfMemory> {
     if let Some(reply) = read_router_reply(bytes) {
-        if reply.status != 0 && reply.additional.is_empty() {
+        if reply.status != 0 {
             push_text(out, "refused with ")?;
-            push_general(out, reply.status)?;
+            push_status(out, reply.status, reply.additional)?;
             push_text(out, ", ")?;
             return push_data(alloc, out, reply.content);
         }
     }
     write!(out, "it does not read ({fault}), ")?;
     push_data(alloc, out, bytes)
+}
+
+/// A general status, with its additional words: the extended status, and those behind it.
+///
+/// Volume 1, appendix B, general status codes; chapter 3, Connection Manager extended status codes.
+fn push_status(out: &mut String, general: u8, additional: &[u8]) -> Result<(), OutOfMemory> {
+    let Some((extended, further)) = u16_at(additional) else {
+        return push_general(out, general);
+    };
+    let extended = Some(extended);
+    push_fault(out, Fault { general, extended })?;
+    push_further_words(out, further)
 }
