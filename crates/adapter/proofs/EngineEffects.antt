@@ -17,6 +17,7 @@ use Rattle.cip_events.specs.declared.event.OutgoingDatagram.{OutgoingDatagram}
 use Rattle.cip_events.specs.declared.event.Verdict.TheVariants.{Done}
 use Rattle.cip_events.specs.Answers.{plain_answer, is_accepted}
 use Rattle.cip_productions.specs.Productions.{sent}
+use Rattle.messaging.specs.Times.{late_class3_connections}
 use Rattle.adapter_table.specs.declared.profile.InputPoint.{InputPoint}
 use Rattle.adapter_table.specs.declared.profile.Profile.{Profile}
 use Rattle.adapter_table.specs.Connections.{Row}
@@ -244,24 +245,24 @@ nothing_due : (clock : Ms) (rows : List Row) (values : List PointValue) → list
 nothing_due clock rows values none = rw (none_passes (is_due clock) rows none) refl
 
 -- the producers alone change
-unexpired : (t : AdapterTable) → list_any (has_expired t.clock) t.rows ≡ false → ListenersAreSupported t.rows → advanced t ≡ (record { frames = []; datagrams = map sent (due_productions t.clock t.rows t.values); verdict = Done; notices = [] }, record t { rows = map (produced_row t.clock) t.rows })
+unexpired : (t : AdapterTable) → list_any (has_expired t.clock) t.rows ≡ false → late_class3_connections t.clock t.messaging ≡ [] → ListenersAreSupported t.rows → advanced t ≡ (record { frames = []; datagrams = map sent (due_productions t.clock t.rows t.values); verdict = Done; notices = [] }, record t { rows = map (produced_row t.clock) t.rows })
 unfolding expired_table produced_table
-unexpired t none supported =
-    rw (none_expired t.clock t.rows none, none_passes (has_expired t.clock) t.rows none, none_passes (is_unsupported t.rows) t.rows supported, unpassed (is_unsupported t.rows) t.rows supported) refl
+unexpired t none late supported =
+    rw (late, none_expired t.clock t.rows none, none_passes (has_expired t.clock) t.rows none, none_passes (is_unsupported t.rows) t.rows supported, unpassed (is_unsupported t.rows) t.rows supported) refl
 
 -- the answer and the table if the producers alone change
-pub produces : (t : AdapterTable) (ms : ℕ) → list_any (has_expired (record { 0 = t.clock.0 + ms })) t.rows ≡ false → ListenersAreSupported t.rows → advanced (clocked_table t ms) ≡ (record { frames = []; datagrams = map sent (due_productions (record { 0 = t.clock.0 + ms }) t.rows t.values); verdict = Done; notices = [] }, record t { rows = map (produced_row (record { 0 = t.clock.0 + ms })) t.rows; clock = record { 0 = t.clock.0 + ms } })
+pub produces : (t : AdapterTable) (ms : ℕ) → list_any (has_expired (record { 0 = t.clock.0 + ms })) t.rows ≡ false → late_class3_connections (record { 0 = t.clock.0 + ms }) t.messaging ≡ [] → ListenersAreSupported t.rows → advanced (clocked_table t ms) ≡ (record { frames = []; datagrams = map sent (due_productions (record { 0 = t.clock.0 + ms }) t.rows t.values); verdict = Done; notices = [] }, record t { rows = map (produced_row (record { 0 = t.clock.0 + ms })) t.rows; clock = record { 0 = t.clock.0 + ms } })
 unfolding clocked_table
-produces t ms none supported = unexpired (record t { clock = record { 0 = t.clock.0 + ms } }) none supported
+produces t ms none late supported = unexpired (record t { clock = record { 0 = t.clock.0 + ms } }) none late supported
 
-pub produces_whole : EffectsKeep IsWhole → (t : AdapterTable) (ms : ℕ) → t.clock.0 + ms ≤ 2 ^ 48 → list_any (has_expired (record { 0 = t.clock.0 + ms })) t.rows ≡ false → IsWhole t → IsWhole (record t { rows = map (produced_row (record { 0 = t.clock.0 + ms })) t.rows; clock = record { 0 = t.clock.0 + ms } })
-produces_whole effects t ms time none whole =
-    subst IsWhole (ap (λ (n : Next). n.1) (produces t ms none whole.sound.listeners_are_supported)) (effects.advanced t ms time whole)
+pub produces_whole : EffectsKeep IsWhole → (t : AdapterTable) (ms : ℕ) → t.clock.0 + ms ≤ 2 ^ 48 → list_any (has_expired (record { 0 = t.clock.0 + ms })) t.rows ≡ false → late_class3_connections (record { 0 = t.clock.0 + ms }) t.messaging ≡ [] → IsWhole t → IsWhole (record t { rows = map (produced_row (record { 0 = t.clock.0 + ms })) t.rows; clock = record { 0 = t.clock.0 + ms } })
+produces_whole effects t ms time none late whole =
+    subst IsWhole (ap (λ (n : Next). n.1) (produces t ms none late whole.sound.listeners_are_supported)) (effects.advanced t ms time whole)
 
 -- and where nothing happens
-pub waits : (t : AdapterTable) (ms : ℕ) → list_any (has_expired (record { 0 = t.clock.0 + ms })) t.rows ≡ false → list_any (is_due (record { 0 = t.clock.0 + ms })) t.rows ≡ false → ListenersAreSupported t.rows → advanced (clocked_table t ms) ≡ (plain_answer Done, record t { clock = record { 0 = t.clock.0 + ms } })
-waits t ms none rest supported =
+pub waits : (t : AdapterTable) (ms : ℕ) → list_any (has_expired (record { 0 = t.clock.0 + ms })) t.rows ≡ false → late_class3_connections (record { 0 = t.clock.0 + ms }) t.messaging ≡ [] → list_any (is_due (record { 0 = t.clock.0 + ms })) t.rows ≡ false → ListenersAreSupported t.rows → advanced (clocked_table t ms) ≡ (plain_answer Done, record t { clock = record { 0 = t.clock.0 + ms } })
+waits t ms none late rest supported =
     let clock : Ms = record { 0 = t.clock.0 + ms } in
-    produces t ms none supported
+    produces t ms none late supported
     ∙ ap (λ (s : List OutgoingDatagram). let n : Next = (record { frames = []; datagrams = s; verdict = Done; notices = [] }, record t { rows = map (produced_row clock) t.rows; clock = clock }) in n) (nothing_due clock t.rows t.values rest)
     ∙ ap (λ (l : List Row). let n : Next = (plain_answer Done, record t { rows = l; clock = clock }) in n) (none_produced clock t.rows rest)

@@ -7,3 +7,4 @@ pub mod EngineEffects
 pub mod StateMessaging
 pub mod Quiet
 pub mod Packets
+pub mod Counting

@@ -4,7 +4,7 @@ use Rattle.std.specs.Prelude.{nat_lt}
 use Rattle.std.proofs.lemmas.Bool.Decides.{nat_tests}
 use Rattle.cip_events.specs.Clock.{longest_tick, clock_end}
 use Rattle.messaging.specs.Times.{first_moment}
-use Rattle.messaging.specs.Lemmas.IdleLemmas.{early_is_idle}
+use Rattle.messaging.specs.Lemmas.IdleLemmas.{early_is_idle, idle_is_calm}
 use Rattle.adapter_table.specs.declared.table.AdapterTable.{AdapterTable}
 use Rattle.adapter_table.specs.Requests.{Next}
 use Rattle.adapter_table.specs.Ticks.{clocked_table, tick}
@@ -25,4 +25,5 @@ unfolding step tick clocked_table
 quiet_for t bound wait quiet le whole ms early longest inside =
     let none = quiet (record { 0 = t.clock.0 + ms }) (omega (arith, le, early)) in
     let idle = early_is_idle (record { 0 = t.clock.0 + ms }) t.messaging (omega (arith, le, early)) in
-    rw (within ms longest_tick longest, within (t.clock.0 + ms) clock_end inside) (ap (λ (n : Next). as_adapter (Ok n)) (idle_next t ms whole idle ∙ waits t ms none.0 none.1 whole.sound.listeners_are_supported))
+    let calm = idle_is_calm (record { 0 = t.clock.0 + ms }) t.messaging whole.messages.own.answerable idle in
+    rw (within ms longest_tick longest, within (t.clock.0 + ms) clock_end inside) (ap (λ (n : Next). as_adapter (Ok n)) (idle_next t ms whole idle ∙ waits t ms none.0 calm.class3_connections none.1 whole.sound.listeners_are_supported))

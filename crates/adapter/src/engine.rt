@@ -8,7 +8,7 @@ mod streams;
 
 ghost use Rattle.std.specs.Prelude.{◌≡◌, ◌≢◌, Ok, Err, None, IfOk, IfErr, true};
 ghost use Rattle.cip_router.specs.Requests.{view_router_request};
-ghost use Rattle.adapter_table.specs.Requests.{requested};
+ghost use Rattle.adapter_table.specs.Requests.{counted_once, requested};
 ghost use Rattle.adapter_replies.specs.Serving.{IsOpenRoute, barred_service, finished, requested_on, served_on, service_served};
 ghost use Rattle.adapter_table.specs.Step.{adapter_step};
 ghost use Rattle.cip_events.specs.Outcomes.{Follows};
@@ -62,12 +62,12 @@ impl<T: ConnectionTable> Adapter<T> {
     fn serve_service(&mut self, route: Route, request: RouterRequest<'_>) -> Outcome
         requires open { IsOpenRoute self.old route }
         requires unbarred { barred_service route (view_router_request request) ≡ None }
-        ensures { Follows (Ok (finished self.old route
-            (service_served self.old route (view_router_request request.entry)))) self.old result self.new }
+        ensures { Follows (Ok (finished self.old route (counted_once (view_router_request request.entry)
+            (service_served self.old route (view_router_request request.entry))))) self.old result self.new }
     {
         match request {
             RouterRequest::Nothing => Ok(unserved_answer(self.state.alloc(), route)?),
-            RouterRequest::Refused(service, why) => self.state.refuse(route, service, why),
+            RouterRequest::Refused(service, why) => self.state.refuse_counted(route, service, why),
             RouterRequest::Closing(request) => self.state.forward_close(route, &request),
             RouterRequest::Object(service, class, instance, attribute, body) => {
                 let request = ObjectRequest {
@@ -86,11 +86,11 @@ impl<T: ConnectionTable> Adapter<T> {
     /// A request to no object of the maker's own.
     fn serve_router(&mut self, route: Route, request: RouterRequest<'_>) -> Outcome
         requires { IsOpenRoute self.old route }
-        ensures { Follows (Ok (finished self.old route (served_on self.old route (view_router_request request.entry))))
-            self.old result self.new }
+        ensures { Follows (Ok (finished self.old route (counted_once (view_router_request request.entry)
+            (served_on self.old route (view_router_request request.entry))))) self.old result self.new }
     {
         match barred_service(route, &request) {
-            Some(service) => self.state.refuse(route, service, Status::Service),
+            Some(service) => self.state.refuse_counted(route, service, Status::Service),
             None => self.serve_service(route, request),
         }
     }
@@ -148,6 +148,7 @@ impl<T: ConnectionTable> Adapter<T> {
                 status,
                 bytes,
             } => self.respond(*number, *status, bytes.as_slice()),
+            Event::Counters { bytes } => self.state.say_counters(bytes.as_slice()),
         }
     }
 }

@@ -2,6 +2,7 @@
 
 mod class3_connections;
 mod closings;
+mod counting;
 mod datagrams;
 mod messages;
 mod openings;
@@ -18,7 +19,8 @@ ghost use Rattle.adapter_table.specs.Step.{adapter_table};
 ghost use Rattle.adapter_table.specs.Whole.{IsWhole};
 
 use adapter_table::{
-    AdapterTable, NodeOpenings, Profile, Stream, counted_openings, has_opened_enough,
+    AdapterTable, DeviceCounters, NodeOpenings, Profile, Stream, counted_openings,
+    has_opened_enough,
 };
 use assembly_set::AssemblySet;
 use cip_types::{Items, Ms, Node, OutOfMemory, copied_streams};
@@ -41,6 +43,7 @@ pub struct AdapterState<T: ConnectionTable> {
     streams: Vec<Stream>,
     messaging: MessagingState,
     openings: Vec<NodeOpenings>,
+    counters: DeviceCounters,
 }
 
 impl<T: ConnectionTable> Model for AdapterState<T> {
@@ -49,9 +52,9 @@ impl<T: ConnectionTable> Model for AdapterState<T> {
 
     ghost Value = { AdapterTable };
 
-    ghost view = { λ a. record { profile = a.assemblies.profile; rows = T.rows a.table; values = a.assemblies.values; clock = a.clock; next_id = a.next_id; streams = a.streams.items; messaging = a.messaging; openings = a.openings.items } };
+    ghost view = { λ a. record { profile = a.assemblies.profile; rows = T.rows a.table; values = a.assemblies.values; clock = a.clock; next_id = a.next_id; streams = a.streams.items; messaging = a.messaging; openings = a.openings.items; counters = a.counters } };
 
-    ghost invariant = { λ a. IsWhole (record { profile = a.assemblies.profile; rows = T.rows a.table; values = a.assemblies.values; clock = a.clock; next_id = a.next_id; streams = a.streams.items; messaging = a.messaging; openings = a.openings.items }) };
+    ghost invariant = { λ a. IsWhole (record { profile = a.assemblies.profile; rows = T.rows a.table; values = a.assemblies.values; clock = a.clock; next_id = a.next_id; streams = a.streams.items; messaging = a.messaging; openings = a.openings.items; counters = a.counters }) };
 }
 
 impl<T: ConnectionTable> AdapterState<T> {
@@ -70,6 +73,7 @@ impl<T: ConnectionTable> AdapterState<T> {
             streams: Vec::new(alloc),
             messaging: MessagingState::new(alloc),
             openings: Vec::new(alloc),
+            counters: DeviceCounters::new(alloc),
         })
     }
 
@@ -88,6 +92,7 @@ impl<T: ConnectionTable> AdapterState<T> {
             streams: copied_streams(alloc, table.streams.as_slice())?,
             messaging: MessagingState::holding(alloc, &table.messaging)?,
             openings: Vec::from_slice(alloc, table.openings.as_slice())?,
+            counters: table.counters.copy(alloc)?,
         })
     }
 
@@ -104,6 +109,7 @@ impl<T: ConnectionTable> AdapterState<T> {
             streams: Items::copy_of(self.alloc, &self.streams)?,
             messaging: self.messaging.copy(self.alloc)?,
             openings: Items::copy_of(self.alloc, &self.openings)?,
+            counters: self.counters.copy(self.alloc)?,
         })
     }
 }
@@ -156,6 +162,13 @@ impl<T: ConnectionTable> AdapterState<T> {
         ensures { result.now ≡ self.now.messaging }
     {
         &self.messaging
+    }
+
+    /// What was counted.
+    pub fn counters(&self) -> &DeviceCounters
+        ensures { result.now ≡ self.now.counters }
+    {
+        &self.counters
     }
 
     /// The open streams.

@@ -75,5 +75,5 @@ pub differ : (a b : ℕ) → (a ≡ b → ⊥) → (a == b) ≡ false
 differ a b never = false_from_ne_true (a == b) (λ is. never (grind (arith, nat_tests)))
 
 -- of another class than those of every described device there are QoS and Port alone
-pub other_cases : (profile : Profile) (standing : IdentityState) (connections : ℕ) (d : Description) (class instance : ℕ) → (class == 0x01) ≡ false → (class == 0x02) ≡ false → (class == 0x06) ≡ false → (class == 0xF5) ≡ false → (class == 0xF6) ≡ false → first_case (described_cases profile standing connections d class instance) ≡ first_case (yielding_cases profile class instance)
-other_cases profile standing connections d class instance identity router manager interface link = rw (identity, router, manager, interface, link) refl
+pub other_cases : (profile : Profile) (standing : IdentityState) (connections : ℕ) (link : List ℕ) (d : Description) (class instance : ℕ) → (class == 0x01) ≡ false → (class == 0x02) ≡ false → (class == 0x06) ≡ false → (class == 0xF5) ≡ false → (class == 0xF6) ≡ false → first_case (described_cases profile standing connections link d class instance) ≡ first_case (yielding_cases profile class instance)
+other_cases profile standing connections link d class instance identity router manager interface ethernet = rw (identity, router, manager, interface, ethernet) refl

@@ -18,14 +18,17 @@ use Rattle.messaging.specs.declared.requests.Waiting.{Waiting}
 use Rattle.messaging.specs.declared.table.Messaging.{Messaging}
 use Rattle.adapter_table.specs.declared.table.AdapterTable.{AdapterTable}
 use Rattle.adapter_table.specs.declared.table.Stream as streams
+use Rattle.adapter_table.specs.declared.counters.Tally.{Tally}
 use Rattle.adapter_table.specs.Answering.{class3_frames, class3_keeps, responded, route_frames, with_reply}
 use Rattle.adapter_table.specs.Class3Opening.{served_class3, stream_served}
 use Rattle.adapter_table.specs.Connected.{connected_served, fitted, most_reply}
+use Rattle.adapter_table.specs.Counters.{refused_tally}
+use Rattle.adapter_table.specs.Counting.{tallied}
 use Rattle.adapter_table.specs.Encapsulation.{framed, message_executed, message_replied, message_served, request_handled, request_replied}
 use Rattle.adapter_table.specs.Objects.{ObjectAnswer, said, denied, resetting, answering, refusing, unrouted}
 use Rattle.adapter_table.specs.Carrying.{object_answer}
 use Rattle.adapter_table.specs.Own.{OwnRequest, own_of, cannot_ask}
-use Rattle.adapter_table.specs.Requests.{Served, answered, object_served, requested, requested_by, served, served_object, served_open}
+use Rattle.adapter_table.specs.Requests.{Served, answered, counted_once, object_served, requested, requested_by, router_refusal, served, served_object, served_open}
 use Rattle.adapter_replies.specs.declared.routes.RequestHeader.{RequestHeader}
 use Rattle.adapter_replies.specs.declared.routes.Route.{Route}
 use Rattle.adapter_replies.specs.declared.routes.Route.TheVariants as route
@@ -54,7 +57,7 @@ object_on t way service (unrouted words) = refl
 
 -- ---- a peer
 
-served_to_peer : (t : AdapterTable) (peer : Node) (request : RouterRequestFields) → finished t (route.Peer peer) (served_on t (route.Peer peer) request) ≡ answered t peer (served t peer request)
+served_to_peer : (t : AdapterTable) (peer : Node) (request : RouterRequestFields) → finished t (route.Peer peer) (counted_once request (served_on t (route.Peer peer) request)) ≡ answered t peer (counted_once request (served t peer request))
 served_to_peer t peer nothing = refl
 served_to_peer t peer (refused service why) = refl
 served_to_peer t peer (closing request) = refl
@@ -71,17 +74,17 @@ peer_is t peer bytes = request_of_peer t peer (router_request_reading bytes) (ow
 
 -- ---- a stream
 
-opened_over_stream : (b : Bool) (t : AdapterTable) (stream : streams.Stream) (request_header : RequestHeader) (s other : Served) → finished t (route.Stream stream request_header) (Some (cond b s other)) ≡ framed stream.number (view_request_header request_header) (request_replied t (cond b (Some s) (Some other)))
-opened_over_stream true t stream request_header s other = refl
-opened_over_stream false t stream request_header s other = refl
+opened_over_stream : (b : Bool) (t : AdapterTable) (stream : streams.Stream) (request_header : RequestHeader) (request : RouterRequestFields) (s other : Served) → finished t (route.Stream stream request_header) (counted_once request (Some (cond b s other))) ≡ framed stream.number (view_request_header request_header) (request_replied t (counted_once request (cond b (Some s) (Some other))))
+opened_over_stream true t stream request_header request s other = refl
+opened_over_stream false t stream request_header request s other = refl
 
-served_over_stream : (t : AdapterTable) (stream : streams.Stream) (request_header : RequestHeader) (request : RouterRequestFields) → finished t (route.Stream stream request_header) (served_on t (route.Stream stream request_header) request) ≡ framed stream.number (view_request_header request_header) (request_replied t (stream_served t stream request))
+served_over_stream : (t : AdapterTable) (stream : streams.Stream) (request_header : RequestHeader) (request : RouterRequestFields) → finished t (route.Stream stream request_header) (counted_once request (served_on t (route.Stream stream request_header) request)) ≡ framed stream.number (view_request_header request_header) (request_replied t (counted_once request (stream_served t stream request)))
 served_over_stream t stream request_header nothing = refl
 served_over_stream t stream request_header (refused service why) = refl
 served_over_stream t stream request_header (closing request) = refl
 served_over_stream t stream request_header (object service class instance attribute body) = refl
 served_over_stream t stream request_header (opening large request) =
-    opened_over_stream (is_message_trigger request.trigger) t stream request_header (served_class3 t stream large request) (served_open t stream.peer large request)
+    opened_over_stream (is_message_trigger request.trigger) t stream request_header (opening large request) (served_class3 t stream large request) (served_open t stream.peer large request)
 
 own_over_stream : (b : Bool) (t : AdapterTable) (stream : streams.Stream) (request_header : RequestHeader) (own : OwnRequest) → cannot_ask t stream.peer ≡ b → own_on t (route.Stream stream request_header) own ≡ framed stream.number (view_request_header request_header) (request_handled t stream request_header.context nothing (Some own))
 own_over_stream true t stream request_header own is = rw is refl
@@ -119,10 +122,15 @@ message_object t d number request_header count message service (answering by gen
 message_object t d number request_header count message service (refusing named why) = refl
 message_object t d number request_header count message service (unrouted words) = refl
 
-served_in_message : (t : AdapterTable) (d : kept.Class3Connection) (number : ℕ) (request_header : RequestHeader) (count message : ℕ) (request : RouterRequestFields) → finished t (route.Connection (message_route t d number request_header count message)) (served_on t (route.Connection (message_route t d number request_header count message)) request) ≡ framed number (view_request_header request_header) (message_served t d count message (connected_served t d.peer request))
+-- a refusal is counted, and the connection keeps it
+counted_refusal : (t : AdapterTable) (d : kept.Class3Connection) (number : ℕ) (request_header : RequestHeader) (count message service : ℕ) (why : Status) (kind : Option Tally) → finished t (route.Connection (message_route t d number request_header count message)) (Some (record (router_refusal t service why) { table = tallied kind t })) ≡ framed number (view_request_header request_header) (message_replied d count message (record (router_refusal t service why) { table = tallied kind t }))
+counted_refusal t d number request_header count message service why None = refl
+counted_refusal t d number request_header count message service why (Some kind) = refl
+
+served_in_message : (t : AdapterTable) (d : kept.Class3Connection) (number : ℕ) (request_header : RequestHeader) (count message : ℕ) (request : RouterRequestFields) → finished t (route.Connection (message_route t d number request_header count message)) (counted_once request (served_on t (route.Connection (message_route t d number request_header count message)) request)) ≡ framed number (view_request_header request_header) (message_served t d count message (counted_once request (connected_served t d.peer request)))
 unfolding served_object
 served_in_message t d number request_header count message nothing = refl
-served_in_message t d number request_header count message (refused service why) = refl
+served_in_message t d number request_header count message (refused service why) = counted_refusal t d number request_header count message service why (refused_tally service why)
 served_in_message t d number request_header count message (closing request) = refl
 served_in_message t d number request_header count message (object service class instance attribute body) = message_object t d number request_header count message service (object_answer t service class instance attribute body)
 served_in_message t d number request_header count message (opening large request) = refl

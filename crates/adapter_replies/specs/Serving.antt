@@ -19,7 +19,7 @@ use Rattle.adapter_table.specs.Class3Opening.{served_class3}
 use Rattle.adapter_table.specs.Messages.{with_messages}
 use Rattle.adapter_table.specs.MessagesSound.{IsCarried}
 use Rattle.adapter_table.specs.Own.{OwnRequest, own_of, cannot_ask, referred_table, referred_verdict}
-use Rattle.adapter_table.specs.Requests.{Next, Served, open_service, router_refusal, served_end, served_object, served_open}
+use Rattle.adapter_table.specs.Requests.{Next, Served, counted_once, open_service, router_refusal, served_end, served_object, served_open}
 use Rattle.adapter_replies.specs.declared.routes.Route.{Route}
 use Rattle.adapter_replies.specs.declared.routes.Route.TheVariants as route
 use Rattle.adapter_replies.specs.Messages.{way_frames}
@@ -94,7 +94,7 @@ own_on t way own =
     if cannot_ask t (peer_of way) then finished t way (Some (router_refusal t own.service status.ResourceUnavailable)) else referred_on t way own
 
 abbrev pub request_on : AdapterTable → Route → RouterRequestFields → Option OwnRequest → Next
-request_on t way request None = finished t way (served_on t way request)
+request_on t way request None = finished t way (counted_once request (served_on t way request))
 request_on t way request (Some own) = own_on t way own
 
 -- the bytes of a request on its route

@@ -3,16 +3,22 @@
 ghost use Rattle.std.specs.Prelude.{◌≡◌};
 ghost use Rattle.std.specs.Str.{bytes_eq};
 ghost use Rattle.cip_types.specs.Fields.{fields_at};
+ghost use Rattle.cip_encap.specs.Connected.{view_connected};
 ghost use Rattle.cip_encap.specs.Message.{header_widths, view_message};
+ghost use Rattle.cip_encap.specs.Packet.{view_packet};
+ghost use Rattle.cip_encap.specs.Reading.{seen};
 ghost use Rattle.cip_router.specs.Frames.{frame_reading, protocol_text, wrong_length_of};
-ghost use Rattle.adapter_table.specs.Encapsulation.{described_frame, described_message, discarded, frame_for, is_list};
+ghost use Rattle.adapter_table.specs.Encapsulation.{connected_items_for, described_frame, described_message, discarded, frame_for, is_list, items_for};
 ghost use Rattle.adapter_replies.specs.Routes.{view_frame};
 
 use crate::replies::PROTOCOL;
 use crate::routes::RequestHeader;
 use adapter_table::Description;
 use cip_encap::command::{LIST_SERVICES, NOP};
-use cip_encap::{MessageView, read_message, read_message_header};
+use cip_encap::{
+    CommonPacket, ConnectedPacket, ItemFault, MessageView, read_any_connected_items,
+    read_any_items, read_connected_items, read_items, read_message, read_message_header,
+};
 
 /// The bytes of a frame, read.
 ///
@@ -108,6 +114,37 @@ pub fn read_frame_for<'a>(description: &Option<Description>, bytes: &'a [u8]) ->
     match description {
         Some(_) => read_described_frame(bytes),
         None => read_frame(bytes),
+    }
+}
+
+/// Reads the items around a request, as a device takes them that is described or not. Only a described one skips items behind the
+/// request that nobody knows.
+///
+/// Volume 2, chapter 2, common packet format.
+pub fn read_items_for<'a>(
+    description: &Option<Description>,
+    body: &'a [u8],
+) -> Result<CommonPacket<'a>, ItemFault>
+    ensures { seen view_packet result ≡ items_for description.now body.now }
+{
+    match description {
+        Some(_) => read_any_items(body),
+        None => read_items(body),
+    }
+}
+
+/// Reads the items around a message of a class 3 connection, likewise.
+///
+/// Volume 2, chapter 2, common packet format.
+pub fn read_connected_items_for<'a>(
+    description: &Option<Description>,
+    body: &'a [u8],
+) -> Result<ConnectedPacket<'a>, ItemFault>
+    ensures { seen view_connected result ≡ connected_items_for description.now body.now }
+{
+    match description {
+        Some(_) => read_any_connected_items(body),
+        None => read_connected_items(body),
     }
 }
 

@@ -21,7 +21,9 @@ pub use answers::{
     late_answer, late_notices, notices_answer, one_notice, opened_address, opened_reply,
     opening_notices, reply_and_text, reply_answer, unserved_answer,
 };
-pub use frames::{FrameView, is_protocol, read_frame_for};
+pub use frames::{
+    FrameView, is_protocol, read_connected_items_for, read_frame_for, read_items_for,
+};
 pub use messages::repeated_answer;
 pub use object_replies::{inquiry_answer, object_notices, object_reply};
 pub use objects::{

@@ -37,6 +37,8 @@ use Rattle.adapter_table.specs.declared.profile.Profile.{Profile}
 use Rattle.adapter_table.specs.declared.table.AdapterTable.{AdapterTable}
 use Rattle.cip_events.specs.declared.profile_fault.ProfileFault.{ProfileFault}
 use Rattle.cip_events.specs.declared.profile_fault.ProfileFault.TheVariants.{Objects}
+use Rattle.adapter_table.specs.declared.counters.ManagerCounters.{ManagerCounters}
+use Rattle.adapter_table.specs.Counters.{no_counts}
 use Rattle.adapter_table.specs.Profiles.{no_limits, profile_fault}
 use Rattle.adapter_table.specs.Answering.{respond}
 use Rattle.adapter_table.specs.Checks.{verdict}
@@ -87,6 +89,30 @@ says bytes verdict notices = record { frames = record { to = OnStream 0; bytes =
 abbrev notes : List Notice → Answer
 notes notices = record (plain_answer Done) { notices = notices }
 
+-- a table that has counted this and nothing else
+abbrev having : ManagerCounters → AdapterTable → AdapterTable
+having counts t = record t { counters = record { manager = counts; link = [] } }
+
+-- one opening, one that was refused, and one for which there was no connection left; one close, and one that was refused; one
+-- connection that timed out
+abbrev opened_once : ManagerCounters
+opened_once = record no_counts { opens = 1 }
+
+abbrev refused_once : ManagerCounters
+refused_once = record no_counts { opens = 1; open_others = 1 }
+
+abbrev crowded_once : ManagerCounters
+crowded_once = record no_counts { opens = 1; open_resources = 1 }
+
+abbrev closed_once : ManagerCounters
+closed_once = record no_counts { closes = 1 }
+
+abbrev denied_once : ManagerCounters
+denied_once = record no_counts { closes = 1; close_others = 1 }
+
+abbrev late_once : ManagerCounters
+late_once = record no_counts { time_outs = 1 }
+
 -- ---- a class 3 connection is opened
 
 abbrev triad : Triad
@@ -124,7 +150,7 @@ open_request = 0x6F ∷ 0x00 ∷ 0x3E ∷ 0x00 ∷ 0x01 ∷ 0x00 ∷ 0x00 ∷ 0x
 abbrev open_reply : List ℕ
 open_reply = 0x6F ∷ 0x00 ∷ 0x2E ∷ 0x00 ∷ 0x01 ∷ 0x00 ∷ 0x00 ∷ 0x00 ∷ 0x00 ∷ 0x00 ∷ 0x00 ∷ 0x00 ∷ 0x01 ∷ 0x02 ∷ 0x03 ∷ 0x04 ∷ 0x05 ∷ 0x06 ∷ 0x07 ∷ 0x08 ∷ 0x00 ∷ 0x00 ∷ 0x00 ∷ 0x00 ∷ 0x00 ∷ 0x00 ∷ 0x00 ∷ 0x00 ∷ 0x00 ∷ 0x00 ∷ 0x02 ∷ 0x00 ∷ 0x00 ∷ 0x00 ∷ 0x00 ∷ 0x00 ∷ 0xB2 ∷ 0x00 ∷ 0x1E ∷ 0x00 ∷ 0xD4 ∷ 0x00 ∷ 0x00 ∷ 0x00 ∷ 0x01 ∷ 0x00 ∷ 0x00 ∷ 0x10 ∷ 0x01 ∷ 0x00 ∷ 0x00 ∷ 0x20 ∷ 0x05 ∷ 0x00 ∷ 0x34 ∷ 0x12 ∷ 0x78 ∷ 0x56 ∷ 0x34 ∷ 0x12 ∷ 0x10 ∷ 0x27 ∷ 0x00 ∷ 0x00 ∷ 0x10 ∷ 0x27 ∷ 0x00 ∷ 0x00 ∷ 0x00 ∷ 0x00 ∷ []
 
-a_class_3_connection_is_opened : after registered open_request ≡ Ok (says open_reply Done (Opened triad (record { 0 = 0x10000001 }) ∷ []), talking None [] 10000)
+a_class_3_connection_is_opened : after registered open_request ≡ Ok (says open_reply Done (Opened triad (record { 0 = 0x10000001 }) ∷ []), having opened_once (talking None [] 10000))
 unfolding frame inquiry_reply frame_reading handled messages.message_reading packets.packet_reading packets.are_sockets router_request_reading requests.request_reading paths.target_reading paths.segments_at paths.segment_at paths.logical_at paths.value_at opens.open_reading message_path_reading words.params16 class3_refusal served_class3 opened_class3 messages_table changes.with_class3 replies.opened_text
 a_class_3_connection_is_opened = refl
 
@@ -132,7 +158,7 @@ a_class_3_connection_is_opened = refl
 abbrev in_use : List ℕ
 in_use = 0x6F ∷ 0x00 ∷ 0x20 ∷ 0x00 ∷ 0x01 ∷ 0x00 ∷ 0x00 ∷ 0x00 ∷ 0x00 ∷ 0x00 ∷ 0x00 ∷ 0x00 ∷ 0x01 ∷ 0x02 ∷ 0x03 ∷ 0x04 ∷ 0x05 ∷ 0x06 ∷ 0x07 ∷ 0x08 ∷ 0x00 ∷ 0x00 ∷ 0x00 ∷ 0x00 ∷ 0x00 ∷ 0x00 ∷ 0x00 ∷ 0x00 ∷ 0x00 ∷ 0x00 ∷ 0x02 ∷ 0x00 ∷ 0x00 ∷ 0x00 ∷ 0x00 ∷ 0x00 ∷ 0xB2 ∷ 0x00 ∷ 0x10 ∷ 0x00 ∷ 0xD4 ∷ 0x00 ∷ 0x01 ∷ 0x01 ∷ 0x00 ∷ 0x01 ∷ 0x05 ∷ 0x00 ∷ 0x34 ∷ 0x12 ∷ 0x78 ∷ 0x56 ∷ 0x34 ∷ 0x12 ∷ 0x00 ∷ 0x00 ∷ []
 
-a_triad_is_used_once : after (talking None [] 10000) open_request ≡ Ok (says in_use Done [], talking None [] 10000)
+a_triad_is_used_once : after (talking None [] 10000) open_request ≡ Ok (says in_use Done [], having refused_once (talking None [] 10000))
 unfolding frame inquiry_reply frame_reading handled messages.message_reading packets.packet_reading packets.are_sockets router_request_reading requests.request_reading paths.target_reading paths.segments_at paths.segment_at paths.logical_at paths.value_at opens.open_reading message_path_reading words.params16 class3_refusal served_class3 opened_class3 messages_table changes.with_class3 replies.opened_text replies.refused_text
 a_triad_is_used_once = refl
 
@@ -142,7 +168,7 @@ open_size_0 = 0x6F ∷ 0x00 ∷ 0x3E ∷ 0x00 ∷ 0x01 ∷ 0x00 ∷ 0x00 ∷ 0x0
 abbrev no_size : List ℕ
 no_size = 0x6F ∷ 0x00 ∷ 0x20 ∷ 0x00 ∷ 0x01 ∷ 0x00 ∷ 0x00 ∷ 0x00 ∷ 0x00 ∷ 0x00 ∷ 0x00 ∷ 0x00 ∷ 0x01 ∷ 0x02 ∷ 0x03 ∷ 0x04 ∷ 0x05 ∷ 0x06 ∷ 0x07 ∷ 0x08 ∷ 0x00 ∷ 0x00 ∷ 0x00 ∷ 0x00 ∷ 0x00 ∷ 0x00 ∷ 0x00 ∷ 0x00 ∷ 0x00 ∷ 0x00 ∷ 0x02 ∷ 0x00 ∷ 0x00 ∷ 0x00 ∷ 0x00 ∷ 0x00 ∷ 0xB2 ∷ 0x00 ∷ 0x10 ∷ 0x00 ∷ 0xD4 ∷ 0x00 ∷ 0x01 ∷ 0x01 ∷ 0x27 ∷ 0x01 ∷ 0x05 ∷ 0x00 ∷ 0x34 ∷ 0x12 ∷ 0x78 ∷ 0x56 ∷ 0x34 ∷ 0x12 ∷ 0x00 ∷ 0x00 ∷ []
 
-a_size_of_0_is_refused : after registered open_size_0 ≡ Ok (says no_size Done [], registered)
+a_size_of_0_is_refused : after registered open_size_0 ≡ Ok (says no_size Done [], having refused_once registered)
 unfolding frame inquiry_reply frame_reading handled messages.message_reading packets.packet_reading packets.are_sockets router_request_reading requests.request_reading paths.target_reading paths.segments_at paths.segment_at paths.logical_at paths.value_at opens.open_reading message_path_reading words.params16 class3_refusal served_class3 opened_class3 messages_table changes.with_class3 replies.opened_text replies.refused_text
 a_size_of_0_is_refused = refl
 
@@ -152,7 +178,7 @@ open_assembly = 0x6F ∷ 0x00 ∷ 0x3E ∷ 0x00 ∷ 0x01 ∷ 0x00 ∷ 0x00 ∷ 0
 abbrev other_path : List ℕ
 other_path = 0x6F ∷ 0x00 ∷ 0x20 ∷ 0x00 ∷ 0x01 ∷ 0x00 ∷ 0x00 ∷ 0x00 ∷ 0x00 ∷ 0x00 ∷ 0x00 ∷ 0x00 ∷ 0x01 ∷ 0x02 ∷ 0x03 ∷ 0x04 ∷ 0x05 ∷ 0x06 ∷ 0x07 ∷ 0x08 ∷ 0x00 ∷ 0x00 ∷ 0x00 ∷ 0x00 ∷ 0x00 ∷ 0x00 ∷ 0x00 ∷ 0x00 ∷ 0x00 ∷ 0x00 ∷ 0x02 ∷ 0x00 ∷ 0x00 ∷ 0x00 ∷ 0x00 ∷ 0x00 ∷ 0xB2 ∷ 0x00 ∷ 0x10 ∷ 0x00 ∷ 0xD4 ∷ 0x00 ∷ 0x01 ∷ 0x01 ∷ 0x17 ∷ 0x01 ∷ 0x05 ∷ 0x00 ∷ 0x34 ∷ 0x12 ∷ 0x78 ∷ 0x56 ∷ 0x34 ∷ 0x12 ∷ 0x00 ∷ 0x00 ∷ []
 
-another_path_is_refused : after registered open_assembly ≡ Ok (says other_path Done [], registered)
+another_path_is_refused : after registered open_assembly ≡ Ok (says other_path Done [], having refused_once registered)
 unfolding frame inquiry_reply frame_reading handled messages.message_reading packets.packet_reading packets.are_sockets router_request_reading requests.request_reading paths.target_reading paths.segments_at paths.segment_at paths.logical_at paths.value_at opens.open_reading message_path_reading words.params16 class3_refusal served_class3 opened_class3 messages_table changes.with_class3 replies.opened_text replies.refused_text
 another_path_is_refused = refl
 
@@ -163,7 +189,7 @@ bare_open = 0x54 ∷ 0x02 ∷ 0x20 ∷ 0x06 ∷ 0x24 ∷ 0x01 ∷ 0x0A ∷ 0x0E 
 abbrev bare_refusal : List ℕ
 bare_refusal = 0xD4 ∷ 0x00 ∷ 0x01 ∷ 0x01 ∷ 0x03 ∷ 0x01 ∷ 0x05 ∷ 0x00 ∷ 0x34 ∷ 0x12 ∷ 0x78 ∷ 0x56 ∷ 0x34 ∷ 0x12 ∷ 0x00 ∷ 0x00 ∷ []
 
-no_stream_has_none : adapter_step registered (Request peer bare_open) ≡ Ok (record { frames = record { to = ToPeer peer; bytes = bare_refusal } ∷ []; datagrams = []; verdict = Done; notices = [] }, registered)
+no_stream_has_none : adapter_step registered (Request peer bare_open) ≡ Ok (record { frames = record { to = ToPeer peer; bytes = bare_refusal } ∷ []; datagrams = []; verdict = Done; notices = [] }, having refused_once registered)
 unfolding requested router_request_reading requests.request_reading opens.open_reading paths.path_reading paths.target_reading paths.segments_at paths.segment_at paths.logical_at paths.value_at words.params16 verdict served_open replies.refused_text
 no_stream_has_none = refl
 
@@ -225,12 +251,12 @@ close_request = 0x6F ∷ 0x00 ∷ 0x26 ∷ 0x00 ∷ 0x01 ∷ 0x00 ∷ 0x00 ∷ 0
 abbrev close_reply : List ℕ
 close_reply = 0x6F ∷ 0x00 ∷ 0x1E ∷ 0x00 ∷ 0x01 ∷ 0x00 ∷ 0x00 ∷ 0x00 ∷ 0x00 ∷ 0x00 ∷ 0x00 ∷ 0x00 ∷ 0x01 ∷ 0x02 ∷ 0x03 ∷ 0x04 ∷ 0x05 ∷ 0x06 ∷ 0x07 ∷ 0x08 ∷ 0x00 ∷ 0x00 ∷ 0x00 ∷ 0x00 ∷ 0x00 ∷ 0x00 ∷ 0x00 ∷ 0x00 ∷ 0x00 ∷ 0x00 ∷ 0x02 ∷ 0x00 ∷ 0x00 ∷ 0x00 ∷ 0x00 ∷ 0x00 ∷ 0xB2 ∷ 0x00 ∷ 0x0E ∷ 0x00 ∷ 0xCE ∷ 0x00 ∷ 0x00 ∷ 0x00 ∷ 0x05 ∷ 0x00 ∷ 0x34 ∷ 0x12 ∷ 0x78 ∷ 0x56 ∷ 0x34 ∷ 0x12 ∷ 0x00 ∷ 0x00 ∷ []
 
-it_is_closed : after (talking (Some 7) zeros 160) close_request ≡ Ok (says close_reply Done (Closed triad ∷ []), record registered { next_id = 2 })
+it_is_closed : after (talking (Some 7) zeros 160) close_request ≡ Ok (says close_reply Done (Closed triad ∷ []), having closed_once (record registered { next_id = 2 }))
 unfolding frame inquiry_reply frame_reading handled messages.message_reading packets.packet_reading packets.are_sockets router_request_reading requests.request_reading paths.target_reading paths.segments_at paths.segment_at paths.logical_at paths.value_at closes.close_reading closes.closed_text served_end messages_table changes.without_class3
 it_is_closed = refl
 
 -- its watchdog is the time-out of 160 ms after a message
-it_expires : adapter_step (talking (Some 7) zeros 160) (Tick 160) ≡ Ok (notes (Expired triad ∷ []), record registered { next_id = 2; clock = record { 0 = 160 } })
+it_expires : adapter_step (talking (Some 7) zeros 160) (Tick 160) ≡ Ok (notes (Expired triad ∷ []), having late_once (record registered { next_id = 2; clock = record { 0 = 160 } }))
 unfolding tick clocked_table expired_table produced_table aged without_late_class3_connections without_late_waiting messages_table
 it_expires = refl
 
@@ -332,7 +358,7 @@ and_the_one_over_the_stream = refl
 abbrev cyclic_open : List ℕ
 cyclic_open = 0x6F ∷ 0x00 ∷ 0x40 ∷ 0x00 ∷ 0x01 ∷ 0x00 ∷ 0x00 ∷ 0x00 ∷ 0x00 ∷ 0x00 ∷ 0x00 ∷ 0x00 ∷ 0x01 ∷ 0x02 ∷ 0x03 ∷ 0x04 ∷ 0x05 ∷ 0x06 ∷ 0x07 ∷ 0x08 ∷ 0x00 ∷ 0x00 ∷ 0x00 ∷ 0x00 ∷ 0x00 ∷ 0x00 ∷ 0x00 ∷ 0x00 ∷ 0x00 ∷ 0x00 ∷ 0x02 ∷ 0x00 ∷ 0x00 ∷ 0x00 ∷ 0x00 ∷ 0x00 ∷ 0xB2 ∷ 0x00 ∷ 0x30 ∷ 0x00 ∷ 0x54 ∷ 0x02 ∷ 0x20 ∷ 0x06 ∷ 0x24 ∷ 0x01 ∷ 0x0A ∷ 0x0E ∷ 0x00 ∷ 0x00 ∷ 0x00 ∷ 0x00 ∷ 0x01 ∷ 0x00 ∷ 0x00 ∷ 0x20 ∷ 0x05 ∷ 0x00 ∷ 0x34 ∷ 0x12 ∷ 0x78 ∷ 0x56 ∷ 0x34 ∷ 0x12 ∷ 0x02 ∷ 0x00 ∷ 0x00 ∷ 0x00 ∷ 0x10 ∷ 0x27 ∷ 0x00 ∷ 0x00 ∷ 0x14 ∷ 0x40 ∷ 0x10 ∷ 0x27 ∷ 0x00 ∷ 0x00 ∷ 0x14 ∷ 0x40 ∷ 0x01 ∷ 0x03 ∷ 0x20 ∷ 0x04 ∷ 0x24 ∷ 0x98 ∷ 0x2C ∷ 0x64 ∷ []
 
-a_triad_is_of_one_class : after (talking None [] 10000) cyclic_open ≡ Ok (says in_use Done [], talking None [] 10000)
+a_triad_is_of_one_class : after (talking None [] 10000) cyclic_open ≡ Ok (says in_use Done [], having refused_once (talking None [] 10000))
 unfolding frame inquiry_reply frame_reading handled messages.message_reading packets.packet_reading packets.are_sockets router_request_reading requests.request_reading paths.target_reading paths.segments_at paths.segment_at paths.logical_at paths.value_at opens.open_reading message_path_reading words.params16 paths.path_reading verdict served_open replies.refused_text
 a_triad_is_of_one_class = refl
 
@@ -350,7 +376,7 @@ inner_open = 0x70 ∷ 0x00 ∷ 0x44 ∷ 0x00 ∷ 0x01 ∷ 0x00 ∷ 0x00 ∷ 0x00
 abbrev open_not_served : List ℕ
 open_not_served = 0x70 ∷ 0x00 ∷ 0x1A ∷ 0x00 ∷ 0x01 ∷ 0x00 ∷ 0x00 ∷ 0x00 ∷ 0x00 ∷ 0x00 ∷ 0x00 ∷ 0x00 ∷ 0x00 ∷ 0x00 ∷ 0x00 ∷ 0x00 ∷ 0x00 ∷ 0x00 ∷ 0x00 ∷ 0x00 ∷ 0x00 ∷ 0x00 ∷ 0x00 ∷ 0x00 ∷ 0x00 ∷ 0x00 ∷ 0x00 ∷ 0x00 ∷ 0x00 ∷ 0x00 ∷ 0x02 ∷ 0x00 ∷ 0xA1 ∷ 0x00 ∷ 0x04 ∷ 0x00 ∷ 0x01 ∷ 0x00 ∷ 0x00 ∷ 0x20 ∷ 0xB1 ∷ 0x00 ∷ 0x06 ∷ 0x00 ∷ 0x07 ∷ 0x00 ∷ 0xD4 ∷ 0x00 ∷ 0x08 ∷ 0x00 ∷ []
 
-a_message_opens_no_connection : after (wide None [] 10000) inner_open ≡ Ok (says open_not_served Done [], wide (Some 7) (0xD4 ∷ 0 ∷ 8 ∷ 0 ∷ []) 160)
+a_message_opens_no_connection : after (wide None [] 10000) inner_open ≡ Ok (says open_not_served Done [], having refused_once (wide (Some 7) (0xD4 ∷ 0 ∷ 8 ∷ 0 ∷ []) 160))
 unfolding frame inquiry_reply frame_reading handled messages.message_reading connected_reading packets.are_sockets router_request_reading requests.request_reading paths.target_reading paths.segments_at paths.segment_at paths.logical_at paths.value_at messages_table opens.open_reading words.params16 changes.executed replies.refused_text
 a_message_opens_no_connection = refl
 
@@ -360,7 +386,7 @@ inner_close = 0x70 ∷ 0x00 ∷ 0x2C ∷ 0x00 ∷ 0x01 ∷ 0x00 ∷ 0x00 ∷ 0x0
 abbrev close_not_served : List ℕ
 close_not_served = 0x70 ∷ 0x00 ∷ 0x1A ∷ 0x00 ∷ 0x01 ∷ 0x00 ∷ 0x00 ∷ 0x00 ∷ 0x00 ∷ 0x00 ∷ 0x00 ∷ 0x00 ∷ 0x00 ∷ 0x00 ∷ 0x00 ∷ 0x00 ∷ 0x00 ∷ 0x00 ∷ 0x00 ∷ 0x00 ∷ 0x00 ∷ 0x00 ∷ 0x00 ∷ 0x00 ∷ 0x00 ∷ 0x00 ∷ 0x00 ∷ 0x00 ∷ 0x00 ∷ 0x00 ∷ 0x02 ∷ 0x00 ∷ 0xA1 ∷ 0x00 ∷ 0x04 ∷ 0x00 ∷ 0x01 ∷ 0x00 ∷ 0x00 ∷ 0x20 ∷ 0xB1 ∷ 0x00 ∷ 0x06 ∷ 0x00 ∷ 0x07 ∷ 0x00 ∷ 0xCE ∷ 0x00 ∷ 0x08 ∷ 0x00 ∷ []
 
-a_message_closes_none : after (wide None [] 10000) inner_close ≡ Ok (says close_not_served Done [], wide (Some 7) (0xCE ∷ 0 ∷ 8 ∷ 0 ∷ []) 160)
+a_message_closes_none : after (wide None [] 10000) inner_close ≡ Ok (says close_not_served Done [], having denied_once (wide (Some 7) (0xCE ∷ 0 ∷ 8 ∷ 0 ∷ []) 160))
 unfolding frame inquiry_reply frame_reading handled messages.message_reading connected_reading packets.are_sockets router_request_reading requests.request_reading paths.target_reading paths.segments_at paths.segment_at paths.logical_at paths.value_at messages_table closes.close_reading changes.executed replies.refused_text
 a_message_closes_none = refl
 
@@ -404,7 +430,7 @@ unfolding tick clocked_table expired_table produced_table aged without_late_clas
 a_late_request_of_a_message = refl
 
 -- where the connection ends too, nothing is answered
-it_ends_with_its_connection : adapter_step (referred (asker.Class3Connection (record { 0 = 0x10000001 }) 7) (talking (Some 7) [] 160)) (Tick 10000) ≡ Ok (notes (Expired triad ∷ []), record (answered registered) { next_id = 2; clock = record { 0 = 10000 } })
+it_ends_with_its_connection : adapter_step (referred (asker.Class3Connection (record { 0 = 0x10000001 }) 7) (talking (Some 7) [] 160)) (Tick 10000) ≡ Ok (notes (Expired triad ∷ []), having late_once (record (answered registered) { next_id = 2; clock = record { 0 = 10000 } }))
 unfolding tick clocked_table expired_table produced_table aged without_late_class3_connections without_late_waiting messages_table
 it_ends_with_its_connection = refl
 
@@ -448,7 +474,7 @@ second_open = 0x6F ∷ 0x00 ∷ 0x3E ∷ 0x00 ∷ 0x01 ∷ 0x00 ∷ 0x00 ∷ 0x0
 abbrev node_has_enough : List ℕ
 node_has_enough = 0x6F ∷ 0x00 ∷ 0x20 ∷ 0x00 ∷ 0x01 ∷ 0x00 ∷ 0x00 ∷ 0x00 ∷ 0x00 ∷ 0x00 ∷ 0x00 ∷ 0x00 ∷ 0x01 ∷ 0x02 ∷ 0x03 ∷ 0x04 ∷ 0x05 ∷ 0x06 ∷ 0x07 ∷ 0x08 ∷ 0x00 ∷ 0x00 ∷ 0x00 ∷ 0x00 ∷ 0x00 ∷ 0x00 ∷ 0x00 ∷ 0x00 ∷ 0x00 ∷ 0x00 ∷ 0x02 ∷ 0x00 ∷ 0x00 ∷ 0x00 ∷ 0x00 ∷ 0x00 ∷ 0xB2 ∷ 0x00 ∷ 0x10 ∷ 0x00 ∷ 0xD4 ∷ 0x00 ∷ 0x01 ∷ 0x01 ∷ 0x13 ∷ 0x01 ∷ 0x06 ∷ 0x00 ∷ 0x34 ∷ 0x12 ∷ 0x78 ∷ 0x56 ∷ 0x34 ∷ 0x12 ∷ 0x00 ∷ 0x00 ∷ []
 
-a_node_has_enough : after (limited (talking None [] 10000)) second_open ≡ Ok (says node_has_enough Done [], limited (talking None [] 10000))
+a_node_has_enough : after (limited (talking None [] 10000)) second_open ≡ Ok (says node_has_enough Done [], having crowded_once (limited (talking None [] 10000)))
 unfolding frame inquiry_reply frame_reading handled messages.message_reading packets.packet_reading packets.are_sockets router_request_reading requests.request_reading paths.target_reading paths.segments_at paths.segment_at paths.logical_at paths.value_at opens.open_reading message_path_reading words.params16 class3_refusal served_class3 replies.refused_text
 a_node_has_enough = refl
 
@@ -463,11 +489,11 @@ one_opening t = record t {
   openings = record { node = peer; since = record { 0 = 0 }; count = 1 } ∷ [];
 }
 
-no_place_is_left : after (one_place (talking None [] 10000)) second_open ≡ Ok (says node_has_enough Done [], one_place (talking None [] 10000))
+no_place_is_left : after (one_place (talking None [] 10000)) second_open ≡ Ok (says node_has_enough Done [], having crowded_once (one_place (talking None [] 10000)))
 unfolding frame inquiry_reply frame_reading handled messages.message_reading packets.packet_reading packets.are_sockets router_request_reading requests.request_reading paths.target_reading paths.segments_at paths.segment_at paths.logical_at paths.value_at opens.open_reading message_path_reading words.params16 class3_refusal served_class3 replies.refused_text
 no_place_is_left = refl
 
-a_node_has_opened_enough : after (one_opening (talking None [] 10000)) second_open ≡ Ok (says node_has_enough Done [], one_opening (talking None [] 10000))
+a_node_has_opened_enough : after (one_opening (talking None [] 10000)) second_open ≡ Ok (says node_has_enough Done [], having crowded_once (one_opening (talking None [] 10000)))
 unfolding frame inquiry_reply frame_reading handled messages.message_reading packets.packet_reading packets.are_sockets router_request_reading requests.request_reading paths.target_reading paths.segments_at paths.segment_at paths.logical_at paths.value_at opens.open_reading message_path_reading words.params16 class3_refusal served_class3 replies.refused_text
 a_node_has_opened_enough = refl
 
@@ -478,7 +504,7 @@ bare_close = 0x4E ∷ 0x02 ∷ 0x20 ∷ 0x06 ∷ 0x24 ∷ 0x01 ∷ 0x0A ∷ 0x0E
 abbrev denied : List ℕ
 denied = 0xCE ∷ 0x00 ∷ 0x0F ∷ 0x00 ∷ 0x05 ∷ 0x00 ∷ 0x34 ∷ 0x12 ∷ 0x78 ∷ 0x56 ∷ 0x34 ∷ 0x12 ∷ 0x00 ∷ 0x00 ∷ []
 
-another_node_closes_it_not : adapter_step (limited (talking None [] 10000)) (Request (record { 0 = 0xC0A80115 }) bare_close) ≡ Ok (record { frames = record { to = ToPeer (record { 0 = 0xC0A80115 }); bytes = denied } ∷ []; datagrams = []; verdict = Done; notices = [] }, limited (talking None [] 10000))
+another_node_closes_it_not : adapter_step (limited (talking None [] 10000)) (Request (record { 0 = 0xC0A80115 }) bare_close) ≡ Ok (record { frames = record { to = ToPeer (record { 0 = 0xC0A80115 }); bytes = denied } ∷ []; datagrams = []; verdict = Done; notices = [] }, having denied_once (limited (talking None [] 10000)))
 unfolding requested router_request_reading requests.request_reading paths.target_reading paths.segments_at paths.segment_at paths.logical_at paths.value_at closes.close_reading served_end replies.refused_text
 another_node_closes_it_not = refl
 

@@ -39,7 +39,11 @@ use Rattle.adapter_table.specs.contracts.profile.OutputPointPartialEq.TheImpl as
 use Rattle.adapter_table.specs.contracts.profile.InputPointPartialEq.TheImpl as input
 use Rattle.adapter_table.specs.contracts.profile.DescriptionPartialEq.TheImpl as description
 use Rattle.adapter_table.specs.contracts.profile.ProfilePartialEq.TheImpl as profile
+use Rattle.adapter_table.specs.contracts.counters.DeviceCountersPartialEq.TheImpl as counters
+use Rattle.adapter_table.specs.contracts.counters.ManagerCountersPartialEq.TheImpl as manager
 use Rattle.adapter_table.specs.contracts.opening_rates.rates.NodeOpeningsPartialEq.TheImpl as openings
+use Rattle.adapter_table.specs.declared.counters.DeviceCounters.{DeviceCounters}
+use Rattle.adapter_table.specs.declared.counters.ManagerCounters.{ManagerCounters}
 use Rattle.adapter_table.specs.contracts.row.State.{the_row as state_row}
 use Rattle.adapter_table.specs.contracts.row.StatePartialEq.TheImpl as state
 use Rattle.adapter_table.specs.contracts.row.ModePartialEq.TheImpl as mode
@@ -215,6 +219,24 @@ openings_decide a b =
     (Decides-and _ _ (ms_decides a.since b.since)
     (Decides-eqb a.count b.count)))
 
+manager_decides : (a b : ManagerCounters) → Decides ((manager.ghosts).eq a b) (a ≡ b)
+manager_decides a b =
+    Decides-like ((manager.ghosts).eq a b) (λ p. search rules) (λ e. search rules)
+    (Decides-and _ _ (Decides-eqb a.opens b.opens)
+    (Decides-and _ _ (Decides-eqb a.open_formats b.open_formats)
+    (Decides-and _ _ (Decides-eqb a.open_resources b.open_resources)
+    (Decides-and _ _ (Decides-eqb a.open_others b.open_others)
+    (Decides-and _ _ (Decides-eqb a.closes b.closes)
+    (Decides-and _ _ (Decides-eqb a.close_formats b.close_formats)
+    (Decides-and _ _ (Decides-eqb a.close_others b.close_others)
+    (Decides-eqb a.time_outs b.time_outs))))))))
+
+counters_decide : (a b : DeviceCounters) → Decides ((counters.ghosts).eq a b) (a ≡ b)
+counters_decide a b =
+    Decides-like ((counters.ghosts).eq a b) (λ p. search rules) (λ e. search rules)
+    (Decides-and _ _ (manager_decides a.manager b.manager)
+    (pointwise_decides Decides-eqb a.link b.link))
+
 -- two tables that pass the test are equal, and equal tables pass it
 pub adapter_decides : (a b : AdapterTable) → Decides ((adapter.ghosts).eq a b) (a ≡ b)
 adapter_decides a b =
@@ -226,4 +248,5 @@ adapter_decides a b =
     (Decides-and _ _ (Decides-eqb a.next_id b.next_id)
     (Decides-and _ _ (pointwise_decides stream_decides a.streams b.streams)
     (Decides-and _ _ (messaging_decides a.messaging b.messaging)
-    (pointwise_decides openings_decide a.openings b.openings))))))))
+    (Decides-and _ _ (pointwise_decides openings_decide a.openings b.openings)
+    (counters_decide a.counters b.counters)))))))))

@@ -38,6 +38,8 @@ use Rattle.messaging.specs.declared.table.Messaging.{Messaging}
 use Rattle.messaging.specs.Changes.{with_class3}
 use Rattle.messaging.specs.Times.{aged}
 use Rattle.adapter_table.specs.Messages.{messages_table}
+use Rattle.adapter_table.specs.declared.counters.DeviceCounters.{DeviceCounters}
+use Rattle.adapter_table.specs.Counting.{with_counters}
 use Rattle.adapter_table.specs.Ticks.{has_expired, expired_row, expired_rows, clocked_table, expired_table, produced_table, advanced}
 use Rattle.adapter_table.specs.Step.{adapter_table, written_table, changed_table}
 use Rattle.adapter_table.specs.Shaping.{all_pass}
@@ -250,6 +252,9 @@ within_messaged : (t : AdapterTable) (next_id : ℕ) (m : Messaging) → IsWithi
 unfolding messages_table
 within_messaged t next_id m within = record { places = within.places; nodes = within.nodes }
 
+within_tallied : (t : AdapterTable) (counters : DeviceCounters) → IsWithinLimits t → IsWithinLimits (with_counters t counters)
+within_tallied t counters within = record { places = within.places; nodes = within.nodes }
+
 requests_are_within : LimitedDo (λ t next. IsWithinLimits t → IsWithinLimits next)
 requests_are_within = record {
   stays = λ t within. within;
@@ -261,6 +266,7 @@ requests_are_within = record {
   connected = λ t stream request passes carried within.
       let more = within_messaged t (t.next_id + 1) (with_class3 t.messaging (opened_class3 t stream request)) within in
       record { places = more.places; nodes = more.nodes };
+  tallied = λ t next counters goes within. within_tallied next counters (goes within);
 }
 
 -- ---- an event

@@ -25,6 +25,7 @@ use Rattle.adapter_table.specs.declared.row.State.{State}
 use Rattle.adapter_table.specs.declared.row.State.TheVariants.{TimedOut}
 use Rattle.adapter_table.specs.declared.table.AdapterTable.{AdapterTable}
 use Rattle.adapter_table.specs.Rates.{with_openings}
+use Rattle.adapter_table.specs.Counting.{with_counters}
 use Rattle.adapter_table.specs.Rows.{is_established, has_triad, Each, written_state, written_row}
 use Rattle.adapter_table.specs.Checks.{Admitted}
 use Rattle.cip_types.specs.Ids.{connection_id}
@@ -168,6 +169,7 @@ requests_remember opening last = record {
   registered = λ t number remembers. remembers_registered opening last t number remembers;
   messaged = λ t next_id m goes remembers. remembers_messaged opening last t next_id m goes.later remembers;
   counted = λ t next openings goes remembers. remembers_rows opening last next (with_openings next openings) (omega arith) (goes remembers).there (goes remembers);
+  tallied = λ t next counters goes remembers. remembers_rows opening last next (with_counters next counters) (omega arith) (goes remembers).there (goes remembers);
 }
 
 -- ---- a datagram is accepted

@@ -28,6 +28,11 @@ use Rattle.messaging.specs.Changes.{longest_answer, has_request_number, executed
 use Rattle.messaging.specs.Sound.{EachOf, EachTwoOf, IdsDiffer, IsNumberedBelow}
 use Rattle.messaging.specs.Lemmas.EachOfLemmas.{each_weaker}
 use Rattle.messaging.specs.Lemmas.KeptLemmas.{without_stream_keeps, answered_once}
+use Rattle.adapter_table.specs.declared.counters.DeviceCounters.{DeviceCounters}
+use Rattle.adapter_table.specs.declared.counters.Tally.{Tally}
+use Rattle.adapter_table.specs.declared.counters.Tally.TheVariants as tally
+use Rattle.adapter_table.specs.Counters.{refused_tally}
+use Rattle.adapter_table.specs.Counting.{tallied, with_counters}
 use Rattle.adapter_table.specs.declared.table.AdapterTable.{AdapterTable}
 use Rattle.adapter_table.specs.declared.table.Stream as streams
 use Rattle.adapter_table.specs.Answering.{with_reply, responded, respond_of, respond}
@@ -43,7 +48,7 @@ use Rattle.adapter_table.specs.Objects.{ObjectAnswer, said, denied, resetting, a
 use Rattle.adapter_table.specs.Carrying.{object_answer}
 use Rattle.adapter_table.specs.Opening.{opened_table}
 use Rattle.adapter_table.specs.Own.{OwnRequest, own_of, cannot_ask, referred_verdict}
-use Rattle.adapter_table.specs.Requests.{Next, open_service, router_refusal, object_served, served_object}
+use Rattle.adapter_table.specs.Requests.{counted_once, Next, open_service, router_refusal, object_served, served_object}
 use Rattle.adapter_table.specs.Step.{written_table, changed_table}
 use Rattle.adapter_table.specs.Streams.{with_stream, without_stream, registered_table}
 use Rattle.adapter_table.specs.Ticks.{clocked_table, expired_table, produced_table}
@@ -155,6 +160,14 @@ AgainAfter stream unit done = Again stream unit done.reply done.table
 again_fitted : (t : AdapterTable) (stream : streams.Stream) (unit : ConnectedFields) (d : Class3Connection) (service : ℕ) (reply : ReplyFields) → Comes t stream unit d → Again stream unit (Some (connected d.t_o_id.0 unit.count (fitted_text d service reply))) (executed_table t d unit.count (fitted_text d service reply))
 again_fitted t stream unit d service reply comes = again_executed t stream unit d (fitted_text d service reply) comes (text_some (fitted d.t_o_size service reply))
 
+-- what is counted changes nothing of it
+comes_counted : (t : AdapterTable) (counters : DeviceCounters) (stream : streams.Stream) (unit : ConnectedFields) (d : Class3Connection) → Comes t stream unit d → Comes (with_counters t counters) stream unit d
+comes_counted t counters stream unit d comes = record { differ = comes.differ; found = comes.found; fits = comes.fits }
+
+again_counted : (t : AdapterTable) (stream : streams.Stream) (unit : ConnectedFields) (d : Class3Connection) (service : ℕ) (reply : ReplyFields) (kind : Option Tally) → Comes t stream unit d → Again stream unit (Some (connected d.t_o_id.0 unit.count (fitted_text d service reply))) (executed_table (tallied kind t) d unit.count (fitted_text d service reply))
+again_counted t stream unit d service reply None comes = again_fitted t stream unit d service reply comes
+again_counted t stream unit d service reply (Some kind) comes = again_fitted (tallied (Some kind) t) stream unit d service reply (comes_counted t _ stream unit d comes)
+
 again_object : (t : AdapterTable) (stream : streams.Stream) (unit : ConnectedFields) (d : Class3Connection) (first service : ℕ) (answer : ObjectAnswer) → Comes t stream unit d → AgainAfter stream unit (message_replied d unit.count first (object_served t service answer))
 again_object t stream unit d first service (said by value) comes = again_fitted t stream unit d first (object_served t service (said by value)).reply comes
 again_object t stream unit d first service (denied why) comes = again_fitted t stream unit d first (object_served t service (denied why)).reply comes
@@ -168,13 +181,13 @@ abbrev IsRequest : RouterRequestFields → Type 0
 IsRequest nothing = ⊥
 IsRequest other = Unit {0}
 
-again_served : (t : AdapterTable) (stream : streams.Stream) (unit : ConnectedFields) (d : Class3Connection) (first : ℕ) (request : RouterRequestFields) → IsRequest request → Comes t stream unit d → AgainAfter stream unit (message_served t d unit.count first (connected_served t d.peer request))
+again_served : (t : AdapterTable) (stream : streams.Stream) (unit : ConnectedFields) (d : Class3Connection) (first : ℕ) (request : RouterRequestFields) → IsRequest request → Comes t stream unit d → AgainAfter stream unit (message_served t d unit.count first (counted_once request (connected_served t d.peer request)))
 unfolding served_object
 again_served t stream unit d first nothing some comes = absurd some
-again_served t stream unit d first (refused service why) some comes = again_fitted t stream unit d first (router_refusal t service why).reply comes
-again_served t stream unit d first (closing request) some comes = again_fitted t stream unit d first (router_refusal t 0x4E status.Service).reply comes
+again_served t stream unit d first (refused service why) some comes = again_counted t stream unit d first (router_refusal t service why).reply (refused_tally service why) comes
+again_served t stream unit d first (closing request) some comes = again_counted t stream unit d first (router_refusal t 0x4E status.Service).reply (Some tally.CloseOther) comes
 again_served t stream unit d first (object service class instance attribute body) some comes = again_object t stream unit d first service (object_answer t service class instance attribute body) comes
-again_served t stream unit d first (opening large request) some comes = again_fitted t stream unit d first (router_refusal t (open_service large) status.Service).reply comes
+again_served t stream unit d first (opening large request) some comes = again_counted t stream unit d first (router_refusal t (open_service large) status.Service).reply (Some tally.OpenOther) comes
 
 again_own : (t : AdapterTable) (stream : streams.Stream) (unit : ConnectedFields) (d : Class3Connection) (asks : OwnRequest) (b : Bool) → Comes t stream unit d → AgainAfter stream unit (cond b (message_replied d unit.count asks.service (router_refusal t asks.service status.ResourceUnavailable)) (record { reply = None; verdict = referred_verdict t asks; notices = []; table = asking_table t d unit.count asks }))
 again_own t stream unit d asks true comes = again_fitted t stream unit d asks.service (router_refusal t asks.service status.ResourceUnavailable).reply comes
@@ -198,18 +211,18 @@ close_is : (service : ℕ) (reading : Result CloseFields ReadFault) → IsReques
 close_is service (Ok request) = tt
 close_is service (Err fault) = tt
 
-manager_is : (service : ℕ) (body : List ℕ) → IsRequest (request_to_manager service body)
-manager_is service body =
+manager_is : (service : ℕ) (attribute : Option ℕ) (body : List ℕ) → IsRequest (request_to_manager service attribute body)
+manager_is service attribute body =
     either IsRequest (service == forward_open) _ _ (open_is service false _)
     (either IsRequest (service == large_forward_open) _ _ (open_is service true _)
     (either IsRequest (service == forward_close) _ _ (close_is service _)
-    (either IsRequest (service == unconnected_send) (object service 6 1 None body) (refused service status.Service) tt tt)))
+    (either IsRequest (service == unconnected_send) (object service 6 1 None body) (object service 6 1 attribute body) tt tt)))
 
 request_is : (service : ℕ) (reading : Result RequestFields ReadFault) → IsRequest (router_request_of service reading)
 request_is service (Err fault) = tt
 request_is service (Ok request) =
-    either IsRequest (is_manager request.target) (request_to_manager request.service request.body) (object request.service request.target.class request.target.instance request.target.attribute request.body)
-    (manager_is request.service request.body) tt
+    either IsRequest (is_manager request.target) (request_to_manager request.service request.target.attribute request.body) (object request.service request.target.class request.target.instance request.target.attribute request.body)
+    (manager_is request.service request.target.attribute request.body) tt
 
 message_is : (message : List ℕ) → message ≢ [] → IsRequest (router_request_reading message)
 unfolding router_request_reading
@@ -291,6 +304,7 @@ settled_effects number = record {
   registered = λ t number settled. settled;
   messaged = λ t next_id m goes settled. settled_messaged number t next_id m (goes.settled number settled);
   counted = λ t openings settled. settled;
+  tallied = λ t counters settled. settled;
 }
 
 pub steps_settle : (number : ℕ) → StepsKeep (λ t. IsSettled number t.messaging)

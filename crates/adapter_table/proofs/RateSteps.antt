@@ -32,6 +32,8 @@ use Rattle.adapter_table.specs.Requests.{Next}
 use Rattle.adapter_table.specs.StatedLimits.{limited_admission}
 use Rattle.adapter_table.specs.Step.{adapter_table, written_table, changed_table}
 use Rattle.adapter_table.specs.Streams.{with_stream, without_stream, registered_table}
+use Rattle.adapter_table.specs.declared.counters.DeviceCounters.{DeviceCounters}
+use Rattle.adapter_table.specs.Counting.{with_counters}
 use Rattle.adapter_table.specs.Ticks.{clocked_table, expired_table, produced_table, advanced}
 use Rattle.adapter_table.specs.Laws.{StepsKeep}
 use Rattle.adapter_table.specs.Lemmas.ControlLemmas.{limited_control}
@@ -125,6 +127,9 @@ messaged_within : (t : AdapterTable) (next_id : ℕ) (m : Messaging) → AreAt t
 unfolding messages_table
 messaged_within t next_id m are = are
 
+tallied_within : (t : AdapterTable) (counters : DeviceCounters) → AreAt t → AreAt (with_counters t counters)
+tallied_within t counters are = are
+
 requests_within : LimitedDo (λ t next. AreAt t → AreAt next)
 requests_within = record {
   stays = λ t are. are;
@@ -134,6 +139,7 @@ requests_within = record {
   registered = registered_within;
   messaged = λ t next_id m goes are. messaged_within t next_id m are;
   connected = λ t stream request passes carried are. connected_within t stream request passes are;
+  tallied = λ t next counters goes are. tallied_within next counters (goes are);
 }
 
 -- ---- an event

@@ -6,6 +6,8 @@ use Rattle.std.proofs.lemmas.Bool.Decides.{nat_tests}
 use Rattle.cip_types.specs.declared.names.Node.{Node}
 use Rattle.cip_types.specs.declared.names.Triad.{Triad}
 use Rattle.cip_fwdopen.specs.Open.{OpenFields}
+use Rattle.adapter_table.specs.declared.counters.DeviceCounters.{DeviceCounters}
+use Rattle.adapter_table.specs.Counting.{with_counters}
 use Rattle.adapter_table.specs.declared.profile.InputPoint.{InputPoint}
 use Rattle.adapter_table.specs.declared.profile.OutputPoint.{OutputPoint}
 use Rattle.adapter_table.specs.declared.profile.Profile.{Profile}
@@ -125,6 +127,9 @@ loses_messaged : (t : AdapterTable) (next_id : ℕ) (m : Messaging) → LosesOnl
 unfolding messages_table
 loses_messaged t next_id m = loses_nothing t
 
+loses_tallied : (t next : AdapterTable) (counters : DeviceCounters) → LosesOnly t next → LosesOnly t (with_counters next counters)
+loses_tallied t next counters loses = loses
+
 -- ---- requests and frames
 
 -- each of them loses owners at most
@@ -137,4 +142,5 @@ requests_lose = record {
   registered = λ t number whole. loses_registered t number;
   messaged = λ t next_id m goes whole. loses_messaged t next_id m;
   counted = λ t next openings loses. loses;
+  tallied = λ t next counters loses whole. loses_tallied t next counters (loses whole);
 }

@@ -14,6 +14,8 @@ use Rattle.adapter_table.specs.Connections.{Row}
 use Rattle.adapter_table.specs.declared.opening_rates.rates.NodeOpenings.{NodeOpenings}
 use Rattle.adapter_table.specs.declared.table.AdapterTable.{AdapterTable}
 use Rattle.adapter_table.specs.Rates.{with_openings}
+use Rattle.adapter_table.specs.declared.counters.DeviceCounters.{DeviceCounters}
+use Rattle.adapter_table.specs.Counting.{with_counters}
 use Rattle.adapter_table.specs.declared.table.PointValue.{PointValue}
 use Rattle.adapter_table.specs.declared.table.Stream.{Stream}
 use Rattle.adapter_table.specs.Rows.{others, drives, drivers, written_row, is_established, is_timed_out, has_triad, holds_triad, is_member, is_supported}
@@ -295,6 +297,21 @@ sound_counted t openings sound = record {
   streams_differ = sound.streams_differ;
 }
 
+pub sound_tallied : (t : AdapterTable) (counters : DeviceCounters) → IsSound t → IsSound (with_counters t counters)
+sound_tallied t counters sound = record {
+  few = sound.few;
+  one_owner = sound.one_owner;
+  triads_differ = sound.triads_differ;
+  ids_differ = sound.ids_differ;
+  ids_are_drawn = sound.ids_are_drawn;
+  listeners_are_supported = sound.listeners_are_supported;
+  groups_agree = sound.groups_agree;
+  producers = sound.producers;
+  ids_are_left = sound.ids_are_left;
+  few_streams = sound.few_streams;
+  streams_differ = sound.streams_differ;
+}
+
 -- ---- each effect
 
 pub sound_effects : EffectsKeep IsSound
@@ -309,6 +326,7 @@ sound_effects = record {
   registered = sound_registered;
   messaged = sound_messaged;
   counted = sound_counted;
+  tallied = sound_tallied;
 }
 
 pub sound_fresh : (profile : Profile) → IsSound (adapter_table profile)

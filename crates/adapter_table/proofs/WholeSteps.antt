@@ -12,6 +12,8 @@ use Rattle.adapter_table.specs.Connections.{Row}
 use Rattle.adapter_table.specs.declared.opening_rates.rates.NodeOpenings.{NodeOpenings}
 use Rattle.adapter_table.specs.declared.table.AdapterTable.{AdapterTable}
 use Rattle.adapter_table.specs.Rates.{with_openings}
+use Rattle.adapter_table.specs.declared.counters.DeviceCounters.{DeviceCounters}
+use Rattle.adapter_table.specs.Counting.{with_counters}
 use Rattle.adapter_table.specs.Profiles.{is_at, profile_fault}
 use Rattle.adapter_table.specs.Rows.{has_triad, others, written_row}
 use Rattle.messaging.specs.declared.table.Messaging.{Messaging}
@@ -36,7 +38,7 @@ use Rattle.adapter_table.proofs.ConsumerLemmas.{consume_kept, consume_expired, a
 use Rattle.adapter_table.specs.Lemmas.FedLemmas.{shaped_fed}
 use Rattle.adapter_table.specs.Laws.{EffectsKeep}
 use Rattle.adapter_table.specs.Lemmas.EffectLemmas.{adapter_keeps}
-use Rattle.adapter_table.proofs.StepLemmas.{sound_fresh, sound_opened, sound_closed, sound_written, sound_fed, sound_advanced, sound_with, sound_without, sound_registered, sound_messaged, sound_counted}
+use Rattle.adapter_table.proofs.StepLemmas.{sound_fresh, sound_opened, sound_closed, sound_written, sound_fed, sound_advanced, sound_with, sound_without, sound_registered, sound_messaged, sound_counted, sound_tallied}
 use Rattle.adapter_table.specs.RowLimits.{fits_written, fits_expired}
 use Rattle.adapter_table.proofs.PlaceLemmas.{names_left, names_kept, names_expired, names_then, messages_beside, messages_opened, messages_with, messages_without, messages_registered, messages_fresh}
 use Rattle.adapter_table.proofs.WholeLemmas.{fits_due, fits_changed, fits_fed, fits_opened}
@@ -103,12 +105,13 @@ unfolding clocked_table expired_table produced_table
 whole_advanced t ms in_time whole =
     let clock : Ms = record { 0 = t.clock.0 + ms } in
     let left = expired_rows clock t.rows in
+    let beside =
+    messages_beside t (map (produced_row clock) (staying left)) (expired_values t.profile (expired clock t.rows) t.values) clock
+    (names_then t.rows left _ (names_expired clock t.rows)
+    (names_then left (staying left) _ (names_left (stays left) left) (names_kept (produced_row clock) (due_keeps clock) (staying left)))) whole.messages in
     record {
       sound = sound_advanced t ms whole.sound;
-      messages =
-          messages_beside t (map (produced_row clock) (staying left)) (expired_values t.profile (expired clock t.rows) t.values) clock
-          (names_then t.rows left _ (names_expired clock t.rows)
-          (names_then left (staying left) _ (names_left (stays left) left) (names_kept (produced_row clock) (due_keeps clock) (staying left)))) whole.messages;
+      messages = record { own = beside.own; class3_connections = beside.class3_connections; waiting = beside.waiting };
       shaped = shaped_expired t.profile (expired clock t.rows) t.values whole.shaped;
       consume = consume_kept (produced_row clock) (due_keeps clock) t.profile (staying left) (each_filter (ConsumesOutput t.profile) (stays left) left (consume_expired clock t.profile t.rows whole.consume));
       fits = each_map FitsRow (produced_row clock) (fits_due clock in_time) (staying left) (each_filter FitsRow (stays left) left (each_map FitsRow (expired_row clock) (fits_expired clock) t.rows whole.fits));
@@ -141,6 +144,16 @@ whole_counted t openings whole = record {
   clock = whole.clock;
 }
 
+pub whole_tallied : (t : AdapterTable) (counters : DeviceCounters) → IsWhole t → IsWhole (with_counters t counters)
+whole_tallied t counters whole = record {
+  sound = sound_tallied t counters whole.sound;
+  messages = record { own = whole.messages.own; class3_connections = whole.messages.class3_connections; waiting = whole.messages.waiting };
+  shaped = whole.shaped;
+  consume = whole.consume;
+  fits = whole.fits;
+  clock = whole.clock;
+}
+
 pub whole_effects : EffectsKeep IsWhole
 whole_effects = record {
   opened = whole_opened;
@@ -153,6 +166,7 @@ whole_effects = record {
   registered = whole_registered;
   messaged = whole_messaged;
   counted = whole_counted;
+  tallied = whole_tallied;
 }
 
 pub whole_step : (t : AdapterTable) (event : Event) (next : Next) → adapter_step t event ≡ Ok next → IsWhole t → IsWhole next.1

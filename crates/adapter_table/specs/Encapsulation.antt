@@ -13,6 +13,7 @@ use Rattle.cip_encap.specs.Message.{MessageFields, header_widths, message_text}
 use Rattle.cip_encap.specs.Reading.{message_reading}
 use Rattle.cip_encap.specs.Packet.{PacketFields}
 use Rattle.cip_encap.specs.PacketReading.{packet_reading}
+use Rattle.cip_encap.specs.AnyItems.{any_packet_reading, any_connected_reading}
 use Rattle.cip_router.specs.declared.command.Command.{Command}
 use Rattle.cip_router.specs.declared.command.Command.TheVariants as command
 use Rattle.cip_router.specs.declared.command.EncapStatus.{EncapStatus}
@@ -39,7 +40,7 @@ use Rattle.adapter_table.specs.Own.{OwnRequest, own_of, cannot_ask, referred_ver
 use Rattle.adapter_table.specs.Class3Opening.{stream_served}
 use Rattle.adapter_table.specs.Connected.{service_in, fitted_text, connected_served, repeated_table, executed_table, asking_table}
 use Rattle.adapter_table.specs.Inquiries.{frame_alone, inquiry_reply}
-use Rattle.adapter_table.specs.Requests.{Next, Served, router_refusal}
+use Rattle.adapter_table.specs.Requests.{Next, Served, counted_once, router_refusal}
 use Rattle.cip_events.specs.Answers.{plain_answer}
 use Rattle.cip_router.specs.Commands.{command_of, is_silent}
 use Rattle.adapter_table.specs.Streams.{is_stream, session_of, has_session, without_stream, ended_notices, registered_table}
@@ -104,7 +105,7 @@ own_replied t stream context own =
 
 -- a request of the stream's peer
 abbrev pub request_handled : AdapterTable → Stream → (context : ℕ) → RouterRequestFields → Option OwnRequest → Handled
-request_handled t stream context request None = request_replied t (stream_served t stream request)
+request_handled t stream context request None = request_replied t (counted_once request (stream_served t stream request))
 request_handled t stream context request (Some own) = own_replied t stream context own
 
 -- items with a request, or other data
@@ -113,10 +114,15 @@ packet_replied t stream context (Err fault) = refusal t status.IncorrectData
 packet_replied t stream context (Ok packet) =
     request_handled t stream context (router_request_reading packet.payload) (own_of t.profile.objects (router_request_reading packet.payload))
 
+-- the items of a request, as a device takes them: a described one skips those behind the request that nobody knows
+abbrev pub items_for : Option Description → List ℕ → Result PacketFields ItemFault
+items_for None body = packet_reading body
+items_for (Some d) body = any_packet_reading body
+
 -- SendRRData: within its session, a request to the message router
 abbrev pub send_rr_data : AdapterTable → Stream → (session context : ℕ) → List ℕ → Handled
 send_rr_data t stream session context body =
-    if has_session stream session then packet_replied t stream context (packet_reading body) else refusal t status.InvalidSession
+    if has_session stream session then packet_replied t stream context (items_for t.profile.description body) else refusal t status.InvalidSession
 
 -- THE REPLY TO A CONNECTED MESSAGE
 
@@ -160,7 +166,7 @@ message_served t d count service (Some s) = message_replied d count service s
 
 -- a message with a new count
 abbrev pub message_executed : AdapterTable → Class3Connection → (count service : ℕ) → RouterRequestFields → Option OwnRequest → Handled
-message_executed t d count service request None = message_served t d count service (connected_served t d.peer request)
+message_executed t d count service request None = message_served t d count service (counted_once request (connected_served t d.peer request))
 message_executed t d count service request (Some own) = own_message t d count own
 
 -- a message of a class 3 connection: longer than its O->T size, or the last one again, or new
@@ -183,6 +189,11 @@ unit_replied t stream (Err fault) = refusal t status.IncorrectData
 unit_replied t stream (Ok unit) =
     message_found t unit.count unit.message (find (is_class3 stream.number (record { 0 = unit.connection })) t.messaging.class3_connections)
 
+-- the items of a connected message, likewise
+abbrev pub connected_items_for : Option Description → List ℕ → Result ConnectedFields ItemFault
+connected_items_for None body = connected_reading body
+connected_items_for (Some d) body = any_connected_reading body
+
 -- the status of a connected message outside its session: a described device names the session, any other refuses it as an unknown
 -- command
 abbrev pub outside_session : Option Description → EncapStatus
@@ -192,7 +203,7 @@ outside_session (Some d) = status.InvalidSession
 -- SendUnitData: within its session, a connected message
 abbrev pub send_unit_data : AdapterTable → Stream → (session : ℕ) → List ℕ → Handled
 send_unit_data t stream session body =
-    if has_session stream session then unit_replied t stream (connected_reading body) else refusal t (outside_session t.profile.description)
+    if has_session stream session then unit_replied t stream (connected_items_for t.profile.description body) else refusal t (outside_session t.profile.description)
 
 -- a message by its command
 unfoldable pub handled : AdapterTable → Stream → RequestHeader → List ℕ → Command → Handled

@@ -18,7 +18,9 @@ use Rattle.adapter_table.specs.declared.profile.OutputPoint.{OutputPoint}
 use Rattle.adapter_table.specs.declared.profile.Profile.{Profile}
 use Rattle.adapter_table.specs.declared.opening_rates.rates.NodeOpenings.{NodeOpenings}
 use Rattle.adapter_table.specs.Connections.{Row}
+use Rattle.adapter_table.specs.declared.counters.DeviceCounters.{DeviceCounters}
 use Rattle.adapter_table.specs.declared.table.AdapterTable.{AdapterTable}
+use Rattle.adapter_table.specs.Counting.{with_counters}
 use Rattle.adapter_table.specs.Profiles.{is_at, is_output_at}
 use Rattle.adapter_table.specs.Checks.{Admitted, admission, drawn_ids}
 use Rattle.adapter_table.specs.Opening.{opened_row, opened_table}
@@ -69,7 +71,7 @@ abbrev pub RefusalsAcceptNothing : Type 0
 RefusalsAcceptNothing = (opening : ℕ) (t : AdapterTable) (event : Event) (fault : StepFault) → adapter_step t event ≡ Err fault → accepted_at opening t event ≡ []
 
 -- each effect keeps it: a connection is opened, closed, an input written, a datagram accepted, time passes, a stream
--- begins, ends, a session is registered, class 3 connections and waiting requests change, openings are counted
+-- begins, ends, a session is registered, class 3 connections and waiting requests change, openings are counted, and requests and time-outs
 pub record EffectsKeep (P : AdapterTable → Type 0) : Type 0 where
   pub opened : (t : AdapterTable) (peer : Node) (request : OpenFields) (admitted : Admitted) → admission t request ≡ Ok admitted → P t → P (opened_table t (opened_row t peer request admitted) admitted)
   pub closed : (t : AdapterTable) (row : Row) → P t → P (closed_table t row)
@@ -81,6 +83,7 @@ pub record EffectsKeep (P : AdapterTable → Type 0) : Type 0 where
   pub registered : (t : AdapterTable) (number : ℕ) → P t → P (registered_table t number)
   pub messaged : (t : AdapterTable) (next_id : ℕ) (m : Messaging) → MessagesGoOn t next_id m → P t → P (messages_table t next_id m)
   pub counted : (t : AdapterTable) (openings : List NodeOpenings) → P t → P (with_openings t openings)
+  pub tallied : (t : AdapterTable) (counters : DeviceCounters) → P t → P (with_counters t counters)
 
 -- the times and the id of an admitted request
 pub record IsTimed (t : AdapterTable) (request : OpenFields) (admitted : Admitted) : Type 0 where

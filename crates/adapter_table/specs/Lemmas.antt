@@ -20,3 +20,5 @@ pub mod DriverLemmas
 pub mod FedLemmas
 pub mod CounterSteps
 pub mod ObjectSizes
+pub mod ItemLemmas
+pub mod CountLemmas

@@ -7,6 +7,8 @@ pub mod Paths
 pub mod Intervals
 pub mod Connected
 pub mod Connections
+pub mod Counters
+pub mod Counting
 pub mod Datagrams
 pub mod Class3Opening
 pub mod Encapsulation

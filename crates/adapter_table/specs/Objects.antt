@@ -1,4 +1,4 @@
--- The objects of an adapter beside its Connection Manager: their attributes, and the answers to their services (Volume 1,
+-- The objects of an adapter: their attributes, and the answers to their services (Volume 1,
 -- chapter 5, object library, and appendix A, common services; Volume 2, chapter 5, TCP/IP Interface, Ethernet Link and
 -- QoS; Volume 1, chapter 3, Port).
 --
@@ -6,13 +6,13 @@
 --                               9 configuration consistency value
 --   class 02  Message Router      1 object list, 2 connections that there may be, 3 connections that there are
 --   class 04  Assembly            3 data, 4 size
---   class 06  Connection Manager  none; the services of its instance 1 are those of connections
+--   class 06  Connection Manager  1 to 8 counters of openings, closes and time-outs; it has the services of connections too
 --   class 48  QoS                 1 802.1Q tags, 2 to 8 code points
 --   class F4  Port                1 type, 2 number, 3 link object, 4 name, 7 node address
 --   class F5  TCP/IP Interface    1 status, 2 capability, 3 control, 4 link object, 5 addresses, 6 host name, 8 time to live,
 --                               9 multicast groups, 10 address conflict detection, 11 last conflict, 13 inactivity
---   class F6  Ethernet Link       1 speed, 2 flags, 3 physical address, 7 type, 8 state, 9 administrative state, 10 label,
---                               11 capability
+--   class F6  Ethernet Link       1 speed, 2 flags, 3 physical address, 4 counters, 5 counters of the medium, 6 control, 7 type,
+--                               8 state, 9 administrative state, 10 label, 11 capability
 --
 -- Instance 0 of a class has the attributes 1 revision, 2 largest instance, 3 number of instances, 4 optional attributes and 5
 -- optional services of its instances, 6 largest attribute of the class, 7 largest attribute of its instances. Each number is
@@ -39,8 +39,10 @@ use Rattle.adapter_table.specs.declared.maker_limits.Places.{Places}
 use Rattle.adapter_table.specs.declared.profile.InputPoint.{InputPoint}
 use Rattle.adapter_table.specs.declared.profile.Profile.{Profile}
 use Rattle.adapter_table.specs.declared.objects.IoState.{IoState}
+use Rattle.adapter_table.specs.declared.counters.ManagerCounters.{ManagerCounters}
 use Rattle.adapter_table.specs.declared.table.PointValue.{PointValue}
 use Rattle.adapter_table.specs.declared.table.AdapterTable.{AdapterTable}
+use Rattle.adapter_table.specs.Counters.{interface_counters, media_counters}
 use Rattle.adapter_table.specs.Own.{is_own_class}
 use Rattle.adapter_table.specs.Points.{bytes_at}
 use Rattle.adapter_table.specs.Profiles.{all_places, class3_places, served_classes}
@@ -172,16 +174,16 @@ router_class = record { attributes = 1 ∷ 2 ∷ 3 ∷ []; services = 0x03 ∷ 0
 abbrev pub assembly_facts : ClassFacts
 assembly_facts = record { attributes = 4 ∷ []; services = 0x03 ∷ 0x04 ∷ []; largest = 4 }
 
--- its services that may be left out are Unconnected_Send and Large_Forward_Open
+-- its services that may be left out are those of lists, Unconnected_Send and Large_Forward_Open
 abbrev pub manager_class : ClassFacts
-manager_class = record { attributes = []; services = 0x52 ∷ 0x5B ∷ []; largest = 0 }
+manager_class = record { attributes = 1 ∷ 2 ∷ 3 ∷ 4 ∷ 5 ∷ 6 ∷ 7 ∷ 8 ∷ []; services = 0x03 ∷ 0x04 ∷ 0x52 ∷ 0x5B ∷ []; largest = 8 }
 
 -- the services of the interface and of the link that may be left out are Get_Attributes_All and those of lists
 abbrev pub interface_class : ClassFacts
 interface_class = record { attributes = 8 ∷ 9 ∷ 10 ∷ 11 ∷ []; services = 0x01 ∷ 0x03 ∷ 0x04 ∷ []; largest = 13 }
 
 abbrev pub link_class : ClassFacts
-link_class = record { attributes = 7 ∷ 8 ∷ 9 ∷ 10 ∷ []; services = 0x01 ∷ 0x03 ∷ 0x04 ∷ []; largest = 11 }
+link_class = record { attributes = 4 ∷ 5 ∷ 6 ∷ 7 ∷ 8 ∷ 9 ∷ 10 ∷ []; services = 0x01 ∷ 0x03 ∷ 0x04 ∷ []; largest = 11 }
 
 abbrev pub qos_class : ClassFacts
 qos_class = record { attributes = 1 ∷ 2 ∷ 3 ∷ []; services = 0x03 ∷ 0x04 ∷ []; largest = 8 }
@@ -319,18 +321,22 @@ link_capability speed flags = u32 (capability_bits flags) ++ (1 ∷ (u16 (in_two
 abbrev pub link_label : List ℕ
 link_label = codes "Ethernet"
 
--- what the Ethernet Link object has behind its physical address: its counters and its control are none of its attributes; it is a
--- twisted pair, enabled
-abbrev pub link_behind : Description → List Attribute
-link_behind d =
-    absent (replicate 44 0) ∷ absent (replicate 48 0) ∷ absent (replicate 4 0)
+-- its control: bit 0, speed and duplex are negotiated; where they were forced, bit 1, full duplex, and the speed
+abbrev pub link_control : (speed flags : ℕ) → List ℕ
+link_control speed flags = if is_forced flags then u16 (2 * (flags / 2 % 2)) ++ u16 (in_two_bytes speed) else u16 1 ++ u16 0
+
+-- what the Ethernet Link object has behind its physical address: what its host has counted, and its control; it is a twisted pair,
+-- enabled
+abbrev pub link_behind : Description → (link : List ℕ) → List Attribute
+link_behind d link =
+    listed 4 (interface_counters link) ∷ listed 5 (media_counters link) ∷ listed 6 (link_control d.speed d.flags)
     ∷ listed 7 (2 ∷ []) ∷ listed 8 (1 ∷ []) ∷ listed 9 (1 ∷ []) ∷ listed 10 (short_string link_label)
     ∷ listed 11 (link_capability d.speed d.flags) ∷ []
 
 -- the Ethernet Link object
-abbrev pub link_instance : Description → Instance
-link_instance d = record {
-  attributes = listed 1 (u32 d.speed) ∷ listed 2 (u32 d.flags) ∷ listed 3 d.mac ∷ link_behind d;
+abbrev pub link_instance : Description → (link : List ℕ) → Instance
+link_instance d link = record {
+  attributes = listed 1 (u32 d.speed) ∷ listed 2 (u32 d.flags) ∷ listed 3 d.mac ∷ link_behind d link;
   gets_all = true;
   sets = true;
   resets = false;
@@ -471,9 +477,9 @@ yielding_cases profile class instance =
     ∷ (is_left profile.objects 0xF4 class && instance == 1, port_instance profile)
     ∷ []
 
--- the instances of the other classes, by how the device stands and by how many connections there are
-abbrev pub described_cases : Profile → IdentityState → (connections : ℕ) → Description → (class instance : ℕ) → List (Case Instance)
-described_cases profile standing connections d class instance =
+-- the instances of the other classes, by how the device stands, by how many connections there are, and by what its host has counted
+abbrev pub described_cases : Profile → IdentityState → (connections : ℕ) → (link : List ℕ) → Description → (class instance : ℕ) → List (Case Instance)
+described_cases profile standing connections link d class instance =
     (class == 0x01 && instance == 0, class_instance 1 1 1 identity_class)
     ∷ (class == 0x01 && instance == 1, identity_instance profile.identity d standing)
     ∷ (class == 0x02 && instance == 0, class_instance 1 1 1 router_class)
@@ -482,23 +488,30 @@ described_cases profile standing connections d class instance =
     ∷ (class == 0xF5 && instance == 0, class_instance 4 1 1 interface_class)
     ∷ (class == 0xF5 && instance == 1, interface_instance profile d)
     ∷ (class == 0xF6 && instance == 0, class_instance 4 1 1 link_class)
-    ∷ (class == 0xF6 && instance == 1, link_instance d)
+    ∷ (class == 0xF6 && instance == 1, link_instance d link)
     ∷ yielding_cases profile class instance
 
 -- the instance of another class
 abbrev pub described_at : AdapterTable → (class instance : ℕ) → Option Description → Option Instance
 described_at t class instance None = None
-described_at t class instance (Some d) = first_case (described_cases t.profile (standing_of t) (connection_count t.rows t.messaging) d class instance)
+described_at t class instance (Some d) = first_case (described_cases t.profile (standing_of t) (connection_count t.rows t.messaging) t.counters.link d class instance)
 
--- the Connection Manager itself: its services are of connections
-abbrev pub manager_instance : Instance
-manager_instance = record { attributes = []; gets_all = false; sets = false; resets = false }
+-- the counters of the Connection Manager
+abbrev pub manager_attributes : ManagerCounters → List Attribute
+manager_attributes c =
+    single 1 (u16 c.opens) ∷ single 2 (u16 c.open_formats) ∷ single 3 (u16 c.open_resources) ∷ single 4 (u16 c.open_others)
+    ∷ single 5 (u16 c.closes) ∷ single 6 (u16 c.close_formats) ∷ single 7 (u16 c.close_others) ∷ single 8 (u16 c.time_outs) ∷ []
+
+-- the Connection Manager itself: of a device without a description it has the services of connections alone
+abbrev pub manager_instance : ManagerCounters → Option Description → Instance
+manager_instance c None = record { attributes = []; gets_all = false; sets = false; resets = false }
+manager_instance c (Some d) = record { attributes = manager_attributes c; gets_all = false; sets = true; resets = false }
 
 -- the instance of a class, if the device has it
 unfoldable pub instance_at : AdapterTable → (class instance : ℕ) → Option Instance
 instance_at t class instance = first_case_or (described_at t class instance t.profile.description) (
     (class == 0x04, assembly_at t instance)
-    ∷ (instance == 1 && class == 0x06, Some manager_instance)
+    ∷ (instance == 1 && class == 0x06, Some (manager_instance t.counters.manager t.profile.description))
     ∷ [])
 
 -- ANSWERS
@@ -654,10 +667,10 @@ reset_by owned [] = reset_of owned 0
 reset_by owned (kind ∷ []) = reset_of owned kind
 reset_by owned (kind ∷ more ∷ rest) = denied status.TooMuchData
 
--- a service of an instance
+-- a service of an instance: one without an attribute gets none
 abbrev pub instance_answer : (owned : Bool) → (service : ℕ) → Option ℕ → List ℕ → Instance → ObjectAnswer
 instance_answer owned service attribute body o = first_case_or (denied status.Service) (
-    (service == 0x0E, single_of body (attribute_of o.attributes attribute))
+    (service == 0x0E && not (length o.attributes == 0), single_of body (attribute_of o.attributes attribute))
     ∷ (service == 0x10 && o.sets, set_of (attribute_of o.attributes attribute))
     ∷ (service == 0x01 && o.gets_all, all_of o.attributes body)
     ∷ (service == 0x03 && o.sets, get_list o.attributes body)

@@ -27,6 +27,8 @@ use Rattle.cip_router.specs.declared.refusal.Status.{Status}
 use Rattle.cip_router.specs.declared.refusal.Status.TheVariants as status
 use Rattle.cip_router.specs.Refusals.{refusal_fault, status_fault}
 use Rattle.adapter_table.specs.Checks.{Admitted}
+use Rattle.adapter_table.specs.Counters.{tally_of}
+use Rattle.adapter_table.specs.Counting.{tallied}
 use Rattle.adapter_table.specs.Intervals.{open_refusal, whole_request}
 use Rattle.messaging.specs.declared.class3.Class3Connection.{Class3Connection}
 use Rattle.messaging.specs.declared.requests.Requester.TheVariants as asker
@@ -159,6 +161,16 @@ served t peer (closing request) = Some (served_end t peer request)
 served t peer (object service class instance attribute body) = Some (served_object t service class instance attribute body)
 served t peer (opening large request) = Some (served_open t peer large request)
 
+-- WHAT IS COUNTED
+
+-- the request is counted by its reply, whatever its route
+abbrev pub counted_by : RouterRequestFields → Served → Served
+counted_by request s = record s { table = tallied (tally_of request s.reply) s.table }
+
+abbrev pub counted_once : RouterRequestFields → Option Served → Option Served
+counted_once request None = None
+counted_once request (Some s) = Some (counted_by request s)
+
 -- THE ANSWER
 
 -- an answer and the table after it
@@ -191,7 +203,7 @@ own_answered t peer own =
     else (plain_answer (referred_verdict t own), referred_table t peer (asker.Peer peer) own)
 
 abbrev pub requested_by : AdapterTable → Node → RouterRequestFields → Option OwnRequest → Next
-requested_by t peer request None = answered t peer (served t peer request)
+requested_by t peer request None = answered t peer (counted_once request (served t peer request))
 requested_by t peer request (Some own) = own_answered t peer own
 
 -- a request of a peer

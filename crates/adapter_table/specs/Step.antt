@@ -1,7 +1,7 @@
 -- One event at a device's table.
-use Rattle.std.specs.Prelude.{ℕ, ◌==◌, length, map, find, if◌then◌else◌, List, [], Option, Some, None, Result, Ok, Err}
+use Rattle.std.specs.Prelude.{ℕ, ◌==◌, length, map, find, Bool, if◌then◌else◌, List, [], Option, Some, None, Result, Ok, Err}
 use Rattle.cip_events.specs.declared.event.Event.{Event}
-use Rattle.cip_events.specs.declared.event.Event.TheVariants.{Request, StreamOpened, Frame, StreamCut, Datagram, Inquiry, Write, Read, Tick, Mode, Start, Stop, Explicit, Respond}
+use Rattle.cip_events.specs.declared.event.Event.TheVariants.{Request, StreamOpened, Frame, StreamCut, Datagram, Inquiry, Write, Read, Tick, Mode, Start, Stop, Explicit, Respond, Counters}
 use Rattle.cip_events.specs.declared.event.Answer.{Answer}
 use Rattle.cip_events.specs.declared.event.StepFault.{StepFault}
 use Rattle.cip_events.specs.declared.event.StepFault.TheVariants as fault
@@ -10,6 +10,9 @@ use Rattle.messaging.specs.Changes.{fresh_messaging}
 use Rattle.adapter_table.specs.declared.profile.InputPoint.{InputPoint}
 use Rattle.adapter_table.specs.declared.profile.Profile.{Profile}
 use Rattle.adapter_table.specs.declared.table.AdapterTable.{AdapterTable}
+use Rattle.adapter_table.specs.Counters.{link_len, no_counters}
+use Rattle.adapter_table.specs.Counting.{counted_link}
+use Rattle.adapter_table.specs.declared.profile.Description.{Description}
 use Rattle.adapter_table.specs.Profiles.{is_at}
 use Rattle.adapter_table.specs.Points.{opening_values, put_value, bytes_at}
 use Rattle.adapter_table.specs.Rows.{written_row}
@@ -59,6 +62,15 @@ write_of t point bytes (Some input) =
 unfoldable pub write : AdapterTable → ℕ → List ℕ → Result Next StepFault
 write t point bytes = write_of t point bytes (find (is_at point) t.profile.inputs)
 
+-- of a description, if there is one, and of bytes of the right length or not
+abbrev pub counters_with : AdapterTable → List ℕ → Option Description → (long : Bool) → Result Next StepFault
+counters_with t bytes None long = Err fault.NotAllowedNow
+counters_with t bytes (Some d) long = if long then Ok (plain_answer Done, counted_link t bytes) else Err fault.WrongLength
+
+-- the host says what it has counted of the interface of a described device
+unfoldable pub counters_said : AdapterTable → List ℕ → Result Next StepFault
+counters_said t bytes = counters_with t bytes t.profile.description (length bytes == link_len)
+
 -- Either the first fault, the table staying, or an answer and the next table. Want of memory is never named.
 abbrev pub adapter_step : AdapterTable → Event → Result Next StepFault
 adapter_step t (Request peer bytes) = Ok (requested t peer bytes)
@@ -75,8 +87,10 @@ adapter_step t (Start slot) = Err fault.NotAllowedNow
 adapter_step t (Stop slot) = Err fault.NotAllowedNow
 adapter_step t (Explicit target number bytes) = Err fault.NotAllowedNow
 adapter_step t (Respond number status bytes) = respond t number status bytes
+adapter_step t (Counters bytes) = counters_said t bytes
 
--- the table of a fresh adapter: no connections, zeros at all points, clock 0, the first id, no streams, no messages, no openings
+-- the table of a fresh adapter: no connections, zeros at all points, clock 0, the first id, no streams, no messages, no openings, nothing
+-- counted
 abbrev pub adapter_table : Profile → AdapterTable
 adapter_table profile = record {
   profile = profile;
@@ -87,4 +101,5 @@ adapter_table profile = record {
   streams = [];
   messaging = fresh_messaging;
   openings = [];
+  counters = no_counters;
 }

@@ -2,7 +2,7 @@
 -- listeners that lost their support are dropped; then class 3 connections whose deadline has passed end; then requests that
 -- the application did not answer in time are refused; then the producers that are due produce
 -- (Volume 1, chapter 3, connection timeouts, inactivity watchdog, application connection types).
-use Rattle.std.specs.Prelude.{ℕ, ◌+◌, ◌==◌, ◌&&◌, ◌||◌, nat_lt, nat_le, Bool, if◌then◌else◌, List, [], ◌∷◌, ◌++◌, map, filter, Result, Ok, Err}
+use Rattle.std.specs.Prelude.{ℕ, ◌+◌, ◌==◌, ◌&&◌, ◌||◌, nat_lt, nat_le, Bool, if◌then◌else◌, List, [], ◌∷◌, ◌++◌, map, filter, length, Result, Ok, Err}
 use Rattle.std.specs.List.{flat_map}
 use Rattle.cip_types.specs.declared.names.Ms.{Ms}
 use Rattle.cip_events.specs.declared.event.Answer.{Answer}
@@ -23,6 +23,7 @@ use Rattle.adapter_table.specs.declared.row.State.TheVariants.{TimedOut}
 use Rattle.adapter_table.specs.declared.table.PointValue.{PointValue}
 use Rattle.adapter_table.specs.declared.table.AdapterTable.{AdapterTable}
 use Rattle.adapter_table.specs.Rows.{is_established}
+use Rattle.adapter_table.specs.Counters.{timed_out}
 use Rattle.adapter_table.specs.Closing.{closed_values, unsupported, staying, dropped_notice}
 use Rattle.cip_types.specs.Cases.{first_case_or}
 use Rattle.cip_types.specs.Order.{in_order}
@@ -70,10 +71,16 @@ expired_notice row = notice.Expired row.triad
 abbrev pub expiry_notices : Ms → List Row → List Notice
 expiry_notices clock rows = map expired_notice (expired clock rows) ++ map dropped_notice (unsupported (expired_rows clock rows))
 
+-- how many connections of both classes time out at the time of the table
+abbrev pub late_count : AdapterTable → ℕ
+late_count t = length (expired t.clock t.rows) + length (late_class3_connections t.clock t.messaging)
+
+-- each connection that times out is counted; those of class 3 end behind those of class 1
 unfoldable pub expired_table : AdapterTable → AdapterTable
 expired_table t = record t {
   rows = staying (expired_rows t.clock t.rows);
   values = expired_values t.profile (expired t.clock t.rows) t.values;
+  counters = record t.counters { manager = timed_out (late_count t) t.counters.manager };
 }
 
 -- PRODUCTIONS

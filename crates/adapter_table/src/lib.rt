@@ -8,8 +8,10 @@
 mod acceptance;
 mod admission;
 mod copy;
+mod counters;
 mod expiry;
 mod groups;
+mod intervals;
 pub mod laws;
 mod maker_limits;
 mod objects;
@@ -25,8 +27,13 @@ mod table;
 
 pub use acceptance::{Judgement, accept_if_for, is_for, judge};
 pub use admission::{Admission, ConsumedPoint};
+pub use counters::{
+    DeviceCounters, INTERFACE_COUNTERS, LINK_COUNTERS, ManagerCounters, Tally, open_tally,
+    refused_tally,
+};
 pub use expiry::{by_deadline, expired_row, has_expired};
 pub use groups::multicast_address;
+pub use intervals::{MILLISECOND_US, least_us, ms_us};
 pub use maker_limits::{MakerLimits, NodeLimits, Places};
 pub use objects::{IoState, QOS_CLASS};
 pub use opening_rates::{NodeOpenings, counted_openings, has_opened_enough};

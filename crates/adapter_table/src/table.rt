@@ -1,5 +1,6 @@
 //! The table of an adapter.
 
+use crate::counters::DeviceCounters;
 use crate::opening_rates::NodeOpenings;
 use crate::profile::Profile;
 use crate::row::Row;
@@ -33,7 +34,7 @@ impl Numbered for Stream {
 
 /// An adapter: its profile, its connections in opening order, the bytes of its points, its clock, the counter
 /// part of the next connection id, its open streams in the order in which they were opened, its class 3 connections
-/// with the requests that wait for its application, and the openings of each node in its second.
+/// with the requests that wait for its application, the openings of each node in its second, and its counters.
 #[derive(PartialEq, Drop)]
 pub struct AdapterTable {
     pub profile: Profile,
@@ -44,4 +45,5 @@ pub struct AdapterTable {
     pub streams: Items<Stream>,
     pub messaging: Messaging,
     pub openings: Items<NodeOpenings>,
+    pub counters: DeviceCounters,
 }

@@ -7,9 +7,7 @@ use Rattle.cip_fwdopen.specs.Open.{OpenFields}
 use Rattle.cip_fwdopen.specs.Close.{CloseFields}
 use Rattle.cip_encap.specs.declared.packet.ItemFault.{ItemFault}
 use Rattle.cip_encap.specs.Connected.{ConnectedFields}
-use Rattle.cip_encap.specs.ConnectedReading.{connected_reading}
 use Rattle.cip_encap.specs.Packet.{PacketFields}
-use Rattle.cip_encap.specs.PacketReading.{packet_reading}
 use Rattle.cip_events.specs.declared.event.Frame.{Frame}
 use Rattle.cip_events.specs.declared.event.Notice.{Notice}
 use Rattle.cip_events.specs.declared.event.Verdict.{Verdict}
@@ -41,7 +39,7 @@ use Rattle.adapter_table.specs.Checks.{Check, Admitted}
 use Rattle.adapter_table.specs.Connected.{service_in, fitted_text, connected_served}
 use Rattle.adapter_table.specs.Class3Opening.{class3_view, class3_refusal, judged_class3, served_class3, stream_served}
 use Rattle.adapter_table.specs.StatedLimits.{limited_admission, is_wrong_closer, is_wrong_ender}
-use Rattle.adapter_table.specs.Encapsulation.{Handled, refusal, session_begun, register_session, request_replied, request_handled, packet_replied, kept_reply, message_replied, message_served, message_executed, message_found, unit_replied, handled, framed, frame_answer, stream_answer, frame_of, frame, frame_for}
+use Rattle.adapter_table.specs.Encapsulation.{Handled, items_for, connected_items_for, refusal, session_begun, register_session, request_replied, request_handled, packet_replied, kept_reply, message_replied, message_served, message_executed, message_found, unit_replied, handled, framed, frame_answer, stream_answer, frame_of, frame, frame_for}
 use Rattle.adapter_table.specs.Inquiries.{inquiry_reply, inquired_by, inquired}
 use Rattle.adapter_table.specs.Objects.{ObjectAnswer, said, denied, resetting, answering, refusing, unrouted}
 use Rattle.adapter_table.specs.Carrying.{object_answer}
@@ -50,7 +48,7 @@ use Rattle.adapter_table.specs.Lemmas.ObjectSizes as sizes
 use Rattle.adapter_table.specs.Lemmas.ObjectSizes.{FewSaid}
 use Rattle.adapter_table.specs.MessagesSound.{IsInPlace}
 use Rattle.adapter_table.specs.Own.{OwnRequest, own_of, cannot_ask, referred_verdict}
-use Rattle.adapter_table.specs.Requests.{Next, Served, judged_open, admitted_open, served_open, close_of, served_close, end_of, served_end, router_refusal, object_served, served_object, served, replied, answered, requested_by, requested}
+use Rattle.adapter_table.specs.Requests.{Next, Served, counted_once, judged_open, admitted_open, served_open, close_of, served_close, end_of, served_end, router_refusal, object_served, served_object, served, replied, answered, requested_by, requested}
 use Rattle.adapter_table.specs.Rows.{has_triad}
 use Rattle.adapter_table.specs.Shapes.{IsShaped}
 use Rattle.adapter_table.specs.Streams.{is_stream, has_session}
@@ -115,6 +113,11 @@ over_stream_few t stream (opening large request) shaped =
     (class3_few t stream large (whole_request t.profile.description request) (class3_refusal (class3_view t stream.peer request.triad) (whole_request t.profile.description request))) (serves_few t stream.peer (opening large request) shaped)
 over_stream_few t stream other shaped = serves_few t stream.peer other shaped
 
+-- what is counted has the same reply
+counted_few : (request : RouterRequestFields) (s : Option Served) → ServesFew s → ServesFew (counted_once request s)
+counted_few request None few = tt
+counted_few request (Some s) few = few
+
 -- ---- requests
 
 answered_small : (t : AdapterTable) (peer : Node) (s : Option Served) → ServesFew s → IsSmall (answered t peer s).0
@@ -122,7 +125,7 @@ answered_small t peer None few = plain_small BadFrame
 answered_small t peer (Some s) few = one_small _ Done s.notices (omega (arith, (reply_is_short s.reply few).few))
 
 by_small : (t : AdapterTable) (peer : Node) (request : RouterRequestFields) (asks : Option OwnRequest) → IsShaped t.profile t.values → IsSmall (requested_by t peer request asks).0
-by_small t peer request None shaped = answered_small t peer (served t peer request) (serves_few t peer request shaped)
+by_small t peer request None shaped = answered_small t peer (counted_once request (served t peer request)) (counted_few request (served t peer request) (serves_few t peer request shaped))
 by_small t peer request (Some own) shaped =
     either (λ (next : Next). IsSmall next.0) (cannot_ask t peer) (replied peer (router_refusal t own.service status.ResourceUnavailable)) _
     (answered_small t peer (Some (router_refusal t own.service status.ResourceUnavailable)) tt) (plain_small (referred_verdict t own))
@@ -164,7 +167,8 @@ passes_few t None few = tt
 passes_few t (Some s) few = few
 
 request_few : (t : AdapterTable) (stream : Stream) (context : ℕ) (request : RouterRequestFields) (asks : Option OwnRequest) → IsShaped t.profile t.values → HandlesFew (request_handled t stream context request asks)
-request_few t stream context request None shaped = passes_few t (stream_served t stream request) (over_stream_few t stream request shaped)
+request_few t stream context request None shaped =
+    passes_few t (counted_once request (stream_served t stream request)) (counted_few request (stream_served t stream request) (over_stream_few t stream request shaped))
 request_few t stream context request (Some own) shaped = either HandlesFew (cannot_ask t stream.peer) (request_replied t (Some (router_refusal t own.service status.ResourceUnavailable))) _ tt tt
 
 items_few : (t : AdapterTable) (stream : Stream) (context : ℕ) (reading : Result PacketFields ItemFault) → IsShaped t.profile t.values → HandlesFew (packet_replied t stream context reading)
@@ -186,7 +190,7 @@ served_few t d count service None = tt
 served_few t d count service (Some s) = fitted_short d service s.reply
 
 executed_few : (t : AdapterTable) (d : kept.Class3Connection) (count service : ℕ) (request : RouterRequestFields) (asks : Option OwnRequest) → HandlesFew (message_executed t d count service request asks)
-executed_few t d count service request None = served_few t d count service (connected_served t d.peer request)
+executed_few t d count service request None = served_few t d count service (counted_once request (connected_served t d.peer request))
 executed_few t d count service request (Some own) =
     either HandlesFew (cannot_ask t d.peer) (message_replied d count own.service (router_refusal t own.service status.ResourceUnavailable)) _
     (fitted_short d own.service (router_refusal t own.service status.ResourceUnavailable).reply) tt
@@ -216,8 +220,8 @@ unfolding handled
 handles_few t stream request_header body command.RegisterSession table = registers_few t stream body
 handles_few t stream request_header body command.UnregisterSession table = either HandlesFew (has_session stream request_header.session) _ _ tt tt
 handles_few t stream request_header body command.SendRrData table =
-    either HandlesFew (has_session stream request_header.session) _ _ (items_few t stream request_header.context (packet_reading body) table.shaped) tt
-handles_few t stream request_header body command.SendUnitData table = either HandlesFew (has_session stream request_header.session) _ _ (unit_few t stream (connected_reading body) table) tt
+    either HandlesFew (has_session stream request_header.session) _ _ (items_few t stream request_header.context (items_for t.profile.description body) table.shaped) tt
+handles_few t stream request_header body command.SendUnitData table = either HandlesFew (has_session stream request_header.session) _ _ (unit_few t stream (connected_items_for t.profile.description body) table) tt
 handles_few t stream request_header body kind table = tt
 
 -- ---- frames

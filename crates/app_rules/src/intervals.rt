@@ -6,7 +6,7 @@ ghost use Rattle.cip_fwdopen.specs.Open.{view_open};
 ghost use Rattle.cip_fwdopen.specs.Services.{is_large_open};
 ghost use Rattle.cip_router.specs.Replies.{view_reply, HasStatus, GetsFew};
 ghost use Rattle.adapter_table.specs.Checks.{is_multicast};
-ghost use Rattle.adapter_table.specs.Intervals.{whole_us, whole_request, ms_us, least_us, interval_says, accepted_us, joined_by, t_o_says, accepted_t_o_us, acceptable, refuses_one, open_refusal};
+ghost use Rattle.adapter_table.specs.Intervals.{whole_us, whole_request, interval_says, accepted_us, joined_by, t_o_says, accepted_t_o_us, acceptable, refuses_one, open_refusal};
 ghost use Rattle.adapter_table.specs.Paths.{opening_path};
 ghost use Rattle.adapter_table.specs.Requests.{open_service};
 
@@ -14,47 +14,18 @@ use crate::connections::ConnectionsView;
 use crate::describing::opening_fault;
 use crate::paths::opening_path;
 use crate::questions::joined;
-use adapter_table::{Description, Profile, Row};
+use adapter_table::{Description, MILLISECOND_US, Profile, Row, least_us, ms_us};
 use cip_fwdopen::{AcceptableIntervals, OpenRequest, OpenService};
 use cip_netparams::ConnectionType;
 use cip_router::{Refusal, Reply};
-
-/// The greatest packet interval, in microseconds.
-const GREATEST_US: u32 = 10_000_000;
-
-/// The microseconds of a millisecond.
-const MILLISECOND_US: u32 = 1_000;
-
-/// The milliseconds of the greatest packet interval.
-const GREATEST_MS: u32 = 10_000;
-
-/// Milliseconds in microseconds, at most the greatest packet interval.
-fn ms_us(ms: u32) -> u32
-    ensures { result ≡ ms_us ms }
-{
-    if ms > GREATEST_MS {
-        GREATEST_US
-    } else {
-        MILLISECOND_US * ms
-    }
-}
-
-/// The least packet interval, in microseconds: a millisecond, or the maker's least in whole milliseconds.
-fn least_us(least: Option<u32>) -> u32
-    ensures { result ≡ least_us least }
-{
-    match least {
-        Some(least) => ms_us(least.div_ceil(MILLISECOND_US)),
-        None => MILLISECOND_US,
-    }
-}
+use cip_types::limits::LONGEST_RPI_US;
 
 /// The packet interval that a device takes a requested one for: a described one counts whole milliseconds, and rounds down.
 fn whole_us(description: &Option<Description>, rpi: u32) -> u32
     ensures { result ≡ whole_us description.now rpi }
 {
     match description {
-        Some(_) if rpi >= 1 && rpi <= GREATEST_US => MILLISECOND_US * (rpi / MILLISECOND_US),
+        Some(_) if rpi >= 1 && rpi <= LONGEST_RPI_US => MILLISECOND_US * (rpi / MILLISECOND_US),
         Some(_) | None => rpi,
     }
 }
@@ -81,7 +52,7 @@ fn interval_says(least: u32, rpi: u32) -> u8
 {
     if rpi < least {
         2
-    } else if rpi > GREATEST_US {
+    } else if rpi > LONGEST_RPI_US {
         3
     } else {
         0
@@ -94,8 +65,8 @@ fn accepted_us(least: u32, rpi: u32) -> u32
 {
     if rpi < least {
         least
-    } else if rpi > GREATEST_US {
-        GREATEST_US
+    } else if rpi > LONGEST_RPI_US {
+        LONGEST_RPI_US
     } else {
         rpi
     }

@@ -3,8 +3,10 @@ mod ServedClasses
 mod ServiceLaws
 mod RouteSteps
 mod RouteLaws
+mod CountLaws
 mod PacketLaws
 mod IdentityLaws
 mod OwnedBit
 mod ListLaws
 mod ObjectSamples
+mod CounterSamples

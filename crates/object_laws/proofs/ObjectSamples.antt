@@ -7,7 +7,7 @@ use Rattle.adapter_table.specs.declared.maker_limits.MakerLimits.{MakerLimits}
 use Rattle.adapter_table.specs.declared.profile.Action.TheVariants.{Zero}
 use Rattle.adapter_table.specs.declared.profile.Description.{Description}
 use Rattle.adapter_table.specs.declared.profile.Profile.{Profile}
-use Rattle.adapter_table.specs.Objects.{ObjectAnswer, said, denied, instance_at, status_word, consistency, link_capability, node_segment, most_connections, object_list, alone_answer}
+use Rattle.adapter_table.specs.Objects.{ObjectAnswer, said, denied, instance_at, status_word, consistency, link_capability, link_control, node_segment, most_connections, object_list, alone_answer}
 use Rattle.adapter_table.specs.Carrying.{object_answer}
 use Rattle.adapter_table.specs.Opening.{multicast_address}
 use Rattle.adapter_table.specs.Profiles.{no_limits}
@@ -103,10 +103,11 @@ class_of_identity :
 unfolding object_answer alone_answer instance_at status_word
 class_of_identity = refl
 
--- of the Connection Manager Unconnected_Send and Large_Forward_Open may be left out
+-- of the Connection Manager the counters, both services of lists, Unconnected_Send and Large_Forward_Open may be left out
 class_of_the_connection_manager :
     map (got described 0x06 0) (4 ∷ 5 ∷ 6 ∷ 7 ∷ [])
-    ≡ is (0x00 ∷ 0x00 ∷ []) ∷ is (0x02 ∷ 0x00 ∷ 0x52 ∷ 0x00 ∷ 0x5B ∷ 0x00 ∷ []) ∷ is (0x07 ∷ 0x00 ∷ []) ∷ is (0x00 ∷ 0x00 ∷ []) ∷ []
+    ≡ is (0x08 ∷ 0x00 ∷ 0x01 ∷ 0x00 ∷ 0x02 ∷ 0x00 ∷ 0x03 ∷ 0x00 ∷ 0x04 ∷ 0x00 ∷ 0x05 ∷ 0x00 ∷ 0x06 ∷ 0x00 ∷ 0x07 ∷ 0x00 ∷ 0x08 ∷ 0x00 ∷ [])
+    ∷ is (0x04 ∷ 0x00 ∷ 0x03 ∷ 0x00 ∷ 0x04 ∷ 0x00 ∷ 0x52 ∷ 0x00 ∷ 0x5B ∷ 0x00 ∷ []) ∷ is (0x07 ∷ 0x00 ∷ []) ∷ is (0x08 ∷ 0x00 ∷ []) ∷ []
 unfolding object_answer alone_answer instance_at status_word
 class_of_the_connection_manager = refl
 
@@ -178,16 +179,16 @@ the_first_group = refl
 
 link_behind_the_physical_address :
     map (got described 0xF6 1) (4 ∷ 5 ∷ 6 ∷ 7 ∷ 8 ∷ 9 ∷ 10 ∷ 11 ∷ 12 ∷ [])
-    ≡ unknown ∷ unknown ∷ unknown ∷ is (0x02 ∷ []) ∷ is (0x01 ∷ []) ∷ is (0x01 ∷ [])
+    ≡ is (replicate 44 0) ∷ is (replicate 48 0) ∷ is (0x01 ∷ 0x00 ∷ 0x00 ∷ 0x00 ∷ []) ∷ is (0x02 ∷ []) ∷ is (0x01 ∷ []) ∷ is (0x01 ∷ [])
     ∷ is (0x08 ∷ 0x45 ∷ 0x74 ∷ 0x68 ∷ 0x65 ∷ 0x72 ∷ 0x6E ∷ 0x65 ∷ 0x74 ∷ []) ∷ is (0x02 ∷ 0x00 ∷ 0x00 ∷ 0x00 ∷ 0x01 ∷ 0x64 ∷ 0x00 ∷ 0x01 ∷ []) ∷ unknown ∷ []
 unfolding object_answer alone_answer instance_at status_word
 link_behind_the_physical_address = refl
 
--- 96 zeros in place of the counters and the control
+-- 92 zeros of the counters, and a control that negotiates
 the_whole_link :
     all described 0xF6
     ≡ said GetAll
-    (0x64 ∷ 0x00 ∷ 0x00 ∷ 0x00 ∷ 0x0F ∷ 0x00 ∷ 0x00 ∷ 0x00 ∷ 0x02 ∷ 0x00 ∷ 0x5E ∷ 0x10 ∷ 0x00 ∷ 0x07 ∷ replicate 96 0 ++ (0x02 ∷ 0x01 ∷ 0x01
+    (0x64 ∷ 0x00 ∷ 0x00 ∷ 0x00 ∷ 0x0F ∷ 0x00 ∷ 0x00 ∷ 0x00 ∷ 0x02 ∷ 0x00 ∷ 0x5E ∷ 0x10 ∷ 0x00 ∷ 0x07 ∷ replicate 92 0 ++ (0x01 ∷ 0x00 ∷ 0x00 ∷ 0x00 ∷ 0x02 ∷ 0x01 ∷ 0x01
     ∷ 0x08 ∷ 0x45 ∷ 0x74 ∷ 0x68 ∷ 0x65 ∷ 0x72 ∷ 0x6E ∷ 0x65 ∷ 0x74 ∷ 0x02 ∷ 0x00 ∷ 0x00 ∷ 0x00 ∷ 0x01 ∷ 0x64 ∷ 0x00 ∷ 0x01 ∷ []))
 unfolding object_answer alone_answer instance_at status_word
 the_whole_link = refl
@@ -197,6 +198,10 @@ other_links :
     link_capability 10 0x11 ∷ link_capability 100000 0x0F ∷ []
     ≡ (0x00 ∷ 0x00 ∷ 0x00 ∷ 0x00 ∷ 0x01 ∷ 0x0A ∷ 0x00 ∷ 0x00 ∷ []) ∷ (0x02 ∷ 0x00 ∷ 0x00 ∷ 0x00 ∷ 0x01 ∷ 0xFF ∷ 0xFF ∷ 0x01 ∷ []) ∷ []
 other_links = refl
+
+-- forced to 10 Mbit/s half duplex, and to 100 Mbit/s full duplex
+forced_links : link_control 10 0x11 ∷ link_control 100 0x13 ∷ [] ≡ (0x00 ∷ 0x00 ∷ 0x0A ∷ 0x00 ∷ []) ∷ (0x02 ∷ 0x00 ∷ 0x64 ∷ 0x00 ∷ []) ∷ []
+forced_links = refl
 
 -- ---- QoS and Port
 

@@ -1,5 +1,5 @@
 -- The replies of a packet are those to its requests, one after another.
-use Rattle.std.proofs.Common.{◌≡◌, ℕ, ◌*◌, ◌==◌, ◌&&◌, Bool, true, false, cond, is_some, List, [], ◌∷◌, length, nat_lt, nat_le, Option, Some, None, refl, sym, ◌∙◌, ap}
+use Rattle.std.proofs.Common.{◌≡◌, ℕ, ◌*◌, ◌==◌, ◌&&◌, not, Bool, true, false, cond, is_some, List, [], ◌∷◌, length, nat_lt, nat_le, Option, Some, None, refl, sym, ◌∙◌, ap}
 use Rattle.std.specs.List.{list_any}
 use Rattle.base_lemmas.specs.Booleans.{either}
 use Rattle.cip_types.specs.declared.names.Node.{Node}
@@ -64,7 +64,7 @@ both_never false b is = refl
 
 instance_replies : (owned : Bool) (service : ℕ) (attribute : Option ℕ) (body : List ℕ) (o : Instance) → (service == 0x05) ≡ false → IsReply (instance_answer owned service attribute body o)
 instance_replies owned service attribute body o none =
-    either IsReply (service == 0x0E) _ _ (single_replies body (attribute_of o.attributes attribute))
+    either IsReply (service == 0x0E && not (length o.attributes == 0)) _ _ (single_replies body (attribute_of o.attributes attribute))
     (either IsReply (service == 0x10 && o.sets) _ _ (set_replies (attribute_of o.attributes attribute))
     (either IsReply (service == 0x01 && o.gets_all) _ _ (either IsReply (length body == 0) _ _ tt tt)
     (either IsReply (service == 0x03 && o.sets) _ _ (got_list_replies o.attributes body)

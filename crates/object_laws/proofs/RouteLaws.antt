@@ -15,7 +15,10 @@ use Rattle.messaging.specs.declared.class3.Class3Connection.{Class3Connection}
 use Rattle.messaging.specs.declared.requests.Requester.TheVariants as asker
 use Rattle.messaging.specs.Changes.{executed, referred, referred_over}
 use Rattle.adapter_table.specs.declared.profile.Description.{Description}
+use Rattle.adapter_table.specs.declared.counters.Tally.{Tally}
+use Rattle.adapter_table.specs.declared.counters.Tally.TheVariants.{CloseOther, OpenOther}
 use Rattle.adapter_table.specs.declared.table.AdapterTable.{AdapterTable}
+use Rattle.adapter_table.specs.Counting.{tallied}
 use Rattle.adapter_table.specs.declared.table.Stream.{Stream}
 use Rattle.adapter_table.specs.Connected.{fitted_text, next_deadline, service_in}
 use Rattle.adapter_table.specs.Encapsulation.{Handled, framed, message_executed, message_replied, request_handled, request_replied}
@@ -29,7 +32,7 @@ use Rattle.object_laws.proofs.RouteSteps.{done, frame_is, message_is, request_is
 use Rattle.object_laws.proofs.ServedClasses.{served_itself}
 use Rattle.object_laws.proofs.ServiceLaws.{identity_found, reset_said, single_said}
 use Rattle.object_laws.specs.Routes.{IsServed, answered_with}
-use Rattle.object_laws.specs.Services.{AsksAlone, AttributesReadBack, IsConnecting, MessagesConnectNothing, OwnServicesAskAlone, ResetsAreReported}
+use Rattle.object_laws.specs.Services.{AsksAlone, AttributesReadBack, CountsAlone, IsConnecting, denied_tally, MessagesConnectNothing, OwnServicesAskAlone, ResetsAreReported}
 
 -- ---- a Get and a Reset
 
@@ -87,43 +90,51 @@ requested_asks t peer bytes request asks is own =
     (subst (λ (o : Option OwnRequest). AsksAlone t (requested_by t peer (router_request_reading request) o)) (sym own) (peer_asks t peer (router_request_reading request) asks))
 
 -- what a frame comes to
-framed_asks : (t : AdapterTable) (number : ℕ) (bytes : List ℕ) (next : Next) (stream : ℕ) (header : RequestHeader) (came goes : Handled) → adapter_step t (event.Frame number bytes) ≡ Ok next → adapter_step t (event.Frame number bytes) ≡ done (framed stream header came) → came ≡ goes → Alone t stream header goes → AsksAlone t next
-framed_asks t number bytes next stream header came goes steps is same alone =
-    subst (AsksAlone t) (next_is _ _ (sym is ∙ steps)) (subst (Alone t stream header) (sym same) alone)
+pub framed_holds : (P : Next → Type 0) (t : AdapterTable) (number : ℕ) (bytes : List ℕ) (next : Next) (stream : ℕ) (header : RequestHeader) (came goes : Handled) → adapter_step t (event.Frame number bytes) ≡ Ok next → adapter_step t (event.Frame number bytes) ≡ done (framed stream header came) → came ≡ goes → P (framed stream header goes) → P next
+framed_holds P t number bytes next stream header came goes steps is same holds =
+    subst P (next_is _ _ (sym is ∙ steps)) (subst (λ (h : Handled). P (framed stream header h)) (sym same) holds)
 
 pub own_services_ask : OwnServicesAskAlone
 own_services_ask t (event.Request peer bytes) request asks next steps brings own =
     subst (AsksAlone t) (next_is _ _ steps) (requested_asks t peer bytes request asks brings own)
 own_services_ask t (event.Frame number bytes) request asks next steps (inl sends) own =
     let f = sends.frame in
-    framed_asks t number bytes next f.stream.number f.header _ _ steps (frame_is t number bytes f)
+    framed_holds (AsksAlone t) t number bytes next f.stream.number f.header _ _ steps (frame_is t number bytes f)
     (request_is t number bytes request sends ∙ ap (request_handled t f.stream f.header.context (router_request_reading request)) own)
     (stream_asks t f.stream f.stream.number f.header.context f.header (router_request_reading request) asks)
 own_services_ask t (event.Frame number bytes) request asks next steps (inr sends) own =
     let f = sends.frame in
-    framed_asks t number bytes next f.stream.number f.header _ _ steps (frame_is t number bytes f)
+    framed_holds (AsksAlone t) t number bytes next f.stream.number f.header _ _ steps (frame_is t number bytes f)
     (message_is t number bytes request sends ∙ ap (message_executed t sends.connection sends.unit.count (service_in request) (router_request_reading request)) own)
     (message_asks t sends.connection f.stream.number sends.unit.count (service_in request) f.header (router_request_reading request) asks)
 own_services_ask t other request asks next steps brings own = absurd brings
 
 -- ---- messages open and close nothing
 
-refused_alone : (t : AdapterTable) (d : Class3Connection) (number count first service : ℕ) (header : RequestHeader) → Alone t number header (message_replied d count first (router_refusal t service status.Service))
-refused_alone t d number count first service header = record {
+-- over a stream
+abbrev Counted : AdapterTable → Tally → ℕ → RequestHeader → Handled → Type 0
+Counted t kind number header h = CountsAlone t kind (framed number header h)
+
+-- a refusal that is counted as this
+abbrev denial : AdapterTable → ℕ → Tally → Served
+denial t service kind = record (router_refusal t service status.Service) { table = tallied (Some kind) t }
+
+refused_alone : (t : AdapterTable) (d : Class3Connection) (number count first service : ℕ) (kind : Tally) (header : RequestHeader) → Counted t kind number header (message_replied d count first (denial t service kind))
+refused_alone t d number count first service kind header = record {
   messages = executed t.messaging d.o_t_id count (fitted_text d first (router_refusal t service status.Service).reply) (next_deadline t d);
   table = refl;
   notices = refl;
 }
 
-connects_alone : (t : AdapterTable) (d : Class3Connection) (number count first : ℕ) (header : RequestHeader) (request : RouterRequestFields) → IsConnecting request → Alone t number header (message_executed t d count first request (own_of t.profile.objects request))
+connects_alone : (t : AdapterTable) (d : Class3Connection) (number count first : ℕ) (header : RequestHeader) (request : RouterRequestFields) → IsConnecting request → Counted t (denied_tally request) number header (message_executed t d count first request (own_of t.profile.objects request))
 connects_alone t d number count first header nothing none = absurd none
 connects_alone t d number count first header (refused service why) none = absurd none
-connects_alone t d number count first header (closing fields) is = refused_alone t d number count first 0x4E header
+connects_alone t d number count first header (closing fields) is = refused_alone t d number count first 0x4E CloseOther header
 connects_alone t d number count first header (object service class instance attribute body) none = absurd none
-connects_alone t d number count first header (opening large fields) is = refused_alone t d number count first (open_service large) header
+connects_alone t d number count first header (opening large fields) is = refused_alone t d number count first (open_service large) OpenOther header
 
 pub messages_connect : MessagesConnectNothing
 messages_connect t number bytes request next steps sends connects =
     let f = sends.frame in
-    framed_asks t number bytes next f.stream.number f.header _ _ steps (frame_is t number bytes f) (message_is t number bytes request sends)
+    framed_holds (CountsAlone t (denied_tally (router_request_reading request))) t number bytes next f.stream.number f.header _ _ steps (frame_is t number bytes f) (message_is t number bytes request sends)
     (connects_alone t sends.connection f.stream.number sends.unit.count (service_in request) f.header (router_request_reading request) connects)

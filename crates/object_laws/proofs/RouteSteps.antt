@@ -1,8 +1,6 @@
 -- A request is served alike on each route.
 use Rattle.std.proofs.Common.{◌≡◌, inl, inr, ℕ, Bool, false, cond, List, Option, Some, None, Result, Ok, sym, ◌∙◌, ap}
 use Rattle.cip_types.specs.declared.names.Node.{Node}
-use Rattle.cip_encap.specs.ConnectedReading.{connected_reading}
-use Rattle.cip_encap.specs.PacketReading.{packet_reading}
 use Rattle.cip_events.specs.declared.event.Delivery.TheVariants.{WrongSize}
 use Rattle.cip_events.specs.declared.event.Event.TheVariants as event
 use Rattle.cip_events.specs.declared.event.StepFault.{StepFault}
@@ -13,7 +11,7 @@ use Rattle.cip_router.specs.Requests.{RouterRequestFields, object, router_reques
 use Rattle.messaging.specs.Class3Connections.{repeats_last}
 use Rattle.adapter_table.specs.declared.table.AdapterTable.{AdapterTable}
 use Rattle.adapter_table.specs.Connected.{service_in}
-use Rattle.adapter_table.specs.Encapsulation.{Handled, frame, frame_answer, frame_of, framed, handled, message_executed, message_found, message_repeated, message_replied, outside_session, packet_replied, refusal, request_handled, request_replied, stream_answer, undelivered, unit_replied}
+use Rattle.adapter_table.specs.Encapsulation.{Handled, connected_items_for, items_for, frame, frame_answer, frame_of, framed, handled, message_executed, message_found, message_repeated, message_replied, outside_session, packet_replied, refusal, request_handled, request_replied, stream_answer, undelivered, unit_replied}
 use Rattle.adapter_table.specs.Lemmas.RequestLemmas.{next_is}
 use Rattle.adapter_table.specs.Own.{OwnRequest, is_own_class, own_of}
 use Rattle.adapter_table.specs.Requests.{Next, replied, requested, requested_by, served_object}
@@ -39,7 +37,7 @@ unfolding handled
 request_is t number bytes request s =
     let f = s.frame in
     ap (λ (code : ℕ). handled t f.stream f.header f.body (command_of code)) s.sends
-    ∙ ap (λ (b : Bool). cond b (packet_replied t f.stream f.header.context (packet_reading f.body)) (refusal t encap.InvalidSession)) f.session
+    ∙ ap (λ (b : Bool). cond b (packet_replied t f.stream f.header.context (items_for t.profile.description f.body)) (refusal t encap.InvalidSession)) f.session
     ∙ ap (packet_replied t f.stream f.header.context) s.reads
     ∙ ap (λ (payload : List ℕ). request_handled t f.stream f.header.context (router_request_reading payload) (own_of t.profile.objects (router_request_reading payload))) s.is
 
@@ -50,7 +48,7 @@ message_is t number bytes request s =
     let f = s.frame in
     let executed : List ℕ → Handled = λ message. message_executed t s.connection s.unit.count (service_in message) (router_request_reading message) (own_of t.profile.objects (router_request_reading message)) in
     ap (λ (code : ℕ). handled t f.stream f.header f.body (command_of code)) s.sends
-    ∙ ap (λ (b : Bool). cond b (unit_replied t f.stream (connected_reading f.body)) (refusal t (outside_session t.profile.description))) f.session
+    ∙ ap (λ (b : Bool). cond b (unit_replied t f.stream (connected_items_for t.profile.description f.body)) (refusal t (outside_session t.profile.description))) f.session
     ∙ ap (unit_replied t f.stream) s.reads ∙ ap (message_found t s.unit.count s.unit.message) s.found
     ∙ ap (λ (b : Bool). cond b (undelivered t WrongSize) (cond (repeats_last s.connection s.unit.count) (message_repeated t s.connection s.unit.count) (executed s.unit.message))) s.fits
     ∙ ap (λ (b : Bool). cond b (message_repeated t s.connection s.unit.count) (executed s.unit.message)) s.new ∙ ap executed s.is

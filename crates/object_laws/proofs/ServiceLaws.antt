@@ -1,5 +1,5 @@
 -- What the services of objects leave and report.
-use Rattle.std.proofs.Common.{◌≡◌, ◌≤◌, ◌⊎◌, inl, inr, ℕ, ◌==◌, ◌&&◌, ◌+◌, ◌*◌, ◌%◌, drop, nat_lt, nat_le, not, is_some, take, Bool, true, false, cond, List, [], ◌∷◌, length, find, Option, Some, None, Result, Ok, refl, sym, ◌∙◌, ap, subst, arith}
+use Rattle.std.proofs.Common.{◌≡◌, ◌≤◌, ◌⊎◌, inl, inr, ℕ, ◌==◌, ◌&&◌, ◌+◌, ◌*◌, ◌%◌, drop, nat_lt, nat_le, not, is_some, take, Bool, true, false, cond, List, [], ◌∷◌, length, find, Option, Some, None, Result, Ok, Err, suc, refl, sym, ◌∙◌, ap, subst, arith, ne_eqb}
 use Rattle.std.specs.List.{list_any}
 use Rattle.std.proofs.lemmas.Bool.{le-ltb}
 use Rattle.std.proofs.lemmas.Bool.Decides.{nat_tests}
@@ -21,8 +21,9 @@ use Rattle.cip_router.specs.declared.object_service.ObjectService.TheVariants.{G
 use Rattle.adapter_table.specs.declared.profile.Description.{Description}
 use Rattle.adapter_table.specs.declared.table.AdapterTable.{AdapterTable}
 use Rattle.adapter_table.specs.declared.table.Stream.{Stream}
-use Rattle.adapter_table.specs.Encapsulation.{Handled, request_handled, packet_replied, handled, frame_answer, stream_answer, frame_of, frame}
+use Rattle.adapter_table.specs.Encapsulation.{Handled, items_for, request_handled, packet_replied, handled, frame_answer, stream_answer, frame_of, frame}
 use Rattle.adapter_table.specs.Inquiries.{inquiry_reply}
+use Rattle.adapter_table.specs.Lemmas.ItemLemmas.{items_any}
 use Rattle.adapter_table.specs.Lemmas.RequestLemmas.{next_is}
 use Rattle.adapter_table.specs.Objects.{Attribute, Instance, identity_instance, standing_of, described_at, instance_at, is_numbered, is_owning, ObjectAnswer, said, denied, resetting, attribute_of, single_of, set_of, all_of, reset_of, reset_by, instance_answer, object_said, alone_answer, get_list, set_list, got_items, most_listed, word_of, answering, refusing, unrouted}
 use Rattle.adapter_table.specs.Carrying.{Carried, barred, asking, carried, are_placed, inner_answer, is_packet, is_sending, member_replies, most_members, naming, object_answer, packed_answer, packet_answer, packet_data, routed_answer, sent_answer}
@@ -88,12 +89,23 @@ packet_leaves N t service serves stream context packet is =
     (handled_leaves N t service serves stream context is.class is.instance is.attribute is.body (own_of t.profile.objects (object service is.class is.instance is.attribute is.body))
     (none_own t.profile.objects service is.class is.instance is.attribute is.body is.served))
 
+-- as the device reads the items
+items_leave : (N : List Notice → Type 0) (t : AdapterTable) (service : ℕ) → Serves N t service → (stream : Stream) (context : ℕ) (reading : Result PacketFields ItemFault) → ((packet : PacketFields) → reading ≡ Ok packet → IsServiceRequest t.profile.objects packet.payload service) → HandledLeaves N t (packet_replied t stream context reading)
+items_leave N t service serves stream context (Err fault) asks = (refl, serves.none)
+items_leave N t service serves stream context (Ok packet) asks = packet_leaves N t service serves stream context packet (asks packet refl)
+
+asks_as_read : (t : AdapterTable) (bytes : List ℕ) (service : ℕ) (is : IsServiceFrame t.profile.objects bytes service) (packet : PacketFields) → items_for t.profile.description is.message.payload ≡ Ok packet → IsServiceRequest t.profile.objects packet.payload service
+asks_as_read t bytes service is packet reads =
+    let both : ◌≡◌ {A = Result PacketFields ItemFault} (Ok is.packet) (Ok packet) = sym is.packet_is ∙ items_any t.profile.description is.message.payload packet reads in
+    let same : is.packet ≡ packet = cc in
+    subst (λ (p : PacketFields). IsServiceRequest t.profile.objects p.payload service) same is.request
+
 sent_leaves : (N : List Notice → Type 0) (t : AdapterTable) (service : ℕ) → Serves N t service → (stream : Stream) (bytes : List ℕ) (is : IsServiceFrame t.profile.objects bytes service) → HandledLeaves N t (handled t stream (request_header_of is.message) is.message.payload (command_of is.message.command))
 unfolding handled
 sent_leaves N t service serves stream bytes is =
     subst (λ (c : ℕ). HandledLeaves N t (handled t stream (request_header_of is.message) is.message.payload (command_of c))) (sym is.sends)
     (either (HandledLeaves N t) (has_session stream is.message.session) _ _
-    (subst (λ (r : Result PacketFields ItemFault). HandledLeaves N t (packet_replied t stream is.message.context r)) (sym is.packet_is) (packet_leaves N t service serves stream is.message.context is.packet is.request))
+    (items_leave N t service serves stream is.message.context (items_for t.profile.description is.message.payload) (asks_as_read t bytes service is))
     (refl, serves.none))
 
 message_leaves : (N : List Notice → Type 0) (t : AdapterTable) (service : ℕ) → Serves N t service → (stream : Stream) (bytes : List ℕ) → IsServiceFrame t.profile.objects bytes service → NextLeaves N t (frame_answer t stream (frame_reading bytes))
@@ -142,7 +154,8 @@ instance_gets : (owned : Bool) (service : ℕ) (attribute : Option ℕ) (body : 
 instance_gets owned service attribute body o (inl is) =
     subst (λ (s : ℕ). IsNoReset (instance_answer owned s attribute body o)) (sym is) (either IsNoReset o.gets_all _ _ (all_gets o.attributes body) tt)
 instance_gets owned service attribute body o (inr is) =
-    subst (λ (s : ℕ). IsNoReset (instance_answer owned s attribute body o)) (sym is) (single_gets body (attribute_of o.attributes attribute))
+    subst (λ (s : ℕ). IsNoReset (instance_answer owned s attribute body o)) (sym is)
+    (either IsNoReset (not (length o.attributes == 0)) _ _ (single_gets body (attribute_of o.attributes attribute)) tt)
 
 object_gets : (owned : Bool) (service : ℕ) (attribute : Option ℕ) (body : List ℕ) (found : Option Instance) → IsGet service → IsNoReset (object_said owned service attribute body found)
 object_gets owned service attribute body None get = tt
@@ -232,7 +245,7 @@ set_list_resets attributes (low ∷ high ∷ rest) =
 
 instance_resets : (owned : Bool) (service : ℕ) (attribute : Option ℕ) (body : List ℕ) (o : Instance) → IsSmallReset (instance_answer owned service attribute body o)
 instance_resets owned service attribute body o =
-    either IsSmallReset (service == 0x0E) _ _ (single_resets body (attribute_of o.attributes attribute))
+    either IsSmallReset (service == 0x0E && not (length o.attributes == 0)) _ _ (single_resets body (attribute_of o.attributes attribute))
     (either IsSmallReset (service == 0x10 && o.sets) _ _ (set_resets (attribute_of o.attributes attribute))
     (either IsSmallReset (service == 0x01 && o.gets_all) _ _ (either IsSmallReset (length body == 0) _ _ tt tt)
     (either IsSmallReset (service == 0x03 && o.sets) _ _ (got_list_resets o.attributes body)
@@ -329,7 +342,15 @@ reset_said t d attribute kind is free small =
     let fits : nat_lt 1 kind ≡ false = le-ltb _ _ small in
     ap (object_said (list_any is_owning t.rows) 0x05 attribute (kind ∷ [])) (identity_found t d is) ∙ rw (free, fits) refl
 
+-- an instance that has an attribute gets it
+has_some : (number : ℕ) (attributes : List Attribute) (attribute : Attribute) → find (is_numbered number) attributes ≡ Some attribute → not (length attributes == 0) ≡ true
+has_some number [] attribute found = absurd (let e = found in cc)
+has_some number (first ∷ rest) attribute found = ap not (ne_eqb (suc (length rest)) 0 (λ same. omega (arith, same)))
+
+got_single : (owned : Bool) (number : ℕ) (o : Instance) (attribute : Attribute) → find (is_numbered number) o.attributes ≡ Some attribute → instance_answer owned 0x0E (Some number) [] o ≡ said GetSingle attribute.value
+got_single owned number o attribute found = rw (has_some number o.attributes attribute found) (ap (single_of []) found)
+
 pub single_said : (t : AdapterTable) (class instance number : ℕ) (o : Instance) (attribute : Attribute) → instance_at t class instance ≡ Some o → find (is_numbered number) o.attributes ≡ Some attribute → object_answer t 0x0E class instance (Some number) [] ≡ said GetSingle attribute.value
 unfolding object_answer alone_answer
 single_said t class instance number o attribute is found =
-    ap (object_said (list_any is_owning t.rows) 0x0E (Some number) []) is ∙ ap (single_of []) found
+    ap (object_said (list_any is_owning t.rows) 0x0E (Some number) []) is ∙ got_single (list_any is_owning t.rows) number o attribute found

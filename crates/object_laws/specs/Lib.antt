@@ -3,3 +3,4 @@ pub mod Routes
 pub mod Packets
 pub mod Services
 pub mod Identities
+pub mod Counts

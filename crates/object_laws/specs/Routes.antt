@@ -3,9 +3,7 @@
 use Rattle.std.specs.Prelude.{ℕ, ◌≡◌, ◌⊎◌, ◌+◌, nat_lt, true, false, List, length, find, Option, Some, None, Ok}
 use Rattle.cip_types.specs.declared.names.Node.{Node}
 use Rattle.cip_encap.specs.Connected.{ConnectedFields}
-use Rattle.cip_encap.specs.ConnectedReading.{connected_reading}
 use Rattle.cip_encap.specs.Packet.{PacketFields}
-use Rattle.cip_encap.specs.PacketReading.{packet_reading}
 use Rattle.cip_events.specs.declared.event.Event.{Event}
 use Rattle.cip_events.specs.declared.event.Event.TheVariants as event
 use Rattle.cip_events.specs.declared.event.Notice.{Notice}
@@ -16,7 +14,7 @@ use Rattle.messaging.specs.declared.class3.Class3Connection.{Class3Connection}
 use Rattle.messaging.specs.Class3Connections.{is_class3, repeats_last}
 use Rattle.adapter_table.specs.declared.table.AdapterTable.{AdapterTable}
 use Rattle.adapter_table.specs.declared.table.Stream.{Stream}
-use Rattle.adapter_table.specs.Encapsulation.{frame_for, framed, message_replied, request_replied}
+use Rattle.adapter_table.specs.Encapsulation.{connected_items_for, frame_for, framed, items_for, message_replied, request_replied}
 use Rattle.adapter_table.specs.Inquiries.{inquiry_reply}
 use Rattle.adapter_table.specs.Own.{is_own_class}
 use Rattle.adapter_table.specs.Requests.{Next, Served, replied, served_object}
@@ -40,7 +38,7 @@ pub record SendsRequest (t : AdapterTable) (number : ℕ) (bytes request : List 
   pub frame : IsFrame t number bytes
   pub sends : frame.header.command ≡ 0x6F
   pub packet : PacketFields
-  pub reads : packet_reading frame.body ≡ Ok packet
+  pub reads : items_for t.profile.description frame.body ≡ Ok packet
   pub is : packet.payload ≡ request
 
 -- SendUnitData with these bytes of a request, in a message that a class 3 connection takes and has not executed
@@ -48,7 +46,7 @@ pub record SendsMessage (t : AdapterTable) (number : ℕ) (bytes request : List 
   pub frame : IsFrame t number bytes
   pub sends : frame.header.command ≡ 0x70
   pub unit : ConnectedFields
-  pub reads : connected_reading frame.body ≡ Ok unit
+  pub reads : connected_items_for t.profile.description frame.body ≡ Ok unit
   pub connection : Class3Connection
   pub found : find (is_class3 frame.stream.number (record { 0 = unit.connection })) t.messaging.class3_connections ≡ Some connection
   pub fits : nat_lt connection.o_t_size (2 + length unit.message) ≡ false

@@ -4,7 +4,7 @@ use Rattle.std.specs.Prelude.{ℕ, ◌≡◌, ◌≤◌, ◌⊎◌, ◌||◌, Bo
 use Rattle.std.specs.List.{list_any}
 use Rattle.cip_encap.specs.Message.{MessageFields}
 use Rattle.cip_encap.specs.Packet.{PacketFields}
-use Rattle.cip_encap.specs.PacketReading.{packet_reading}
+use Rattle.cip_encap.specs.AnyItems.{any_packet_reading}
 use Rattle.cip_encap.specs.Reading.{message_reading}
 use Rattle.cip_events.specs.declared.event.Event.{Event}
 use Rattle.cip_events.specs.declared.event.Event.TheVariants as event
@@ -16,7 +16,10 @@ use Rattle.cip_router.specs.Replies.{object_reply}
 use Rattle.cip_router.specs.Requests.{RouterRequestFields, closing, object, opening, router_request_reading}
 use Rattle.messaging.specs.declared.table.Messaging.{Messaging}
 use Rattle.adapter_table.specs.declared.profile.Description.{Description}
+use Rattle.adapter_table.specs.declared.counters.Tally.{Tally}
+use Rattle.adapter_table.specs.declared.counters.Tally.TheVariants.{CloseOther, OpenOther}
 use Rattle.adapter_table.specs.declared.table.AdapterTable.{AdapterTable}
+use Rattle.adapter_table.specs.Counting.{tallied}
 use Rattle.adapter_table.specs.Objects.{Attribute, Instance, denied, instance_at, is_numbered, is_owning, numbers, said}
 use Rattle.adapter_table.specs.Carrying.{object_answer}
 use Rattle.adapter_table.specs.Messages.{with_messages}
@@ -44,7 +47,7 @@ pub record IsServiceFrame (objects bytes : List ℕ) (service : ℕ) : Type 0 wh
   pub reads : message_reading bytes ≡ Ok message
   pub sends : message.command ≡ 0x006F
   pub packet : PacketFields
-  pub packet_is : packet_reading message.payload ≡ Ok packet
+  pub packet_is : any_packet_reading message.payload ≡ Ok packet
   pub request : IsServiceRequest objects packet.payload service
 
 -- the event brings this service of an object that the adapter serves itself, over a stream or over none
@@ -142,12 +145,23 @@ IsConnecting (closing fields) = Unit {0}
 IsConnecting (opening large fields) = Unit {0}
 IsConnecting other = ⊥
 
+-- what it is counted as where it is refused
+abbrev pub denied_tally : RouterRequestFields → Tally
+denied_tally (closing fields) = CloseOther
+denied_tally other = OpenOther
+
+-- one request of this kind is counted, and else all but the class 3 connections' last messages stays; nothing is reported
+pub record CountsAlone (t : AdapterTable) (kind : Tally) (next : Next) : Type 0 where
+  pub messages : Messaging
+  pub table : next.1 ≡ with_messages (tallied (Some kind) t) messages
+  pub notices : next.0.notices ≡ []
+
 -- so it is after every message of a class 3 connection that would open or close one: it does neither
 abbrev pub MessagesConnectNothing : Type 0
 MessagesConnectNothing =
     (t : AdapterTable) (number : ℕ) (bytes request : List ℕ) (next : Next) →
     adapter_step t (event.Frame number bytes) ≡ Ok next → SendsMessage t number bytes request → IsConnecting (router_request_reading request) →
-    AsksAlone t next
+    CountsAlone t (denied_tally (router_request_reading request)) next
 
 -- so it is after every request to such an object, over every route
 abbrev pub OwnServicesAskAlone : Type 0

@@ -12,5 +12,6 @@ pub use identities::{identities_agree, the_owned_bit_says_owners};
 pub use inquiries::inquiries_change_nothing;
 pub use services::{
     attributes_read_back, gets_change_nothing, messages_connect_nothing, objects_are_listed,
-    own_services_ask_alone, packets_are_their_services, resets_are_reported, routes_serve_alike,
+    own_services_ask_alone, packets_are_their_services, requests_are_counted_once,
+    resets_are_reported, routes_serve_alike,
 };

@@ -1,5 +1,6 @@
 //! What an adapter answers to the services of its objects.
 
+ghost use Rattle.object_laws.specs.Counts.{RequestsAreCountedOnce};
 ghost use Rattle.object_laws.specs.Packets.{PacketsAreTheirServices};
 ghost use Rattle.object_laws.specs.Routes.{RoutesServeAlike};
 ghost use Rattle.object_laws.specs.Services.{AttributesReadBack, GetsChangeNothing, MessagesConnectNothing, NothingIsListed, ObjectsAreListed, OwnServicesAskAlone, ResetsChangeNothing, ResetsAreReported};
@@ -22,8 +23,17 @@ pub fn packets_are_their_services()
     ensures { PacketsAreTheirServices }
 {}
 
-/// A message of a class 3 connection opens and closes no connection, whoever sends it: it leaves all of an adapter's table but the
-/// connection's last message, and reports nothing.
+/// Each request that an adapter serves itself is counted once, over every route, by what it asks and by the reply that goes out for it:
+/// the counters of requests are those of before and one more, or the same, if it asked for no connection. What the host has counted
+/// stays.
+///
+/// Volume 1, chapter 3, Connection Manager object, attributes 1 to 7.
+pub fn requests_are_counted_once()
+    ensures { RequestsAreCountedOnce }
+{}
+
+/// A message of a class 3 connection opens and closes no connection, whoever sends it: one such request that was refused is counted, all
+/// else of an adapter's table but the connection's last message stays, and nothing is reported.
 ///
 /// Volume 1, chapter 3, Connection Manager services and transport class 3.
 pub fn messages_connect_nothing()
@@ -31,8 +41,8 @@ pub fn messages_connect_nothing()
 {}
 
 /// Get_Attribute_Single and Get_Attributes_All leave the table of an adapter as it is, and report nothing: over a stream and over
-/// none, whether they are answered or refused. So it is of every object but instance 1 of the Connection Manager, whose services
-/// are those of connections, and those of the maker's own, whose services the application answers.
+/// none, whether they are answered or refused. So it is of every object but those of the maker's own, whose services the application
+/// answers.
 ///
 /// Volume 1, appendix A, common services.
 pub fn gets_change_nothing()

@@ -12,9 +12,11 @@ ghost use Rattle.messaging.specs.Changes.{repeated};
 ghost use Rattle.adapter_table.specs.Messages.{with_messages};
 
 use super::Adapter;
-use adapter_replies::{ConnectionRoute, RequestHeader, Route, repeated_answer};
+use adapter_replies::{
+    ConnectionRoute, RequestHeader, Route, read_connected_items_for, repeated_answer,
+};
 use adapter_table::{Description, has_session};
-use cip_encap::{ConnectedPacket, read_connected_items};
+use cip_encap::ConnectedPacket;
 use cip_tables::{Answer, Delivery, EncapStatus, Outcome, Stream, Verdict};
 use cip_types::OutOfMemory;
 use indexed_connections::ConnectionTable;
@@ -102,7 +104,7 @@ impl<T: ConnectionTable> Adapter<T> {
             let why = outside_session(&self.state.profile().description);
             return self.refuse_frame(stream.number, request_header, why);
         }
-        let Ok(packet) = read_connected_items(body) else {
+        let Ok(packet) = read_connected_items_for(&self.state.profile().description, body) else {
             return self.refuse_frame(stream.number, request_header, EncapStatus::IncorrectData);
         };
         self.receive_message(stream, request_header, &packet)

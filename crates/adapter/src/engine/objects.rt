@@ -71,6 +71,7 @@ impl<T: ConnectionTable> Adapter<T> {
         let facts = ConnectionFacts {
             io: self.state.connections().io_state(),
             count: self.connection_count(),
+            link: self.state.counters().link.as_slice(),
         };
         described_answer(
             self.state.alloc(),
@@ -104,7 +105,12 @@ impl<T: ConnectionTable> Adapter<T> {
             );
         }
         if instance == 1 && class == CONNECTION_MANAGER {
-            return manager_answer(self.state.alloc(), request);
+            return manager_answer(
+                self.state.alloc(),
+                self.state.counters().manager,
+                &self.state.profile().description,
+                request,
+            );
         }
         self.described_answer(class, instance, request)
     }

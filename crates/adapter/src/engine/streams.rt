@@ -14,10 +14,9 @@ ghost use Rattle.cip_router.specs.Commands.{command_of};
 use super::Adapter;
 use adapter_replies::{
     FrameReply, FrameView, RequestHeader, Route, cut_answer, ended_answer, frame_answer,
-    inquiry_answer, is_protocol, read_frame_for,
+    inquiry_answer, is_protocol, read_frame_for, read_items_for,
 };
 use adapter_table::{has_session, register_stream, session_of};
-use cip_encap::read_items;
 use cip_events::Recipient;
 use cip_tables::{Answer, Command, EncapStatus, Outcome, StepFault, Stream, Verdict};
 use cip_types::{OutOfMemory, drop_stream, find_stream};
@@ -162,7 +161,7 @@ impl<T: ConnectionTable> Adapter<T> {
         if !has_session(stream, request_header.session) {
             return self.refuse_frame(stream.number, request_header, EncapStatus::InvalidSession);
         }
-        let Ok(packet) = read_items(body) else {
+        let Ok(packet) = read_items_for(&self.state.profile().description, body) else {
             return self.refuse_frame(stream.number, request_header, EncapStatus::IncorrectData);
         };
         self.serve(Route::Stream(*stream, request_header), packet.data)

@@ -6,7 +6,11 @@ ghost use Rattle.cip_fwdopen.specs.Services.{is_large_open};
 ghost use Rattle.adapter_replies.specs.Routes.{routed};
 ghost use Rattle.cip_events.specs.Outcomes.{Follows};
 ghost use Rattle.adapter_table.specs.Class3Opening.{admitted_class3, class3_refusal, class3_view, opened_class3, served_class3};
+ghost use Rattle.adapter_table.specs.Counting.{tallied};
 ghost use Rattle.adapter_table.specs.Messages.{with_messages};
+ghost use Rattle.adapter_table.specs.Requests.{counted_by};
+ghost use Rattle.adapter_table.specs.declared.counters.Tally.TheVariants as tally;
+ghost use Rattle.cip_router.specs.Requests.{opening};
 ghost use Rattle.adapter_table.specs.MessagesSound.{IsCarried};
 ghost use Rattle.app_rules.specs.Stages.{class3_times};
 ghost use Rattle.app_rules.specs.Views.{seen_class3_connections};
@@ -16,6 +20,7 @@ ghost use Rattle.cip_events.specs.declared.event.Notice.TheVariants as notice;
 
 use super::AdapterState;
 use adapter_replies::{Route, class3_opened, one_notice, reply_answer};
+use adapter_table::Tally;
 use adapter_table::laws::tables_are_whole;
 use app_rules::{Class3Times, Class3View, admit_class3, whole_request};
 use cip_events::Notice;
@@ -72,8 +77,10 @@ impl<T: ConnectionTable> AdapterState<T> {
         requires admitted { class3_refusal (class3_view self.old stream.now.peer request.now.triad)
             (view_open request.now) ≡ None }
         requires times { times ≡ class3_times (view_open request.now) }
-        ensures { Follows (Ok (routed self.old route (Some (admitted_class3 self.old (is_large_open service)
-            (opened_class3 self.old stream.now (view_open request.now)))))) self.old result self.new }
+        ensures { Follows (Ok (routed self.old route
+            (Some (counted_by (opening (is_large_open service) (view_open request.now))
+            (admitted_class3 self.old (is_large_open service)
+            (opened_class3 self.old stream.now (view_open request.now))))))) self.old result self.new }
     {
         // The table stays whole.
         tables_are_whole();
@@ -86,6 +93,7 @@ impl<T: ConnectionTable> AdapterState<T> {
         self.messaging.open(class3)?;
         self.next_id += 1;
         self.openings = openings;
+        self.count(Some(Tally::Opened));
         Ok(answer)
     }
 
@@ -114,8 +122,10 @@ impl<T: ConnectionTable> AdapterState<T> {
         request: &OpenRequest<&[u8]>,
     ) -> Outcome
         requires { IsCarried self.old.streams stream.now.number }
-        ensures { Follows (Ok (routed self.old route (Some (served_class3 self.old stream.now
-            (is_large_open service) (view_open request.now))))) self.old result self.new }
+        ensures { Follows (Ok (routed self.old route
+            (Some (counted_by (opening (is_large_open service) (view_open request.now))
+            (served_class3 self.old stream.now
+            (is_large_open service) (view_open request.now)))))) self.old result self.new }
     {
         let request = &whole_request(&self.assemblies.profile().description, request);
         match admit_class3(&self.class3_view(stream.peer, request.triad), request) {
@@ -131,7 +141,7 @@ impl<T: ConnectionTable> AdapterState<T> {
           reply = closed triad;
           address = None;
           notices = notice.Closed triad ∷ [];
-          table = with_messages self.old (without_class3 self.old.messaging triad);
+          table = tallied (Some tally.Closed) (with_messages self.old (without_class3 self.old.messaging triad));
         })))) self.old result self.new }
     {
         // The table stays whole.
@@ -139,6 +149,7 @@ impl<T: ConnectionTable> AdapterState<T> {
         let notices = one_notice(self.alloc, Notice::Closed(triad))?;
         let answer = reply_answer(self.alloc, route, &Reply::Closed(triad), None, notices)?;
         self.messaging.close(triad);
+        self.count(Some(Tally::Closed));
         Ok(answer)
     }
 }

@@ -3,16 +3,19 @@
 ghost use Rattle.std.specs.Prelude.{◌≡◌, ◌≢◌, [], Ok, Some, None, IfOk};
 ghost use Rattle.cip_fwdopen.specs.Close.{view_close};
 ghost use Rattle.cip_router.specs.Replies.{view_reply};
-ghost use Rattle.adapter_table.specs.Requests.{known_close, refused_close, found_close, served_close, served_end};
+ghost use Rattle.cip_router.specs.Requests.{closing};
+ghost use Rattle.adapter_table.specs.Requests.{counted_by, known_close, refused_close, found_close, served_close, served_end};
 ghost use Rattle.adapter_replies.specs.Routes.{peer_of, routed, routed_answer, IsWritable};
-ghost use Rattle.adapter_table.specs.Closing.{closed_values};
+ghost use Rattle.adapter_table.specs.Closing.{closed_table, closed_values};
+ghost use Rattle.adapter_table.specs.Counting.{tallied};
+ghost use Rattle.adapter_table.specs.declared.counters.Tally.TheVariants as tally;
 ghost use Rattle.adapter_table.specs.Ticks.{expired_values};
 ghost use Rattle.cip_events.specs.Outcomes.{Follows};
 
 use super::AdapterState;
 use adapter_replies::{Route, closed_notices, reply_answer};
-use adapter_table::drives;
 use adapter_table::laws::tables_are_whole;
+use adapter_table::{Tally, drives};
 use assembly_set::AssemblySet;
 use cip_fwdopen::CloseRequest;
 use cip_fwdopen::service::FORWARD_CLOSE;
@@ -32,7 +35,9 @@ impl<T: ConnectionTable> AdapterState<T> {
     /// The close of a connection.
     #[tactic(auto, unfolding(adapter_table::specs::Closing::closed_table))]
     fn close(&mut self, route: Route, row: &Row) -> Outcome
-        ensures { Follows (Ok (routed self.old route (Some (known_close self.old row.now)))) self.old result self.new }
+        ensures { Follows (Ok (routed self.old route (Some (record (known_close self.old row.now) {
+          table = tallied (Some tally.Closed) (closed_table self.old row.now);
+        })))) self.old result self.new }
     {
         // The table stays whole.
         tables_are_whole();
@@ -42,24 +47,29 @@ impl<T: ConnectionTable> AdapterState<T> {
         let answer = reply_answer(self.alloc, route, &reply, None, notices)?;
         lose_owner(&mut self.assemblies, row);
         self.table.close(row.triad, &dropped);
+        self.count(Some(Tally::Closed));
         Ok(answer)
     }
 
-    /// A close that is refused, with its triad.
+    /// A close that is refused, with its triad: nothing changes but its count.
     fn refuse_close(&mut self, route: Route, request: &CloseRequest<&[u8]>, fault: Fault) -> Outcome
         requires { fault.general ≢ 0 }
-        ensures { Follows (Ok (routed self.old route (Some (refused_close self.old (view_close request.now) fault))))
+        ensures { Follows (Ok (routed self.old route (Some (counted_by (closing (view_close request.now))
+            (refused_close self.old (view_close request.now) fault)))))
             self.old result self.new }
     {
         let reply = Reply::Refused(FORWARD_CLOSE, fault, Some(request.triad));
-        Ok(self.reply(route, reply)?)
+        let answer = self.reply(route, reply)?;
+        self.count(Some(Tally::CloseOther));
+        Ok(answer)
     }
 
     /// The close of a connection that is found: another node than the one that opened it is refused, if the maker
     /// says so.
     fn close_found(&mut self, route: Route, request: &CloseRequest<&[u8]>, row: &Row) -> Outcome
-        ensures { Follows (Ok (routed self.old route (Some (found_close self.old (peer_of route)
-            (view_close request.now) row.now)))) self.old result self.new }
+        ensures { Follows (Ok (routed self.old route (Some (counted_by (closing (view_close request.now))
+            (found_close self.old (peer_of route)
+            (view_close request.now) row.now))))) self.old result self.new }
     {
         let limits = self.assemblies.profile().limits;
         if limits.is_wrong_closer(route.peer(), row) {
@@ -72,8 +82,9 @@ impl<T: ConnectionTable> AdapterState<T> {
     /// A Forward_Close of a connection of class 1.
     #[tactic(auto, unfolding(adapter_table::specs::Requests::served_close))]
     fn forward_close_class1(&mut self, route: Route, request: &CloseRequest<&[u8]>) -> Outcome
-        ensures { Follows (Ok (routed self.old route (Some (served_close self.old (peer_of route)
-            (view_close request.now))))) self.old result self.new }
+        ensures { Follows (Ok (routed self.old route (Some (counted_by (closing (view_close request.now))
+            (served_close self.old (peer_of route)
+            (view_close request.now)))))) self.old result self.new }
     {
         match self.table.find(request.triad) {
             Some(row) => self.close_found(route, request, &row),
@@ -85,8 +96,9 @@ impl<T: ConnectionTable> AdapterState<T> {
     /// it is refused, if the maker says so.
     #[tactic(auto, unfolding(adapter_table::specs::Requests::served_end))]
     pub fn forward_close(&mut self, route: Route, request: &CloseRequest<&[u8]>) -> Outcome
-        ensures { Follows (Ok (routed self.old route (Some (served_end self.old (peer_of route)
-            (view_close request.now))))) self.old result self.new }
+        ensures { Follows (Ok (routed self.old route (Some (counted_by (closing (view_close request.now))
+            (served_end self.old (peer_of route)
+            (view_close request.now)))))) self.old result self.new }
     {
         let Some(class3) = self.messaging.find_triad(request.triad) else {
             return self.forward_close_class1(route, request);

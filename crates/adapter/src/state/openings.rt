@@ -7,7 +7,8 @@ ghost use Rattle.cip_fwdopen.specs.Services.{is_large_open};
 ghost use Rattle.adapter_table.specs.Checks.{Gives, config_bytes, view_admission, drawn_ids};
 ghost use Rattle.adapter_table.specs.StatedLimits.{limited_admission};
 ghost use Rattle.adapter_table.specs.Opening.{opened_row, opened_production, opened_state, opened_t_o_id, configured};
-ghost use Rattle.adapter_table.specs.Requests.{admitted_open, refused_open, served_open};
+ghost use Rattle.cip_router.specs.Requests.{opening};
+ghost use Rattle.adapter_table.specs.Requests.{admitted_open, counted_by, refused_open, served_open};
 ghost use Rattle.adapter_replies.specs.Routes.{peer_of, routed};
 ghost use Rattle.adapter_replies.specs.Serving.{IsOpenRoute, opening_served, stream_opening};
 ghost use Rattle.adapter_table.specs.MessagesSound.{IsCarried};
@@ -19,6 +20,7 @@ use adapter_replies::{
     Route, address_of, opened_address, opened_reply, opening_notices, reply_answer,
 };
 use adapter_table::laws::{admitted_requests_fit, tables_are_whole};
+use adapter_table::{Tally, open_tally};
 use app_rules::{View, admit, opening_refusal, whole_request};
 use assembly_set::AssemblySet;
 use cip_fwdopen::{OpenRequest, OpenService};
@@ -140,8 +142,9 @@ impl<T: ConnectionTable> AdapterState<T> {
             ≡ Ok (view_admission admitted.now) }
         requires drawn { admitted.now.drawn ≡ drawn_ids admitted.now.multicast admitted.now.group }
         ensures { Follows (Ok
-            (routed self.old route (Some (admitted_open self.old (peer_of route) (is_large_open service)
-            (view_open request.now) (view_admission admitted.now))))) self.old result self.new }
+            (routed self.old route (Some (counted_by (opening (is_large_open service) (view_open request.now))
+            (admitted_open self.old (peer_of route) (is_large_open service)
+            (view_open request.now) (view_admission admitted.now)))))) self.old result self.new }
     {
         // The table stays whole, and what was admitted is within the limits.
         tables_are_whole();
@@ -156,10 +159,11 @@ impl<T: ConnectionTable> AdapterState<T> {
         configure(&mut self.assemblies, admitted.segment);
         self.next_id += admitted.drawn;
         self.openings = openings;
+        self.count(Some(Tally::Opened));
         Ok(answer)
     }
 
-    /// A Forward_Open that is refused, with its triad.
+    /// A Forward_Open that is refused, with its triad: nothing changes but its count.
     pub(super) fn refuse_open(
         &mut self,
         route: Route,
@@ -167,12 +171,15 @@ impl<T: ConnectionTable> AdapterState<T> {
         request: &OpenRequest<&[u8]>,
         why: Refusal,
     ) -> Outcome
-        ensures { Follows (Ok (routed self.old route (Some (refused_open self.old (is_large_open service)
-            (view_open request.now) why)))) self.old result self.new }
+        ensures { Follows (Ok (routed self.old route
+            (Some (counted_by (opening (is_large_open service) (view_open request.now))
+            (refused_open self.old (is_large_open service) (view_open request.now) why))))) self.old result self.new }
     {
         let profile = self.assemblies.profile();
         let reply = opening_refusal(profile, &self.table, service, request, why);
-        Ok(self.reply(route, reply)?)
+        let answer = self.reply(route, reply)?;
+        self.count(Some(open_tally(why)));
+        Ok(answer)
     }
 
     /// A Forward_Open of a connection of class 1.
@@ -184,8 +191,9 @@ impl<T: ConnectionTable> AdapterState<T> {
         request: &OpenRequest<&[u8]>,
     ) -> Outcome
         ensures { Follows (Ok (routed self.old route
-            (Some (served_open self.old (peer_of route) (is_large_open service)
-            (view_open request.now))))) self.old result self.new }
+            (Some (counted_by (opening (is_large_open service) (view_open request.now))
+            (served_open self.old (peer_of route) (is_large_open service)
+            (view_open request.now)))))) self.old result self.new }
     {
         let request = &whole_request(&self.assemblies.profile().description, request);
         match self.judge(route.peer(), request) {
@@ -204,8 +212,10 @@ impl<T: ConnectionTable> AdapterState<T> {
     ) -> Outcome
         requires carried { IsCarried self.old.streams stream.now.number }
         requires peer { peer_of route ≡ stream.now.peer }
-        ensures { Follows (Ok (routed self.old route (Some (stream_opening self.old stream.now
-            (is_large_open service) (view_open request.now))))) self.old result self.new }
+        ensures { Follows (Ok (routed self.old route
+            (Some (counted_by (opening (is_large_open service) (view_open request.now))
+            (stream_opening self.old stream.now
+            (is_large_open service) (view_open request.now)))))) self.old result self.new }
     {
         if is_message_trigger(request.trigger) {
             return self.forward_open_class3(route, stream, service, request);
@@ -221,8 +231,10 @@ impl<T: ConnectionTable> AdapterState<T> {
         request: &OpenRequest<&[u8]>,
     ) -> Outcome
         requires { IsOpenRoute self.old route }
-        ensures { Follows (Ok (routed self.old route (Some (opening_served self.old route (is_large_open service)
-            (view_open request.now))))) self.old result self.new }
+        ensures { Follows (Ok (routed self.old route
+            (Some (counted_by (opening (is_large_open service) (view_open request.now))
+            (opening_served self.old route (is_large_open service)
+            (view_open request.now)))))) self.old result self.new }
     {
         match route {
             Route::Stream(stream, _) => self.forward_open_over(route, &stream, service, request),

@@ -1,18 +1,21 @@
 //! The passing of time.
 
-ghost use Rattle.std.specs.Prelude.{◌≡◌, ◌+◌, Ok, ◌≤◌, false, ◌^◌};
+ghost use Rattle.std.specs.Prelude.{◌≡◌, ◌+◌, [], Ok, ◌≤◌, false, ◌^◌, length};
 ghost use Rattle.cip_events.specs.Outcomes.{Follows};
 ghost use Rattle.std.specs.List.{list_any};
 ghost use Rattle.adapter_table.specs.Productions.{is_due};
 ghost use Rattle.adapter_table.specs.Ticks.{advanced, aged_next, clocked_table, has_expired, tick};
+ghost use Rattle.adapter_table.specs.Counters.{timed_out};
+ghost use Rattle.messaging.specs.Times.{late_class3_connections};
 
 use super::AdapterState;
 use super::closings::lose_owners;
 use adapter_replies::{late_answer, late_frames, late_notices, notices_answer};
 use adapter_table::laws::tables_are_whole;
+use adapter_table::{DeviceCounters, Row};
 use cip_tables::{Answer, Outcome, StepFault, Verdict};
-use cip_types::Ms;
 use cip_types::limits::{CLOCK_END_MS, LONGEST_TICK_MS};
+use cip_types::{Ms, Triad};
 use indexed_connections::{ConnectionTable, TickPlan};
 
 impl<T: ConnectionTable> AdapterState<T> {
@@ -21,6 +24,7 @@ impl<T: ConnectionTable> AdapterState<T> {
     fn produce(&mut self, ms: u32) -> Outcome
         requires time { self.old.clock.0 + ms ≤ 2 ^ 48 }
         requires unexpired { list_any (has_expired (record { 0 = self.old.clock.0 + ms })) self.old.rows ≡ false }
+        requires none_late { late_class3_connections (record { 0 = self.old.clock.0 + ms }) self.old.messaging ≡ [] }
         ensures { Follows (Ok (advanced (clocked_table self.old ms))) self.old result self.new }
     {
         // The table stays whole.
@@ -39,6 +43,7 @@ impl<T: ConnectionTable> AdapterState<T> {
     fn wait(&mut self, ms: u32) -> Outcome
         requires time { self.old.clock.0 + ms ≤ 2 ^ 48 }
         requires unexpired { list_any (has_expired (record { 0 = self.old.clock.0 + ms })) self.old.rows ≡ false }
+        requires none_late { late_class3_connections (record { 0 = self.old.clock.0 + ms }) self.old.messaging ≡ [] }
         requires none_due { list_any (is_due (record { 0 = self.old.clock.0 + ms })) self.old.rows ≡ false }
         ensures { Follows (Ok (advanced (clocked_table self.old ms))) self.old result self.new }
     {
@@ -60,6 +65,7 @@ impl<T: ConnectionTable> AdapterState<T> {
     fn advance(&mut self, ms: u32) -> Outcome
         requires time { self.old.clock.0 + ms ≤ 2 ^ 48 }
         requires unexpired { list_any (has_expired (record { 0 = self.old.clock.0 + ms })) self.old.rows ≡ false }
+        requires none_late { late_class3_connections (record { 0 = self.old.clock.0 + ms }) self.old.messaging ≡ [] }
         ensures { Follows (Ok (advanced (clocked_table self.old ms))) self.old result self.new }
     {
         if self.table.is_due(Ms(self.clock.0 + u64::from(ms))) {
@@ -92,6 +98,7 @@ impl<T: ConnectionTable> AdapterState<T> {
         lose_owners(&mut self.assemblies, &timed_out);
         self.clock = clock;
         self.table.advance(clock, &timed_out, &dropped);
+        count_late(&mut self.counters, &timed_out, &ended);
         Ok(late_answer(frames, datagrams, notices))
     }
 
@@ -123,4 +130,14 @@ impl<T: ConnectionTable> AdapterState<T> {
         }
         self.pass(ms)
     }
+}
+
+/// Counts connections of both classes that time out. Takes no memory.
+fn count_late(counters: &mut DeviceCounters, expired: &[Row], ended: &[Triad])
+    ensures { counters.new ≡ record counters.old {
+      manager = timed_out (length expired.now + length ended.now) counters.old.manager;
+    } }
+{
+    let manager = counters.manager.timed_out(expired.len() + ended.len());
+    counters.manager = manager;
 }

@@ -20,13 +20,13 @@ abbrev pub standing_in : Assemblies → IoState → IdentityState
 standing_in set io = record { status = status_in set io; consistency = consistency_value (config_bytes set.values set.profile.config) }
 
 -- the instance of another class than the assemblies'
-abbrev pub described_in : Assemblies → IoState → (connections : ℕ) → Description → (class instance : ℕ) → Option Instance
-described_in set io connections d class instance = first_case (described_cases set.profile (standing_in set io) connections d class instance)
+abbrev pub described_in : Assemblies → IoState → (connections : ℕ) → (link : List ℕ) → Description → (class instance : ℕ) → Option Instance
+described_in set io connections link d class instance = first_case (described_cases set.profile (standing_in set io) connections link d class instance)
 
 -- what a described device answers to a service of another object than an assembly
-unfoldable pub described_said : Assemblies → IoState → (connections : ℕ) → Description → (service class instance : ℕ) → Option ℕ → List ℕ → ObjectAnswer
-described_said set io connections d service class instance attribute body =
-    object_said io.owned service attribute body (described_in set io connections d class instance)
+unfoldable pub described_said : Assemblies → IoState → (connections : ℕ) → (link : List ℕ) → Description → (service class instance : ℕ) → Option ℕ → List ℕ → ObjectAnswer
+described_said set io connections link d service class instance attribute body =
+    object_said io.owned service attribute body (described_in set io connections link d class instance)
 
 -- what a device answers to a service of an assembly: the connections make no difference
 unfoldable pub assembly_said : Assemblies → (service instance : ℕ) → Option ℕ → List ℕ → ObjectAnswer

@@ -14,6 +14,7 @@ use Rattle.cip_encap.specs.Reading.{message_reading, found_reading, sized_readin
 use Rattle.cip_router.specs.declared.refusal.Status.TheVariants as status
 use Rattle.list_identity.specs.declared.inquiry.Inquiry.{Inquiry}
 use Rattle.list_identity.specs.Inquiries.{inquiry_answer, inquiry_in, inquiry_of, InquiryMessage, inquiry_message, inquiry_read}
+use Rattle.adapter_table.specs.declared.counters.ManagerCounters.{ManagerCounters}
 use Rattle.adapter_table.specs.declared.profile.Description.{Description}
 use Rattle.adapter_table.specs.declared.profile.Profile.{Profile}
 use Rattle.adapter_table.specs.declared.table.PointValue.{PointValue}
@@ -35,7 +36,7 @@ unfolding instance_at
 other_class t class instance other unmanaged = rw (other, unmanaged) refl
 
 -- a described device answers to a service of another object than an assembly
-pub described_is : (t : AdapterTable) (d : Description) (service class instance : ℕ) (attribute : Option ℕ) (body : List ℕ) → t.profile.description ≡ Some d → (class == 0x04) ≡ false → (instance == 1 && class == 0x06) ≡ false → alone_answer t service class instance attribute body ≡ described_said (points_of t) (io_state_of t.rows) (connection_count t.rows t.messaging) d service class instance attribute body
+pub described_is : (t : AdapterTable) (d : Description) (service class instance : ℕ) (attribute : Option ℕ) (body : List ℕ) → t.profile.description ≡ Some d → (class == 0x04) ≡ false → (instance == 1 && class == 0x06) ≡ false → alone_answer t service class instance attribute body ≡ described_said (points_of t) (io_state_of t.rows) (connection_count t.rows t.messaging) t.counters.link d service class instance attribute body
 unfolding alone_answer described_said status_word
 described_is t d service class instance attribute body is other unmanaged =
     ap (object_said (list_any is_owning t.rows) service attribute body) (other_class t class instance other unmanaged ∙ ap (described_at t class instance) is)
@@ -56,10 +57,14 @@ never_resets false owned body otherwise = refl
 unowned : (owned : Bool) (service : ℕ) (attribute : Option ℕ) (body : List ℕ) (o : Instance) → o.resets ≡ false → instance_answer owned service attribute body o ≡ instance_answer false service attribute body o
 unowned owned service attribute body o none = rw none (rw (never_resets (service == 0x05) owned body (denied status.Service), never_resets (service == 0x05) false body (denied status.Service)) refl)
 
--- the Connection Manager has no service of an object
-pub manager_is : (t : AdapterTable) (service : ℕ) (attribute : Option ℕ) (body : List ℕ) → alone_answer t service 0x06 1 attribute body ≡ instance_answer false service attribute body manager_instance
+unreset : (c : ManagerCounters) (d : Option Description) → (manager_instance c d).resets ≡ false
+unreset c None = refl
+unreset c (Some d) = refl
+
+-- the Connection Manager answers alike, whoever owns an output
+pub manager_is : (t : AdapterTable) (service : ℕ) (attribute : Option ℕ) (body : List ℕ) → alone_answer t service 0x06 1 attribute body ≡ instance_answer false service attribute body (manager_instance t.counters.manager t.profile.description)
 unfolding alone_answer instance_at
-manager_is t service attribute body = unowned (list_any is_owning t.rows) service attribute body manager_instance refl
+manager_is t service attribute body = unowned (list_any is_owning t.rows) service attribute body (manager_instance t.counters.manager t.profile.description) (unreset t.counters.manager t.profile.description)
 
 -- the class of the assemblies
 abbrev class_of : Profile → List PointValue → Instance

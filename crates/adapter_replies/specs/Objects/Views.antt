@@ -1,7 +1,8 @@
 -- The program's attributes, instances and answers, as the definitions see them.
-use Rattle.std.specs.Prelude.{ℕ, Bool, true, false, List, [], ◌∷◌, ◌++◌, flat_map, map, replicate}
+use Rattle.std.specs.Prelude.{ℕ, Bool, true, false, List, [], ◌∷◌, ◌++◌, flat_map, map}
 use Rattle.adapter_table.specs.Objects as objects
-use Rattle.adapter_table.specs.Objects.{u16, u32, link_capability, link_path, no_conflict, no_safety_number, node_segment, numbers, object_list}
+use Rattle.adapter_table.specs.Counters.{interface_counters, media_counters}
+use Rattle.adapter_table.specs.Objects.{u16, u32, link_capability, link_control, link_path, no_conflict, no_safety_number, node_segment, numbers, object_list}
 use Rattle.adapter_table.specs.Carrying as carrying
 use Rattle.adapter_table.specs.Own as own
 use Rattle.adapter_table.specs.declared.profile.Description.{Description}
@@ -28,9 +29,6 @@ use Rattle.adapter_replies.specs.declared.objects.own.OwnRequest.{OwnRequest}
 abbrev pub view_zeros : Zeros → List ℕ
 view_zeros zeros.SafetyNumber = no_safety_number
 view_zeros zeros.Conflict = no_conflict
-view_zeros zeros.Counters = replicate 44 0
-view_zeros zeros.MediaCounters = replicate 48 0
-view_zeros zeros.Control = replicate 4 0
 
 -- the bytes of a value
 abbrev pub view_value : Value → List ℕ
@@ -46,6 +44,9 @@ view_value value.LinkPath = link_path
 view_value (value.Addresses node mask) = u32 node.0 ++ (u32 mask ++ (u32 0 ++ (u32 0 ++ (u32 0 ++ u16 0))))
 view_value (value.Groups count first) = 0 ∷ 0 ∷ (u16 count ++ u32 first.0)
 view_value (value.Capability speed flags) = link_capability speed flags
+view_value (value.Control speed flags) = link_control speed flags
+view_value (value.Interface link) = interface_counters link.now
+view_value (value.Media link) = media_counters link.now
 view_value (value.Segment node) = node_segment node.0
 view_value (value.Numbers words) = numbers words.now
 view_value (value.Objects count own) = u16 count ++ flat_map u16 (object_list own.now)
@@ -100,8 +101,8 @@ abbrev pub requested : (owned : Bool) → ObjectRequest → objects.Instance →
 requested owned request o = objects.instance_answer owned request.service request.attribute request.body.now o
 
 -- of a described device
-abbrev pub described_requested : Assemblies → IoState → (connections : ℕ) → Description → (class instance : ℕ) → ObjectRequest → objects.ObjectAnswer
-described_requested set io connections d class instance request = described_said set io connections d request.service class instance request.attribute request.body.now
+abbrev pub described_requested : Assemblies → IoState → (connections : ℕ) → (link : List ℕ) → Description → (class instance : ℕ) → ObjectRequest → objects.ObjectAnswer
+described_requested set io connections link d class instance request = described_said set io connections link d request.service class instance request.attribute request.body.now
 
 -- of an assembly
 abbrev pub assembly_requested : Assemblies → (instance : ℕ) → ObjectRequest → objects.ObjectAnswer

@@ -169,7 +169,7 @@ fn reset<'a>(owned: bool, body: &[u8]) -> ObjectAnswer<'a>
     }
 }
 
-/// The answer to a request to an instance: the refusals are in this order another service (0x08), no such attribute
+/// The answer to a request to an instance, one without an attribute gets none: the refusals are in this order another service (0x08), no such attribute
 /// (0x14), an attribute that can only be read (0x0E), data that the service has not (0x15), a reset of another type (0x20)
 /// or while an output is owned (0x10). Out of memory is the only fault.
 pub(crate) fn instance_answer<'a>(
@@ -182,7 +182,7 @@ pub(crate) fn instance_answer<'a>(
         ≡ requested owned request.entry (view_instance instance.now)) }
 {
     let attributes = instance.attributes;
-    if request.service == ObjectService::GetSingle.code() {
+    if request.service == ObjectService::GetSingle.code() && !attributes.is_empty() {
         return get_single(
             alloc,
             named_attribute(attributes, request.attribute),

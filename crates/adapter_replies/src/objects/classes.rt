@@ -58,14 +58,14 @@ pub(crate) fn assembly_facts<'a>() -> ClassFacts<'a>
     }
 }
 
-/// Of the Connection Manager, which has Unconnected_Send and Large_Forward_Open.
+/// Of the Connection Manager, which has counters, Unconnected_Send and Large_Forward_Open.
 fn manager_class<'a>() -> ClassFacts<'a>
     ensures { view_facts result ≡ manager_class }
 {
     ClassFacts {
-        attributes: &[],
-        services: &[0x52, 0x5B],
-        largest: 0,
+        attributes: &[1, 2, 3, 4, 5, 6, 7, 8],
+        services: &[0x03, 0x04, 0x52, 0x5B],
+        largest: 8,
     }
 }
 
@@ -85,7 +85,7 @@ fn link_class<'a>() -> ClassFacts<'a>
     ensures { view_facts result ≡ link_class }
 {
     ClassFacts {
-        attributes: &[7, 8, 9, 10],
+        attributes: &[4, 5, 6, 7, 8, 9, 10],
         services: &[0x01, 0x03, 0x04],
         largest: 11,
     }

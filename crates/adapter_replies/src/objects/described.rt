@@ -2,6 +2,7 @@
 
 ghost use Rattle.std.specs.Prelude.{◌≡◌, ◌≤◌, IfOk, Some, false, length};
 ghost use Rattle.adapter_table.specs.Objects.{identity_instance, manager_instance};
+ghost use Rattle.adapter_table.specs.declared.profile.Description.{Description};
 ghost use Rattle.adapter_table.specs.Lemmas.ObjectSizes.{FewSaid};
 ghost use Rattle.adapter_replies.specs.Objects.Said.{standing_in};
 ghost use Rattle.adapter_replies.specs.Objects.Views.{requested, described_requested, view_answer};
@@ -17,9 +18,10 @@ use crate::objects::port::yielding_answer;
 use crate::objects::router::router_answer;
 use crate::objects::status::{consistency_value, status_word};
 use crate::objects::value::{Attribute, Value};
-use adapter_table::{Description, IoState};
+use adapter_table::{Description, IoState, ManagerCounters};
 use assembly_set::AssemblySet;
 use cip_epath::class::{CONNECTION_MANAGER, MESSAGE_ROUTER};
+use cip_router::Status;
 use cip_types::OutOfMemory;
 use std::alloc::Global;
 
@@ -43,13 +45,16 @@ const LINK: u32 = 0xF6;
 /// Volume 1, chapter 5, Identity object, attribute 8.
 pub(crate) const IN_OPERATION: u8 = 3;
 
-/// What the connections of a device tell of it, and how many there are: the established ones of class 1, and those of class 3.
+/// What the connections of a device tell of it, how many there are (the established ones of class 1, and those of class 3), and what its
+/// host has counted of its interface.
 ///
-/// Volume 1, chapter 5, Identity object, attribute 5, and Message Router object, attribute 3.
+/// Volume 1, chapter 5, Identity object, attribute 5, and Message Router object, attribute 3; Volume 2, chapter 5, Ethernet Link
+/// object, attributes 4 and 5.
 #[derive(Clone, Copy)]
-pub struct ConnectionFacts {
+pub struct ConnectionFacts<'a> {
     pub io: IoState,
     pub count: usize,
+    pub link: &'a [u8],
 }
 
 /// A service of the Identity object.
@@ -88,22 +93,51 @@ fn identity_answer<'a>(
     instance_answer(alloc, &instance, io.owned, request)
 }
 
-/// The answer to a service of an object of the Connection Manager, which has none and no attribute: out of memory is the only fault.
+/// A service of the Connection Manager of a described device: its attributes are its counters.
+fn counters_answer<'a>(
+    alloc: Global,
+    counters: ManagerCounters,
+    request: ObjectRequest<'_>,
+) -> Result<ObjectAnswer<'a>, OutOfMemory>
+    ensures { (d : Description) → IfOk result (λ answer. view_answer answer
+        ≡ requested false request.entry (manager_instance counters (Some d))) }
+{
+    let attributes = [
+        Attribute::Single(1, Value::Word(counters.opens)),
+        Attribute::Single(2, Value::Word(counters.open_formats)),
+        Attribute::Single(3, Value::Word(counters.open_resources)),
+        Attribute::Single(4, Value::Word(counters.open_others)),
+        Attribute::Single(5, Value::Word(counters.closes)),
+        Attribute::Single(6, Value::Word(counters.close_formats)),
+        Attribute::Single(7, Value::Word(counters.close_others)),
+        Attribute::Single(8, Value::Word(counters.time_outs)),
+    ];
+    let instance = Instance {
+        attributes: &attributes,
+        gets_all: false,
+        sets: true,
+        resets: false,
+    };
+    instance_answer(alloc, &instance, false, request)
+}
+
+/// The answer to a service of an object of the Connection Manager. That of a device without a description has none, and no
+/// attribute: out of memory is the only fault.
 ///
 /// Volume 1, chapter 3, Connection Manager.
 pub fn manager_answer<'a>(
     alloc: Global,
+    counters: ManagerCounters,
+    description: &Option<Description>,
     request: ObjectRequest<'_>,
 ) -> Result<ObjectAnswer<'a>, OutOfMemory>
-    ensures { IfOk result (λ answer. view_answer answer ≡ requested false request.entry manager_instance) }
+    ensures value { IfOk result (λ answer. view_answer answer
+        ≡ requested false request.entry (manager_instance counters description.now)) }
 {
-    let instance = Instance {
-        attributes: &[],
-        gets_all: false,
-        sets: false,
-        resets: false,
-    };
-    instance_answer(alloc, &instance, false, request)
+    match description {
+        Some(_) => counters_answer(alloc, counters, request),
+        None => Ok(ObjectAnswer::Denied(Status::Service)),
+    }
 }
 
 /// The answer of a described device to a service of another object than an assembly. An instance that it has not is
@@ -114,7 +148,7 @@ pub fn manager_answer<'a>(
 fn answer_of<'a>(
     alloc: Global,
     assemblies: &'a AssemblySet,
-    connections: ConnectionFacts,
+    connections: ConnectionFacts<'a>,
     description: &'a Description,
     class: u32,
     instance: u32,
@@ -123,8 +157,8 @@ fn answer_of<'a>(
     requires objects { length assemblies.now.profile.objects ≤ 16 }
     requires name { length description.now.name ≤ 32 }
     ensures { IfOk result (λ answer. view_answer answer
-        ≡ described_requested assemblies.now connections.io connections.count description.now class instance
-        request.entry) }
+        ≡ described_requested assemblies.now connections.entry.io connections.entry.count connections.entry.link.now
+        description.now class instance request.entry) }
 {
     let io = connections.io;
     let owned = io.owned;
@@ -145,7 +179,7 @@ fn answer_of<'a>(
         (INTERFACE, 0) => interface_class_answer(alloc, owned, request),
         (INTERFACE, 1) => interface_answer(alloc, assemblies, description, owned, request),
         (LINK, 0) => link_class_answer(alloc, owned, request),
-        (LINK, 1) => link_answer(alloc, description, owned, request),
+        (LINK, 1) => link_answer(alloc, description, connections.link, owned, request),
         _ => yielding_answer(alloc, assemblies, class, instance, owned, request),
     }
 }
@@ -160,7 +194,7 @@ fn answer_of<'a>(
 pub fn described_answer<'a>(
     alloc: Global,
     assemblies: &'a AssemblySet,
-    connections: ConnectionFacts,
+    connections: ConnectionFacts<'a>,
     description: &'a Description,
     class: u32,
     instance: u32,
@@ -168,8 +202,8 @@ pub fn described_answer<'a>(
 ) -> Result<ObjectAnswer<'a>, OutOfMemory>
     requires { assemblies.now.profile.description ≡ Some description.now }
     ensures value { IfOk result (λ answer. view_answer answer
-        ≡ described_requested assemblies.now connections.io connections.count description.now class instance
-        request.entry) }
+        ≡ described_requested assemblies.now connections.entry.io connections.entry.count connections.entry.link.now
+        description.now class instance request.entry) }
     ensures few { IfOk result (λ answer. FewSaid (view_answer answer)) }
 {
     // Gives the prover that the profile is faultless.

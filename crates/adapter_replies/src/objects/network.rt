@@ -123,23 +123,24 @@ pub(crate) fn interface_answer<'a>(
     profile_interface(alloc, profile, description.inactivity, owned, request)
 }
 
-/// A service of the Ethernet Link object.
+/// A service of the Ethernet Link object, of which the host has counted these bytes.
 pub(crate) fn link_answer<'a>(
     alloc: Global,
     description: &'a Description,
+    link: &'a [u8],
     owned: bool,
     request: ObjectRequest<'_>,
 ) -> Result<ObjectAnswer<'a>, OutOfMemory>
     ensures { IfOk result (λ answer. view_answer answer
-        ≡ requested owned request.entry (link_instance description.now)) }
+        ≡ requested owned request.entry (link_instance description.now link.now)) }
 {
     let attributes = [
         Attribute::Listed(1, Value::Long(description.speed)),
         Attribute::Listed(2, Value::Long(description.flags)),
         Attribute::Listed(3, Value::Lent(description.mac.as_slice())),
-        Attribute::Absent(Value::Zeros(Zeros::Counters)),
-        Attribute::Absent(Value::Zeros(Zeros::MediaCounters)),
-        Attribute::Absent(Value::Zeros(Zeros::Control)),
+        Attribute::Listed(4, Value::Interface(link)),
+        Attribute::Listed(5, Value::Media(link)),
+        Attribute::Listed(6, Value::Control(description.speed, description.flags)),
         Attribute::Listed(7, Value::Byte(TWISTED_PAIR)),
         Attribute::Listed(8, Value::Byte(ENABLED)),
         Attribute::Listed(9, Value::Byte(ENABLED)),

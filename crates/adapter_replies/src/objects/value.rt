@@ -1,13 +1,15 @@
 //! Attributes, and the bytes of their values.
 
 ghost use Rattle.std.specs.Prelude.{◌≡◌, ◌++◌, ◌∷◌, OnOk, flat_map, map};
-ghost use Rattle.adapter_table.specs.Objects.{all_values, capability_bits, in_two_bytes, is_forced, is_numbered, link_capability, link_path, numbers, object_list, u16, u32};
+ghost use Rattle.adapter_table.specs.Objects.{all_values, capability_bits, in_two_bytes, is_forced, is_numbered, link_capability, link_control, link_path, numbers, object_list, u16, u32};
+ghost use Rattle.adapter_table.specs.Counters.{interface_counters, media_counters};
 ghost use Rattle.adapter_table.specs.Objects as objects;
 ghost use Rattle.std.specs.Prelude.{List};
 ghost use Rattle.adapter_replies.specs.Objects.Views.{view_value, view_attribute, view_zeros};
 
 use crate::objects::port::{left_classes, put_segment};
 use crate::objects::router::SERVED;
+use adapter_table::{INTERFACE_COUNTERS, LINK_COUNTERS};
 use cip_types::fields::{put_bytes, put_u8, put_u16, put_u32};
 use cip_types::{Node, OutOfMemory};
 
@@ -21,16 +23,13 @@ const LINK_PATH: [u8; 6] = [2, 0, 0x20, 0xF6, 0x24, 0x01];
 /// Volume 2, chapter 5, TCP/IP Interface object, attribute 5.
 const NO_GATEWAY: [u8; 14] = [0, 0, 0, 0, 0, 0, 0, 0, 0, 0, 0, 0, 0, 0];
 
-/// Zeros: no safety network, no conflict of addresses, no counters of a link and of its medium, and no control of it.
+/// Zeros: no safety network, and no conflict of addresses.
 ///
-/// Volume 2, chapter 5, TCP/IP Interface object, attributes 7 and 11, and Ethernet Link object, attributes 4 to 6.
+/// Volume 2, chapter 5, TCP/IP Interface object, attributes 7 and 11.
 #[derive(Clone, Copy)]
 pub enum Zeros {
     SafetyNumber,
     Conflict,
-    Counters,
-    MediaCounters,
-    Control,
 }
 
 /// The value of an attribute.
@@ -62,6 +61,12 @@ pub enum Value<'a> {
     Groups(usize, Node),
     /// The capability of a link of this speed and these flags.
     Capability(u32, u32),
+    /// The control of a link of this speed and these flags.
+    Control(u32, u32),
+    /// The counters of an interface, of these bytes that the host has said.
+    Interface(&'a [u8]),
+    /// The counters of its medium, of the same bytes.
+    Media(&'a [u8]),
     /// A port segment with the address of the device.
     Segment(Node),
     /// Numbers of two bytes, behind how many they are.
@@ -136,9 +141,6 @@ fn put_zeros(out: &mut Vec<u8>, zeros: Zeros) -> Result<(), OutOfMemory>
     match zeros {
         Zeros::SafetyNumber => put_bytes(out, &[0; 6]),
         Zeros::Conflict => put_bytes(out, &[0; 35]),
-        Zeros::Counters => put_bytes(out, &[0; 44]),
-        Zeros::MediaCounters => put_bytes(out, &[0; 48]),
-        Zeros::Control => put_bytes(out, &[0; 4]),
     }
 }
 
@@ -185,6 +187,40 @@ fn put_capability(out: &mut Vec<u8>, speed: u32, flags: u32) -> Result<(), OutOf
     put_u8(out, 1)?;
     put_u16(out, in_two_bytes(speed))?;
     put_u8(out, (flags / 2 % 2) as u8)
+}
+
+/// Appends the control of a link: its bits, and the speed, if it was forced.
+fn put_control(out: &mut Vec<u8>, speed: u32, flags: u32) -> Result<(), OutOfMemory>
+    ensures { OnOk result (out.new.items ≡ out.old.items ++ link_control speed flags) }
+{
+    if is_forced(flags) {
+        put_u16(out, 2 * (flags / 2 % 2) as u16)?;
+        put_u16(out, in_two_bytes(speed))
+    } else {
+        put_bytes(out, &[1, 0, 0, 0])
+    }
+}
+
+/// Appends the counters of an interface, of the bytes that the host has said: zeros if it has said none.
+fn put_interface(out: &mut Vec<u8>, link: &[u8]) -> Result<(), OutOfMemory>
+    ensures { OnOk result (out.new.items ≡ out.old.items ++ interface_counters link.now) }
+{
+    if link.len() != LINK_COUNTERS {
+        return put_bytes(out, &[0; 44]);
+    }
+    let (interface, _media) = link.split_at(INTERFACE_COUNTERS);
+    put_bytes(out, interface)
+}
+
+/// Appends the counters of its medium, likewise.
+fn put_media(out: &mut Vec<u8>, link: &[u8]) -> Result<(), OutOfMemory>
+    ensures { OnOk result (out.new.items ≡ out.old.items ++ media_counters link.now) }
+{
+    if link.len() != LINK_COUNTERS {
+        return put_bytes(out, &[0; 48]);
+    }
+    let (_interface, media) = link.split_at(INTERFACE_COUNTERS);
+    put_bytes(out, media)
 }
 
 /// Appends the lowest two bytes of a number.
@@ -250,6 +286,9 @@ impl Value<'_> {
             Value::Addresses(node, mask) => put_addresses(out, *node, *mask),
             Value::Groups(count, first) => put_groups(out, *count, *first),
             Value::Capability(speed, flags) => put_capability(out, *speed, *flags),
+            Value::Control(speed, flags) => put_control(out, *speed, *flags),
+            Value::Interface(link) => put_interface(out, link),
+            Value::Media(link) => put_media(out, link),
             Value::Segment(node) => put_segment(out, *node),
             Value::Zeros(zeros) => put_zeros(out, *zeros),
             Value::Low(number) => put_low(out, *number as u64),

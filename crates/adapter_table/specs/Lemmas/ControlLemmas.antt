@@ -1,14 +1,16 @@
 -- Events that bring neither data nor time: requests and their answers, streams, and all that leave the table as it is. What one
 -- open, one close and each change of a stream and of class 3 connections do, each such event does.
-use Rattle.std.proofs.Common.{◌≡◌, ℕ, Bool, true, false, List, Option, Some, None, Ok, refl, subst}
+use Rattle.std.proofs.Common.{◌≡◌, ◌==◌, ℕ, Bool, true, false, length, List, Option, Some, None, Ok, refl, subst}
 use Rattle.cip_types.specs.declared.names.Node.{Node}
 use Rattle.cip_events.specs.declared.event.Event.{Event}
-use Rattle.cip_events.specs.declared.event.Event.TheVariants.{Request, StreamOpened, Frame, StreamCut, Datagram, Inquiry, Write, Tick, Respond}
+use Rattle.cip_events.specs.declared.event.Event.TheVariants.{Request, StreamOpened, Frame, StreamCut, Datagram, Inquiry, Write, Tick, Respond, Counters}
 use Rattle.adapter_table.specs.declared.table.AdapterTable.{AdapterTable}
 use Rattle.adapter_table.specs.Requests.{Next}
 use Rattle.adapter_table.specs.Inquiries.{inquiry_reply, inquired_by, inquired}
 use Rattle.adapter_table.specs.Streams.{is_taken, with_stream}
-use Rattle.adapter_table.specs.Step.{adapter_step}
+use Rattle.adapter_table.specs.declared.profile.Description.{Description}
+use Rattle.adapter_table.specs.Counters.{link_len}
+use Rattle.adapter_table.specs.Step.{adapter_step, counters_said, counters_with}
 use Rattle.adapter_table.specs.Lemmas.PassiveLemmas.{passive_is}
 use Rattle.adapter_table.specs.Lemmas.RequestLemmas.{RequestsDo, LimitedDo, limited_do, requested_does, frame_does, respond_does, next_is, streamed_is, cut_does}
 
@@ -27,6 +29,15 @@ inquired_does : (R : AdapterTable → AdapterTable → Type 0) → LimitedDo R �
 inquired_does R does t peer None = does.stays t
 inquired_does R does t peer (Some text) = does.stays t
 
+counters_by : (R : AdapterTable → AdapterTable → Type 0) → LimitedDo R → (t : AdapterTable) (bytes : List ℕ) (described : Option Description) (long : Bool) (next : Next) → counters_with t bytes described long ≡ Ok next → R t next.1
+counters_by R does t bytes None long next is = absurd cc
+counters_by R does t bytes (Some d) true next is = subst (λ (n : Next). R t n.1) (next_is _ _ is) (does.tallied t t (record t.counters { link = bytes }) (does.stays t))
+counters_by R does t bytes (Some d) false next is = absurd cc
+
+counters_does : (R : AdapterTable → AdapterTable → Type 0) → LimitedDo R → (t : AdapterTable) (bytes : List ℕ) (next : Next) → counters_said t bytes ≡ Ok next → R t next.1
+unfolding counters_said
+counters_does R does t bytes next is = counters_by R does t bytes t.profile.description (length bytes == link_len) next is
+
 pub limited_control : (R : AdapterTable → AdapterTable → Type 0) → LimitedDo R → StreamsDo R → (t : AdapterTable) (event : Event) (next : Next) → brings_data event ≡ false → adapter_step t event ≡ Ok next → R t next.1
 unfolding inquired
 limited_control R does streams t (Request peer bytes) next none is = subst (λ (n : Next). R t n.1) (next_is _ _ is) (requested_does R does t peer bytes)
@@ -40,6 +51,7 @@ limited_control R does streams t (Inquiry peer bytes) next none is = subst (λ (
 limited_control R does streams t (Write point bytes) next none is = absurd (let e = none in cc)
 limited_control R does streams t (Tick ms) next none is = absurd (let e = none in cc)
 limited_control R does streams t (Respond number status bytes) next none is = respond_does R does t number status bytes next is
+limited_control R does streams t (Counters bytes) next none is = counters_does R does t bytes next is
 limited_control R does streams t other next none is = subst (λ (n : Next). R t n.1) (passive_is t other next refl is).said (does.stays t)
 
 -- what every opening that is admitted does, one within the limits does

@@ -30,6 +30,7 @@ counter_effects n = record {
   registered = λ t number le. le;
   messaged = λ t next_id m goes le. omega (arith, goes.later, le);
   counted = λ t openings le. le;
+  tallied = λ t counters le. le;
 }
 
 pub steps_count : (n : ℕ) → StepsKeep (λ t. n ≤ t.next_id)
@@ -52,6 +53,7 @@ profile_effects profile = record {
   registered = λ t number same. same;
   messaged = λ t next_id m goes same. same;
   counted = λ t openings same. same;
+  tallied = λ t counters same. same;
 }
 
 pub profile_stays : (profile : Profile) → StepsKeep (λ t. t.profile ≡ profile)

@@ -1,8 +1,9 @@
 -- What an object answers is short: at most 1,400 bytes.
-use Rattle.std.proofs.Common.{◌≡◌, ◌≤◌, ◌+◌, ◌%◌, ℕ, zero, suc, ◌*◌, ◌==◌, ◌&&◌, not, Bool, true, false, cond, List, [], ◌∷◌, ◌++◌, length, filter, find, take, drop, Option, Some, None, is_some, refl, sym, ap, ◌∙◌, arith, length-append, nat_lt, nat_le}
+use Rattle.std.proofs.Common.{◌≡◌, ◌≤◌, ◌+◌, ◌%◌, ℕ, zero, suc, ◌*◌, ◌==◌, ◌&&◌, not, Bool, true, false, cond, List, [], ◌∷◌, ◌++◌, length, filter, find, take, drop, Option, Some, None, is_some, refl, sym, ap, ◌∙◌, arith, length-append, replicate, ◌/◌, nat_lt, nat_le}
 use Rattle.std.specs.List.{flat_map, list_any}
 use Rattle.std.specs.Int.{byte_at}
-use Rattle.std.proofs.lemmas.Bool.{not-false, and_parts}
+use Rattle.std.proofs.lemmas.Bool.{eqb-true, not-false, and_parts}
+use Rattle.std.proofs.lemmas.List.{length-take, length-drop}
 use Rattle.std.proofs.lemmas.Bool.Decides.{nat_tests}
 use Rattle.cip_types.specs.Cases.{Case, first_case}
 use Rattle.cip_types.specs.declared.names.Identity.{Identity}
@@ -11,12 +12,14 @@ use Rattle.cip_router.specs.declared.object_service.ObjectService.{ObjectService
 use Rattle.cip_router.specs.declared.object_service.ObjectService.TheVariants.{GetSingle, GetAll, GetList, Packet}
 use Rattle.cip_router.specs.declared.refusal.Status.TheVariants as status
 use Rattle.cip_router.specs.Requests.{router_request_reading}
+use Rattle.adapter_table.specs.declared.counters.ManagerCounters.{ManagerCounters}
 use Rattle.adapter_table.specs.declared.profile.Description.{Description}
 use Rattle.adapter_table.specs.declared.profile.Profile.{Profile}
 use Rattle.adapter_table.specs.declared.table.PointValue.{PointValue}
 use Rattle.adapter_table.specs.declared.table.AdapterTable.{AdapterTable}
 use Rattle.adapter_table.specs.Points.{bytes_at}
 use Rattle.adapter_table.specs.Profiles.{profile_fault, profile_tests, is_described, fits_description, are_objects, are_own_classes}
+use Rattle.adapter_table.specs.Counters.{interface_counters, interface_len, link_len, media_counters, media_len}
 use Rattle.adapter_table.specs.Connections.{Row}
 use Rattle.adapter_table.specs.Rows.{is_of_kind, kind_count}
 use Rattle.adapter_table.specs.Shapes.{IsShaped}
@@ -24,7 +27,7 @@ use Rattle.adapter_table.specs.Whole.{IsWhole}
 use Rattle.adapter_table.specs.Shaping.{all_pass}
 use Rattle.adapter_table.specs.Limits.{bytes_short}
 use Rattle.adapter_table.specs.Carrying.{Carried, barred, asking, carried, naming, inner_answer, routed_answer, sent_answer, is_sending, packet_answer, packet_replied, packet_data, packet_status, are_successes, are_placed, member_replies, most_members, is_packet, packed_answer, object_answer}
-use Rattle.adapter_table.specs.Objects.{ObjectAnswer, said, denied, resetting, answering, refusing, unrouted, word_of, most_listed, list_status, answer_within, got_items, are_attributes, get_list, behind_value, value_len, set_items, set_reply, set_list, alone_answer, manager_instance, Attribute, Instance, ClassFacts, IdentityState, standing_of, u16, yielding_classes, is_other_class, decimal_byte, node_text, qos_class, qos_instance, port_instance, port_class_instance, is_owning, is_numbered, attribute_of, all_values, single_of, set_of, reset_of, reset_by, instance_answer, object_said, class_instance, identity_class, router_class, assembly_facts, manager_class, interface_class, link_class, identity_instance, router_instance, interface_instance, link_behind, link_instance, assembly_instance, assembly_found, assembly_beside, assembly_at, in_two_bytes, largest_assembly, assembly_count, is_heartbeat, connection_count, described_cases, described_at, instance_at}
+use Rattle.adapter_table.specs.Objects.{ObjectAnswer, said, denied, resetting, answering, refusing, unrouted, word_of, most_listed, list_status, answer_within, got_items, are_attributes, get_list, behind_value, value_len, set_items, set_reply, set_list, alone_answer, manager_instance, Attribute, Instance, ClassFacts, IdentityState, standing_of, u16, yielding_classes, is_other_class, decimal_byte, node_text, qos_class, qos_instance, port_instance, port_class_instance, is_owning, is_numbered, attribute_of, all_values, single_of, set_of, reset_of, reset_by, instance_answer, object_said, class_instance, identity_class, router_class, assembly_facts, manager_class, interface_class, link_class, identity_instance, router_instance, interface_instance, is_forced, link_behind, link_control, link_instance, assembly_instance, assembly_found, assembly_beside, assembly_at, in_two_bytes, largest_assembly, assembly_count, is_heartbeat, connection_count, described_cases, described_at, instance_at}
 
 -- the answer has at most 1,400 bytes
 abbrev pub FewSaid : ObjectAnswer → Type 0
@@ -123,7 +126,7 @@ set_list_few attributes (low ∷ high ∷ rest) = split (nat_lt most_listed (wor
 -- a short instance has short answers
 instance_few : (owned : Bool) (service : ℕ) (attribute : Option ℕ) (body : List ℕ) (o : Instance) → IsFew o → FewSaid (instance_answer owned service attribute body o)
 instance_few owned service attribute body o few =
-    either (service == 0x0E) _ _ (single_few body (attribute_of o.attributes attribute) (named_few o.attributes attribute few.each))
+    either (service == 0x0E && not (length o.attributes == 0)) _ _ (single_few body (attribute_of o.attributes attribute) (named_few o.attributes attribute few.each))
     (either (service == 0x10 && o.sets) _ _ (set_few (attribute_of o.attributes attribute))
     (either (service == 0x01 && o.gets_all) _ _ (either (length body == 0) (said GetAll (all_values o.attributes)) (denied status.TooMuchData) few.together tt)
     (either (service == 0x03 && o.sets) _ _ (get_list_few o.attributes body)
@@ -272,12 +275,39 @@ qos_few = record {
   together = omega arith;
 }
 
-link_few : (d : Description) → FitsDescription d → IsFew (link_instance d)
-link_few d limited =
-    let behind = length-append d.mac (all_values (link_behind d)) in
+interface_counters_len : (link : List ℕ) → length (interface_counters link) ≤ 44
+interface_counters_len link = split (length link == link_len) (eqb-true (length link) link_len)
+  where
+    split : (b : Bool) → (b ≡ true → length link ≡ link_len) → length (cond b (take interface_len link) (replicate interface_len 0)) ≤ 44
+    split true is = omega (arith, length-take interface_len link)
+    split false is = omega arith
+
+media_counters_len : (link : List ℕ) → length (media_counters link) ≤ 48
+media_counters_len link = split (length link == link_len) (eqb-true (length link) link_len)
+  where
+    split : (b : Bool) → (b ≡ true → length link ≡ link_len) → length (cond b (drop interface_len link) (replicate media_len 0)) ≤ 48
+    split true is = omega (arith, length-drop interface_len link, is refl)
+    split false is = omega arith
+
+link_control_len : (speed flags : ℕ) → length (link_control speed flags) ≤ 4
+link_control_len speed flags = split (is_forced flags)
+  where
+    split : (b : Bool) → length (cond b (u16 (2 * (flags / 2 % 2)) ++ u16 (in_two_bytes speed)) (u16 1 ++ u16 0)) ≤ 4
+    split true = omega arith
+    split false = omega arith
+
+link_few : (d : Description) (link : List ℕ) → FitsDescription d → IsFew (link_instance d link)
+link_few d link limited =
+    let behind = length-append d.mac (all_values (link_behind d link)) in
+    let counters = interface_counters_len link in
+    let media = media_counters_len link in
+    let control = link_control_len d.speed d.flags in
+    let first = length-append (interface_counters link) (all_values (drop 1 (link_behind d link))) in
+    let second = length-append (media_counters link) (all_values (drop 2 (link_behind d link))) in
+    let third = length-append (link_control d.speed d.flags) (all_values (drop 3 (link_behind d link))) in
     record {
-      each = (omega arith, (omega arith, (omega (arith, limited.mac), (omega arith, (omega arith, (omega arith, (omega arith, (omega arith, (omega arith, (omega arith, (omega arith, tt)))))))))));
-      together = omega (arith, behind, limited.mac);
+      each = (omega arith, (omega arith, (omega (arith, limited.mac), (omega (arith, counters), (omega (arith, media), (omega (arith, control), (omega arith, (omega arith, (omega arith, (omega arith, (omega arith, tt)))))))))));
+      together = omega (arith, behind, limited.mac, first, second, third, counters, media, control);
     }
 
 interface_few : (profile : Profile) (d : Description) → IsFew (interface_instance profile d)
@@ -298,8 +328,8 @@ first_few : (cases : List (Case Instance)) → AllFewCases cases → FewInstance
 first_few [] few = tt
 first_few (case ∷ cases) few = case_step case.0 case.1 (first_case cases) few.0 (first_few cases few.1)
 
-limited_few : (profile : Profile) (standing : IdentityState) (connections : ℕ) (d : Description) (class instance : ℕ) → FitsDescription d → length profile.objects ≤ 16 → AllFewCases (described_cases profile standing connections d class instance)
-limited_few profile standing connections d class instance limited objects = (
+limited_few : (profile : Profile) (standing : IdentityState) (connections : ℕ) (link : List ℕ) (d : Description) (class instance : ℕ) → FitsDescription d → length profile.objects ≤ 16 → AllFewCases (described_cases profile standing connections link d class instance)
+limited_few profile standing connections link d class instance limited objects = (
   class_few 1 1 1 identity_class (omega arith) (omega arith),
   (
     identity_few profile.identity d standing limited,
@@ -316,7 +346,7 @@ limited_few profile standing connections d class instance limited objects = (
               (
                 class_few 4 1 1 link_class (omega arith) (omega arith),
                 (
-                  link_few d limited,
+                  link_few d link limited,
                   (class_few 1 1 1 qos_class (omega arith) (omega arith), (qos_few, (port_class_few, (port_few profile, tt)))),
                 ),
               ),
@@ -329,10 +359,10 @@ limited_few profile standing connections d class instance limited objects = (
 )
 
 -- the instances beside the assemblies are short
-pub described_few : (profile : Profile) (standing : IdentityState) (connections : ℕ) (d : Description) (class instance : ℕ) → profile_fault profile ≡ None → profile.description ≡ Some d → FewInstance (first_case (described_cases profile standing connections d class instance))
-described_few profile standing connections d class instance none is =
-    first_few (described_cases profile standing connections d class instance)
-    (limited_few profile standing connections d class instance (description_limited profile d none is) (objects_few profile none))
+pub described_few : (profile : Profile) (standing : IdentityState) (connections : ℕ) (link : List ℕ) (d : Description) (class instance : ℕ) → profile_fault profile ≡ None → profile.description ≡ Some d → FewInstance (first_case (described_cases profile standing connections link d class instance))
+described_few profile standing connections link d class instance none is =
+    first_few (described_cases profile standing connections link d class instance)
+    (limited_few profile standing connections link d class instance (description_limited profile d none is) (objects_few profile none))
 
 -- ---- the assemblies
 
@@ -355,7 +385,14 @@ assembly_found_few profile values instance (Some value) shaped is = assembly_few
 
 described_at_few : (t : AdapterTable) (class instance : ℕ) (found : Option Description) → t.profile.description ≡ found → profile_fault t.profile ≡ None → FewInstance (described_at t class instance found)
 described_at_few t class instance None is none = tt
-described_at_few t class instance (Some d) is none = described_few t.profile (standing_of t) (connection_count t.rows t.messaging) d class instance none is
+described_at_few t class instance (Some d) is none = described_few t.profile (standing_of t) (connection_count t.rows t.messaging) t.counters.link d class instance none is
+
+manager_few : (c : ManagerCounters) (d : Option Description) → IsFew (manager_instance c d)
+manager_few c None = record { each = tt; together = omega arith }
+manager_few c (Some d) = record {
+  each = (omega arith, (omega arith, (omega arith, (omega arith, (omega arith, (omega arith, (omega arith, (omega arith, tt))))))));
+  together = omega arith;
+}
 
 class_step : (b : Bool) (first second : Option Instance) → FewInstance first → FewInstance second → FewInstance (cond b first second)
 class_step true first second few more = few
@@ -368,8 +405,8 @@ alone_few t service class instance attribute body shaped =
     said_few (list_any is_owning t.rows) service attribute body (instance_at t class instance)
     (class_step (class == 0x04) (assembly_at t instance) _
     (assembly_found_few t.profile t.values instance (bytes_at t.values instance) shaped refl)
-    (class_step (instance == 1 && class == 0x06) (Some manager_instance) (described_at t class instance t.profile.description)
-    (record { each = tt; together = omega arith })
+    (class_step (instance == 1 && class == 0x06) (Some (manager_instance t.counters.manager t.profile.description)) (described_at t class instance t.profile.description)
+    (manager_few t.counters.manager t.profile.description)
     (described_at_few t class instance t.profile.description refl shaped.faultless)))
 
 -- a packet is short

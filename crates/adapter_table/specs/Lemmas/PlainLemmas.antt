@@ -1,6 +1,6 @@
 -- Events that a table answers by a verdict and notices alone, if it takes them: streams that open or end, datagrams, and all that
 -- leave the table as it is.
-use Rattle.std.proofs.Common.{◌≡◌, Bool, true, false, List, [], find, Option, Some, None, Result, Ok, Err, refl}
+use Rattle.std.proofs.Common.{◌≡◌, ◌==◌, ℕ, Bool, true, false, length, List, [], find, Option, Some, None, Result, Ok, Err, refl}
 use Rattle.base_lemmas.specs.Booleans.{either}
 use Rattle.cip_types.specs.declared.names.Node.{Node}
 use Rattle.cip_datagram.specs.declared.datagram.DatagramFault.{DatagramFault}
@@ -8,10 +8,10 @@ use Rattle.cip_datagram.specs.Datagram.{DatagramFields}
 use Rattle.cip_datagram.specs.Reading.{datagram_reading}
 use Rattle.cip_events.specs.declared.event.Delivery.TheVariants.{UnknownId, Malformed}
 use Rattle.cip_events.specs.declared.event.Event.{Event}
-use Rattle.cip_events.specs.declared.event.Event.TheVariants.{Request, StreamOpened, Frame, StreamCut, Datagram, Inquiry, Write, Tick, Respond}
+use Rattle.cip_events.specs.declared.event.Event.TheVariants.{Request, StreamOpened, Frame, StreamCut, Datagram, Inquiry, Write, Tick, Respond, Counters}
 use Rattle.cip_events.specs.declared.event.Notice.{Notice}
 use Rattle.cip_events.specs.declared.event.StepFault.{StepFault}
-use Rattle.cip_events.specs.declared.event.StepFault.TheVariants.{NotAllowedNow}
+use Rattle.cip_events.specs.declared.event.StepFault.TheVariants.{NotAllowedNow, WrongLength}
 use Rattle.cip_events.specs.declared.event.Verdict.{Verdict}
 use Rattle.cip_events.specs.declared.event.Verdict.TheVariants.{Delivered, Done}
 use Rattle.cip_events.specs.Answers.{plain_answer, is_accepted}
@@ -21,7 +21,10 @@ use Rattle.adapter_table.specs.declared.table.Stream.{Stream}
 use Rattle.adapter_table.specs.Requests.{Next}
 use Rattle.adapter_table.specs.Streams.{is_stream, is_taken, with_stream, without_stream, ended_notices, stream_opened, cut_of, stream_cut}
 use Rattle.adapter_table.specs.Datagrams.{is_for, row_delivery, accepted_table, delivered, found_datagram, datagram_of, received}
-use Rattle.adapter_table.specs.Step.{adapter_step}
+use Rattle.adapter_table.specs.declared.profile.Description.{Description}
+use Rattle.adapter_table.specs.Counters.{link_len}
+use Rattle.adapter_table.specs.Counting.{counted_link}
+use Rattle.adapter_table.specs.Step.{adapter_step, counters_said, counters_with}
 use Rattle.adapter_table.specs.Lemmas.PassiveLemmas.{passive_holds}
 
 -- what holds of each table with each verdict and notices alone
@@ -42,6 +45,16 @@ found_plain P t holds peer d (Some row) =
 datagram_plain : (P : Next → Type 0) (t : AdapterTable) → HoldsPlainly P → (peer : Node) (reading : Result DatagramFields DatagramFault) → P (datagram_of t peer reading)
 datagram_plain P t holds peer (Err why) = holds (Delivered Malformed) [] t
 datagram_plain P t holds peer (Ok d) = found_plain P t holds peer d (find (is_for peer d.connection) t.rows)
+
+counters_by : (Q : Result Next StepFault → Type 0) (t : AdapterTable) (bytes : List ℕ) → ((why : StepFault) → Q (Err why)) → Q (Ok (plain_answer Done, counted_link t bytes)) → (described : Option Description) (long : Bool) → Q (counters_with t bytes described long)
+counters_by Q t bytes refused holds None long = refused NotAllowedNow
+counters_by Q t bytes refused holds (Some d) true = holds
+counters_by Q t bytes refused holds (Some d) false = refused WrongLength
+
+-- what holds of each fault, and of the table with these counters of the host and no more than a verdict, holds after that event
+pub counters_hold : (Q : Result Next StepFault → Type 0) (t : AdapterTable) (bytes : List ℕ) → ((why : StepFault) → Q (Err why)) → Q (Ok (plain_answer Done, counted_link t bytes)) → Q (adapter_step t (Counters bytes))
+unfolding counters_said
+counters_hold Q t bytes refused holds = counters_by Q t bytes refused holds t.profile.description (length bytes == link_len)
 
 -- the event can be answered by frames or datagrams
 abbrev pub answers_more : Event → Bool
@@ -65,4 +78,5 @@ plain_holds Q t refused holds (Inquiry peer bytes) more = absurd (let e = more i
 plain_holds Q t refused holds (Write point bytes) more = absurd (let e = more in cc)
 plain_holds Q t refused holds (Tick ms) more = absurd (let e = more in cc)
 plain_holds Q t refused holds (Respond number status bytes) more = absurd (let e = more in cc)
+plain_holds Q t refused holds (Counters bytes) more = counters_hold Q t bytes refused (holds Done [] (counted_link t bytes))
 plain_holds Q t refused holds other more = passive_holds Q t refused (λ verdict. holds verdict [] t) other refl

@@ -9,9 +9,7 @@ use Rattle.cip_fwdopen.specs.Open.{OpenFields}
 use Rattle.cip_fwdopen.specs.Close.{CloseFields}
 use Rattle.cip_encap.specs.declared.packet.ItemFault.{ItemFault}
 use Rattle.cip_encap.specs.Connected.{ConnectedFields}
-use Rattle.cip_encap.specs.ConnectedReading.{connected_reading}
 use Rattle.cip_encap.specs.Packet.{PacketFields}
-use Rattle.cip_encap.specs.PacketReading.{packet_reading}
 use Rattle.cip_router.specs.declared.command.Command.{Command}
 use Rattle.cip_router.specs.declared.command.Command.TheVariants as command
 use Rattle.cip_router.specs.declared.command.EncapStatus.TheVariants as encap
@@ -49,12 +47,17 @@ use Rattle.adapter_table.specs.Closing.{closed_table}
 use Rattle.adapter_table.specs.Objects.{ObjectAnswer, said, denied, resetting, answering, refusing, unrouted}
 use Rattle.adapter_table.specs.Carrying.{object_answer}
 use Rattle.cip_router.specs.Requests.{RouterRequestFields, nothing, refused, closing, object, opening, router_request_reading}
-use Rattle.adapter_table.specs.Requests.{Next, Served, open_service, served_open, judged_open, admitted_open, served_close, close_of, refused_close, known_close, known_class3_close, end_of, served_end, router_refusal, object_served, served_object, served, replied, answered, requested_by, requested}
+use Rattle.adapter_table.specs.Requests.{Next, Served, counted_once, open_service, served_open, judged_open, admitted_open, served_close, close_of, refused_close, known_close, known_class3_close, end_of, served_end, router_refusal, object_served, served_object, served, replied, answered, requested_by, requested}
 use Rattle.cip_events.specs.Answers.{plain_answer}
 use Rattle.adapter_table.specs.Streams.{is_stream, is_taken, with_stream, without_stream, has_session, registered_table, stream_opened, cut_of, stream_cut}
 use Rattle.cip_router.specs.Commands.{command_of, is_silent}
 use Rattle.cip_router.specs.Frames.{RequestHeader, FrameFields, without_header, wrong_length, whole, protocol_text}
-use Rattle.adapter_table.specs.Encapsulation.{Handled, refusal, session_begun, register_session, request_replied, request_handled, packet_replied, message_replied, message_served, message_executed, message_found, unit_replied, handled, framed, frame_for, frame_answer, stream_answer, frame_of, frame}
+use Rattle.adapter_table.specs.declared.counters.DeviceCounters.{DeviceCounters}
+use Rattle.adapter_table.specs.declared.counters.Tally.{Tally}
+use Rattle.adapter_table.specs.declared.counters.Tally.TheVariants as tally
+use Rattle.adapter_table.specs.Counters.{counted, refused_tally, tally_of}
+use Rattle.adapter_table.specs.Counting.{tallied, with_counters}
+use Rattle.adapter_table.specs.Encapsulation.{Handled, items_for, connected_items_for, refusal, session_begun, register_session, request_replied, request_handled, packet_replied, message_replied, message_served, message_executed, message_found, unit_replied, handled, framed, frame_for, frame_answer, stream_answer, frame_of, frame}
 use Rattle.adapter_table.specs.Inquiries.{inquiry_reply}
 use Rattle.adapter_table.specs.Lemmas.LimitLemmas.{limited_is}
 use Rattle.adapter_table.specs.Lemmas.MessageLemmas.{found_any, same_number, fitted_short, goes_closed, goes_repeated, goes_executed, goes_referred, goes_referred_over, goes_answered, goes_opened}
@@ -69,6 +72,7 @@ pub record RequestsDo (R : AdapterTable → AdapterTable → Type 0) : Type 0 wh
   pub registered : (t : AdapterTable) (number : ℕ) → R t (registered_table t number)
   pub messaged : (t : AdapterTable) (next_id : ℕ) (m : Messaging) → MessagesGoOn t next_id m → R t (messages_table t next_id m)
   pub counted : (t next : AdapterTable) (openings : List NodeOpenings) → R t next → R t (with_openings next openings)
+  pub tallied : (t next : AdapterTable) (counters : DeviceCounters) → R t next → R t (with_counters next counters)
 
 -- the same, where each connection that is opened is within the limits that the maker states
 pub record LimitedDo (R : AdapterTable → AdapterTable → Type 0) : Type 0 where
@@ -79,6 +83,7 @@ pub record LimitedDo (R : AdapterTable → AdapterTable → Type 0) : Type 0 whe
   pub registered : (t : AdapterTable) (number : ℕ) → R t (registered_table t number)
   pub messaged : (t : AdapterTable) (next_id : ℕ) (m : Messaging) → MessagesGoOn t next_id m → R t (messages_table t next_id m)
   pub connected : (t : AdapterTable) (stream : Stream) (request : OpenFields) → class3_refusal (class3_view t stream.peer request.triad) request ≡ None → IsCarried t.streams stream.number → R t (class3_table t (opened_class3 t stream request))
+  pub tallied : (t next : AdapterTable) (counters : DeviceCounters) → R t next → R t (with_counters next counters)
 
 pub limited_do : (R : AdapterTable → AdapterTable → Type 0) → RequestsDo R → LimitedDo R
 limited_do R does = record {
@@ -89,6 +94,7 @@ limited_do R does = record {
   registered = does.registered;
   messaged = does.messaged;
   connected = λ t stream request passes carried. does.counted t _ _ (does.messaged t (t.next_id + 1) _ (goes_opened t stream request passes carried));
+  tallied = does.tallied;
 }
 
 pub next_is : (x y : Next) → ◌≡◌ {A = Result Next StepFault} (Ok x) (Ok y) → x ≡ y
@@ -141,12 +147,23 @@ served_does R does t peer (closing request) = does_end R does t peer request (fi
 served_does R does t peer (object service class instance attribute body) = does_object R does t service (object_answer t service class instance attribute body)
 served_does R does t peer (opening large request) = does_judged R does t peer large (whole_request t.profile.description request) (limited_admission t peer (whole_request t.profile.description request)) refl
 
+-- the count of a request
+
+tallied_does : (R : AdapterTable → AdapterTable → Type 0) → LimitedDo R → (t next : AdapterTable) (kind : Option Tally) → R t next → R t (tallied kind next)
+tallied_does R does t next None has = has
+tallied_does R does t next (Some kind) has = does.tallied t next (record next.counters { manager = counted kind next.counters.manager }) has
+
+pub counted_does : (R : AdapterTable → AdapterTable → Type 0) → LimitedDo R → (t : AdapterTable) (request : RouterRequestFields) (s : Option Served) → R t (served_table t s) → R t (served_table t (counted_once request s))
+counted_does R does t request None has = has
+counted_does R does t request (Some s) has = tallied_does R does t s.table (tally_of request s.reply) has
+
 answered_by : (P : AdapterTable → Type 0) (t : AdapterTable) (peer : Node) (s : Option Served) → P (served_table t s) → P (answered t peer s).1
 answered_by P t peer None does = does
 answered_by P t peer (Some s) does = does
 
-pub answered_does : (R : AdapterTable → AdapterTable → Type 0) → LimitedDo R → (t : AdapterTable) (peer : Node) (router_request : RouterRequestFields) → R t (answered t peer (served t peer router_request)).1
-answered_does R does t peer router_request = answered_by (R t) t peer (served t peer router_request) (served_does R does t peer router_request)
+pub answered_does : (R : AdapterTable → AdapterTable → Type 0) → LimitedDo R → (t : AdapterTable) (peer : Node) (router_request : RouterRequestFields) → R t (answered t peer (counted_once router_request (served t peer router_request))).1
+answered_does R does t peer router_request =
+    answered_by (R t) t peer (counted_once router_request (served t peer router_request)) (counted_does R does t router_request (served t peer router_request) (served_does R does t peer router_request))
 
 -- where a request of a node can wait, the application can be asked
 pub leaves_room : (t : AdapterTable) (peer : Node) → cannot_ask t peer ≡ false → lacks_room t.messaging ≡ false
@@ -209,7 +226,9 @@ does_own_over R does t stream context asks true room carried = does.stays t
 does_own_over R does t stream context asks false room carried = does.messaged t t.next_id _ (goes_referred t stream.peer (asker.Stream stream.number context) asks.service (leaves_room t stream.peer room) refl carried)
 
 does_request : (R : AdapterTable → AdapterTable → Type 0) → LimitedDo R → (t : AdapterTable) (stream : Stream) (context : ℕ) (router_request : RouterRequestFields) (asks : Option OwnRequest) → IsCarried t.streams stream.number → R t (request_handled t stream context router_request asks).table
-does_request R does t stream context router_request None carried = replied_by (R t) t (stream_served t stream router_request) (stream_served_does R does t stream router_request carried)
+does_request R does t stream context router_request None carried =
+    replied_by (R t) t (counted_once router_request (stream_served t stream router_request))
+    (counted_does R does t router_request (stream_served t stream router_request) (stream_served_does R does t stream router_request carried))
 does_request R does t stream context router_request (Some asks) carried = does_own_over R does t stream context asks (cannot_ask t stream.peer) refl carried
 
 does_packet : (R : AdapterTable → AdapterTable → Type 0) → LimitedDo R → (t : AdapterTable) (stream : Stream) (context : ℕ) (reading : Result PacketFields ItemFault) → IsCarried t.streams stream.number → R t (packet_replied t stream context reading).table
@@ -221,6 +240,18 @@ does_packet R does t stream context (Ok packet) carried = does_request R does t 
 executed_does : (R : AdapterTable → AdapterTable → Type 0) → LimitedDo R → (t : AdapterTable) (d : kept.Class3Connection) (count service : ℕ) (reply : ReplyFields) → R t (executed_table t d count (fitted_text d service reply))
 executed_does R does t d count service reply = does.messaged t t.next_id _ (goes_executed t d.o_t_id count (fitted_text d service reply) (next_deadline t d) (fitted_short d service reply))
 
+-- a message that is executed is counted, if it is a request to open or to close a connection
+counted_over : (t : AdapterTable) (d : kept.Class3Connection) (count : ℕ) (text : List ℕ) (counters : DeviceCounters) → with_counters (executed_table t d count text) counters ≡ executed_table (with_counters t counters) d count text
+unfolding messages_table
+counted_over t d count text counters = refl
+
+executed_counted : (R : AdapterTable → AdapterTable → Type 0) → LimitedDo R → (t : AdapterTable) (d : kept.Class3Connection) (count service : ℕ) (reply : ReplyFields) (kind : Option Tally) → R t (executed_table (tallied kind t) d count (fitted_text d service reply))
+executed_counted R does t d count service reply None = executed_does R does t d count service reply
+executed_counted R does t d count service reply (Some kind) =
+    let counters : DeviceCounters = record t.counters { manager = counted kind t.counters.manager } in
+    subst (R t) (counted_over t d count (fitted_text d service reply) counters)
+    (does.tallied t (executed_table t d count (fitted_text d service reply)) counters (executed_does R does t d count service reply))
+
 message_object : (R : AdapterTable → AdapterTable → Type 0) → LimitedDo R → (t : AdapterTable) (d : kept.Class3Connection) (count first service : ℕ) (answer : ObjectAnswer) → R t (message_replied d count first (object_served t service answer)).table
 message_object R does t d count first service (said by value) = executed_does R does t d count first (object_served t service (said by value)).reply
 message_object R does t d count first service (denied why) = executed_does R does t d count first (object_served t service (denied why)).reply
@@ -229,13 +260,13 @@ message_object R does t d count first service (answering by general content) = e
 message_object R does t d count first service (refusing named why) = executed_does R does t d count first (object_served t service (refusing named why)).reply
 message_object R does t d count first service (unrouted words) = executed_does R does t d count first (object_served t service (unrouted words)).reply
 
-message_served_does : (R : AdapterTable → AdapterTable → Type 0) → LimitedDo R → (t : AdapterTable) (d : kept.Class3Connection) (count first : ℕ) (router_request : RouterRequestFields) → R t (message_served t d count first (connected_served t d.peer router_request)).table
+message_served_does : (R : AdapterTable → AdapterTable → Type 0) → LimitedDo R → (t : AdapterTable) (d : kept.Class3Connection) (count first : ℕ) (router_request : RouterRequestFields) → R t (message_served t d count first (counted_once router_request (connected_served t d.peer router_request))).table
 unfolding served_object
 message_served_does R does t d count first nothing = does.stays t
-message_served_does R does t d count first (refused service why) = executed_does R does t d count first (router_refusal t service why).reply
-message_served_does R does t d count first (closing request) = executed_does R does t d count first (router_refusal t 0x4E status.Service).reply
+message_served_does R does t d count first (refused service why) = executed_counted R does t d count first (router_refusal t service why).reply (refused_tally service why)
+message_served_does R does t d count first (closing request) = executed_counted R does t d count first (router_refusal t 0x4E status.Service).reply (Some tally.CloseOther)
 message_served_does R does t d count first (object service class instance attribute body) = message_object R does t d count first service (object_answer t service class instance attribute body)
-message_served_does R does t d count first (opening large request) = executed_does R does t d count first (router_refusal t (open_service large) status.Service).reply
+message_served_does R does t d count first (opening large request) = executed_counted R does t d count first (router_refusal t (open_service large) status.Service).reply (Some tally.OpenOther)
 
 does_own_message : (R : AdapterTable → AdapterTable → Type 0) → LimitedDo R → (t : AdapterTable) (d : kept.Class3Connection) (count : ℕ) (asks : OwnRequest) (b : Bool) → cannot_ask t d.peer ≡ b → list_any (has_class3_id d.o_t_id) t.messaging.class3_connections ≡ true → R t (cond b (message_replied d count asks.service (router_refusal t asks.service status.ResourceUnavailable)) (record { reply = None; verdict = referred_verdict t asks; notices = []; table = asking_table t d count asks })).table
 does_own_message R does t d count asks true room there = executed_does R does t d count asks.service (router_refusal t asks.service status.ResourceUnavailable).reply
@@ -269,9 +300,9 @@ handled_does R does t stream request_header body command.ListServices opens = do
 handled_does R does t stream request_header body command.RegisterSession opens = does_register R does t stream body
 handled_does R does t stream request_header body command.UnregisterSession opens = either_does (R t) (has_session stream request_header.session) _ _ (does.unstreamed t stream.number) (does.stays t)
 handled_does R does t stream request_header body command.SendRrData opens =
-    within_session (R t) stream request_header.session (has_session stream request_header.session) _ _ refl (λ registered. does_packet R does t stream request_header.context (packet_reading body) (opens registered)) (does.stays t)
+    within_session (R t) stream request_header.session (has_session stream request_header.session) _ _ refl (λ registered. does_packet R does t stream request_header.context (items_for t.profile.description body) (opens registered)) (does.stays t)
 handled_does R does t stream request_header body command.SendUnitData opens =
-    either_does (R t) (has_session stream request_header.session) _ _ (does_unit R does t stream (connected_reading body)) (does.stays t)
+    either_does (R t) (has_session stream request_header.session) _ _ (does_unit R does t stream (connected_items_for t.profile.description body)) (does.stays t)
 handled_does R does t stream request_header body command.Other opens = does.stays t
 
 does_misfit : (b : Bool) (R : AdapterTable → AdapterTable → Type 0) → LimitedDo R → (t : AdapterTable) (number : ℕ) (request_header : RequestHeader) → R t (cond b (plain_answer BadFrame, t) (framed number request_header (refusal t encap.InvalidLength))).1

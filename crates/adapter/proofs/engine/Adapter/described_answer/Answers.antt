@@ -10,5 +10,5 @@ returns-in_default g c =
 pub returns : goal.returns
 returns g c =
     let is : c.args.self.now.profile.description ≡ Some c.in-Some.description = search rules in
-    let said = rw (c.io_state.ensures, c.connections.ensures, c.connection_count.ensures, c.assemblies.ensures.profile, c.assemblies.ensures.values, ← c.self.view_is) at c.described_answer.ensures.value in
+    let said = rw (c.as_slice.ensures, c.counters.ensures, c.io_state.ensures, c.connections.ensures, c.connection_count.ensures, c.assemblies.ensures.profile, c.assemblies.ensures.values, ← c.self.view_is) at c.described_answer.ensures.value in
     rw (described_is c.args.self.now c.in-Some.description c.args.request.service c.args.class c.args.instance c.args.request.attribute c.args.request.body.now is c.requires.assembly c.requires.manager, ← c.self.view_is) said

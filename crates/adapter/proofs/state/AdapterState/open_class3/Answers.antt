@@ -33,7 +33,7 @@ class3_opened-requires-clause-t_o g c =
 pub overflow_add-self : goal.overflow_add-self
 overflow_add-self g c =
     let own = c.self.inside in
-    let t : AdapterTable = record { profile = own.assemblies.profile; rows = g.T.ConnectionsView.rows own.table; values = own.assemblies.values; clock = own.clock; next_id = own.next_id; streams = own.streams.items; messaging = own.messaging; openings = own.openings.items } in
+    let t : AdapterTable = record { profile = own.assemblies.profile; rows = g.T.ConnectionsView.rows own.table; values = own.assemblies.values; clock = own.clock; next_id = own.next_id; streams = own.streams.items; messaging = own.messaging; openings = own.openings.items; counters = own.counters } in
     let admitted = rw (← c.self.view_is) at c.requires.admitted in
     let sum : c.self.inside.next_id + 1 ≤ 16777216 = (admitted_class3_is t c.args.stream.now.peer (view_open c.args.request.now) admitted).ids in
     search rules
@@ -42,7 +42,7 @@ pub invariant_of-self-2 : goal.invariant_of-self-2
 unfolding messages_table
 invariant_of-self-2 g c =
     let own = c.self.inside in
-    let t : AdapterTable = record { profile = own.assemblies.profile; rows = g.T.ConnectionsView.rows own.table; values = own.assemblies.values; clock = own.clock; next_id = own.next_id; streams = own.streams.items; messaging = own.messaging; openings = own.openings.items } in
+    let t : AdapterTable = record { profile = own.assemblies.profile; rows = g.T.ConnectionsView.rows own.table; values = own.assemblies.values; clock = own.clock; next_id = own.next_id; streams = own.streams.items; messaging = own.messaging; openings = own.openings.items; counters = own.counters } in
     let admitted = rw (← c.self.view_is) at c.requires.admitted in
     let carried = rw (← c.self.view_is) at c.requires.carried in
     let messaged = c.tables_are_whole.ensures.effects.messaged t (t.next_id + 1) _ (goes_opened t c.args.stream.now (view_open c.args.request.now) admitted carried) c.self.invariant in

@@ -21,7 +21,7 @@ returns-in_default c =
           let no = w.in_default.is-0 in
           let set = c.args.assemblies.now in
           let class = c.args.class in
-          let same = other_cases set.profile (standing_in set c.args.connections.io) c.args.connections.count c.args.description.now class c.args.instance
+          let same = other_cases set.profile (standing_in set c.args.connections.io) c.args.connections.count c.args.connections.link.now c.args.description.now class c.args.instance
           (differ class 0x01 no.0.0.0.0.1) (differ class 0x02 no.0.0.0.1) (differ class 0x06 no.0.0.1) (differ class 0xF5 no.0.1) (differ class 0xF6 no.1)
           in
           rw same c.yielding_answer.ensures
