@@ -6,7 +6,6 @@ use Rattle.cip_types.specs.Texts.{Tailed}
 use Rattle.cip_encap.specs.declared.message.EncapFault.{EncapFault}
 use Rattle.cip_encap.specs.Message.{MessageFields, message_text, header_widths}
 use Rattle.cip_encap.specs.Reading.{message_reading}
-use Rattle.cip_encap.specs.PacketReading.{packet_reading}
 use Rattle.cip_encap.specs.ReadsBack.{ItemsReadBack}
 use Rattle.cip_events.specs.declared.event.Event.TheVariants as event
 use Rattle.cip_events.specs.declared.event.StepFault.{StepFault}
@@ -63,14 +62,14 @@ use Rattle.device_laws.specs.Lemmas.Lists.{all_both}
 use Rattle.device_laws.specs.Lemmas.MessageSteps.{respond_holds}
 use Rattle.device_laws.specs.Lemmas.Payloads.{AnswersNone}
 use Rattle.adapter_table.specs.Profiles.{is_at}
-use Rattle.adapter_table.specs.Requests.{Served, router_refusal, served, replied, answered, requested_by, requested}
+use Rattle.adapter_table.specs.Requests.{Served, counted_once, router_refusal, served, replied, answered, requested_by, requested}
 use Rattle.adapter_table.specs.Step.{written_table, written, write_of, write}
 use Rattle.adapter_table.specs.Ticks.{clocked_table, expired_table, produced_table, advanced, late_frames, aged_next, tick}
 use Rattle.answer_sizes.specs.Sizes.{AnswersAreSmall}
 use Rattle.cip_tables.specs.declared.table.DeviceTable.TheVariants.{Adapter}
 use Rattle.cip_tables.specs.Step.{as_adapter, step}
 use Rattle.device_laws.specs.Frames.{SuccessesAre, IsNoOpening}
-use Rattle.device_laws.specs.Replies.{IsSuccessOf, IsReplyTo, IsPlainService, AsksPlainly, IsOfStream, AsksOverStreams, IsReplyOverStream, IsLateReply, IsAnswerTo, RepliesCarryOpenedIds}
+use Rattle.device_laws.specs.Replies.{IsSuccessOf, IsReplyTo, PlainFor, AsksPlainly, IsOfStream, AsksOverStreams, IsReplyOverStream, IsLateReply, IsAnswerTo, RepliesCarryOpenedIds}
 use Rattle.device_laws.specs.Lemmas.ReplyTexts.{MessageBack, message_back, context_fits, PayloadSays, reply_says, own_opens_none}
 use Rattle.device_laws.proofs.Framing.{ReplyHas, handled_has, reply_frame_says, frame_says, PacketSays, none_packet, written_packet, plain_says, plain_context}
 use Rattle.device_laws.specs.Lemmas.InquiryTexts.{IsPlainText, inquiry_plain}
@@ -84,7 +83,7 @@ NextReplies t number bytes next = IsSmall next.0 → AllByRecursion (IsReplyTo t
 refused_says : (Q : ℕ → Opened → Type 0) (echo : RequestHeader) (why : EncapStatus) → SuccessesAre Q (message_text (reply_message echo (frames.refused why))) × IsNoOpening (message_text (reply_message echo (frames.refused why)))
 refused_says Q echo why = frame_says Q (message_text (reply_message echo (frames.refused why))) (λ m is.
     let same : MessageBack (reply_message echo (frames.refused why)) m = message_back (reply_message echo (frames.refused why)) m is in
-    subst (λ (payload : List ℕ). PacketSays (Q m.context) (packet_reading payload)) (sym same.payload) (none_packet (Q m.context) [] plain_none))
+    subst (PacketSays (Q m.context)) (sym same.payload) (none_packet (Q m.context) [] plain_none))
 
 replies_say : ItemsReadBack → (t next : AdapterTable) (number : ℕ) (bytes : List ℕ) (request : MessageFields) (reply : Option FrameReply) → message_reading bytes ≡ Ok request → IfSome reply (ReplyHas t next request.payload) → AllByRecursion IsShortFrame (reply_frames number (request_header_of request) reply) → AllByRecursion (IsReplyTo t next number bytes) (reply_frames number (request_header_of request) reply)
 replies_say back t next number bytes request None reads says short = tt
@@ -142,7 +141,7 @@ answered_peer t peer bytes None = λ small. tt
 answered_peer t peer bytes (Some s) = λ small. (refl, tt)
 
 requested_answers : (t : AdapterTable) (peer : Node) (bytes : List ℕ) (request : RouterRequestFields) (asks : Option OwnRequest) → OkAnswers t (event.Request peer bytes) (Ok (requested_by t peer request asks))
-requested_answers t peer bytes request None = answered_peer t peer bytes (served t peer request)
+requested_answers t peer bytes request None = answered_peer t peer bytes (counted_once request (served t peer request))
 requested_answers t peer bytes request (Some asks) =
     either (λ (next : Next). OkAnswers t (event.Request peer bytes) (Ok next)) (cannot_ask t peer) (replied peer (router_refusal t asks.service status.ResourceUnavailable)) _ (λ small. (refl, tt)) (λ small. tt)
 
@@ -178,8 +177,8 @@ unit_replies t d count service reply carried =
     let bad = connected_bad d.t_o_id.0 count (fitted_text d service reply) in
     let says = frame_says (λ context opened. ⊥) (message_text m0) (λ m is.
     let same : MessageBack m0 m = message_back m0 m is in
-    subst (λ (payload : List ℕ). PacketSays (λ opened. ⊥) (packet_reading payload)) (sym same.payload) (none_packet (λ opened. ⊥) m0.payload bad)) in
-    record { number = d.stream; to = refl; over = carried_open d.stream t.streams carried; successes = λ plain. says.0; opens_nothing = says.1; context = context_fits m0 }
+    subst (PacketSays (λ opened. ⊥)) (sym same.payload) (none_packet (λ opened. ⊥) m0.payload bad)) in
+    record { number = d.stream; to = refl; over = carried_open d.stream t.streams carried; successes = λ ours plain own. says.0; opens_nothing = says.1; context = context_fits m0 }
 
 class3_replies : (t : AdapterTable) (count service : ℕ) (reply : ReplyFields) (found : Option Class3Connection) → IfSome found (λ d. IsCarried t.streams d.stream) → AllByRecursion (IsLateReply t) (class3_frames count service reply found)
 class3_replies t count service reply None carried = tt
@@ -192,14 +191,14 @@ own_frame_says back Q number context service general content says short =
     let m0 = reply_message (rr_header number context) (router_reply (own service general content) None) in
     frame_says (λ c opened. Q opened) (message_text m0) (λ m is.
     let same : MessageBack m0 m = message_back m0 m is in
-    subst (λ (payload : List ℕ). PacketSays Q (packet_reading payload)) (sym same.payload)
+    subst (PacketSays Q) (sym same.payload)
     (written_packet back Q (own_reply_text service general content) None (some_bytes (own service general content)) (few_bytes m0 (own_reply_text service general content) None refl short) says))
 
 -- a reply whose text is no success
 abbrev NoSuccess : ℕ → ℕ → Type 0
 NoSuccess service general = AnswersNone (reply_service service) ⊎ ((general == 0) ≡ false)
 
-stream_replies_own : ItemsReadBack → (t : AdapterTable) (number context service general : ℕ) (content : List ℕ) → IsCarried t.streams number → (AsksPlainly t.messaging → NoSuccess service general) → length (message_text (reply_message (rr_header number context) (router_reply (own service general content) None))) ≤ 2048 → IsReplyOverStream t (record { to = recipient.Stream number; bytes = message_text (reply_message (rr_header number context) (router_reply (own service general content) None)) })
+stream_replies_own : ItemsReadBack → (t : AdapterTable) (number context service general : ℕ) (content : List ℕ) → IsCarried t.streams number → ((ours : ℕ → Bool) → AsksPlainly ours t.messaging → ours number ≡ true → NoSuccess service general) → length (message_text (reply_message (rr_header number context) (router_reply (own service general content) None))) ≤ 2048 → IsReplyOverStream t (record { to = recipient.Stream number; bytes = message_text (reply_message (rr_header number context) (router_reply (own service general content) None)) })
 stream_replies_own back t number context service general content carried plain short =
     let m0 = reply_message (rr_header number context) (router_reply (own service general content) None) in
     let opens = own_frame_says back (λ opened. Unit {0}) number context service general content (own_opens_none service general content) short in
@@ -207,16 +206,22 @@ stream_replies_own back t number context service general content carried plain s
       number = number;
       to = refl;
       over = carried_open number t.streams carried;
-      successes = λ asks. let says = own_frame_says back (λ opened. ⊥) number context service general content (reply_says (λ opened. ⊥) (own service general content) (plain asks)) short in says.0;
+      successes = λ ours asks over. let says = own_frame_says back (λ opened. ⊥) number context service general content (reply_says (λ opened. ⊥) (own service general content) (plain ours asks over)) short in says.0;
       opens_nothing = opens.1;
       context = context_fits m0;
     }
+
+-- .. where the request came over one of these streams
+abbrev NoSuccessFor : (ℕ → Bool) → Requester → ℕ → ℕ → Type 0
+NoSuccessFor ours (asker.Peer node) service general = Unit {0}
+NoSuccessFor ours (asker.Stream number context) service general = ours number ≡ true → NoSuccess service general
+NoSuccessFor ours (asker.Class3Connection id count) service general = Unit {0}
 
 -- the class3_connections of the messages live on streams of the table
 abbrev Class3ConnectionsCarried : AdapterTable → Messaging → Type 0
 Class3ConnectionsCarried t m = EachOf (λ (d : Class3Connection). IsCarried t.streams d.stream) m.class3_connections
 
-route_replies : ItemsReadBack → (t : AdapterTable) (m : Messaging) (from : Requester) (service general : ℕ) (content : List ℕ) → RouteIsOpen t.streams from → Class3ConnectionsCarried t m → (AsksPlainly t.messaging → NoSuccess service general) → (AsksOverStreams t.messaging → IsOfStream from) → AllByRecursion IsShortFrame (route_frames m from service (own service general content)) → AllByRecursion (IsLateReply t) (route_frames m from service (own service general content))
+route_replies : ItemsReadBack → (t : AdapterTable) (m : Messaging) (from : Requester) (service general : ℕ) (content : List ℕ) → RouteIsOpen t.streams from → Class3ConnectionsCarried t m → ((ours : ℕ → Bool) → AsksPlainly ours t.messaging → NoSuccessFor ours from service general) → (AsksOverStreams t.messaging → IsOfStream from) → AllByRecursion IsShortFrame (route_frames m from service (own service general content)) → AllByRecursion (IsLateReply t) (route_frames m from service (own service general content))
 route_replies back t m (asker.Peer node) service general content opens carried plain over short = (inl (record { peer = node; to = refl; over_none = over }), tt)
 route_replies back t m (asker.Stream number context) service general content opens carried plain over short = (inr (stream_replies_own back t number context service general content opens plain short.0), tt)
 route_replies back t m (asker.Class3Connection id count) service general content opens carried plain over short =
@@ -230,11 +235,17 @@ all_parts P (x ∷ xs) ys all = let more = all_parts P xs ys all.1 in ((all.0, m
 abbrev AreOf : AdapterTable → List Waiting → Type 0
 AreOf t waiting = (AsksOverStreams t.messaging → EachOf (λ (w : Waiting). IsOfStream w.asker) waiting)
 
+-- a late reply is no success
+late_for : (ours : ℕ → Bool) (from : Requester) (service : ℕ) → NoSuccessFor ours from service 0x1F
+late_for ours (asker.Peer node) service = tt
+late_for ours (asker.Stream number context) service = λ over. inr refl
+late_for ours (asker.Class3Connection id count) service = tt
+
 late_replies : ItemsReadBack → (t : AdapterTable) (m : Messaging) (waiting : List Waiting) → AreOf t waiting → EachOf (CanGoBack t.streams) waiting → Class3ConnectionsCarried t m → AllByRecursion IsShortFrame (flat_map (late_frames m) waiting) → AllByRecursion (IsLateReply t) (flat_map (late_frames m) waiting)
 late_replies back t m [] are back_open carried short = tt
 late_replies back t m (w ∷ waiting) are back_open carried short =
     let parts = all_parts IsShortFrame (late_frames m w) (flat_map (late_frames m) waiting) short in
-    all_both (IsLateReply t) (late_frames m w) (flat_map (late_frames m) waiting) (route_replies back t m w.asker w.service 0x1F [] back_open.0 carried (λ asks. inr refl) (λ over. (are over).0) parts.0)
+    all_both (IsLateReply t) (late_frames m w) (flat_map (late_frames m) waiting) (route_replies back t m w.asker w.service 0x1F [] back_open.0 carried (λ ours asks. late_for ours w.asker w.service) (λ over. (are over).0) parts.0)
     (late_replies back t m waiting (λ over. (are over).1) back_open.1 carried parts.1)
 
 -- what is left of the messages when late connections have ended
@@ -275,12 +286,14 @@ respond_answers back t number general bytes whole =
     (λ w found few small. route_replies back t t.messaging w.asker w.service general bytes
     (subst (λ (o : Option Waiting). IfSome o (CanGoBack t.streams)) found (each_found (CanGoBack t.streams) (has_request_number number) t.messaging.waiting whole.messages.waiting))
     (carried_of t whole)
-    (λ asks. inl (plain_one w (subst (λ (o : Option Waiting). IfSome o (λ w'. IsPlainService w'.service)) found (each_found (λ (w' : Waiting). IsPlainService w'.service) (has_request_number number) t.messaging.waiting asks))))
+    (λ ours asks. plain_for ours w.asker w.service (subst (λ (o : Option Waiting). IfSome o (λ w'. PlainFor ours w'.asker w'.service)) found (each_found (λ (w' : Waiting). PlainFor ours w'.asker w'.service) (has_request_number number) t.messaging.waiting asks)))
     (λ over. subst (λ (o : Option Waiting). IfSome o (λ w'. IsOfStream w'.asker)) found (each_found (λ (w' : Waiting). IsOfStream w'.asker) (has_request_number number) t.messaging.waiting over))
     small.short_frames)
   where
-    plain_one : (w : Waiting) → IsPlainService w.service → AnswersNone (reply_service w.service)
-    plain_one w is = record { small = is.small; large = is.large }
+    plain_for : (ours : ℕ → Bool) (from : Requester) (service : ℕ) → PlainFor ours from service → NoSuccessFor ours from service general
+    plain_for ours (asker.Peer node) service plain = tt
+    plain_for ours (asker.Stream n context) service plain = λ over. let is = plain over in inl (record { small = is.small; large = is.large })
+    plain_for ours (asker.Class3Connection id count) service plain = tt
 
 step_answers : ItemsReadBack → (t : AdapterTable) (happens : Event) → IsWhole t → OkAnswers t happens (adapter_step t happens)
 unfolding requested inquired write

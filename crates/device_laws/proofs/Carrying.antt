@@ -9,6 +9,8 @@ use Rattle.cip_encap.specs.declared.packet.ItemFault.{ItemFault}
 use Rattle.cip_encap.specs.Message.{MessageFields}
 use Rattle.cip_encap.specs.Packet.{PacketFields}
 use Rattle.cip_encap.specs.PacketReading.{packet_reading}
+use Rattle.cip_encap.specs.AnyItems.{any_packet_reading}
+use Rattle.cip_encap.specs.Lemmas.AnyItemLemmas.{packet_covered}
 use Rattle.cip_encap.specs.ReadsBack.{ItemsReadBack}
 use Rattle.cip_events.specs.declared.event.Answer.{Answer}
 use Rattle.cip_events.specs.declared.event.Event.{Event}
@@ -85,8 +87,8 @@ reported_ids P large m ids =
 replied_ids : (P : ℕ → Type 0) (t : ScannerTable) (happens : Event) (config : SlotConfig) (request : ℕ) (success : Opened) → Replied t happens config.target request success → EventIds P happens → P success.o_t_id.0 × P success.t_o_id.0
 replied_ids P t happens config request success replied ids =
     let frame : FrameIds P replied.bytes = subst (EventIds P) replied.is ids in
-    let packet : PacketIds P (packet_reading replied.message.payload) = subst (MessageIds P) replied.reads frame in
-    subst (ReplyIds P) replied.success_is (reported_ids P replied.large replied.message packet)
+    let packet : PacketIds P (any_packet_reading replied.message.payload) = subst (MessageIds P) replied.reads frame in
+    subst (ReplyIds P) replied.success_is (reported_ids P replied.large replied.message (packet_covered (PacketIds P) (λ fault. tt) replied.message.payload packet))
 
 requested_drawn : (P : ℕ → Type 0) (t now : ScannerTable) (config : SlotConfig) (to : ℕ) (multicast : Bool) → config.multicast ≡ multicast → CanDraw t to now config → IdsFromTo P t.profile.incarnation t.next_id to → RequestedId P (cond multicast None (Some (connection_id now.profile.incarnation now.next_id)))
 requested_drawn P t now config to true is can drawn = tt

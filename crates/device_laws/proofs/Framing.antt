@@ -3,7 +3,8 @@ use Rattle.std.proofs.Common.{◌≡◌, ◌≤◌, inl, inr, ℕ, ◌==◌, not
 use Rattle.std.specs.Option.{IfSome, option_map}
 use Rattle.std.specs.Str.{bytes_eq}
 use Rattle.cip_encap.specs.Connected.{connected_text}
-use Rattle.cip_encap.specs.ConnectedReading.{connected_reading}
+use Rattle.cip_encap.specs.AnyItems.{any_packet_reading}
+use Rattle.cip_encap.specs.Lemmas.AnyItemLemmas.{any_back, packet_bad}
 use Rattle.cip_encap.specs.declared.packet.ItemFault.{ItemFault}
 use Rattle.cip_encap.specs.declared.packet.SocketAddress.{SocketAddress}
 use Rattle.cip_encap.specs.declared.packet.ItemFault.TheVariants.{Bad}
@@ -28,16 +29,20 @@ use Rattle.cip_router.specs.Replies as replies
 use Rattle.messaging.specs.declared.class3.Class3Connection.{Class3Connection}
 use Rattle.messaging.specs.Changes.{with_class3}
 use Rattle.adapter_table.specs.Intervals.{whole_request}
+use Rattle.adapter_table.specs.Lemmas.CountLemmas.{counted_keeps}
+use Rattle.adapter_table.specs.Lemmas.ItemLemmas.{items_any}
 use Rattle.adapter_table.specs.Lemmas.RefusalLemmas.{refusal_either}
+use Rattle.adapter_table.specs.declared.counters.DeviceCounters.{DeviceCounters}
 use Rattle.adapter_table.specs.declared.table.AdapterTable.{AdapterTable}
+use Rattle.adapter_table.specs.Counting.{with_counters}
 use Rattle.adapter_table.specs.Checks.{Check}
 use Rattle.adapter_table.specs.Class3Opening.{class3_view, class3_refusal, opened_class3, class3_table, judged_class3, served_class3, stream_served}
 use Rattle.adapter_table.specs.Messages.{messages_table}
 use Rattle.adapter_table.specs.Own.{OwnRequest, own_of, cannot_ask}
 use Rattle.adapter_table.specs.declared.table.Stream.{Stream}
-use Rattle.adapter_table.specs.Requests.{Served, router_refusal, served}
+use Rattle.adapter_table.specs.Requests.{Served, counted_once, router_refusal, served}
 use Rattle.adapter_table.specs.Streams.{has_session}
-use Rattle.adapter_table.specs.Encapsulation.{Handled, refusal, unanswered, session_begun, session_ended, register_session, request_replied, request_handled, packet_replied, unit_replied, handled, outside_session}
+use Rattle.adapter_table.specs.Encapsulation.{Handled, items_for, connected_items_for, refusal, unanswered, session_begun, session_ended, register_session, request_replied, request_handled, packet_replied, unit_replied, handled, outside_session}
 use Rattle.adapter_table.specs.Sound.{IdsAreDrawn}
 use Rattle.scanner_table.specs.Replies.{packet_answer, open_answer}
 use Rattle.device_laws.specs.Lemmas.AdapterIds.{few_bytes, plain_protocol, plain_none, some_bytes}
@@ -98,7 +103,7 @@ class3_is_last t d = refl
 -- the data of the message are a request to open a connection of class 3
 record IsMessageOpening (body : List ℕ) (large : Bool) (request : OpenFields) : Type 0 where
   packet : PacketFields
-  packet_is : packet_reading body ≡ Ok packet
+  packet_is : any_packet_reading body ≡ Ok packet
   opens : router_request_reading packet.payload ≡ opening large request
   trigger : is_message_trigger request.trigger ≡ true
 
@@ -120,13 +125,13 @@ class3_has t stream body large requested request None is = λ read ids. inr (rec
   t_o_api = ids.t_o_api_is;
 })
 
-open_step : (b : Bool) (t : AdapterTable) (stream : Stream) (body : List ℕ) (packet : PacketFields) (large : Bool) (request : OpenFields) → packet_reading body ≡ Ok packet → router_request_reading packet.payload ≡ opening large request → is_message_trigger request.trigger ≡ b → IdsAreDrawn t.profile t.next_id t.rows → IfSome (cond b (Some (served_class3 t stream large request)) (served t stream.peer (opening large request))) (NewHas t body)
+open_step : (b : Bool) (t : AdapterTable) (stream : Stream) (body : List ℕ) (packet : PacketFields) (large : Bool) (request : OpenFields) → any_packet_reading body ≡ Ok packet → router_request_reading packet.payload ≡ opening large request → is_message_trigger request.trigger ≡ b → IdsAreDrawn t.profile t.next_id t.rows → IfSome (cond b (Some (served_class3 t stream large request)) (served t stream.peer (opening large request))) (NewHas t body)
 unfolding served_class3
 open_step true t stream body packet large request reads opens trigger drawn =
     class3_has t stream body large request (whole_request t.profile.description request) (class3_refusal (class3_view t stream.peer request.triad) (whole_request t.profile.description request)) (record { packet = packet; packet_is = reads; opens = opens; trigger = trigger })
 open_step false t stream body packet large request reads opens trigger drawn = of_rows t body (served t stream.peer (opening large request)) (served_has t stream.peer (opening large request) drawn)
 
-over_stream_has : (t : AdapterTable) (stream : Stream) (body : List ℕ) (packet : PacketFields) (requested : RouterRequestFields) → packet_reading body ≡ Ok packet → router_request_reading packet.payload ≡ requested → IdsAreDrawn t.profile t.next_id t.rows → IfSome (stream_served t stream requested) (NewHas t body)
+over_stream_has : (t : AdapterTable) (stream : Stream) (body : List ℕ) (packet : PacketFields) (requested : RouterRequestFields) → any_packet_reading body ≡ Ok packet → router_request_reading packet.payload ≡ requested → IdsAreDrawn t.profile t.next_id t.rows → IfSome (stream_served t stream requested) (NewHas t body)
 over_stream_has t stream body packet (opening large request) reads opens drawn = open_step (is_message_trigger request.trigger) t stream body packet large request reads opens refl drawn
 over_stream_has t stream body packet nothing reads opens drawn = of_rows t body (served t stream.peer nothing) (served_has t stream.peer nothing drawn)
 over_stream_has t stream body packet (refused service why) reads opens drawn = of_rows t body (served t stream.peer (refused service why)) (served_has t stream.peer (refused service why) drawn)
@@ -134,15 +139,36 @@ over_stream_has t stream body packet (closing request) reads opens drawn = of_ro
 over_stream_has t stream body packet (object service class instance attribute rest) reads opens drawn =
     of_rows t body (served t stream.peer (object service class instance attribute rest)) (served_has t stream.peer (object service class instance attribute rest) drawn)
 
-request_has : (t : AdapterTable) (stream : Stream) (context : ℕ) (body : List ℕ) (packet : PacketFields) (asks : Option OwnRequest) → packet_reading body ≡ Ok packet → IdsAreDrawn t.profile t.next_id t.rows → HandledHas t body (request_handled t stream context (router_request_reading packet.payload) asks)
+-- what is counted is of the same connection
+recounted_new : (t next : AdapterTable) (counters : DeviceCounters) (body : List ℕ) (o : Opened) → IsOfNew t next body o → IsOfNew t (with_counters next counters) body o
+recounted_new t next counters body o (inl is) = inl (record { row = is.row; new = is.new; o_t = is.o_t; t_o = is.t_o; o_t_api = is.o_t_api; t_o_api = is.t_o_api })
+recounted_new t next counters body o (inr is) = inr (record {
+  packet = is.packet;
+  packet_is = is.packet_is;
+  large = is.large;
+  request = is.request;
+  opens = is.opens;
+  trigger = is.trigger;
+  class3 = is.class3;
+  new = is.new;
+  o_t = is.o_t;
+  t_o = is.t_o;
+  o_t_api = is.o_t_api;
+  t_o_api = is.t_o_api;
+})
+
+request_has : (t : AdapterTable) (stream : Stream) (context : ℕ) (body : List ℕ) (packet : PacketFields) (asks : Option OwnRequest) → any_packet_reading body ≡ Ok packet → IdsAreDrawn t.profile t.next_id t.rows → HandledHas t body (request_handled t stream context (router_request_reading packet.payload) asks)
 request_has t stream context body packet None reads drawn =
-    replied_has t body (stream_served t stream (router_request_reading packet.payload)) (over_stream_has t stream body packet (router_request_reading packet.payload) reads refl drawn)
+    replied_has t body (counted_once (router_request_reading packet.payload) (stream_served t stream (router_request_reading packet.payload)))
+    (counted_keeps (NewHas t body) (λ s counters says. reply_weaker (IsOfNew t s.table body) (IsOfNew t (with_counters s.table counters) body) (recounted_new t s.table counters body) s.reply says)
+    (router_request_reading packet.payload) (stream_served t stream (router_request_reading packet.payload)) (over_stream_has t stream body packet (router_request_reading packet.payload) reads refl drawn))
 request_has t stream context body packet (Some own) reads drawn =
     either (HandledHas t body) (cannot_ask t stream.peer) (request_replied t (Some (router_refusal t own.service status.ResourceUnavailable))) _ refl tt
 
-packet_has : (t : AdapterTable) (stream : Stream) (context : ℕ) (body : List ℕ) (reading : Result PacketFields ItemFault) → packet_reading body ≡ reading → IdsAreDrawn t.profile t.next_id t.rows → HandledHas t body (packet_replied t stream context reading)
+packet_has : (t : AdapterTable) (stream : Stream) (context : ℕ) (body : List ℕ) (reading : Result PacketFields ItemFault) → items_for t.profile.description body ≡ reading → IdsAreDrawn t.profile t.next_id t.rows → HandledHas t body (packet_replied t stream context reading)
 packet_has t stream context body (Err fault) reads drawn = tt
-packet_has t stream context body (Ok packet) reads drawn = request_has t stream context body packet (own_of t.profile.objects (router_request_reading packet.payload)) reads drawn
+packet_has t stream context body (Ok packet) reads drawn =
+    request_has t stream context body packet (own_of t.profile.objects (router_request_reading packet.payload)) (items_any t.profile.description body packet reads) drawn
 
 itemless_has : (t next : AdapterTable) (body : List ℕ) (reply : Option FrameReply) → IfSome reply IsItemless → IfSome reply (ReplyHas t next body)
 itemless_has t next body None none = tt
@@ -163,27 +189,32 @@ handled_has t stream echo body command.ListServices drawn = tt
 handled_has t stream echo body command.RegisterSession drawn = register_has t stream body
 handled_has t stream echo body command.UnregisterSession drawn = either (HandledHas t body) (has_session stream echo.session) (session_ended t stream) (unanswered t) tt tt
 handled_has t stream echo body command.SendRrData drawn =
-    either (HandledHas t body) (has_session stream echo.session) _ _ (packet_has t stream echo.context body (packet_reading body) refl drawn) tt
+    either (HandledHas t body) (has_session stream echo.session) _ _ (packet_has t stream echo.context body (items_for t.profile.description body) refl drawn) tt
 handled_has t stream echo body command.SendUnitData drawn =
-    either (HandledHas t body) (has_session stream echo.session) (unit_replied t stream (connected_reading body)) (refusal t (outside_session t.profile.description))
-    (unit_has t stream body (unit_replied t stream (connected_reading body)) (unit_of t stream (connected_reading body))) tt
+    either (HandledHas t body) (has_session stream echo.session) (unit_replied t stream (connected_items_for t.profile.description body)) (refusal t (outside_session t.profile.description))
+    (unit_has t stream body (unit_replied t stream (connected_items_for t.profile.description body)) (unit_of t stream (connected_items_for t.profile.description body))) tt
 handled_has t stream echo body command.Other drawn = tt
 
 -- ---- the frame of a reply
 
 -- what items are that read so
-pub record PacketSays (Q : Opened → Type 0) (reading : Result PacketFields ItemFault) : Type 0 where
-  pub opens_nothing : OpensNothing reading
-  pub successes : (large : Bool) → SuccessIs Q (packet_answer large reading)
+pub record PacketSays (Q : Opened → Type 0) (payload : List ℕ) : Type 0 where
+  pub opens_nothing : OpensNothing (any_packet_reading payload)
+  pub successes : (large : Bool) → SuccessIs Q (packet_answer large (packet_reading payload))
 
-pub none_packet : (Q : Opened → Type 0) (payload : List ℕ) → packet_reading payload ≡ Err Bad → PacketSays Q (packet_reading payload)
-none_packet Q payload is = subst (PacketSays Q) (sym is) (record { opens_nothing = tt; successes = λ large. tt })
+pub none_packet : (Q : Opened → Type 0) (payload : List ℕ) → any_packet_reading payload ≡ Err Bad → PacketSays Q payload
+none_packet Q payload is = record {
+  opens_nothing = subst OpensNothing (sym is) tt;
+  successes = λ large. subst (λ (reading : Result PacketFields ItemFault). SuccessIs Q (packet_answer large reading)) (sym (packet_bad payload is)) tt;
+}
 
-pub written_packet : ItemsReadBack → (Q : Opened → Type 0) (payload : List ℕ) (socket : Option SocketAddress) → 1 ≤ length payload → length payload ≤ 65535 → PayloadSays Q payload → PacketSays Q (packet_reading (packet_text payload socket))
-written_packet back Q payload socket some few says =
-    subst (PacketSays Q) (sym (back payload socket some few)) (record { opens_nothing = says.no_opening; successes = says.successes })
+pub written_packet : ItemsReadBack → (Q : Opened → Type 0) (payload : List ℕ) (socket : Option SocketAddress) → 1 ≤ length payload → length payload ≤ 65535 → PayloadSays Q payload → PacketSays Q (packet_text payload socket)
+written_packet back Q payload socket some few says = record {
+  opens_nothing = subst OpensNothing (sym (any_back back payload socket some few)) says.no_opening;
+  successes = λ large. subst (λ (reading : Result PacketFields ItemFault). SuccessIs Q (packet_answer large reading)) (sym (back payload socket some few)) (says.successes large);
+}
 
-reply_packet : ItemsReadBack → (t next : AdapterTable) (body : List ℕ) (Q : Opened → Type 0) → ((o : Opened) → IsOfNew t next body o → Q o) → (echo : RequestHeader) (reply : FrameReply) → ReplyHas t next body reply → length (message_text (reply_message echo reply)) ≤ 2048 → PacketSays Q (packet_reading (reply_message echo reply).payload)
+reply_packet : ItemsReadBack → (t next : AdapterTable) (body : List ℕ) (Q : Opened → Type 0) → ((o : Opened) → IsOfNew t next body o → Q o) → (echo : RequestHeader) (reply : FrameReply) → ReplyHas t next body reply → length (message_text (reply_message echo reply)) ≤ 2048 → PacketSays Q (reply_message echo reply).payload
 reply_packet back t next body Q more echo (router_reply reply address) says short =
     written_packet back Q (reply_text reply) (option_map socket_of address) (some_bytes reply) (few_bytes (reply_message echo (router_reply reply address)) (reply_text reply) (option_map socket_of address) refl short)
     (reply_says Q reply (reply_weaker (IsOfNew t next body) Q more reply says))
@@ -216,16 +247,16 @@ context_same request (router_reply reply address) has = refl
 context_same request (frames.refused why) has = refl
 context_same request (connected connection count text) has = absurd has
 
-unconnected_says : ItemsReadBack → (t next : AdapterTable) (bytes : List ℕ) (request : MessageFields) (reply : FrameReply) → HasContext reply → message_reading bytes ≡ Ok request → ReplyHas t next request.payload reply → length (message_text (reply_message (request_header_of request) reply)) ≤ 2048 → (m : MessageFields) → message_reading (message_text (reply_message (request_header_of request) reply)) ≡ Ok m → PacketSays (IsSuccessOf t next bytes m.context) (packet_reading m.payload)
+unconnected_says : ItemsReadBack → (t next : AdapterTable) (bytes : List ℕ) (request : MessageFields) (reply : FrameReply) → HasContext reply → message_reading bytes ≡ Ok request → ReplyHas t next request.payload reply → length (message_text (reply_message (request_header_of request) reply)) ≤ 2048 → (m : MessageFields) → message_reading (message_text (reply_message (request_header_of request) reply)) ≡ Ok m → PacketSays (IsSuccessOf t next bytes m.context) m.payload
 unconnected_says back t next bytes request reply has reads says short m is =
     let m0 = reply_message (request_header_of request) reply in
     let same : MessageBack m0 m = message_back m0 m is in
-    subst (λ (payload : List ℕ). PacketSays (IsSuccessOf t next bytes m.context) (packet_reading payload)) (sym same.payload)
+    subst (PacketSays (IsSuccessOf t next bytes m.context)) (sym same.payload)
     (reply_packet back t next request.payload (IsSuccessOf t next bytes m.context)
     (λ o new. record { message = request; reads = reads; context_is = same.context ∙ ap (again w64) (context_same request reply has); new = new })
     (request_header_of request) reply says short)
 
-reply_says_so : ItemsReadBack → (t next : AdapterTable) (bytes : List ℕ) (request : MessageFields) (reply : FrameReply) → message_reading bytes ≡ Ok request → ReplyHas t next request.payload reply → length (message_text (reply_message (request_header_of request) reply)) ≤ 2048 → (m : MessageFields) → message_reading (message_text (reply_message (request_header_of request) reply)) ≡ Ok m → PacketSays (IsSuccessOf t next bytes m.context) (packet_reading m.payload)
+reply_says_so : ItemsReadBack → (t next : AdapterTable) (bytes : List ℕ) (request : MessageFields) (reply : FrameReply) → message_reading bytes ≡ Ok request → ReplyHas t next request.payload reply → length (message_text (reply_message (request_header_of request) reply)) ≤ 2048 → (m : MessageFields) → message_reading (message_text (reply_message (request_header_of request) reply)) ≡ Ok m → PacketSays (IsSuccessOf t next bytes m.context) m.payload
 reply_says_so back t next bytes request services reads says short m is = unconnected_says back t next bytes request services tt reads says short m is
 reply_says_so back t next bytes request (registered session) reads says short m is = unconnected_says back t next bytes request (registered session) tt reads says short m is
 reply_says_so back t next bytes request other_version reads says short m is = unconnected_says back t next bytes request other_version tt reads says short m is
@@ -233,11 +264,11 @@ reply_says_so back t next bytes request (router_reply reply address) reads says 
 reply_says_so back t next bytes request (frames.refused why) reads says short m is = unconnected_says back t next bytes request (frames.refused why) tt reads says short m is
 reply_says_so back t next bytes request (connected connection count text) reads says short m is =
     let same : MessageBack (reply_message (request_header_of request) (connected connection count text)) m = message_back (reply_message (request_header_of request) (connected connection count text)) m is in
-    subst (λ (payload : List ℕ). PacketSays (IsSuccessOf t next bytes m.context) (packet_reading payload)) (sym same.payload)
+    subst (PacketSays (IsSuccessOf t next bytes m.context)) (sym same.payload)
     (none_packet (IsSuccessOf t next bytes m.context) (connected_text connection count text) (connected_bad connection count text))
 
 -- a frame that says so of each success is no request to open
-pub frame_says : (Q : ℕ → Opened → Type 0) (bytes : List ℕ) → ((m : MessageFields) → message_reading bytes ≡ Ok m → PacketSays (Q m.context) (packet_reading m.payload)) → SuccessesAre Q bytes × IsNoOpening bytes
+pub frame_says : (Q : ℕ → Opened → Type 0) (bytes : List ℕ) → ((m : MessageFields) → message_reading bytes ≡ Ok m → PacketSays (Q m.context) m.payload) → SuccessesAre Q bytes × IsNoOpening bytes
 frame_says Q bytes says = (λ m is large. message_success (Q m.context) m large ((says m is).successes large), λ m is. (says m is).opens_nothing)
 
 -- a reply's frame has a success only of what the request opened
@@ -249,7 +280,7 @@ reply_frame_says back t next bytes request reply reads says short =
 pub plain_says : (Q : ℕ → Opened → Type 0) (text : List ℕ) → IsPlainText text → SuccessesAre Q text × IsNoOpening text
 plain_says Q text plain = frame_says Q text (λ m is.
     let same : MessageBack plain.message m = message_back plain.message m (ap message_reading (sym plain.is) ∙ is) in
-    subst (λ (payload : List ℕ). PacketSays (Q m.context) (packet_reading payload)) (sym same.payload) (none_packet (Q m.context) plain.message.payload plain.bad))
+    subst (PacketSays (Q m.context)) (sym same.payload) (none_packet (Q m.context) plain.message.payload plain.bad))
 
 pub plain_context : (text : List ℕ) → IsPlainText text → ContextFits text
 plain_context text plain = subst ContextFits (sym plain.is) (context_fits plain.message)

@@ -4,6 +4,7 @@ mod OwnerSteps
 mod TurnRuns
 mod TurnReading
 pub mod Carrying
+pub mod Class3Carrying
 pub mod Emptied
 pub mod AdapterDue
 pub mod ScannerDue

@@ -190,6 +190,7 @@ requests_leave_none o = record {
   registered = λ t number none. unowned_registered o t number none;
   messaged = λ t next_id m goes none. unowned_messaged o t next_id m none;
   counted = λ t next openings keeps. keeps;
+  tallied = λ t next counters keeps. keeps;
 }
 
 found_step : (b : Bool) (p q : Row → Bool) (first row : Row) (rows : List Row) → cond b (Some first) (find p rows) ≡ Some row → q row ≡ true → (find p rows ≡ Some row → list_any q rows ≡ true) → (q first || list_any q rows) ≡ true

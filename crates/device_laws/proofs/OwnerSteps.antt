@@ -9,13 +9,11 @@ use Rattle.cip_datagram.specs.declared.datagram.DatagramFault.{DatagramFault}
 use Rattle.cip_datagram.specs.Datagram.{DatagramFields}
 use Rattle.cip_datagram.specs.Reading.{datagram_reading}
 use Rattle.cip_encap.specs.declared.packet.ItemFault.{ItemFault}
-use Rattle.cip_encap.specs.ConnectedReading.{connected_reading}
 use Rattle.cip_encap.specs.Packet.{PacketFields}
-use Rattle.cip_encap.specs.PacketReading.{packet_reading}
 use Rattle.adapter_table.specs.Intervals.{whole_request}
 use Rattle.adapter_table.specs.Paths.{opening_path}
 use Rattle.cip_events.specs.declared.event.Event.{Event}
-use Rattle.cip_events.specs.declared.event.Event.TheVariants.{Request, StreamOpened, Frame, StreamCut, Datagram, Inquiry, Write, Tick, Respond}
+use Rattle.cip_events.specs.declared.event.Event.TheVariants.{Request, StreamOpened, Frame, StreamCut, Datagram, Inquiry, Write, Tick, Respond, Counters}
 use Rattle.cip_events.specs.declared.event.Notice.{Notice}
 use Rattle.cip_events.specs.declared.event.Notice.TheVariants.{Opened, Closed, StreamClosed, Reset}
 use Rattle.cip_events.specs.declared.event.StepFault.{StepFault}
@@ -54,9 +52,9 @@ use Rattle.adapter_table.specs.Messages.{messages_table}
 use Rattle.adapter_table.specs.Own.{OwnRequest, own_of, cannot_ask}
 use Rattle.adapter_table.specs.StatedLimits.{limited_admission, is_wrong_closer, is_wrong_ender}
 use Rattle.adapter_table.specs.Opening.{opened_row, opened_table, opened_notices}
-use Rattle.adapter_table.specs.Requests.{Next, Served, judged_open, admitted_open, served_open, close_of, served_close, end_of, served_end, router_refusal, object_served, served_object, served, replied, answered, requested_by, requested}
+use Rattle.adapter_table.specs.Requests.{Next, Served, counted_once, judged_open, admitted_open, served_open, close_of, served_close, end_of, served_end, router_refusal, object_served, served_object, served, replied, answered, requested_by, requested}
 use Rattle.adapter_table.specs.Streams.{is_stream, is_taken, with_stream, without_stream, has_session, registered_table, ended_notices, stream_opened, cut_of, stream_cut}
-use Rattle.adapter_table.specs.Encapsulation.{Handled, refusal, unanswered, session_begun, session_ended, register_session, request_replied, request_handled, packet_replied, unit_replied, handled, frame_answer, stream_answer, frame_of, frame, outside_session, frame_for}
+use Rattle.adapter_table.specs.Encapsulation.{Handled, items_for, connected_items_for, refusal, unanswered, session_begun, session_ended, register_session, request_replied, request_handled, packet_replied, unit_replied, handled, frame_answer, stream_answer, frame_of, frame, outside_session, frame_for}
 use Rattle.adapter_table.specs.Datagrams.{is_for, row_delivery, accepted_table, delivered, found_datagram, datagram_of, received}
 use Rattle.adapter_table.specs.Ticks.{clocked_table, expiry_notices, advanced, late_notice, aged_next, tick}
 use Rattle.adapter_table.specs.Step.{adapter_step, write, write_of, written, written_table}
@@ -65,8 +63,11 @@ use Rattle.adapter_table.specs.Laws.{EffectsKeep}
 use Rattle.device_laws.specs.Lemmas.MessageSteps.{IsOfMessages, unit_of, respond_holds}
 use Rattle.device_laws.specs.Turns.{reports_end}
 use Rattle.device_laws.proofs.OwnerEffects.{KeepsOwner, unchanged, keeps_fed, keeps_written, keeps_closed, keeps_opened, keeps_advanced}
+use Rattle.adapter_table.specs.Counting.{with_counters}
+use Rattle.adapter_table.specs.Lemmas.CountLemmas.{counted_by_keeps}
 use Rattle.adapter_table.specs.Lemmas.LimitLemmas.{limited_is}
 use Rattle.adapter_table.specs.Lemmas.PassiveLemmas.{passive_holds}
+use Rattle.adapter_table.specs.Lemmas.PlainLemmas.{counters_hold}
 use Rattle.base_lemmas.specs.Booleans.{either}
 
 -- ---- an opening that is admitted
@@ -146,6 +147,11 @@ keeps_served point t opens peer (closing request) = keeps_end point t peer reque
 keeps_served point t opens peer (object service class instance attribute body) = keeps_object point t service (object_answer t service class instance attribute body)
 keeps_served point t opens peer (opening large request) = keeps_judged point t opens peer large (whole_request t.profile.description request) (limited_admission t peer (whole_request t.profile.description request)) refl
 
+-- what is counted keeps it too
+keeps_counted : (point : ℕ) (t : AdapterTable) (request : RouterRequestFields) (s : Option Served) → AnyKeeps point t s → AnyKeeps point t (counted_once request s)
+keeps_counted point t request None keeps = keeps
+keeps_counted point t request (Some s) keeps = counted_by_keeps (ServedKeeps point t) (λ u counters same. same) request s keeps
+
 -- an answer and the next table keep the owner
 abbrev NextKeeps : ℕ → AdapterTable → Next → Type 0
 NextKeeps point t next = KeepsOwner point t next.0.notices next.1
@@ -155,7 +161,8 @@ keeps_answered point t peer None keeps = unchanged point t []
 keeps_answered point t peer (Some s) keeps = keeps
 
 keeps_requested : (point : ℕ) (t : AdapterTable) → OpeningsKeep point t → (peer : Node) (request : RouterRequestFields) (asks : Option OwnRequest) → NextKeeps point t (requested_by t peer request asks)
-keeps_requested point t opens peer request None = keeps_answered point t peer (served t peer request) (keeps_served point t opens peer request)
+keeps_requested point t opens peer request None =
+    keeps_answered point t peer (counted_once request (served t peer request)) (keeps_counted point t request (served t peer request) (keeps_served point t opens peer request))
 keeps_requested point t opens peer request (Some own) =
     either (NextKeeps point t) (cannot_ask t peer) (replied peer (router_refusal t own.service status.ResourceUnavailable)) _ (unchanged point t []) (keeps_messages point t t.next_id _ [])
 
@@ -192,7 +199,8 @@ keeps_over point t opens stream (closing request) = keeps_served point t opens s
 keeps_over point t opens stream (object service class instance attribute body) = keeps_served point t opens stream.peer (object service class instance attribute body)
 
 keeps_referred : (point : ℕ) (t : AdapterTable) → OpeningsKeep point t → (stream : Stream) (context : ℕ) (request : RouterRequestFields) (asks : Option OwnRequest) → HandledKeeps point t (request_handled t stream context request asks)
-keeps_referred point t opens stream context request None = keeps_replied point t (stream_served t stream request) (keeps_over point t opens stream request)
+keeps_referred point t opens stream context request None =
+    keeps_replied point t (counted_once request (stream_served t stream request)) (keeps_counted point t request (stream_served t stream request) (keeps_over point t opens stream request))
 keeps_referred point t opens stream context request (Some own) =
     either (HandledKeeps point t) (cannot_ask t stream.peer) (request_replied t (Some (router_refusal t own.service status.ResourceUnavailable))) _ (unchanged point t []) (keeps_messages point t t.next_id _ [])
 
@@ -201,7 +209,7 @@ keeps_packet point t opens stream context (Err fault) = unchanged point t []
 keeps_packet point t opens stream context (Ok packet) = keeps_referred point t opens stream context (router_request_reading packet.payload) (own_of t.profile.objects (router_request_reading packet.payload))
 
 keeps_unit : (point : ℕ) (t : AdapterTable) (done : Handled) → IsOfMessages t done → HandledKeeps point t done
-keeps_unit point t done is = subst (KeepsOwner point t done.notices) (sym is.table) (keeps_messages point t t.next_id is.messages done.notices)
+keeps_unit point t done is = subst (KeepsOwner point t done.notices) (sym is.table) (keeps_messages point (with_counters t is.counters) t.next_id is.messages done.notices)
 
 keeps_handled : (point : ℕ) (t : AdapterTable) → OpeningsKeep point t → (stream : Stream) (request_header : RequestHeader) (body : List ℕ) (kind : Command) → HandledKeeps point t (handled t stream request_header body kind)
 unfolding handled without_stream
@@ -209,10 +217,10 @@ keeps_handled point t opens stream request_header body command.RegisterSession =
 keeps_handled point t opens stream request_header body command.UnregisterSession =
     either (HandledKeeps point t) (has_session stream request_header.session) (session_ended t stream) (unanswered t) (unchanged point t (StreamClosed stream.number ∷ ended_notices t stream.number)) (unchanged point t [])
 keeps_handled point t opens stream request_header body command.SendRrData =
-    either (HandledKeeps point t) (has_session stream request_header.session) _ _ (keeps_packet point t opens stream request_header.context (packet_reading body)) (unchanged point t [])
+    either (HandledKeeps point t) (has_session stream request_header.session) _ _ (keeps_packet point t opens stream request_header.context (items_for t.profile.description body)) (unchanged point t [])
 keeps_handled point t opens stream request_header body command.SendUnitData =
-    either (HandledKeeps point t) (has_session stream request_header.session) (unit_replied t stream (connected_reading body)) (refusal t (outside_session t.profile.description))
-    (keeps_unit point t (unit_replied t stream (connected_reading body)) (unit_of t stream (connected_reading body))) (unchanged point t [])
+    either (HandledKeeps point t) (has_session stream request_header.session) (unit_replied t stream (connected_items_for t.profile.description body)) (refusal t (outside_session t.profile.description))
+    (keeps_unit point t (unit_replied t stream (connected_items_for t.profile.description body)) (unit_of t stream (connected_items_for t.profile.description body))) (unchanged point t [])
 keeps_handled point t opens stream request_header body _ = unchanged point t []
 
 keeps_frame : (point : ℕ) (t : AdapterTable) → OpeningsKeep point t → (stream : Stream) (fields : FrameFields) → NextKeeps point t (frame_answer t stream fields)
@@ -294,6 +302,7 @@ ok_step point t opens (Inquiry peer bytes) = keeps_inquired point t peer (inquir
 ok_step point t opens (Write input bytes) = ok_written point t input bytes (find (is_at input) t.profile.inputs)
 ok_step point t opens (Tick ms) = ok_ticked point t ms
 ok_step point t opens (Respond number general bytes) = respond_holds (OkKeeps point t) t number general bytes (λ why. tt) (λ w found few. keeps_messages point t t.next_id _ [])
+ok_step point t opens (Counters bytes) = counters_hold (OkKeeps point t) t bytes (λ why. tt) (unchanged point t [])
 ok_step point t opens other = passive_holds (OkKeeps point t) t (λ why. tt) (λ verdict. unchanged point t []) other refl
 
 -- each step from a whole table that gives an answer keeps the owner, unless the answer reports its end

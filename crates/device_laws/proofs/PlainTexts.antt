@@ -10,9 +10,10 @@ use Rattle.cip_encap.specs.declared.packet.SocketAddress.{SocketAddress}
 use Rattle.cip_encap.specs.declared.message.EncapFault.{EncapFault}
 use Rattle.cip_encap.specs.Message.{MessageFields, message_text}
 use Rattle.cip_encap.specs.Packet.{packet_text}
-use Rattle.cip_encap.specs.PacketReading.{packet_reading}
+use Rattle.cip_encap.specs.AnyItems.{any_packet_reading}
 use Rattle.cip_encap.specs.Reading.{message_reading}
 use Rattle.cip_encap.specs.ReadsBack.{ItemsReadBack}
+use Rattle.cip_encap.specs.Lemmas.AnyItemLemmas.{any_back}
 use Rattle.cip_epath.specs.declared.fault.PathFault.{PathFault}
 use Rattle.cip_epath.specs.declared.path.Target.{Target}
 use Rattle.cip_epath.specs.Reading.{target_reading, segments_at}
@@ -25,12 +26,11 @@ use Rattle.cip_fwdopen.specs.Reply.{reply_service, opened_text, refused_text, in
 use Rattle.cip_fwdopen.specs.Services.{open_service}
 use Rattle.cip_fwdopen.specs.Request.{request_widths, request_path_len, with_target, request_of, request_reading}
 use Rattle.cip_netparams.specs.Word.{is_message_trigger}
-use Rattle.cip_router.specs.declared.refusal.Status.TheVariants as status
 use Rattle.cip_router.specs.Frames.{RequestHeader, FrameReply, services, registered, other_version, router_reply, connected, socket_of, reply_message}
 use Rattle.cip_router.specs.Frames as frames
 use Rattle.cip_router.specs.Replies.{ReplyFields, opened, closed, object_reply, unacceptable, own, object_reply_text, own_reply_text, reply_text}
 use Rattle.cip_router.specs.Replies as replies
-use Rattle.cip_router.specs.Requests.{object, refused, is_manager, request_to_open, request_to_close, request_to_manager, router_request_of, router_request_reading}
+use Rattle.cip_router.specs.Requests.{object, is_manager, request_to_open, request_to_close, request_to_manager, router_request_of, router_request_reading}
 use Rattle.scanner_table.specs.Requests.{manager_text}
 use Rattle.device_laws.specs.Lemmas.AdapterIds.{few_bytes, plain_protocol, plain_none, some_bytes}
 use Rattle.device_laws.specs.Lemmas.ConnectedTexts.{connected_bad}
@@ -43,7 +43,7 @@ use Rattle.device_laws.specs.Replies.{IsPlainService}
 
 -- ---- requests to the Connection Manager
 
-of_manager : (service : ℕ) (body : List ℕ) → IsPlainRequest (request_to_manager service body) → IsPlainRequest (router_request_reading (service ∷ 2 ∷ 0x20 ∷ 6 ∷ 0x24 ∷ 1 ∷ body))
+of_manager : (service : ℕ) (body : List ℕ) → IsPlainRequest (request_to_manager service None body) → IsPlainRequest (router_request_reading (service ∷ 2 ∷ 0x20 ∷ 6 ∷ 0x24 ∷ 1 ∷ body))
 unfolding router_request_reading request_reading
 of_manager service body plain =
     subst (λ (f : Option (Tailed × List ℕ)). IsPlainRequest (router_request_of service (request_of f))) (sym (manager_front service body))
@@ -88,15 +88,15 @@ plain_low service m low small other = ne_eqb _ _ (λ same. eqb-false service m o
 pub plain_service : (service : ℕ) → service < 128 → OpensNone service → IsPlainService service
 plain_service service low none = record { small = plain_low service 0x54 low (omega arith) none.small; large = plain_low service 0x5B low (omega arith) none.large }
 
-manager_plain : (service : ℕ) (body : List ℕ) → OpensNone service → IsPlainService service → IsPlainRequest (request_to_manager service body)
-manager_plain service body none plain =
+manager_plain : (service : ℕ) (attribute : Option ℕ) (body : List ℕ) → OpensNone service → IsPlainService service → IsPlainRequest (request_to_manager service attribute body)
+manager_plain service attribute body none plain =
     rw (none.small, none.large)
     (either IsPlainRequest (service == 0x4E) (request_to_close service (close_reading body)) _ (close_plain service (close_reading body))
-    (either IsPlainRequest (service == 0x52) (object service 6 1 None body) (refused service status.Service) plain tt))
+    (either IsPlainRequest (service == 0x52) (object service 6 1 None body) (object service 6 1 attribute body) plain plain))
 
 target_plain : (service : ℕ) (body : List ℕ) (reading : Result Target PathFault) → OpensNone service → IsPlainService service → IsPlainRequest (router_request_of service (with_target service body reading))
 target_plain service body (Err fault) none plain = tt
-target_plain service body (Ok target) none plain = either IsPlainRequest (is_manager target) (request_to_manager service body) _ (manager_plain service body none plain) plain
+target_plain service body (Ok target) none plain = either IsPlainRequest (is_manager target) (request_to_manager service target.attribute body) _ (manager_plain service target.attribute body none plain) plain
 
 front_plain : (service : ℕ) (r : Option (List ℕ × List ℕ)) → OpensNone service → IsPlainService service → IsPlainRequest (router_request_of service (request_of (parted request_path_len (then_at r (λ ns after. Some (service ∷ ns, after))))))
 front_plain service None none plain = tt
@@ -147,19 +147,19 @@ reply_plain (replies.no_route words) = plain_reply _ _
 
 -- ---- frames
 
-pub packet_plain : ItemsReadBack → (payload : List ℕ) (socket : Option SocketAddress) → 1 ≤ length payload → length payload ≤ 65535 → IsPlainRequest (router_request_reading payload) → PlainPacket (packet_reading (packet_text payload socket))
-packet_plain back payload socket some few plain = subst PlainPacket (sym (back payload socket some few)) plain
+pub packet_plain : ItemsReadBack → (payload : List ℕ) (socket : Option SocketAddress) → 1 ≤ length payload → length payload ≤ 65535 → IsPlainRequest (router_request_reading payload) → PlainPacket (any_packet_reading (packet_text payload socket))
+packet_plain back payload socket some few plain = subst PlainPacket (sym (any_back back payload socket some few)) plain
 
-pub bad_plain : (payload : List ℕ) → packet_reading payload ≡ Err Bad → PlainPacket (packet_reading payload)
+pub bad_plain : (payload : List ℕ) → any_packet_reading payload ≡ Err Bad → PlainPacket (any_packet_reading payload)
 bad_plain payload is = subst PlainPacket (sym is) tt
 
-read_plain : (m : MessageFields) (reading : Result MessageFields EncapFault) → message_reading (message_text m) ≡ reading → PlainPacket (packet_reading m.payload) → PlainMessage reading
+read_plain : (m : MessageFields) (reading : Result MessageFields EncapFault) → message_reading (message_text m) ≡ reading → PlainPacket (any_packet_reading m.payload) → PlainMessage reading
 read_plain m (Err fault) is plain = tt
 read_plain m (Ok read) is plain =
     let same : MessageBack m read = message_back m read is in
-    subst (λ (payload : List ℕ). PlainPacket (packet_reading payload)) (sym same.payload) plain
+    subst (λ (payload : List ℕ). PlainPacket (any_packet_reading payload)) (sym same.payload) plain
 
-pub message_plain : (m : MessageFields) → PlainPacket (packet_reading m.payload) → IsPlainFrame (message_text m)
+pub message_plain : (m : MessageFields) → PlainPacket (any_packet_reading m.payload) → IsPlainFrame (message_text m)
 message_plain m plain = read_plain m (message_reading (message_text m)) refl plain
 
 -- a reply over a stream

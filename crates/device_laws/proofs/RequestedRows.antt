@@ -7,7 +7,7 @@ use Rattle.cip_types.specs.declared.names.ConnId.{ConnId}
 use Rattle.cip_types.specs.declared.names.Node.{Node}
 use Rattle.cip_encap.specs.Message.{MessageFields}
 use Rattle.cip_encap.specs.Packet.{PacketFields}
-use Rattle.cip_encap.specs.PacketReading.{packet_reading}
+use Rattle.cip_encap.specs.AnyItems.{any_packet_reading}
 use Rattle.cip_encap.specs.Reading.{message_reading}
 use Rattle.cip_events.specs.declared.event.StepFault.{StepFault}
 use Rattle.cip_fwdopen.specs.Open.{OpenFields}
@@ -56,7 +56,7 @@ id_is t request multicast point (Some member) sound is left = inr (joined_owns t
 -- ---- the law
 
 -- the bytes ask for the id of the request that they are
-requested_by : (bytes : List ℕ) (m : MessageFields) (packet : PacketFields) (large : Bool) (request : OpenFields) → message_reading bytes ≡ Ok m → packet_reading m.payload ≡ Ok packet → router_request_reading packet.payload ≡ opening large request → asks_id request.t_o_id.0 bytes ≡ true
+requested_by : (bytes : List ℕ) (m : MessageFields) (packet : PacketFields) (large : Bool) (request : OpenFields) → message_reading bytes ≡ Ok m → any_packet_reading m.payload ≡ Ok packet → router_request_reading packet.payload ≡ opening large request → asks_id request.t_o_id.0 bytes ≡ true
 unfolding asks_id
 requested_by bytes m packet large request one two three =
     let id = request.t_o_id.0 in

@@ -5,6 +5,7 @@ use Rattle.cip_encap.specs.declared.packet.ItemFault.{ItemFault}
 use Rattle.cip_encap.specs.Message.{message_text}
 use Rattle.cip_encap.specs.Packet.{PacketFields}
 use Rattle.cip_encap.specs.PacketReading.{packet_reading}
+use Rattle.cip_encap.specs.Lemmas.AnyItemLemmas.{packet_bad}
 use Rattle.cip_encap.specs.ReadsBack.{ItemsReadBack}
 use Rattle.cip_events.specs.declared.event.Event.{Event}
 use Rattle.cip_events.specs.declared.event.StepFault.{StepFault}
@@ -12,6 +13,7 @@ use Rattle.cip_fwdopen.specs.declared.reply.Opened.{Opened}
 use Rattle.cip_fwdopen.specs.Open.{open_text}
 use Rattle.cip_fwdopen.specs.Close.{close_text}
 use Rattle.cip_fwdopen.specs.Reply.{open_reply_reading}
+use Rattle.cip_router.specs.Frames.{protocol_text}
 use Rattle.scanner_table.specs.declared.table.ScannerTable.{ScannerTable}
 use Rattle.cip_fwdopen.specs.Services.{open_service}
 use Rattle.scanner_table.specs.Requests.{Request, registering, opening, closing, requesting, Sent, manager_text, sent_message, sent_frame}
@@ -49,7 +51,7 @@ explicit_none : (bytes : List ℕ) → IsExplicit bytes → (large : Bool) → S
 explicit_none bytes explicit large = success_none Nothing (reply_answer large (open_reply_reading bytes)) ((explicit_ids (λ id. ⊥) bytes explicit).replied large)
 
 request_none : ItemsReadBack → (sent : Sent) (request : Request) → sent.request ≡ request → IfExplicit request → length (message_text (sent_message sent)) ≤ 2048 → PacketNone (packet_reading (sent_message sent).payload)
-request_none back sent registering is explicit short = rw is (subst PacketNone (sym plain_protocol) (λ large. tt))
+request_none back sent registering is explicit short = rw is (subst PacketNone (sym (packet_bad protocol_text plain_protocol)) (λ large. tt))
 request_none back sent (opening large fields) is explicit short =
     let body = manager_text (open_service large) (open_text large fields) in
     rw is (subst PacketNone (sym (back body None (omega arith) (few_bytes (sent_message sent) body None (rw is refl) short))) (manager_none (open_service large) (open_text large fields) (open_answers_none large)))

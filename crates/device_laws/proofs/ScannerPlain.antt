@@ -4,7 +4,7 @@ use Rattle.std.specs.Int.{w8}
 use Rattle.std.specs.List.{AllByRecursion}
 use Rattle.cip_types.specs.declared.names.Node.{Node}
 use Rattle.cip_encap.specs.Message.{message_text}
-use Rattle.cip_encap.specs.PacketReading.{packet_reading}
+use Rattle.cip_encap.specs.AnyItems.{any_packet_reading}
 use Rattle.cip_encap.specs.ReadsBack.{ItemsReadBack}
 use Rattle.cip_events.specs.declared.event.Answer.{Answer}
 use Rattle.cip_events.specs.declared.event.Event.{Event}
@@ -61,7 +61,7 @@ explicit_plain : (bytes : List ℕ) → IsExplicit bytes → IsPlainRequest (rou
 explicit_plain bytes is =
     subst (λ (text : List ℕ). IsPlainRequest (router_request_reading text)) (sym is.is) (plain_request is.service is.rest is.requests (plain_service is.service is.low is.requests))
 
-sent_plain : ItemsReadBack → (sent : Sent) (request : Request) → sent.request ≡ request → AsksPlain request → length (message_text (sent_message sent)) ≤ 2048 → PlainPacket (packet_reading (sent_message sent).payload)
+sent_plain : ItemsReadBack → (sent : Sent) (request : Request) → sent.request ≡ request → AsksPlain request → length (message_text (sent_message sent)) ≤ 2048 → PlainPacket (any_packet_reading (sent_message sent).payload)
 sent_plain back sent registering is asks few = rw is (subst PlainPacket (sym plain_protocol) tt)
 sent_plain back sent (opening large fields) is asks few =
     let body = manager_text (open_service large) (open_text large fields) in
@@ -114,14 +114,14 @@ event_so t (event.Request peer bytes) = tt
 event_so t (event.StreamOpened number peer) = opens_so t number peer
 event_so t other = ok_so t (scanner_step t other) (event_does (λ u effect. AllByRecursion SentPlain effect.sent) plain_effects t other)
 
-said_plain : ItemsReadBack → (said : Result Next StepFault) (answer : Answer) (next : DeviceTable) → as_scanner said ≡ Ok (answer, next) → IfOk said SendsSo → IsSmall answer → IsPlainDevice next × AllByRecursion SendsPlainly answer.frames
-said_plain back (Err why) answer next is sends small = absurd (let e = is in cc)
-said_plain back (Ok n) answer next is sends small =
+said_plain : ItemsReadBack → (ours : ℕ → Bool) (said : Result Next StepFault) (answer : Answer) (next : DeviceTable) → as_scanner said ≡ Ok (answer, next) → IfOk said SendsSo → IsSmall answer → IsPlainDevice ours next × AllByRecursion SendsPlainly answer.frames
+said_plain back ours (Err why) answer next is sends small = absurd (let e = is in cc)
+said_plain back ours (Ok n) answer next is sends small =
     let same = inside (n.0, Scanner n.1) (answer, next) is in
     let first : n.0 ≡ answer = ap (λ (p : DeviceNext). p.0) same in
     let second : Scanner n.1 ≡ next = ap (λ (p : DeviceNext). p.1) same in
     let short : IsSmall n.0 = subst IsSmall (sym first) small in (
-      subst IsPlainDevice second tt,
+      subst (IsPlainDevice ours) second tt,
       subst (λ (a : Answer). AllByRecursion SendsPlainly a.frames) first
           (subst (AllByRecursion SendsPlainly) (sym sends.frames) (all_plain back sends.requests sends.plain (subst (AllByRecursion IsShortFrame) sends.frames short.short_frames))),
     )
@@ -129,6 +129,6 @@ said_plain back (Ok n) answer next is sends small =
     inside : (x y : DeviceNext) → ◌≡◌ {A = Result DeviceNext StepFault} (Ok x) (Ok y) → x ≡ y
     inside x y e = cc
 
-pub scanner_plain : ItemsReadBack → AnswersAreSmall → (t : ScannerTable) (happens : Event) (answer : Answer) (next : DeviceTable) → IsWholeDevice (Scanner t) → step (Scanner t) happens ≡ Ok (answer, next) → IsPlainDevice next × AllByRecursion SendsPlainly answer.frames
+pub scanner_plain : ItemsReadBack → AnswersAreSmall → (ours : ℕ → Bool) (t : ScannerTable) (happens : Event) (answer : Answer) (next : DeviceTable) → IsWholeDevice (Scanner t) → step (Scanner t) happens ≡ Ok (answer, next) → IsPlainDevice ours next × AllByRecursion SendsPlainly answer.frames
 unfolding step
-scanner_plain back few t happens answer next whole is = said_plain back (scanner_step t happens) answer next is (event_so t happens) (few (Scanner t) happens answer next whole is)
+scanner_plain back few ours t happens answer next whole is = said_plain back ours (scanner_step t happens) answer next is (event_so t happens) (few (Scanner t) happens answer next whole is)

@@ -25,7 +25,7 @@ use Rattle.adapter_table.specs.declared.table.Stream.{Stream}
 use Rattle.adapter_table.specs.Encapsulation.{Handled, refusal, framed, frame_answer, stream_answer, frame_of, frame, frame_for}
 use Rattle.adapter_table.specs.Inquiries.{inquiry_reply, inquired_by, inquired}
 use Rattle.adapter_table.specs.Profiles.{is_at}
-use Rattle.adapter_table.specs.Requests.{Next, Served, router_refusal, served, replied, answered, requested_by, requested}
+use Rattle.adapter_table.specs.Requests.{Next, Served, counted_once, router_refusal, served, replied, answered, requested_by, requested}
 use Rattle.adapter_table.specs.Step.{written_table, written, write_of, write, adapter_step}
 use Rattle.adapter_table.specs.Streams.{is_stream}
 use Rattle.adapter_table.specs.Ticks.{clocked_table, expired_table, advanced, aged_next, tick}
@@ -71,7 +71,7 @@ answered_quiet t peer None = refl
 answered_quiet t peer (Some s) = refl
 
 by_quiet : (t : AdapterTable) (peer : Node) (request : RouterRequestFields) (asks : Option OwnRequest) → QuietNext (requested_by t peer request asks)
-by_quiet t peer request None = answered_quiet t peer (served t peer request)
+by_quiet t peer request None = answered_quiet t peer (counted_once request (served t peer request))
 by_quiet t peer request (Some own) = either QuietNext (cannot_ask t peer) (replied peer (router_refusal t own.service refusal_status.ResourceUnavailable)) _ refl refl
 
 requested_quiet : (t : AdapterTable) (peer : Node) (bytes : List ℕ) → QuietNext (requested t peer bytes)

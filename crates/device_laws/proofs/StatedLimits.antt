@@ -1,5 +1,5 @@
 -- A close of another node is refused, and a number that is far ahead is not accepted.
-use Rattle.std.proofs.Common.{◌≡◌, ◌≢◌, ◌≤◌, ◌+◌, ◌*◌, inl, inr, ℕ, ◌==◌, nat_lt, Bool, true, false, cond, List, [], ◌∷◌, length, find, Option, Some, None, Result, Ok, refl, sym, ◌∙◌, ap, subst, arith}
+use Rattle.std.proofs.Common.{◌≡◌, ◌≢◌, ◌⊎◌, ◌≤◌, ◌+◌, ◌*◌, inl, inr, ℕ, ◌==◌, nat_lt, Bool, true, false, cond, List, [], ◌∷◌, length, find, Option, Some, None, Result, Ok, Err, refl, sym, ◌∙◌, ap, subst, arith}
 use Rattle.std.proofs.lemmas.Bool.{le-ltb}
 use Rattle.std.proofs.lemmas.Bool.Decides.{nat_tests}
 use Rattle.std.specs.List.{list_any}
@@ -35,17 +35,20 @@ use Rattle.messaging.specs.Class3Connections.{has_class3_triad}
 use Rattle.messaging.specs.Sound.{EachOf}
 use Rattle.adapter_table.specs.declared.maker_limits.MakerLimits.{MakerLimits}
 use Rattle.adapter_table.specs.Connections.{Row}
+use Rattle.adapter_table.specs.declared.counters.Tally.TheVariants.{CloseOther}
 use Rattle.adapter_table.specs.declared.table.AdapterTable.{AdapterTable}
+use Rattle.adapter_table.specs.Counting.{tallied}
 use Rattle.adapter_table.specs.declared.table.Stream.{Stream}
 use Rattle.adapter_table.specs.Datagrams.{expected_len, accepted_delivery, judged_datagram, found_datagram, datagram_of, received}
 use Rattle.adapter_table.specs.Class3Opening.{stream_served}
-use Rattle.adapter_table.specs.Encapsulation.{Handled, request_replied, request_handled, packet_replied, handled, frame_answer, stream_answer, frame_of, frame}
+use Rattle.adapter_table.specs.Encapsulation.{Handled, items_for, request_replied, request_handled, packet_replied, handled, frame_answer, stream_answer, frame_of, frame}
 use Rattle.adapter_table.specs.Inquiries.{inquiry_reply}
+use Rattle.adapter_table.specs.Lemmas.ItemLemmas.{items_any}
 use Rattle.adapter_table.specs.Lemmas.MessageLemmas.{found_any}
 use Rattle.adapter_table.specs.Lemmas.RequestLemmas.{next_is}
 use Rattle.adapter_table.specs.MessagesSound.{IsInPlace}
 use Rattle.adapter_table.specs.Own.{OwnRequest, own_of}
-use Rattle.adapter_table.specs.Requests.{Next, Served, refused_close, close_of, served_close, end_of, served_end, served, answered, requested_by, requested}
+use Rattle.adapter_table.specs.Requests.{Next, Served, counted_once, refused_close, close_of, served_close, end_of, served_end, served, answered, requested_by, requested}
 use Rattle.adapter_table.specs.Rows.{has_triad}
 use Rattle.adapter_table.specs.StatedLimits.{is_wrong_ender, is_wrong_closer, accepts_at}
 use Rattle.adapter_table.specs.Step.{adapter_step}
@@ -86,8 +89,9 @@ none_talks triad rows open_streams row [] found all = refl
 none_talks triad rows open_streams row (d ∷ class3_connections) found all =
     free_step (has_class3_triad triad d) triad rows row d (find (has_class3_triad triad) class3_connections) refl found all.0.triad (none_talks triad rows open_streams row class3_connections found all.1)
 
+-- the table stays, but for the count of a close that is refused
 abbrev Stays : AdapterTable → AdapterTable → List Notice → Type 0
-Stays t next notices = (next ≡ t) × (notices ≡ [])
+Stays t next notices = ((next ≡ t) ⊎ (next ≡ tallied (Some CloseOther) t)) × (notices ≡ [])
 
 abbrev NextStays : AdapterTable → Next → Type 0
 NextStays t next = Stays t next.1 next.0.notices
@@ -103,20 +107,34 @@ requested_stays : (t : AdapterTable) (peer : Node) (request : CloseFields) → I
 unfolding requested
 requested_stays t peer request refused bytes reads =
     subst (λ (o : Option OwnRequest). NextStays t (requested_by t peer (router_request_reading bytes) o)) (sym (none_own t.profile.objects request (router_request_reading bytes) reads))
-    (subst (λ (s : Option Served). NextStays t (answered t peer s)) (sym (ap (served t peer) reads ∙ refused)) (refl, refl))
+    (subst (λ (r : RouterRequestFields). NextStays t (answered t peer (counted_once r (served t peer r)))) (sym reads)
+    (subst (λ (s : Option Served). NextStays t (answered t peer (counted_once (closing request) s))) (sym refused) (inr refl, refl)))
 
 packet_stays : (t : AdapterTable) (stream : Stream) (context : ℕ) (request : CloseFields) → IsRefused t stream.peer request → (packet : PacketFields) → router_request_reading packet.payload ≡ closing request → HandledStays t (packet_replied t stream context (Ok packet))
 packet_stays t stream context request refused packet reads =
     subst (λ (o : Option OwnRequest). HandledStays t (request_handled t stream context (router_request_reading packet.payload) o)) (sym (none_own t.profile.objects request (router_request_reading packet.payload) reads))
-    (subst (λ (s : Option Served). HandledStays t (request_replied t s)) (sym (ap (stream_served t stream) reads ∙ refused)) (refl, refl))
+    (subst (λ (r : RouterRequestFields). HandledStays t (request_replied t (counted_once r (stream_served t stream r)))) (sym reads)
+    (subst (λ (s : Option Served). HandledStays t (request_replied t (counted_once (closing request) s))) (sym refused) (inr refl, refl)))
+
+-- as the device reads the items
+items_stay : (t : AdapterTable) (stream : Stream) (context : ℕ) (request : CloseFields) → IsRefused t stream.peer request → (reading : Result PacketFields ItemFault) → ((packet : PacketFields) → reading ≡ Ok packet → router_request_reading packet.payload ≡ closing request) → HandledStays t (packet_replied t stream context reading)
+items_stay t stream context request refused (Err fault) closes = (inl refl, refl)
+items_stay t stream context request refused (Ok packet) closes = packet_stays t stream context request refused packet (closes packet refl)
+
+same_packet : (x y : PacketFields) → ◌≡◌ {A = Result PacketFields ItemFault} (Ok x) (Ok y) → x ≡ y
+same_packet x y e = cc
+
+closes_as_read : (t : AdapterTable) (request : CloseFields) (bytes : List ℕ) (is : IsCloseFrame bytes request) (packet : PacketFields) → items_for t.profile.description is.message.payload ≡ Ok packet → router_request_reading packet.payload ≡ closing request
+closes_as_read t request bytes is packet reads =
+    ap (λ (p : PacketFields). router_request_reading p.payload) (same_packet packet is.packet (sym (items_any t.profile.description is.message.payload packet reads) ∙ is.packet_is)) ∙ is.request_is
 
 sent_stays : (t : AdapterTable) (request : CloseFields) (stream : Stream) → IsRefused t stream.peer request → (bytes : List ℕ) (is : IsCloseFrame bytes request) → HandledStays t (handled t stream (request_header_of is.message) is.message.payload (command_of is.message.command))
 unfolding handled
 sent_stays t request stream refused bytes is =
     subst (λ (c : ℕ). HandledStays t (handled t stream (request_header_of is.message) is.message.payload (command_of c))) (sym is.sends)
     (either (HandledStays t) (has_session stream is.message.session) _ _
-    (subst (λ (r : Result PacketFields ItemFault). HandledStays t (packet_replied t stream is.message.context r)) (sym is.packet_is) (packet_stays t stream is.message.context request refused is.packet is.request_is))
-    (refl, refl))
+    (items_stay t stream is.message.context request refused (items_for t.profile.description is.message.payload) (closes_as_read t request bytes is))
+    (inl refl, refl))
 
 message_stays : (t : AdapterTable) (request : CloseFields) (stream : Stream) → IsRefused t stream.peer request → (bytes : List ℕ) → IsCloseFrame bytes request → NextStays t (frame_answer t stream (frame_reading bytes))
 unfolding frame_reading
@@ -124,13 +142,13 @@ message_stays t request stream refused bytes is =
     subst (λ (r : Result MessageFields EncapFault). NextStays t (frame_answer t stream (frame_fields (fields_at header_widths bytes) r))) (sym is.reads) (sent_stays t request stream refused bytes is)
 
 misfit_stays : (t : AdapterTable) (stream : Stream) (header : Option Tailed) → NextStays t (frame_answer t stream (wrong_length_of header))
-misfit_stays t stream None = (refl, refl)
-misfit_stays t stream (Some h) = either (NextStays t) (is_silent (command_of (request_header_in h.0).command)) _ _ (refl, refl) (refl, refl)
+misfit_stays t stream None = (inl refl, refl)
+misfit_stays t stream (Some h) = either (NextStays t) (is_silent (command_of (request_header_in h.0).command)) _ _ (inl refl, refl) (inl refl, refl)
 
 stream_stays : (t : AdapterTable) (request : CloseFields) (stream : Stream) → IsRefused t stream.peer request → (bytes : List ℕ) (reply : Option (List ℕ)) → IsCloseFrame bytes request → NextStays t (stream_answer t stream bytes reply)
 stream_stays t request stream refused bytes None is =
-    answer_has (NextStays t) t stream bytes (message_stays t request stream refused bytes is) (misfit_stays t stream (fields_at header_widths bytes)) (refl, refl)
-stream_stays t request stream refused bytes (Some text) is = (refl, refl)
+    answer_has (NextStays t) t stream bytes (message_stays t request stream refused bytes is) (misfit_stays t stream (fields_at header_widths bytes)) (inl refl, refl)
+stream_stays t request stream refused bytes (Some text) is = (inl refl, refl)
 
 frame_stays : (t : AdapterTable) (peer : Node) (request : CloseFields) → IsRefused t peer request → (number : ℕ) (bytes : List ℕ) (next : Next) → frame t number bytes ≡ Ok next → IsStreamOf t number peer → IsCloseFrame bytes request → NextStays t next
 unfolding frame

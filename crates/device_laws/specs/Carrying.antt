@@ -6,6 +6,7 @@ use Rattle.cip_types.specs.declared.names.ConnId.{ConnId}
 use Rattle.cip_events.specs.declared.event.Answer.{Answer}
 use Rattle.cip_events.specs.declared.event.Event.{Event}
 use Rattle.cip_fwdopen.specs.declared.reply.Opened.{Opened}
+use Rattle.messaging.specs.Sound.{EachOf}
 use Rattle.scanner_table.specs.declared.profile.ScannerProfile.{ScannerProfile}
 use Rattle.scanner_table.specs.declared.profile.SlotConfig.{SlotConfig}
 use Rattle.scanner_table.specs.declared.slot.PendingOpen as pending
@@ -20,7 +21,7 @@ use Rattle.cip_tables.specs.declared.table.DeviceTable.{DeviceTable}
 use Rattle.cip_tables.specs.declared.table.DeviceTable.TheVariants.{Adapter, Scanner}
 use Rattle.cip_tables.specs.Step.{step, incarnation_of}
 use Rattle.cip_tables.specs.Whole.{IsWholeDevice, next_id_of}
-use Rattle.device_laws.specs.Ids.{RowIds, FromTo, IdsFromTo, EventIds, AnsweredIds, AnswerIds, StateIds, Replied}
+use Rattle.device_laws.specs.Ids.{RowIds, Class3Ids, FromTo, IdsFromTo, EventIds, AnsweredIds, AnswerIds, StateIds, Replied}
 
 -- IDS
 
@@ -52,6 +53,18 @@ StepsCarryIds =
     IdsFromTo (Passes ids) (incarnation_of t) (next_id_of t) (next_id_of next) → FromTo (Passes openings) (next_id_of t) (next_id_of next) →
     EventIds (Passes ids) event → AnswerPasses ids t event → TableIds ids openings t →
     TableIds ids openings next × AnswerIds (Passes ids) answer
+
+-- each id of a class 3 connection of a device's table passes the test
+abbrev pub HasClass3Ids : (ids : ℕ → Bool) → DeviceTable → Type 0
+HasClass3Ids ids (Adapter t) = EachOf (Class3Ids (Passes ids)) t.messaging.class3_connections
+HasClass3Ids ids (Scanner t) = Unit {0}
+
+-- So it is of the ids of class 3 connections, whether they are of 32 bits or not.
+abbrev pub StepsCarryClass3Ids : Type 0
+StepsCarryClass3Ids =
+    (ids : ℕ → Bool) (t : DeviceTable) (event : Event) (answer : Answer) (next : DeviceTable) →
+    step t event ≡ Ok (answer, next) → IdsFromTo (Passes ids) (incarnation_of t) (next_id_of t) (next_id_of next) →
+    EventIds (Passes ids) event → HasClass3Ids ids t → HasClass3Ids ids next
 
 -- OPENINGS OF A SCANNER
 

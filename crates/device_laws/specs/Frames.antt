@@ -5,7 +5,7 @@ use Rattle.std.specs.Int.{Width, w64, to_le_bytes, from_le_bytes}
 use Rattle.cip_encap.specs.declared.packet.ItemFault.{ItemFault}
 use Rattle.cip_encap.specs.Message.{MessageFields}
 use Rattle.cip_encap.specs.Packet.{PacketFields}
-use Rattle.cip_encap.specs.PacketReading.{packet_reading}
+use Rattle.cip_encap.specs.AnyItems.{any_packet_reading}
 use Rattle.cip_encap.specs.Reading.{message_reading}
 use Rattle.cip_events.specs.declared.event.Reason.{Reason}
 use Rattle.cip_fwdopen.specs.declared.reply.Opened.{Opened}
@@ -37,7 +37,7 @@ OpensNothing (Ok packet) = RequestIds (λ id. ⊥) (router_request_reading packe
 
 -- the bytes cannot be read as a request to open a connection
 abbrev pub IsNoOpening : List ℕ → Type 0
-IsNoOpening bytes = (m : MessageFields) → message_reading bytes ≡ Ok m → OpensNothing (packet_reading m.payload)
+IsNoOpening bytes = (m : MessageFields) → message_reading bytes ≡ Ok m → OpensNothing (any_packet_reading m.payload)
 
 -- the sender context of the message, as it is read, is a number of 64 bits
 abbrev pub ContextFits : List ℕ → Type 0
@@ -48,7 +48,7 @@ pub record IsOpening (bytes : List ℕ) (request : OpenFields) : Type 0 where
   pub message : MessageFields
   pub reads : message_reading bytes ≡ Ok message
   pub packet : PacketFields
-  pub packet_is : packet_reading message.payload ≡ Ok packet
+  pub packet_is : any_packet_reading message.payload ≡ Ok packet
   pub large : Bool
   pub opens : router_request_reading packet.payload ≡ opening large request
 

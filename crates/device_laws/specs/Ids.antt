@@ -11,7 +11,7 @@ use Rattle.cip_encap.specs.declared.packet.ItemFault.{ItemFault}
 use Rattle.cip_encap.specs.Message.{MessageFields}
 use Rattle.cip_encap.specs.Reading.{message_reading}
 use Rattle.cip_encap.specs.Packet.{PacketFields}
-use Rattle.cip_encap.specs.PacketReading.{packet_reading}
+use Rattle.cip_encap.specs.AnyItems.{any_packet_reading}
 use Rattle.cip_events.specs.declared.event.Answer.{Answer}
 use Rattle.cip_events.specs.declared.event.Event.{Event}
 use Rattle.cip_events.specs.declared.event.Event.TheVariants.{Request}
@@ -24,6 +24,7 @@ use Rattle.cip_fwdopen.specs.declared.reply.OpenAnswer.TheVariants as answer
 use Rattle.cip_fwdopen.specs.Reply.{open_reply_reading}
 use Rattle.cip_router.specs.Requests.{RouterRequestFields, nothing, refused, closing, object, opening, router_request_reading}
 use Rattle.cip_router.specs.Replies.{own_reply_text}
+use Rattle.messaging.specs.declared.class3.Class3Connection.{Class3Connection}
 use Rattle.messaging.specs.declared.requests.Requester.{Requester}
 use Rattle.messaging.specs.declared.requests.Requester.TheVariants as asker
 use Rattle.messaging.specs.Changes.{has_request_number}
@@ -67,7 +68,7 @@ PacketIds P (Ok packet) = PayloadIds P packet.payload
 
 abbrev pub MessageIds : (ℕ → Type 0) → Result MessageFields EncapFault → Type 0
 MessageIds P (Err fault) = Unit {0}
-MessageIds P (Ok m) = PacketIds P (packet_reading m.payload)
+MessageIds P (Ok m) = PacketIds P (any_packet_reading m.payload)
 
 -- the property holds of each id in a frame, whoever reads it
 abbrev pub FrameIds : (ℕ → Type 0) → List ℕ → Type 0
@@ -97,6 +98,10 @@ pub record AnswerIds (P : ℕ → Type 0) (answer : Answer) : Type 0 where
   pub datagrams : AllByRecursion (HasDatagramId P) answer.datagrams
 
 -- AN ADAPTER
+
+-- the property holds of both ids of a class 3 connection
+abbrev pub Class3Ids : (ℕ → Type 0) → Class3Connection → Type 0
+Class3Ids P d = P d.o_t_id.0 × P d.t_o_id.0
 
 -- P holds of both ids of a connection, and Q of its opening number
 pub record RowIds (P Q : ℕ → Type 0) (row : Row) : Type 0 where

@@ -1,12 +1,13 @@
--- Plain frames and plain tables: no class 3 connection, and no request that an application could answer by what reads as the success
--- of an opening. Devices that exchange plain frames stay plain (Volume 1, chapter 3, Forward_Open service and transport class 3).
-use Rattle.std.specs.Prelude.{ℕ, ◌≡◌, false, List, [], Result, Ok, Err}
+-- Plain frames, and plain devices: over some of its streams no request waits that an application could answer by what reads as the
+-- success of an opening. A device over whose streams plain frames come stays plain, whatever comes over its other streams and over
+-- class 3 connections (Volume 1, chapter 3, Forward_Open service).
+use Rattle.std.specs.Prelude.{ℕ, ◌≡◌, Bool, true, false, List, Result, Ok, Err}
 use Rattle.std.specs.List.{AllByRecursion}
 use Rattle.cip_encap.specs.declared.message.EncapFault.{EncapFault}
 use Rattle.cip_encap.specs.declared.packet.ItemFault.{ItemFault}
 use Rattle.cip_encap.specs.Message.{MessageFields}
 use Rattle.cip_encap.specs.Packet.{PacketFields}
-use Rattle.cip_encap.specs.PacketReading.{packet_reading}
+use Rattle.cip_encap.specs.AnyItems.{any_packet_reading}
 use Rattle.cip_encap.specs.Reading.{message_reading}
 use Rattle.cip_events.specs.declared.event.Answer.{Answer}
 use Rattle.cip_events.specs.declared.event.Event.{Event}
@@ -38,7 +39,7 @@ PlainPacket (Ok packet) = IsPlainRequest (router_request_reading packet.payload)
 
 abbrev pub PlainMessage : Result MessageFields EncapFault → Type 0
 PlainMessage (Err fault) = Unit {0}
-PlainMessage (Ok m) = PlainPacket (packet_reading m.payload)
+PlainMessage (Ok m) = PlainPacket (any_packet_reading m.payload)
 
 -- the frame is such a request, if it can be read as one
 abbrev pub IsPlainFrame : List ℕ → Type 0
@@ -49,27 +50,26 @@ SendsPlainly frame = IsPlainFrame frame.bytes
 
 -- TABLES
 
--- there is no class 3 connection; each request that waits came over a stream, and has no service of an opening
-pub record ArePlain (m : Messaging) : Type 0 where
-  pub class3_connections : m.class3_connections ≡ []
-  pub services : AsksPlainly m
+-- each request that waits came over a stream, itself or by a class 3 connection, and over one of these it has no service of an opening
+pub record ArePlain (ours : ℕ → Bool) (m : Messaging) : Type 0 where
+  pub services : AsksPlainly ours m
   pub over : AsksOverStreams m
 
-abbrev pub IsPlainDevice : DeviceTable → Type 0
-IsPlainDevice (Adapter t) = ArePlain t.messaging
-IsPlainDevice (Scanner t) = Unit {0}
+abbrev pub IsPlainDevice : (ℕ → Bool) → DeviceTable → Type 0
+IsPlainDevice ours (Adapter t) = ArePlain ours t.messaging
+IsPlainDevice ours (Scanner t) = Unit {0}
 
 -- STEPS
 
--- a plain frame, or another event than a `Request`, which comes without a stream
-abbrev pub IsPlainEvent : Event → Type 0
-IsPlainEvent (Request peer bytes) = ⊥
-IsPlainEvent (event.Frame stream bytes) = IsPlainFrame bytes
-IsPlainEvent other = Unit {0}
+-- a frame that is plain if it comes over one of these streams, or another event than a `Request`, which comes without a stream
+abbrev pub IsPlainEvent : (ℕ → Bool) → Event → Type 0
+IsPlainEvent ours (Request peer bytes) = ⊥
+IsPlainEvent ours (event.Frame stream bytes) = ours stream ≡ true → IsPlainFrame bytes
+IsPlainEvent ours other = Unit {0}
 
--- a plain device stays plain at a plain event, and sends plain frames
+-- a plain device stays plain at such an event, and sends plain frames
 abbrev pub PlainDevicesStayPlain : Type 0
 PlainDevicesStayPlain =
-    (t : DeviceTable) (event : Event) (answer : Answer) (next : DeviceTable) →
-    step t event ≡ Ok (answer, next) → IsWholeDevice t → IsPlainEvent event → IsPlainDevice t →
-    IsPlainDevice next × AllByRecursion SendsPlainly answer.frames
+    (ours : ℕ → Bool) (t : DeviceTable) (event : Event) (answer : Answer) (next : DeviceTable) →
+    step t event ≡ Ok (answer, next) → IsWholeDevice t → IsPlainEvent ours event → IsPlainDevice ours t →
+    IsPlainDevice ours next × AllByRecursion SendsPlainly answer.frames

@@ -5,7 +5,7 @@ use Rattle.std.specs.Int.{w32, w64}
 use Rattle.std.specs.List.{AllByRecursion, list_any}
 use Rattle.cip_encap.specs.Message.{MessageFields}
 use Rattle.cip_encap.specs.Packet.{PacketFields}
-use Rattle.cip_encap.specs.PacketReading.{packet_reading}
+use Rattle.cip_encap.specs.AnyItems.{any_packet_reading}
 use Rattle.cip_encap.specs.Reading.{message_reading}
 use Rattle.cip_events.specs.declared.event.Answer.{Answer}
 use Rattle.cip_events.specs.declared.event.Event.{Event}
@@ -51,7 +51,7 @@ pub record IsOfRow (t next : AdapterTable) (opened : Opened) : Type 0 where
 -- the same of the connection of class 3, where these data of a message are a request to open one
 pub record IsOfClass3 (t next : AdapterTable) (body : List ℕ) (opened : Opened) : Type 0 where
   pub packet : PacketFields
-  pub packet_is : packet_reading body ≡ Ok packet
+  pub packet_is : any_packet_reading body ≡ Ok packet
   pub large : Bool
   pub request : OpenFields
   pub opens : router_request_reading packet.payload ≡ opening large request
@@ -93,17 +93,24 @@ pub record IsPlainService (service : ℕ) : Type 0 where
   pub small : (reply_service service == 0xD4) ≡ false
   pub large : (reply_service service == 0xDB) ≡ false
 
--- no request that waits for the application has the service of an opening
-abbrev pub AsksPlainly : Messaging → Type 0
-AsksPlainly m = EachOf (λ (w : Waiting). IsPlainService w.service) m.waiting
+-- a request that came over one of these streams has no service of an opening; of one that a class 3 connection brought it does not
+-- matter, since no reply to it can be read as a success
+abbrev pub PlainFor : (ℕ → Bool) → Requester → ℕ → Type 0
+PlainFor ours (asker.Peer node) service = Unit {0}
+PlainFor ours (asker.Stream number context) service = ours number ≡ true → IsPlainService service
+PlainFor ours (asker.Class3Connection id count) service = Unit {0}
 
--- The frame goes over an open stream of the table, and opens nothing. It is a success only if a request that waited has the service
--- of an opening: the application answers what it likes.
+-- so is each request that waits for the application
+abbrev pub AsksPlainly : (ℕ → Bool) → Messaging → Type 0
+AsksPlainly ours m = EachOf (λ (w : Waiting). PlainFor ours w.asker w.service) m.waiting
+
+-- The frame goes over an open stream of the table, and opens nothing. It is a success only if a request that waited, and came over
+-- that stream, has the service of an opening: the application answers what it likes.
 pub record IsReplyOverStream (t : AdapterTable) (frame : Frame) : Type 0 where
   pub number : ℕ
   pub to : frame.to ≡ recipient.Stream number
   pub over : list_any (is_stream number) t.streams ≡ true
-  pub successes : AsksPlainly t.messaging → SuccessesAre (λ context opened. ⊥) frame.bytes
+  pub successes : (ours : ℕ → Bool) → AsksPlainly ours t.messaging → ours number ≡ true → SuccessesAre (λ context opened. ⊥) frame.bytes
   pub opens_nothing : IsNoOpening frame.bytes
   pub context : ContextFits frame.bytes
 

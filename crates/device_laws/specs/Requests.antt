@@ -8,7 +8,7 @@ use Rattle.cip_encap.specs.declared.message.EncapFault.{EncapFault}
 use Rattle.cip_encap.specs.declared.packet.ItemFault.{ItemFault}
 use Rattle.cip_encap.specs.Message.{MessageFields}
 use Rattle.cip_encap.specs.Packet.{PacketFields}
-use Rattle.cip_encap.specs.PacketReading.{packet_reading}
+use Rattle.cip_encap.specs.AnyItems.{any_packet_reading}
 use Rattle.cip_encap.specs.Reading.{message_reading}
 use Rattle.cip_events.specs.declared.event.Answer.{Answer}
 use Rattle.cip_events.specs.declared.event.Event.{Event}
@@ -43,7 +43,7 @@ packet_asks id (Ok packet) = request_asks id (router_request_reading packet.payl
 
 abbrev pub message_asks : ℕ → Result MessageFields EncapFault → Bool
 message_asks id (Err fault) = false
-message_asks id (Ok m) = packet_asks id (packet_reading m.payload)
+message_asks id (Ok m) = packet_asks id (any_packet_reading m.payload)
 
 -- the bytes can be read as a request to open that asks for this T->O id
 unfoldable pub asks_id : ℕ → List ℕ → Bool

@@ -8,7 +8,7 @@ use Rattle.cip_datagram.specs.Datagram.{DatagramFields}
 use Rattle.cip_datagram.specs.Reading.{datagram_reading}
 use Rattle.cip_encap.specs.Message.{MessageFields}
 use Rattle.cip_encap.specs.Packet.{PacketFields}
-use Rattle.cip_encap.specs.PacketReading.{packet_reading}
+use Rattle.cip_encap.specs.AnyItems.{any_packet_reading}
 use Rattle.cip_encap.specs.Reading.{message_reading}
 use Rattle.cip_events.specs.declared.event.Delivery.TheVariants.{Old, WrongSize}
 use Rattle.cip_events.specs.declared.event.Event.{Event}
@@ -22,7 +22,9 @@ use Rattle.cip_router.specs.Requests.{closing, router_request_reading}
 use Rattle.messaging.specs.declared.class3.Class3Connection.{Class3Connection}
 use Rattle.messaging.specs.Class3Connections.{has_class3_triad}
 use Rattle.adapter_table.specs.Connections.{Row}
+use Rattle.adapter_table.specs.declared.counters.Tally.TheVariants.{CloseOther}
 use Rattle.adapter_table.specs.declared.table.AdapterTable.{AdapterTable}
+use Rattle.adapter_table.specs.Counting.{tallied}
 use Rattle.adapter_table.specs.declared.table.Stream.{Stream}
 use Rattle.adapter_table.specs.Datagrams.{is_for}
 use Rattle.adapter_table.specs.Requests.{Next}
@@ -39,7 +41,7 @@ pub record IsCloseFrame (bytes : List ℕ) (request : CloseFields) : Type 0 wher
   pub reads : message_reading bytes ≡ Ok message
   pub sends : message.command ≡ 0x006F
   pub packet : PacketFields
-  pub packet_is : packet_reading message.payload ≡ Ok packet
+  pub packet_is : any_packet_reading message.payload ≡ Ok packet
   pub request_is : router_request_reading packet.payload ≡ closing request
 
 -- the open stream of this number is the node's
@@ -54,9 +56,9 @@ BringsClose t (event.Request from bytes) peer request = (from ≡ peer) × (rout
 BringsClose t (event.Frame number bytes) peer request = IsStreamOf t number peer × IsCloseFrame bytes request
 BringsClose t other peer request = ⊥
 
--- the table stays, and nothing is reported
+-- the table stays, or counts one more close that is refused and else stays; and nothing is reported
 pub record LeavesAll (t : AdapterTable) (next : Next) : Type 0 where
-  pub table : next.1 ≡ t
+  pub table : (next.1 ≡ t) ⊎ (next.1 ≡ tallied (Some CloseOther) t)
   pub notices : next.0.notices ≡ []
 
 -- so it is after each close that another node than the opener's sends, if the maker has only openers close

@@ -1,6 +1,6 @@
 //! The origin of connection ids, and the replies that establish a slot.
 
-ghost use Rattle.device_laws.specs.Carrying.{StepsCarryIds, StepsKeepFrom, RepliesEstablish};
+ghost use Rattle.device_laws.specs.Carrying.{StepsCarryIds, StepsCarryClass3Ids, StepsKeepFrom, RepliesEstablish};
 
 use answer_sizes::answers_are_small;
 use cip_encap::reads_back;
@@ -22,6 +22,16 @@ pub fn ids_are_carried()
     reads_back();
     answers_are_small();
 }
+
+/// A step brings up no id of a class 3 connection of its own, except the next ids of its counter: each id of the class 3 connections of
+/// the next table is one of such a connection of the table, one that came with the event's frame, or one that the step allocated.
+///
+/// The law says so of each property of ids, as `ids_are_carried` does of the other ids, and leaves out the event `Request` likewise.
+///
+/// Volume 1, chapter 3, network connection ids and transport class 3.
+pub fn class3_ids_are_carried()
+    ensures { StepsCarryClass3Ids }
+{}
 
 /// Later openings of a scanner have later ids. Take any request number, and an id counter that is at most the
 /// table's next one. If each point to point slot that was opened by a request from that number on has a T->O id

@@ -27,7 +27,8 @@ mod windows;
 pub use asking::{new_connections_are_requested, scanners_ask_once};
 pub use due_ticks::due_ticks_act;
 pub use id_provenance::{
-    ids_are_carried, ids_are_drawn_with_openings, replies_establish_their_own_slot,
+    class3_ids_are_carried, ids_are_carried, ids_are_drawn_with_openings,
+    replies_establish_their_own_slot,
 };
 pub use made_productions::{
     answers_send_what_is_made, inputs_hold_what_is_written, openings_differ, runs_produce_in_order,

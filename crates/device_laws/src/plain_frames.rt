@@ -1,14 +1,15 @@
-//! Frames that open no class 3 connection, and devices that exchange no others.
+//! Frames that ask for no service of an opening, and devices over whose streams no others come.
 
 ghost use Rattle.device_laws.specs.Plain.{PlainDevicesStayPlain};
 
 use answer_sizes::answers_are_small;
 use cip_encap::reads_back;
 
-/// A plain frame asks for no class 3 connection, and asks no object for the service of an opening. A plain device has no class 3
-/// connection, and its waiting requests came over streams and have no service of an opening. A plain device stays plain at each
-/// plain frame, and sends plain frames alone. So scanners and adapters that exchange their own frames alone stay plain, whatever
-/// their applications answer.
+/// A plain frame asks for no class 3 connection, and asks no object for the service of an opening. A device is plain over some of its
+/// streams if no waiting request that came over one of them has the service of an opening, and each waiting request came over a
+/// stream or a class 3 connection. It stays so at each event at which what comes over one of these streams is a plain frame, whatever
+/// comes over its other streams and over class 3 connections, and sends plain frames alone. So devices that exchange their own frames
+/// over these streams stay plain over them, whatever their applications answer.
 ///
 /// The law speaks of steps from a whole table that give an answer, and of every event but `Request`, which comes without a stream.
 ///

@@ -2,8 +2,8 @@
 
 ghost use Rattle.device_laws.specs.StatedLimits.{AnotherNodeClosesNothing, AnotherNodeEndsNothing, FarNumbersChangeNothing};
 
-/// A Forward_Close of another node than the one that opened the connection leaves the table of an adapter as it is, and
-/// nothing is reported, if the maker has only openers close. So it is over a stream and over none.
+/// A Forward_Close of another node than the one that opened the connection leaves the table of an adapter as it is, but for its count as
+/// a close that is refused, and nothing is reported, if the maker has only openers close. So it is over a stream and over none.
 ///
 /// - `data`: of a connection of class 1. It speaks of whole tables.
 /// - `messages`: of a class 3 connection.

@@ -42,6 +42,7 @@ requests_stay = record {
   registered = λ t number. refl;
   messaged = λ t next_id m goes. refl;
   counted = λ t next openings stays. stays;
+  tallied = λ t next counters stays. stays;
 }
 
 streams_stay : (t : AdapterTable) (number : ℕ) (peer : Node) → ClockStays t (with_stream t number peer)

@@ -192,6 +192,7 @@ requests_keep point = record {
   registered = keeps_registered point;
   messaged = λ t next_id m goes. keeps_messaged point t next_id m;
   counted = λ t next openings keeps. keeps;
+  tallied = λ t next counters keeps. keeps;
 }
 
 -- ---- what an event does

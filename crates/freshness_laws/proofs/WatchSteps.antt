@@ -195,6 +195,7 @@ requests_control w = record {
   registered = λ t number. stayed w t (registered_table t number) (unkept_registered w t number);
   messaged = λ t next_id m goes. stayed w t (messages_table t next_id m) (unkept_messaged w t next_id m);
   counted = λ t next openings controls. controls;
+  tallied = λ t next counters controls. controls;
 }
 
 -- ---- connections of one opening number

@@ -25,11 +25,14 @@ use Rattle.adapter_table.specs.Connections.{Row}
 use Rattle.adapter_table.specs.Datagrams.{is_for, row_delivery, accepted_table, delivered, found_datagram, datagram_of, received}
 use Rattle.adapter_table.specs.Encapsulation.{frame}
 use Rattle.adapter_table.specs.Inquiries.{inquiry_reply, inquired_by, inquired}
+use Rattle.adapter_table.specs.Counting.{counted_link}
+use Rattle.adapter_table.specs.Lemmas.CountLemmas.{counted_keeps}
 use Rattle.adapter_table.specs.Lemmas.PassiveLemmas.{passive_holds}
+use Rattle.adapter_table.specs.Lemmas.PlainLemmas.{counters_hold}
 use Rattle.adapter_table.specs.MessagesSound.{IsCarried, IsInPlace}
 use Rattle.adapter_table.specs.Own.{OwnRequest, own_of, cannot_ask}
 use Rattle.adapter_table.specs.Profiles.{is_at}
-use Rattle.adapter_table.specs.Requests.{Next, Served, router_refusal, served, requested_by, requested}
+use Rattle.adapter_table.specs.Requests.{Next, Served, counted_once, router_refusal, served, requested_by, requested}
 use Rattle.adapter_table.specs.Requests as router
 use Rattle.adapter_table.specs.Step.{written_table, changed_table, written, write_of, write, adapter_step}
 use Rattle.adapter_table.specs.Streams.{is_stream, is_taken, with_stream, stream_opened, cut_of, stream_cut}
@@ -37,7 +40,7 @@ use Rattle.adapter_table.specs.Whole.{IsWhole}
 use Rattle.message_laws.specs.Repetitions.{asks_next, sent_at}
 use Rattle.message_laws.proofs.Found.{leaves_same, each_found, registered}
 use Rattle.message_laws.proofs.Going.{Goes, Differ, quiet, unchanged, left_of}
-use Rattle.message_laws.proofs.Requests.{ServedGoes, HasSession, served_goes, messages_go, referred_stays, stream_goes, frame_goes}
+use Rattle.message_laws.proofs.Requests.{ServedGoes, HasSession, recounted, served_goes, messages_go, referred_stays, stream_goes, frame_goes}
 use Rattle.message_laws.proofs.Answers.{respond_goes, tick_goes}
 
 -- it sends nothing for the message
@@ -45,10 +48,12 @@ abbrev Quietly : Class3Connection → ℕ → AdapterTable → Result Next StepF
 Quietly d count t outcome = Goes d count t [] (left_of t outcome)
 
 requested_goes : (d : Class3Connection) (count : ℕ) (t : AdapterTable) (peer : Node) (request : RouterRequestFields) (asks : Option OwnRequest) → Differ t.messaging → Quietly d count t (Ok (requested_by t peer request asks))
-requested_goes d count t peer request None differ = answered_goes (served t peer request) (served_goes d count t peer request differ) where
-  answered_goes : (s : Option Served) → IfSome s (ServedGoes d count t) → Quietly d count t (Ok (router.answered t peer s))
-  answered_goes None goes = unchanged d count t
-  answered_goes (Some s) goes = goes
+requested_goes d count t peer request None differ =
+    answered_goes (counted_once request (served t peer request)) (counted_keeps (ServedGoes d count t) (λ s counters goes. recounted d count t s.table counters goes) request (served t peer request) (served_goes d count t peer request differ))
+  where
+    answered_goes : (s : Option Served) → IfSome s (ServedGoes d count t) → Quietly d count t (Ok (router.answered t peer s))
+    answered_goes None goes = unchanged d count t
+    answered_goes (Some s) goes = goes
 requested_goes d count t peer request (Some asks) differ =
     either (λ (n : Next). Goes d count t [] n.1) (cannot_ask t peer) (router.replied peer (router_refusal t asks.service status.ResourceUnavailable)) _ (unchanged d count t)
     (messages_go d count t _ (referred_stays d.o_t_id t.messaging peer (asker.Peer peer) asks.service t.clock))
@@ -111,4 +116,6 @@ event_goes d count t (event.Inquiry peer bytes) whole none = inquired_goes d cou
 event_goes d count t (event.Write point bytes) whole none = write_goes d count t point bytes (find (is_at point) t.profile.inputs)
 event_goes d count t (event.Tick ms) whole none = tick_goes d count t ms whole.messages.own.ids_differ
 event_goes d count t (event.Respond number general bytes) whole none = respond_goes d count t number general bytes
+event_goes d count t (event.Counters bytes) whole none =
+    counters_hold (Quietly d count t) t bytes (λ why. unchanged d count t) (quiet d count t (counted_link t bytes) (omega arith) refl (leaves_same d.o_t_id t.messaging.class3_connections))
 event_goes d count t other whole none = passive_holds (Quietly d count t) t (λ why. unchanged d count t) (λ verdict. unchanged d count t) other refl

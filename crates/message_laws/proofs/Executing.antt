@@ -15,14 +15,15 @@ use Rattle.messaging.specs.declared.class3.Class3Connection.{Class3Connection}
 use Rattle.messaging.specs.declared.table.Messaging.{Messaging}
 use Rattle.messaging.specs.Changes.{executed, referred, referred_over}
 use Rattle.messaging.specs.Class3Connections.{has_class3_id, first_changed, executed_class3}
+use Rattle.adapter_table.specs.declared.counters.DeviceCounters.{DeviceCounters}
 use Rattle.adapter_table.specs.declared.table.AdapterTable.{AdapterTable}
+use Rattle.adapter_table.specs.Counting.{with_counters}
+use Rattle.adapter_table.specs.Lemmas.CountLemmas.{connected_stays, counted_table}
 use Rattle.adapter_table.specs.Connected.{service_in, fitted, fitted_text, connected_served, next_deadline}
 use Rattle.adapter_table.specs.Encapsulation.{Handled, kept_reply, message_replied, message_served, message_executed}
 use Rattle.adapter_table.specs.Messages.{messages_table}
-use Rattle.adapter_table.specs.Objects.{ObjectAnswer, said, denied, resetting, answering, refusing, unrouted}
-use Rattle.adapter_table.specs.Carrying.{object_answer}
 use Rattle.adapter_table.specs.Own.{OwnRequest, own_of, cannot_ask}
-use Rattle.adapter_table.specs.Requests.{Served, open_service, router_refusal, object_served, served_object}
+use Rattle.adapter_table.specs.Requests.{Served, counted_by, counted_once, open_service, router_refusal, served_object}
 use Rattle.message_laws.specs.Repetitions.{has_bytes}
 
 -- ---- replies have bytes
@@ -46,7 +47,8 @@ kept_text d count (first ∷ rest) some = refl
 pub record IsExecuted (t : AdapterTable) (d : Class3Connection) (count : ℕ) (done : Handled) : Type 0 where
   pub messages : Messaging
   pub reply : List ℕ
-  pub table : done.table ≡ messages_table t t.next_id messages
+  pub counters : DeviceCounters
+  pub table : done.table ≡ messages_table (with_counters t counters) t.next_id messages
   pub connections : messages.class3_connections ≡ first_changed (has_class3_id d.o_t_id) (executed_class3 count reply (next_deadline t d)) t.messaging.class3_connections
   pub kept : done.reply ≡ kept_reply d count reply
 
@@ -58,42 +60,38 @@ asking_connections : (m : Messaging) (d : Class3Connection) (t : AdapterTable) (
 unfolding referred_over referred executed
 asking_connections m d t count service = refl
 
--- a reply from the same table
-replied_is : (t : AdapterTable) (d : Class3Connection) (count service : ℕ) (s : Served) → s.table ≡ t → IsExecuted t d count (message_replied d count service s)
-replied_is t d count service s at = record {
+-- a reply from the same table, but for its counters
+replied_is : (t : AdapterTable) (d : Class3Connection) (count service : ℕ) (s : Served) (counters : DeviceCounters) → s.table ≡ with_counters t counters → IsExecuted t d count (message_replied d count service s)
+replied_is t d count service s counters at = record {
   messages = executed s.table.messaging d.o_t_id count (fitted_text d service s.reply) (next_deadline s.table d);
   reply = fitted_text d service s.reply;
+  counters = counters;
   table = ap (λ (u : AdapterTable). messages_table u u.next_id (executed s.table.messaging d.o_t_id count (fitted_text d service s.reply) (next_deadline s.table d))) at;
   connections = subst (λ (u : AdapterTable). (executed u.messaging d.o_t_id count (fitted_text d service s.reply) (next_deadline u d)).class3_connections ≡ first_changed (has_class3_id d.o_t_id) (executed_class3 count (fitted_text d service s.reply) (next_deadline t d)) t.messaging.class3_connections) (sym at) (executed_connections t.messaging d t count (fitted_text d service s.reply));
   kept = sym (kept_text d count (fitted_text d service s.reply) (text_some (fitted d.t_o_size service s.reply)));
 }
 
-object_is : (t : AdapterTable) (d : Class3Connection) (count first service : ℕ) (answer : ObjectAnswer) → IsExecuted t d count (message_replied d count first (object_served t service answer))
-object_is t d count first service (said by value) = replied_is t d count first (object_served t service (said by value)) refl
-object_is t d count first service (denied why) = replied_is t d count first (object_served t service (denied why)) refl
-object_is t d count first service (resetting kind) = replied_is t d count first (object_served t service (resetting kind)) refl
-object_is t d count first service (answering by general content) = replied_is t d count first (object_served t service (answering by general content)) refl
-object_is t d count first service (refusing named why) = replied_is t d count first (object_served t service (refusing named why)) refl
-object_is t d count first service (unrouted words) = replied_is t d count first (object_served t service (unrouted words)) refl
-
 abbrev IsRequest : RouterRequestFields → Type 0
 IsRequest nothing = ⊥
 IsRequest other = Unit {0}
 
-served_is : (t : AdapterTable) (d : Class3Connection) (count first : ℕ) (request : RouterRequestFields) → IsRequest request → IsExecuted t d count (message_served t d count first (connected_served t d.peer request))
-unfolding served_object
+-- what is served of a message that has a request is counted
+counted_is : (t : AdapterTable) (d : Class3Connection) (count first : ℕ) (request : RouterRequestFields) (s : Served) → s.table ≡ t → IsExecuted t d count (message_replied d count first (counted_by request s))
+counted_is t d count first request s stays = replied_is t d count first (counted_by request s) (counted_by request s).table.counters (counted_table t request s stays)
+
+served_is : (t : AdapterTable) (d : Class3Connection) (count first : ℕ) (request : RouterRequestFields) → IsRequest request → IsExecuted t d count (message_served t d count first (counted_once request (connected_served t d.peer request)))
 served_is t d count first nothing some = absurd some
-served_is t d count first (refused service why) some = replied_is t d count first (router_refusal t service why) refl
-served_is t d count first (closing request) some = replied_is t d count first (router_refusal t 0x4E status.Service) refl
-served_is t d count first (object service class instance attribute body) some = object_is t d count first service (object_answer t service class instance attribute body)
-served_is t d count first (opening large request) some = replied_is t d count first (router_refusal t (open_service large) status.Service) refl
+served_is t d count first (refused service why) some = counted_is t d count first (refused service why) (router_refusal t service why) (connected_stays t d.peer (refused service why))
+served_is t d count first (closing request) some = counted_is t d count first (closing request) (router_refusal t forward_close status.Service) (connected_stays t d.peer (closing request))
+served_is t d count first (object service class instance attribute body) some = counted_is t d count first (object service class instance attribute body) (served_object t service class instance attribute body) (connected_stays t d.peer (object service class instance attribute body))
+served_is t d count first (opening large request) some = counted_is t d count first (opening large request) (router_refusal t (open_service large) status.Service) (connected_stays t d.peer (opening large request))
 
 request_is_executed : (t : AdapterTable) (d : Class3Connection) (count first : ℕ) (request : RouterRequestFields) (asks : Option OwnRequest) → IsRequest request → IsExecuted t d count (message_executed t d count first request asks)
 request_is_executed t d count first request None some = served_is t d count first request some
 request_is_executed t d count first request (Some asks) some =
     either (IsExecuted t d count) (cannot_ask t d.peer) (message_replied d count asks.service (router_refusal t asks.service status.ResourceUnavailable)) _
-    (replied_is t d count asks.service (router_refusal t asks.service status.ResourceUnavailable) refl)
-    (record { messages = referred_over t.messaging d.peer d.o_t_id count asks.service (next_deadline t d) t.clock; reply = []; table = refl; connections = asking_connections t.messaging d t count asks.service; kept = refl })
+    (replied_is t d count asks.service (router_refusal t asks.service status.ResourceUnavailable) t.counters refl)
+    (record { messages = referred_over t.messaging d.peer d.o_t_id count asks.service (next_deadline t d) t.clock; reply = []; counters = t.counters; table = refl; connections = asking_connections t.messaging d t count asks.service; kept = refl })
 
 -- ---- a message that has bytes is a request
 
@@ -105,18 +103,18 @@ close_is : (service : ℕ) (reading : Result CloseFields ReadFault) → IsReques
 close_is service (Ok request) = tt
 close_is service (Err fault) = tt
 
-manager_is : (service : ℕ) (body : List ℕ) → IsRequest (request_to_manager service body)
-manager_is service body =
+manager_is : (service : ℕ) (attribute : Option ℕ) (body : List ℕ) → IsRequest (request_to_manager service attribute body)
+manager_is service attribute body =
     either IsRequest (service == forward_open) _ _ (open_is service false _)
     (either IsRequest (service == large_forward_open) _ _ (open_is service true _)
     (either IsRequest (service == forward_close) _ _ (close_is service _)
-    (either IsRequest (service == unconnected_send) (object service 6 1 None body) (refused service status.Service) tt tt)))
+    (either IsRequest (service == unconnected_send) (object service 6 1 None body) (object service 6 1 attribute body) tt tt)))
 
 reading_is : (service : ℕ) (reading : Result RequestFields ReadFault) → IsRequest (router_request_of service reading)
 reading_is service (Err fault) = tt
 reading_is service (Ok request) =
-    either IsRequest (is_manager request.target) (request_to_manager request.service request.body) (object request.service request.target.class request.target.instance request.target.attribute request.body)
-    (manager_is request.service request.body) tt
+    either IsRequest (is_manager request.target) (request_to_manager request.service request.target.attribute request.body) (object request.service request.target.class request.target.instance request.target.attribute request.body)
+    (manager_is request.service request.target.attribute request.body) tt
 
 message_is : (message : List ℕ) → has_bytes message ≡ true → IsRequest (router_request_reading message)
 unfolding router_request_reading

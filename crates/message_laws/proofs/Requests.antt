@@ -13,10 +13,8 @@ use Rattle.cip_types.specs.Texts.{Tailed}
 use Rattle.cip_encap.specs.declared.message.EncapFault.{EncapFault}
 use Rattle.cip_encap.specs.declared.packet.ItemFault.{ItemFault}
 use Rattle.cip_encap.specs.Connected.{ConnectedFields}
-use Rattle.cip_encap.specs.ConnectedReading.{connected_reading}
 use Rattle.cip_encap.specs.Message.{MessageFields, header_widths}
 use Rattle.cip_encap.specs.Packet.{PacketFields}
-use Rattle.cip_encap.specs.PacketReading.{packet_reading}
 use Rattle.cip_encap.specs.Reading.{message_reading}
 use Rattle.cip_events.specs.declared.event.Frame.{Frame}
 use Rattle.cip_events.specs.declared.event.StepFault.TheVariants.{NotAllowedNow}
@@ -43,23 +41,26 @@ use Rattle.messaging.specs.Changes.{with_class3, without_class3, referred}
 use Rattle.messaging.specs.Changes as changes
 use Rattle.adapter_table.specs.Intervals.{whole_request}
 use Rattle.adapter_table.specs.declared.profile.Description.{Description}
+use Rattle.adapter_table.specs.declared.counters.DeviceCounters.{DeviceCounters}
 use Rattle.adapter_table.specs.declared.table.AdapterTable.{AdapterTable}
 use Rattle.adapter_table.specs.declared.table.Stream.{Stream}
 use Rattle.adapter_table.specs.Connections.{Row}
 use Rattle.adapter_table.specs.Checks.{Check, Admitted}
 use Rattle.adapter_table.specs.Class3Opening.{class3_view, class3_refusal, opened_class3, class3_table, judged_class3, served_class3, stream_served}
 use Rattle.adapter_table.specs.Closing.{closed_table}
-use Rattle.adapter_table.specs.Encapsulation.{Handled, refusal, unanswered, session_begun, session_ended, register_session, request_replied, request_handled, packet_replied, unit_replied, handled, reply_frames, frame_answer, stream_answer, frame_of, outside_session, frame_for}
+use Rattle.adapter_table.specs.Encapsulation.{Handled, items_for, connected_items_for, refusal, unanswered, session_begun, session_ended, register_session, request_replied, request_handled, packet_replied, unit_replied, handled, reply_frames, frame_answer, stream_answer, frame_of, outside_session, frame_for}
 use Rattle.adapter_table.specs.Inquiries.{identity_of, address_of, inquiry_reply_of, inquiry_reply}
 use Rattle.adapter_table.specs.Messages.{messages_table}
 use Rattle.adapter_table.specs.Objects.{ObjectAnswer, said, denied, resetting, answering, refusing, unrouted}
 use Rattle.adapter_table.specs.Carrying.{object_answer}
 use Rattle.adapter_table.specs.Opening.{opened_table}
 use Rattle.adapter_table.specs.Own.{OwnRequest, own_of, cannot_ask}
-use Rattle.adapter_table.specs.Requests.{Next, Served, judged_open, admitted_open, served_open, close_of, served_close, end_of, served_end, router_refusal, object_served, served_object, served}
+use Rattle.adapter_table.specs.Requests.{Next, Served, counted_once, judged_open, admitted_open, served_open, close_of, served_close, end_of, served_end, router_refusal, object_served, served_object, served}
 use Rattle.adapter_table.specs.Rows.{has_triad}
 use Rattle.adapter_table.specs.StatedLimits.{limited_admission, is_wrong_closer, is_wrong_ender}
 use Rattle.adapter_table.specs.Streams.{without_stream, has_session, registered_table}
+use Rattle.adapter_table.specs.Counting.{with_counters}
+use Rattle.adapter_table.specs.Lemmas.CountLemmas.{counted_keeps}
 use Rattle.adapter_table.specs.Lemmas.FrameLemmas.{frame_has}
 use Rattle.message_laws.specs.Repetitions.{Message, message_read, message_of_command, message_of_frame, if_message, is_message_of, has_count, is_counted, is_next}
 use Rattle.message_laws.proofs.Found.{Found, Leaves, same, leaves_same, filter_leaves, appended}
@@ -100,6 +101,17 @@ opened_goes d count t stream request = record {
   stands = λ e found. elim (appended d.o_t_id t.messaging.class3_connections (opened_class3 t stream request) e found) [
     | inl old ↦ inl (stays d count t.messaging.class3_connections e (record { old = e; found = old; is = refl }))
     | inr new ↦ inr (record { fresh = id_is _ d.o_t_id.0 new })
+  ];
+}
+
+-- what is counted says nothing of it
+pub recounted : (d : Class3Connection) (count : ℕ) (t u : AdapterTable) (counters : DeviceCounters) → Goes d count t [] u → Goes d count t [] (with_counters u counters)
+recounted d count t u counters goes = record {
+  later = goes.later;
+  profile = goes.profile;
+  stands = λ e found. elim (goes.stands e found) [
+    | inl old ↦ inl old
+    | inr new ↦ inr (record { fresh = new.fresh })
   ];
 }
 
@@ -163,7 +175,9 @@ replied_goes d count t None goes = unchanged d count t
 replied_goes d count t (Some s) goes = goes
 
 request_goes : (d : Class3Connection) (count : ℕ) (t : AdapterTable) (stream : Stream) (context : ℕ) (request : RouterRequestFields) (asks : Option OwnRequest) → Differ t.messaging → HandledGoes d count t (request_handled t stream context request asks)
-request_goes d count t stream context request None differ = replied_goes d count t (stream_served t stream request) (over_goes d count t stream request differ)
+request_goes d count t stream context request None differ =
+    replied_goes d count t (counted_once request (stream_served t stream request))
+    (counted_keeps (ServedGoes d count t) (λ s counters goes. recounted d count t s.table counters goes) request (stream_served t stream request) (over_goes d count t stream request differ))
 request_goes d count t stream context request (Some asks) differ =
     either (HandledGoes d count t) (cannot_ask t stream.peer) (request_replied t (Some (router_refusal t asks.service status.ResourceUnavailable))) _ (unchanged d count t)
     (messages_go d count t _ (referred_stays d.o_t_id t.messaging stream.peer (asker.Stream stream.number context) asks.service t.clock))
@@ -233,18 +247,18 @@ sent_goes false true d count t stream header reading session has is differ none 
     unregistered d count t stream (message_read stream.number reading) (reply_frames stream.number header (refusal t (outside_session t.profile.description)).reply) session has (λ x read. read_over stream.number reading x read)
 sent_goes false false d count t stream header reading session has is differ none = unchanged d count t
 
-handled_goes : (d : Class3Connection) (count : ℕ) (t : AdapterTable) (stream : Stream) (header : RequestHeader) (body : List ℕ) (kind : Command) → HasSession t stream → Differ t.messaging → has_next d count (message_of_command stream.number header.session body kind) ≡ false → FrameGoes d count t stream.number header (message_of_command stream.number header.session body kind) (handled t stream header body kind)
+handled_goes : (d : Class3Connection) (count : ℕ) (t : AdapterTable) (stream : Stream) (header : RequestHeader) (body : List ℕ) (kind : Command) → HasSession t stream → Differ t.messaging → has_next d count (message_of_command t.profile.description stream.number header.session body kind) ≡ false → FrameGoes d count t stream.number header (message_of_command t.profile.description stream.number header.session body kind) (handled t stream header body kind)
 unfolding handled
 handled_goes d count t stream header body command.Nop session differ none = unchanged d count t
 handled_goes d count t stream header body command.ListServices session differ none = unchanged d count t
 handled_goes d count t stream header body command.RegisterSession session differ none = register_goes d count t stream body
 handled_goes d count t stream header body command.UnregisterSession session differ none = either (HandledGoes d count t) (has_session stream header.session) (session_ended t stream) (unanswered t) (stream_goes d count t stream.number differ) (unchanged d count t)
-handled_goes d count t stream header body command.SendRrData session differ none = either (HandledGoes d count t) (has_session stream header.session) _ _ (packet_goes d count t stream header.context (packet_reading body) differ) (unchanged d count t)
+handled_goes d count t stream header body command.SendRrData session differ none = either (HandledGoes d count t) (has_session stream header.session) _ _ (packet_goes d count t stream header.context (items_for t.profile.description body) differ) (unchanged d count t)
 handled_goes d count t stream header body command.SendUnitData session differ none =
-    sent_goes stream.registered (header.session == stream.number + 1) d count t stream header (connected_reading body) session refl refl differ none
+    sent_goes stream.registered (header.session == stream.number + 1) d count t stream header (connected_items_for t.profile.description body) session refl refl differ none
 handled_goes d count t stream header body command.Other session differ none = unchanged d count t
 
-fields_go : (d : Class3Connection) (count : ℕ) (t : AdapterTable) (stream : Stream) (fields : FrameFields) → HasSession t stream → Differ t.messaging → has_next d count (message_of_frame stream.number fields) ≡ false → Leads d count t (has_it d count (message_of_frame stream.number fields)) (Ok (frame_answer t stream fields))
+fields_go : (d : Class3Connection) (count : ℕ) (t : AdapterTable) (stream : Stream) (fields : FrameFields) → HasSession t stream → Differ t.messaging → has_next d count (message_of_frame t.profile.description stream.number fields) ≡ false → Leads d count t (has_it d count (message_of_frame t.profile.description stream.number fields)) (Ok (frame_answer t stream fields))
 fields_go d count t stream without_header session differ none = unchanged d count t
 fields_go d count t stream (wrong_length header) session differ none =
     either (λ (n : Next). Goes d count t [] n.1) (is_silent (command_of header.command)) _ _ (unchanged d count t) (unchanged d count t)
@@ -252,58 +266,58 @@ fields_go d count t stream (whole header body) session differ none = handled_goe
 
 -- ---- an inquiry is no connected message
 
-unit_none : (number session : ℕ) (body : List ℕ) (kind : Command) → (kind ≡ command.SendUnitData → ⊥) → message_of_command number session body kind ≡ None
-unit_none number session body command.Nop not_unit = refl
-unit_none number session body command.ListServices not_unit = refl
-unit_none number session body command.RegisterSession not_unit = refl
-unit_none number session body command.UnregisterSession not_unit = refl
-unit_none number session body command.SendRrData not_unit = refl
-unit_none number session body command.SendUnitData not_unit = absurd (not_unit refl)
-unit_none number session body command.Other not_unit = refl
+unit_none : (described : Option Description) (number session : ℕ) (body : List ℕ) (kind : Command) → (kind ≡ command.SendUnitData → ⊥) → message_of_command described number session body kind ≡ None
+unit_none described number session body command.Nop not_unit = refl
+unit_none described number session body command.ListServices not_unit = refl
+unit_none described number session body command.RegisterSession not_unit = refl
+unit_none described number session body command.UnregisterSession not_unit = refl
+unit_none described number session body command.SendRrData not_unit = refl
+unit_none described number session body command.SendUnitData not_unit = absurd (not_unit refl)
+unit_none described number session body command.Other not_unit = refl
 
-none_at : (number session : ℕ) (body : List ℕ) (code k : ℕ) → (code == k) ≡ true → message_of_command number session body (command_of k) ≡ None → message_of_command number session body (command_of code) ≡ None
-none_at number session body code k is none = subst (λ (n : ℕ). message_of_command number session body (command_of n) ≡ None) (sym (eqb-true code k is)) none
+none_at : (described : Option Description) (number session : ℕ) (body : List ℕ) (code k : ℕ) → (code == k) ≡ true → message_of_command described number session body (command_of k) ≡ None → message_of_command described number session body (command_of code) ≡ None
+none_at described number session body code k is none = subst (λ (n : ℕ). message_of_command described number session body (command_of n) ≡ None) (sym (eqb-true code k is)) none
 
-by_code : (bare a b c : Bool) (number : ℕ) (m : MessageFields) (q : InquiryMessage) → (m.command == 0x0004) ≡ a → (m.command == 0x0063) ≡ b → (m.command == 0x0064) ≡ c → option_map (λ (i : Inquiry). (i, m)) (cond bare (cond a (Some inquiry.Services) (cond b (Some inquiry.Identity) (cond c (Some inquiry.Interfaces) None))) None) ≡ Some q → message_of_command number m.session m.payload (command_of m.command) ≡ None
-by_code true true b c number m q first second third is = none_at number m.session m.payload m.command 0x0004 first refl
-by_code true false true c number m q first second third is = none_at number m.session m.payload m.command 0x0063 second refl
-by_code true false false true number m q first second third is = none_at number m.session m.payload m.command 0x0064 third refl
-by_code true false false false number m q first second third is = absurd (let x = is in cc)
-by_code false a b c number m q first second third is = absurd (let x = is in cc)
+by_code : (described : Option Description) (bare a b c : Bool) (number : ℕ) (m : MessageFields) (q : InquiryMessage) → (m.command == 0x0004) ≡ a → (m.command == 0x0063) ≡ b → (m.command == 0x0064) ≡ c → option_map (λ (i : Inquiry). (i, m)) (cond bare (cond a (Some inquiry.Services) (cond b (Some inquiry.Identity) (cond c (Some inquiry.Interfaces) None))) None) ≡ Some q → message_of_command described number m.session m.payload (command_of m.command) ≡ None
+by_code described true true b c number m q first second third is = none_at described number m.session m.payload m.command 0x0004 first refl
+by_code described true false true c number m q first second third is = none_at described number m.session m.payload m.command 0x0063 second refl
+by_code described true false false true number m q first second third is = none_at described number m.session m.payload m.command 0x0064 third refl
+by_code described true false false false number m q first second third is = absurd (let x = is in cc)
+by_code described false a b c number m q first second third is = absurd (let x = is in cc)
 
-inquiry_is_none : (number : ℕ) (header : Option Tailed) (reading : Result MessageFields EncapFault) (q : InquiryMessage) → inquiry_read reading ≡ Some q → message_of_frame number (frame_fields header reading) ≡ None
-inquiry_is_none number header (Err fault) q is = absurd (let x = is in cc)
-inquiry_is_none number header (Ok m) q is = by_code (is_bare m) (m.command == 0x0004) (m.command == 0x0063) (m.command == 0x0064) number m q refl refl refl is
+inquiry_is_none : (described : Option Description) (number : ℕ) (header : Option Tailed) (reading : Result MessageFields EncapFault) (q : InquiryMessage) → inquiry_read reading ≡ Some q → message_of_frame described number (frame_fields header reading) ≡ None
+inquiry_is_none described number header (Err fault) q is = absurd (let x = is in cc)
+inquiry_is_none described number header (Ok m) q is = by_code described (is_bare m) (m.command == 0x0004) (m.command == 0x0063) (m.command == 0x0064) number m q refl refl refl is
 
 answered_inquiry : (t : AdapterTable) (x : Description) (found : Option InquiryMessage) (text : List ℕ) → option_map (inquiry_text (identity_of t x) (address_of t x)) found ≡ Some text → (q : InquiryMessage) × (found ≡ Some q)
 answered_inquiry t x None text is = absurd (let y = is in cc)
 answered_inquiry t x (Some q) text is = (q, refl)
 
-described_none : (t : AdapterTable) (number : ℕ) (bytes : List ℕ) (described : Option Description) (text : List ℕ) → inquiry_reply_of t bytes described ≡ Some text → message_of_frame number (frame_reading bytes) ≡ None
+described_none : (reader : Option Description) (t : AdapterTable) (number : ℕ) (bytes : List ℕ) (described : Option Description) (text : List ℕ) → inquiry_reply_of t bytes described ≡ Some text → message_of_frame reader number (frame_reading bytes) ≡ None
 unfolding frame_reading
-described_none t number bytes None text is = absurd (let x = is in cc)
-described_none t number bytes (Some x) text is =
+described_none reader t number bytes None text is = absurd (let x = is in cc)
+described_none reader t number bytes (Some x) text is =
     let found = answered_inquiry t x (inquiry_in bytes) text is in
-    inquiry_is_none number (fields_at header_widths bytes) (message_reading bytes) found.0 found.1
+    inquiry_is_none reader number (fields_at header_widths bytes) (message_reading bytes) found.0 found.1
 
-misfit_none : (number : ℕ) (header : Option Tailed) → message_of_frame number (wrong_length_of header) ≡ None
-misfit_none number None = refl
-misfit_none number (Some h) = refl
+misfit_none : (described : Option Description) (number : ℕ) (header : Option Tailed) → message_of_frame described number (wrong_length_of header) ≡ None
+misfit_none described number None = refl
+misfit_none described number (Some h) = refl
 
 -- an inquiry that is answered brings no connected message
-pub answered_none : (t : AdapterTable) (number : ℕ) (bytes : List ℕ) (text : List ℕ) → inquiry_reply t bytes ≡ Some text → message_of_frame number (frame_for t.profile.description bytes) ≡ None
+pub answered_none : (t : AdapterTable) (number : ℕ) (bytes : List ℕ) (text : List ℕ) → inquiry_reply t bytes ≡ Some text → message_of_frame t.profile.description number (frame_for t.profile.description bytes) ≡ None
 unfolding inquiry_reply
 answered_none t number bytes text is =
-    frame_has (λ (fields : FrameFields). message_of_frame number fields ≡ None) t.profile.description bytes (described_none t number bytes t.profile.description text is) (misfit_none number (fields_at header_widths bytes)) (λ m. refl)
+    frame_has (λ (fields : FrameFields). message_of_frame t.profile.description number fields ≡ None) t.profile.description bytes (described_none t.profile.description t number bytes t.profile.description text is) (misfit_none t.profile.description number (fields_at header_widths bytes)) (λ m. refl)
 
-bytes_go : (d : Class3Connection) (count : ℕ) (t : AdapterTable) (stream : Stream) (bytes : List ℕ) (reply : Option (List ℕ)) → inquiry_reply t bytes ≡ reply → HasSession t stream → Differ t.messaging → has_next d count (message_of_frame stream.number (frame_for t.profile.description bytes)) ≡ false → Leads d count t (has_it d count (message_of_frame stream.number (frame_for t.profile.description bytes))) (Ok (stream_answer t stream bytes reply))
+bytes_go : (d : Class3Connection) (count : ℕ) (t : AdapterTable) (stream : Stream) (bytes : List ℕ) (reply : Option (List ℕ)) → inquiry_reply t bytes ≡ reply → HasSession t stream → Differ t.messaging → has_next d count (message_of_frame t.profile.description stream.number (frame_for t.profile.description bytes)) ≡ false → Leads d count t (has_it d count (message_of_frame t.profile.description stream.number (frame_for t.profile.description bytes))) (Ok (stream_answer t stream bytes reply))
 bytes_go d count t stream bytes None is session differ none = fields_go d count t stream (frame_for t.profile.description bytes) session differ none
 bytes_go d count t stream bytes (Some text) is session differ none =
-    sends_nothing d count t t (has_it d count (message_of_frame stream.number (frame_for t.profile.description bytes))) _ (ap (has_it d count) (answered_none t stream.number bytes text is)) (unchanged d count t)
+    sends_nothing d count t t (has_it d count (message_of_frame t.profile.description stream.number (frame_for t.profile.description bytes))) _ (ap (has_it d count) (answered_none t stream.number bytes text is)) (unchanged d count t)
 
 -- a frame of a stream
-pub frame_goes : (d : Class3Connection) (count : ℕ) (t : AdapterTable) (number : ℕ) (bytes : List ℕ) (found : Option Stream) → IfSome found (λ s. (s.number ≡ number) × HasSession t s) → Differ t.messaging → has_next d count (message_of_frame number (frame_for t.profile.description bytes)) ≡ false → Leads d count t (has_it d count (message_of_frame number (frame_for t.profile.description bytes))) (frame_of t bytes found)
-frame_goes d count t number bytes None session differ none = leads_refused d count t (has_it d count (message_of_frame number (frame_for t.profile.description bytes))) NotAllowedNow
+pub frame_goes : (d : Class3Connection) (count : ℕ) (t : AdapterTable) (number : ℕ) (bytes : List ℕ) (found : Option Stream) → IfSome found (λ s. (s.number ≡ number) × HasSession t s) → Differ t.messaging → has_next d count (message_of_frame t.profile.description number (frame_for t.profile.description bytes)) ≡ false → Leads d count t (has_it d count (message_of_frame t.profile.description number (frame_for t.profile.description bytes))) (frame_of t bytes found)
+frame_goes d count t number bytes None session differ none = leads_refused d count t (has_it d count (message_of_frame t.profile.description number (frame_for t.profile.description bytes))) NotAllowedNow
 frame_goes d count t number bytes (Some stream) session differ none =
-    subst (λ (n : ℕ). has_next d count (message_of_frame n (frame_for t.profile.description bytes)) ≡ false → Leads d count t (has_it d count (message_of_frame n (frame_for t.profile.description bytes))) (Ok (stream_answer t stream bytes (inquiry_reply t bytes)))) session.0
+    subst (λ (n : ℕ). has_next d count (message_of_frame t.profile.description n (frame_for t.profile.description bytes)) ≡ false → Leads d count t (has_it d count (message_of_frame t.profile.description n (frame_for t.profile.description bytes))) (Ok (stream_answer t stream bytes (inquiry_reply t bytes)))) session.0
     (λ no. bytes_go d count t stream bytes (inquiry_reply t bytes) refl session.1 differ no) none

@@ -3,7 +3,6 @@ use Rattle.std.proofs.Common.{◌≡◌, ℕ, ◌+◌, ◌==◌, ◌&&◌, nat_l
 use Rattle.base_lemmas.specs.Lists.{found_passes}
 use Rattle.cip_encap.specs.declared.packet.ItemFault.{ItemFault}
 use Rattle.cip_encap.specs.Connected.{ConnectedFields}
-use Rattle.cip_encap.specs.ConnectedReading.{connected_reading}
 use Rattle.cip_events.specs.declared.event.Delivery.TheVariants.{WrongSize}
 use Rattle.cip_events.specs.declared.event.Event.TheVariants as event
 use Rattle.cip_router.specs.declared.command.Command.{Command}
@@ -14,7 +13,7 @@ use Rattle.messaging.specs.declared.class3.Class3Connection.{Class3Connection}
 use Rattle.messaging.specs.Class3Connections.{has_class3_id, is_on_stream, is_class3, repeats_last}
 use Rattle.adapter_table.specs.declared.table.AdapterTable.{AdapterTable}
 use Rattle.adapter_table.specs.declared.table.Stream.{Stream}
-use Rattle.adapter_table.specs.Encapsulation.{Handled, undelivered, refusal, message_repeated, message_found, unit_replied, handled, framed, stream_answer, frame_of, frame, outside_session, frame_for}
+use Rattle.adapter_table.specs.Encapsulation.{Handled, connected_items_for, undelivered, refusal, message_repeated, message_found, unit_replied, handled, framed, stream_answer, frame_of, frame, outside_session, frame_for}
 use Rattle.adapter_table.specs.Inquiries.{inquiry_reply}
 use Rattle.adapter_table.specs.MessagesSound.{IsCarried, IsInPlace}
 use Rattle.adapter_table.specs.Requests.{Next}
@@ -36,7 +35,7 @@ pub record Carries (described : Option Description) (number : ℕ) (bytes : List
   pub reads : frame_for described bytes ≡ whole header body
   pub command : command_of header.command ≡ command.SendUnitData
   pub session : header.session ≡ number + 1
-  pub items : connected_reading body ≡ Ok unit
+  pub items : connected_items_for described body ≡ Ok unit
 
 -- a message of such bytes, which passes a test
 pub record Bears (described : Option Description) (number : ℕ) (bytes : List ℕ) (test : Message → Bool) : Type 0 where
@@ -44,16 +43,16 @@ pub record Bears (described : Option Description) (number : ℕ) (bytes : List �
   pub carries : Carries described number bytes unit
   pub passes : test (over number unit) ≡ true
 
-bears_read : (described : Option Description) (number : ℕ) (bytes : List ℕ) (test : Message → Bool) (header : RequestHeader) (body : List ℕ) (reading : Result ConnectedFields ItemFault) → frame_for described bytes ≡ whole header body → command_of header.command ≡ command.SendUnitData → header.session ≡ number + 1 → connected_reading body ≡ reading → if_message test (message_read number reading) ≡ true → Bears described number bytes test
+bears_read : (described : Option Description) (number : ℕ) (bytes : List ℕ) (test : Message → Bool) (header : RequestHeader) (body : List ℕ) (reading : Result ConnectedFields ItemFault) → frame_for described bytes ≡ whole header body → command_of header.command ≡ command.SendUnitData → header.session ≡ number + 1 → connected_items_for described body ≡ reading → if_message test (message_read number reading) ≡ true → Bears described number bytes test
 bears_read described number bytes test header body (Err fault) reads is session items some = absurd (let x = some in cc)
 bears_read described number bytes test header body (Ok unit) reads is session items some =
     record { unit = unit; carries = record { header = header; body = body; reads = reads; command = is; session = session; items = items }; passes = some }
 
-bears_session : (described : Option Description) (s : Bool) (number : ℕ) (bytes : List ℕ) (test : Message → Bool) (header : RequestHeader) (body : List ℕ) → frame_for described bytes ≡ whole header body → command_of header.command ≡ command.SendUnitData → (header.session == number + 1) ≡ s → if_message test (cond s (message_read number (connected_reading body)) None) ≡ true → Bears described number bytes test
-bears_session described true number bytes test header body reads is session some = bears_read described number bytes test header body (connected_reading body) reads is (eqb-true header.session (number + 1) session) refl some
+bears_session : (described : Option Description) (s : Bool) (number : ℕ) (bytes : List ℕ) (test : Message → Bool) (header : RequestHeader) (body : List ℕ) → frame_for described bytes ≡ whole header body → command_of header.command ≡ command.SendUnitData → (header.session == number + 1) ≡ s → if_message test (cond s (message_read number (connected_items_for described body)) None) ≡ true → Bears described number bytes test
+bears_session described true number bytes test header body reads is session some = bears_read described number bytes test header body (connected_items_for described body) reads is (eqb-true header.session (number + 1) session) refl some
 bears_session described false number bytes test header body reads is session some = absurd (let x = some in cc)
 
-bears_command : (described : Option Description) (number : ℕ) (bytes : List ℕ) (test : Message → Bool) (header : RequestHeader) (body : List ℕ) (kind : Command) → frame_for described bytes ≡ whole header body → command_of header.command ≡ kind → if_message test (message_of_command number header.session body kind) ≡ true → Bears described number bytes test
+bears_command : (described : Option Description) (number : ℕ) (bytes : List ℕ) (test : Message → Bool) (header : RequestHeader) (body : List ℕ) (kind : Command) → frame_for described bytes ≡ whole header body → command_of header.command ≡ kind → if_message test (message_of_command described number header.session body kind) ≡ true → Bears described number bytes test
 bears_command described number bytes test header body command.SendUnitData reads is some = bears_session described (header.session == number + 1) number bytes test header body reads is refl some
 bears_command described number bytes test header body command.Nop reads is some = absurd (let x = some in cc)
 bears_command described number bytes test header body command.ListServices reads is some = absurd (let x = some in cc)
@@ -62,12 +61,12 @@ bears_command described number bytes test header body command.UnregisterSession 
 bears_command described number bytes test header body command.SendRrData reads is some = absurd (let x = some in cc)
 bears_command described number bytes test header body command.Other reads is some = absurd (let x = some in cc)
 
-bears_fields : (described : Option Description) (number : ℕ) (bytes : List ℕ) (test : Message → Bool) (fields : FrameFields) → frame_for described bytes ≡ fields → if_message test (message_of_frame number fields) ≡ true → Bears described number bytes test
+bears_fields : (described : Option Description) (number : ℕ) (bytes : List ℕ) (test : Message → Bool) (fields : FrameFields) → frame_for described bytes ≡ fields → if_message test (message_of_frame described number fields) ≡ true → Bears described number bytes test
 bears_fields described number bytes test without_header reads some = absurd (let x = some in cc)
 bears_fields described number bytes test (wrong_length header) reads some = absurd (let x = some in cc)
 bears_fields described number bytes test (whole header body) reads some = bears_command described number bytes test header body (command_of header.command) reads refl some
 
-pub bears : (described : Option Description) (number : ℕ) (bytes : List ℕ) (test : Message → Bool) → if_message test (message_of_frame number (frame_for described bytes)) ≡ true → Bears described number bytes test
+pub bears : (described : Option Description) (number : ℕ) (bytes : List ℕ) (test : Message → Bool) → if_message test (message_of_frame described number (frame_for described bytes)) ≡ true → Bears described number bytes test
 bears described number bytes test some = bears_fields described number bytes test (frame_for described bytes) refl some
 
 -- ---- how the message is served
@@ -98,13 +97,13 @@ unfolding handled
 handled_serves t number bytes unit e s carries same has its =
     let session : has_session s carries.header.session ≡ true = both_true s.registered (carries.header.session == s.number + 1) has (eq-eqb carries.header.session (s.number + 1) (carries.session ∙ ap (λ (n : ℕ). n + 1) (sym same))) in
     ap (handled t s carries.header carries.body) carries.command
-    ∙ ap (λ (b : Bool). cond b (unit_replied t s (connected_reading carries.body)) (refusal t (outside_session t.profile.description))) session
+    ∙ ap (λ (b : Bool). cond b (unit_replied t s (connected_items_for t.profile.description carries.body)) (refusal t (outside_session t.profile.description))) session
     ∙ ap (unit_replied t s) carries.items ∙ unit_serves t number unit e s same its
 
-pub unit_message : (described : Option Description) (number : ℕ) (bytes : List ℕ) (unit : ConnectedFields) (carries : Carries described number bytes unit) → message_of_frame number (frame_for described bytes) ≡ Some (over number unit)
+pub unit_message : (described : Option Description) (number : ℕ) (bytes : List ℕ) (unit : ConnectedFields) (carries : Carries described number bytes unit) → message_of_frame described number (frame_for described bytes) ≡ Some (over number unit)
 unit_message described number bytes unit carries =
-    ap (message_of_frame number) carries.reads ∙ ap (message_of_command number carries.header.session carries.body) carries.command
-    ∙ ap (λ (b : Bool). cond b (message_read number (connected_reading carries.body)) None) (eq-eqb carries.header.session (number + 1) carries.session)
+    ap (message_of_frame described number) carries.reads ∙ ap (message_of_command described number carries.header.session carries.body) carries.command
+    ∙ ap (λ (b : Bool). cond b (message_read number (connected_items_for described carries.body)) None) (eq-eqb carries.header.session (number + 1) carries.session)
     ∙ ap (message_read number) carries.items
 
 no_inquiry : (t : AdapterTable) (number : ℕ) (bytes : List ℕ) (unit : ConnectedFields) (reply : Option (List ℕ)) → Carries t.profile.description number bytes unit → inquiry_reply t bytes ≡ reply → reply ≡ None

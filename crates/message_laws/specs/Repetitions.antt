@@ -6,7 +6,6 @@ use Rattle.cip_types.specs.declared.names.ConnId.{ConnId}
 use Rattle.cip_types.specs.declared.names.Ms.{Ms}
 use Rattle.cip_encap.specs.declared.packet.ItemFault.{ItemFault}
 use Rattle.cip_encap.specs.Connected.{ConnectedFields}
-use Rattle.cip_encap.specs.ConnectedReading.{connected_reading}
 use Rattle.cip_events.specs.declared.event.Delivery.TheVariants.{Duplicate}
 use Rattle.cip_events.specs.declared.event.Event.{Event}
 use Rattle.cip_events.specs.declared.event.Event.TheVariants as event
@@ -33,7 +32,7 @@ use Rattle.adapter_table.specs.Requests.{Next}
 use Rattle.adapter_table.specs.Step.{adapter_step}
 use Rattle.adapter_table.specs.Ticks.{late_frames}
 use Rattle.adapter_table.specs.Whole.{IsWhole}
-use Rattle.adapter_table.specs.Encapsulation.{frame_for}
+use Rattle.adapter_table.specs.Encapsulation.{connected_items_for, frame_for}
 use Rattle.adapter_table.specs.declared.profile.Description.{Description}
 use Rattle.cip_tables.specs.declared.table.DeviceTable.{DeviceTable}
 use Rattle.cip_tables.specs.declared.table.DeviceTable.TheVariants.{Adapter, Scanner}
@@ -52,18 +51,19 @@ message_read number (Err fault) = None
 message_read number (Ok unit) = Some (record { stream = number; unit = unit })
 
 -- SendUnitData, with the handle of the stream's session
-abbrev pub message_of_command : (number session : ℕ) → List ℕ → Command → Option Message
-message_of_command number session body command.SendUnitData = if session == number + 1 then message_read number (connected_reading body) else None
-message_of_command number session body _ = None
+abbrev pub message_of_command : Option Description → (number session : ℕ) → List ℕ → Command → Option Message
+message_of_command described number session body command.SendUnitData =
+    if session == number + 1 then message_read number (connected_items_for described body) else None
+message_of_command described number session body _ = None
 
-abbrev pub message_of_frame : ℕ → FrameFields → Option Message
-message_of_frame number without_header = None
-message_of_frame number (wrong_length header) = None
-message_of_frame number (whole header body) = message_of_command number header.session body (command_of header.command)
+abbrev pub message_of_frame : Option Description → ℕ → FrameFields → Option Message
+message_of_frame described number without_header = None
+message_of_frame described number (wrong_length header) = None
+message_of_frame described number (whole header body) = message_of_command described number header.session body (command_of header.command)
 
 -- the connected message that an event brings a device that is described so, if it brings one
 abbrev pub message_in : Option Description → Event → Option Message
-message_in described (event.Frame number bytes) = message_of_frame number (frame_for described bytes)
+message_in described (event.Frame number bytes) = message_of_frame described number (frame_for described bytes)
 message_in described other = None
 
 -- THOSE OF A CONNECTION

@@ -102,10 +102,10 @@ interface_host_name_and_inactivity = refl
 
 -- ---- the Ethernet Link object
 
--- speed, flags, physical address, no counters and no control, twisted pair, enabled, the label, and the one speed
+-- speed, flags, physical address, counters of nothing, a control that negotiates, twisted pair, enabled, the label, and the one speed
 abbrev whole_link : List Outcome
 whole_link =
-    gets (hex "81 00 00 00 64 00 00 00 0F 00 00 00 02 00 5E 10 00 07" ++ (replicate 96 0 ++ hex "02 01 01 08 45 74 68 65 72 6E 65 74 02 00 00 00 01 64 00 01")) ∷ []
+    gets (hex "81 00 00 00 64 00 00 00 0F 00 00 00 02 00 5E 10 00 07" ++ (replicate 92 0 ++ hex "01 00 00 00 02 01 01 08 45 74 68 65 72 6E 65 74 02 00 00 00 01 64 00 01")) ∷ []
 
 link_attributes_all : answers (hex "01 02 20 F6 24 01" ∷ []) ≡ whole_link
 unfolding computing
@@ -161,7 +161,8 @@ class_of_assemblies = refl
 
 class_of_the_connection_manager :
     answers (hex "0E 03 20 06 24 00 30 01" ∷ hex "0E 03 20 06 24 00 30 02" ∷ hex "0E 03 20 06 24 00 30 03" ∷ hex "0E 03 20 06 24 00 30 04" ∷ [])
-    ≡ gets (hex "8E 00 00 00 01 00") ∷ gets (hex "8E 00 00 00 01 00") ∷ gets (hex "8E 00 00 00 01 00") ∷ gets (hex "8E 00 00 00 00 00") ∷ []
+    ≡ gets (hex "8E 00 00 00 01 00") ∷ gets (hex "8E 00 00 00 01 00") ∷ gets (hex "8E 00 00 00 01 00")
+    ∷ gets (hex "8E 00 00 00 08 00 01 00 02 00 03 00 04 00 05 00 06 00 07 00 08 00") ∷ []
 unfolding computing
 class_of_the_connection_manager = refl
 
@@ -173,7 +174,7 @@ class_of_the_interface = refl
 
 class_of_the_link :
     answers (hex "0E 03 20 F6 24 00 30 01" ∷ hex "0E 03 20 F6 24 00 30 02" ∷ hex "0E 03 20 F6 24 00 30 03" ∷ hex "0E 03 20 F6 24 00 30 04" ∷ [])
-    ≡ gets (hex "8E 00 00 00 04 00") ∷ gets (hex "8E 00 00 00 01 00") ∷ gets (hex "8E 00 00 00 01 00") ∷ gets (hex "8E 00 00 00 04 00 07 00 08 00 09 00 0A 00") ∷ []
+    ≡ gets (hex "8E 00 00 00 04 00") ∷ gets (hex "8E 00 00 00 01 00") ∷ gets (hex "8E 00 00 00 01 00") ∷ gets (hex "8E 00 00 00 07 00 04 00 05 00 06 00 07 00 08 00 09 00 0A 00") ∷ []
 unfolding computing
 class_of_the_link = refl
 
@@ -326,7 +327,7 @@ unfolding computing
 the_service_before_the_attribute = refl
 
 attribute_unknown :
-    answers (hex "0E 03 20 01 24 01 30 0A" ∷ hex "0E 03 20 02 24 01 30 04" ∷ hex "0E 03 20 04 24 96 30 05" ∷ hex "0E 03 20 F5 24 01 30 07" ∷ hex "0E 03 20 F6 24 01 30 04" ∷ [])
+    answers (hex "0E 03 20 01 24 01 30 0A" ∷ hex "0E 03 20 02 24 01 30 04" ∷ hex "0E 03 20 04 24 96 30 05" ∷ hex "0E 03 20 F5 24 01 30 07" ∷ hex "0E 03 20 F6 24 01 30 0C" ∷ [])
     ≡ gets (hex "8E 00 14 00") ∷ gets (hex "8E 00 14 00") ∷ gets (hex "8E 00 14 00") ∷ gets (hex "8E 00 14 00") ∷ gets (hex "8E 00 14 00") ∷ []
 unfolding computing
 attribute_unknown = refl

@@ -10,7 +10,7 @@ use Rattle.cip_encap.specs.declared.message.EncapFault.{EncapFault}
 use Rattle.cip_encap.specs.declared.packet.ItemFault.{ItemFault}
 use Rattle.cip_encap.specs.Message.{MessageFields}
 use Rattle.cip_encap.specs.Packet.{PacketFields}
-use Rattle.cip_encap.specs.PacketReading.{packet_reading}
+use Rattle.cip_encap.specs.AnyItems.{any_packet_reading}
 use Rattle.cip_encap.specs.Reading.{message_reading}
 use Rattle.cip_events.specs.declared.event.Event.TheVariants.{Tick}
 use Rattle.cip_events.specs.declared.event.Frame.{Frame}
@@ -52,7 +52,7 @@ own_passes profile request (inr own) =
     right_passes (is_multicast request.t_o_params.kind) (nat_le (profile.incarnation * 2 ^ 24) request.t_o_id.0 && nat_lt request.t_o_id.0 ((profile.incarnation + 1) * 2 ^ 24))
     (both (number_is_at_most (profile.incarnation * 2 ^ 24) request.t_o_id.0 (omega (arith, own.is))) (number_is_less request.t_o_id.0 ((profile.incarnation + 1) * 2 ^ 24) (omega (arith, own.is, own.ends))))
 
-request_step : (profile : ScannerProfile) (bytes : List ℕ) (m : MessageFields) (packet : PacketFields) (found : RouterRequestFields) → message_reading bytes ≡ Ok m → packet_reading m.payload ≡ Ok packet → router_request_reading packet.payload ≡ found → OpeningsAre (AsksOwnId profile) bytes → request_asks_own profile found ≡ true
+request_step : (profile : ScannerProfile) (bytes : List ℕ) (m : MessageFields) (packet : PacketFields) (found : RouterRequestFields) → message_reading bytes ≡ Ok m → any_packet_reading m.payload ≡ Ok packet → router_request_reading packet.payload ≡ found → OpeningsAre (AsksOwnId profile) bytes → request_asks_own profile found ≡ true
 request_step profile bytes m packet nothing one two is law = refl
 request_step profile bytes m packet (refused service why) one two is law = refl
 request_step profile bytes m packet (closing request) one two is law = refl
@@ -60,13 +60,13 @@ request_step profile bytes m packet (object service class instance attribute bod
 request_step profile bytes m packet (opening large request) one two is law =
     own_passes profile request (law request (record { message = m; reads = one; packet = packet; packet_is = two; large = large; opens = is }))
 
-packet_step : (profile : ScannerProfile) (bytes : List ℕ) (m : MessageFields) (found : Result PacketFields ItemFault) → message_reading bytes ≡ Ok m → packet_reading m.payload ≡ found → OpeningsAre (AsksOwnId profile) bytes → packet_asks_own profile found ≡ true
+packet_step : (profile : ScannerProfile) (bytes : List ℕ) (m : MessageFields) (found : Result PacketFields ItemFault) → message_reading bytes ≡ Ok m → any_packet_reading m.payload ≡ found → OpeningsAre (AsksOwnId profile) bytes → packet_asks_own profile found ≡ true
 packet_step profile bytes m (Err fault) one is law = refl
 packet_step profile bytes m (Ok packet) one is law = request_step profile bytes m packet (router_request_reading packet.payload) one is refl law
 
 message_step : (profile : ScannerProfile) (bytes : List ℕ) (found : Result MessageFields EncapFault) → message_reading bytes ≡ found → OpeningsAre (AsksOwnId profile) bytes → message_asks_own profile found ≡ true
 message_step profile bytes (Err fault) is law = refl
-message_step profile bytes (Ok m) is law = packet_step profile bytes m (packet_reading m.payload) is refl law
+message_step profile bytes (Ok m) is law = packet_step profile bytes m (any_packet_reading m.payload) is refl law
 
 pub asking_passes : (profile : ScannerProfile) (bytes : List ℕ) → OpeningsAre (AsksOwnId profile) bytes → bytes_ask_own profile bytes ≡ true
 asking_passes profile bytes law = message_step profile bytes (message_reading bytes) refl law

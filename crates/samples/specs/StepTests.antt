@@ -9,7 +9,7 @@ use Rattle.cip_encap.specs.declared.message.EncapFault.{EncapFault}
 use Rattle.cip_encap.specs.declared.packet.ItemFault.{ItemFault}
 use Rattle.cip_encap.specs.Message.{MessageFields}
 use Rattle.cip_encap.specs.Packet.{PacketFields}
-use Rattle.cip_encap.specs.PacketReading.{packet_reading}
+use Rattle.cip_encap.specs.AnyItems.{any_packet_reading}
 use Rattle.cip_encap.specs.Reading.{message_reading}
 use Rattle.cip_events.specs.declared.event.Reason.{Reason}
 use Rattle.cip_fwdopen.specs.declared.reply.OpenAnswer.{OpenAnswer}
@@ -53,7 +53,7 @@ packet_asks_own profile (Ok packet) = request_asks_own profile (router_request_r
 
 abbrev pub message_asks_own : ScannerProfile → Result MessageFields EncapFault → Bool
 message_asks_own profile (Err fault) = true
-message_asks_own profile (Ok m) = packet_asks_own profile (packet_reading m.payload)
+message_asks_own profile (Ok m) = packet_asks_own profile (any_packet_reading m.payload)
 
 -- the bytes are no request to open, or one that asks for an id of the scanner's own
 abbrev pub bytes_ask_own : ScannerProfile → List ℕ → Bool

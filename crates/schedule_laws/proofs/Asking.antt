@@ -12,7 +12,7 @@ use Rattle.cip_epath.specs.ReadsBack.{PathReadsBack}
 use Rattle.cip_epath.specs.Written.{AreWords, PathFits}
 use Rattle.cip_fwdopen.specs.Open.{OpenFields, params_of, params_width, params_word}
 use Rattle.cip_encap.specs.Message.{message_text}
-use Rattle.cip_encap.specs.PacketReading.{packet_reading}
+use Rattle.cip_encap.specs.AnyItems.{any_packet_reading}
 use Rattle.cip_encap.specs.ReadsBack.{ItemsReadBack}
 use Rattle.cip_productions.specs.declared.kind.Kind.{Kind}
 use Rattle.cip_productions.specs.declared.kind.Kind.TheVariants.{ExclusiveOwner, InputOnly, ListenOnly}
@@ -165,6 +165,6 @@ pub frame_comes : ItemsReadBack → (R : ℕ → OpenFields → Type 0) (sent : 
 frame_comes back R sent holds few request is =
     let same : MessageBack (sent_message sent) is.message = message_back (sent_message sent) is.message is.reads in
     let Q : OpenFields → Type 0 = R (again w64 sent.number) in
-    let packet : PacketOpens Q (Ok is.packet) = subst (PacketOpens Q) (ap packet_reading (sym same.payload) ∙ is.packet_is) (packet_opens back Q sent sent.request refl holds few) in
+    let packet : PacketOpens Q (Ok is.packet) = subst (PacketOpens Q) (ap any_packet_reading (sym same.payload) ∙ is.packet_is) (packet_opens back Q sent sent.request refl holds few) in
     let opens : Q request = subst (RequestOpens Q) is.opens packet in
     subst (λ (context : ℕ). R context request) (sym same.context) opens

@@ -186,6 +186,7 @@ marked_moment device t w at drawn = record {
   whole = drawn.whole;
   apart = drawn.apart;
   tables = λ e x there. mark_table (is_drawn w.tables) (opened_from device t e) x (λ a table row stands. mark_step (e == device) device e row.opening t a x w.tables refl at there table stands) (drawn.tables e x there);
+  class3 = drawn.class3;
   opens = λ e x there n from. opens_step (e == device) device e n t x w.tables refl at there from;
   sent = drawn.sent;
   streams = drawn.streams;

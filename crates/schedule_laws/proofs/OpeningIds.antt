@@ -17,9 +17,9 @@ use Rattle.cip_tables.specs.Step.{opening_table, config_fault, incarnation_of}
 use Rattle.cip_tables.specs.Whole.{FreshDevicesAreWhole}
 use Rattle.segment_world.specs.declared.configs.DeviceKey.TheVariants.{Incarnation}
 use Rattle.segment_world.specs.Configs.{key_in, any_twice, first_fault}
-use Rattle.device_laws.specs.Carrying.{Passes, SlotIds, TableIds}
+use Rattle.device_laws.specs.Carrying.{Passes, SlotIds, TableIds, HasClass3Ids}
 use Rattle.device_laws.specs.Plain.{IsPlainDevice}
-use Rattle.schedule_laws.specs.Ids.{is_drawn, any_opening, AreBytes, OpeningWorldsHaveIdsDrawn}
+use Rattle.schedule_laws.specs.Ids.{is_drawn, any_opening, any_stream, AreBytes, OpeningWorldsHaveIdsDrawn}
 use Rattle.schedule_laws.proofs.Openings.{both_none, opens_whole}
 
 -- ---- incarnations
@@ -77,18 +77,27 @@ fresh_ids : (test : ℕ → Bool) (made : Config) → TableIds test any_opening 
 fresh_ids test (config.Adapter profile) = tt
 fresh_ids test (config.Scanner profile) = fresh_slots (Passes test) 0 profile.slots
 
+fresh_class3 : (test : ℕ → Bool) (made : Config) → HasClass3Ids test (opening_table made)
+fresh_class3 test (config.Adapter profile) = tt
+fresh_class3 test (config.Scanner profile) = tt
+
+none_opened : (test : ℕ → Bool) (configs : List Config) (device : ℕ) (t : DeviceTable) → slice_get (map opening_table configs) device ≡ Some t → HasClass3Ids test t
+none_opened test [] device t at = absurd (let e = at in cc)
+none_opened test (made ∷ configs) zero t at = subst (HasClass3Ids test) (same_Some (opening_table made) t at) (fresh_class3 test made)
+none_opened test (made ∷ configs) (suc device) t at = none_opened test configs device t at
+
 fresh_all : (test : ℕ → Bool) (configs : List Config) (device : ℕ) (t : DeviceTable) → slice_get (map opening_table configs) device ≡ Some t → TableIds test any_opening t
 fresh_all test [] device t at = absurd (let e = at in cc)
 fresh_all test (made ∷ configs) zero t at = subst (TableIds test any_opening) (same_Some (opening_table made) t at) (fresh_ids test made)
 fresh_all test (made ∷ configs) (suc device) t at = fresh_all test configs device t at
 
-fresh_device : (made : Config) → IsPlainDevice (opening_table made)
-fresh_device (config.Adapter profile) = record { class3_connections = refl; services = tt; over = tt }
+fresh_device : (made : Config) → IsPlainDevice any_stream (opening_table made)
+fresh_device (config.Adapter profile) = record { services = tt; over = tt }
 fresh_device (config.Scanner profile) = tt
 
-fresh_plain : (configs : List Config) (device : ℕ) (t : DeviceTable) → slice_get (map opening_table configs) device ≡ Some t → IsPlainDevice t
+fresh_plain : (configs : List Config) (device : ℕ) (t : DeviceTable) → slice_get (map opening_table configs) device ≡ Some t → IsPlainDevice any_stream t
 fresh_plain [] device t at = absurd (let e = at in cc)
-fresh_plain (made ∷ configs) zero t at = subst IsPlainDevice (same_Some (opening_table made) t at) (fresh_device made)
+fresh_plain (made ∷ configs) zero t at = subst (IsPlainDevice any_stream) (same_Some (opening_table made) t at) (fresh_device made)
 fresh_plain (made ∷ configs) (suc device) t at = fresh_plain configs device t at
 
 pub opening_worlds : FreshDevicesAreWhole → OpeningWorldsHaveIdsDrawn
@@ -101,6 +110,7 @@ opening_worlds fresh configs lives bytes =
         differ = λ a b t u at_a at_b same. differ_all configs a b t u lives.incarnations at_a at_b same;
       };
       tables = λ device t at. fresh_all (is_drawn (map opening_table configs)) configs device t at;
+      class3 = λ device t at. none_opened (is_drawn (map opening_table configs)) configs device t at;
       sent = tt;
       streams = tt;
       plain = λ device t at. fresh_plain configs device t at;

@@ -127,6 +127,7 @@ requests_from = record {
   registered = registered_from;
   messaged = λ t next_id m goes. messaged_from t next_id m;
   counted = λ t next openings from. from;
+  tallied = λ t next counters from. from;
 }
 
 written_from : (t : AdapterTable) (point : ℕ) (bytes : List ℕ) → RowsFrom t (changed_table (written_table t point bytes) point)

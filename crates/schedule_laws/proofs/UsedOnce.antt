@@ -32,7 +32,7 @@ use Rattle.device_laws.specs.Plain.{ArePlain}
 use Rattle.device_laws.specs.Replies.{IsLateReply, IsAnswerTo, RepliesCarryOpenedIds}
 use Rattle.device_laws.specs.Requests.{asks_id, frame_asks, is_between, ScannersAskOnce, IsOldOrRequested, NewConnectionsAreRequested}
 use Rattle.device_laws.specs.Lemmas.RequestedIds.{none_requested, one_at_most}
-use Rattle.schedule_laws.specs.Ids.{AreApart, IdsAreDrawn, SchedulesKeepIdsDrawn, OpeningWorldsHaveIdsDrawn}
+use Rattle.schedule_laws.specs.Ids.{any_stream, AreApart, IdsAreDrawn, SchedulesKeepIdsDrawn, OpeningWorldsHaveIdsDrawn}
 use Rattle.schedule_laws.specs.Lemmas.Drawing.{StepLaws}
 use Rattle.schedule_laws.specs.Lemmas.Tests.{set_cases}
 use Rattle.device_laws.specs.Productions.{End}
@@ -201,11 +201,11 @@ none_of id (frame ∷ frames) none =
     no_one true none = absurd (none refl)
     no_one false none = omega arith
 
-late_opens_none : (t : AdapterTable) (frame : Frame) → ArePlain t.messaging → IsLateReply t frame → IsNoOpening frame.bytes
+late_opens_none : (t : AdapterTable) (frame : Frame) → ArePlain any_stream t.messaging → IsLateReply t frame → IsNoOpening frame.bytes
 late_opens_none t frame plain (inl is) = absurd (is.over_none plain.over)
 late_opens_none t frame plain (inr is) = is.opens_nothing
 
-answers_open_none : (t u : AdapterTable) (happens : Event) (frame : Frame) → IsInSchedule happens → ArePlain t.messaging → IsAnswerTo t u happens frame → IsNoOpening frame.bytes
+answers_open_none : (t u : AdapterTable) (happens : Event) (frame : Frame) → IsInSchedule happens → ArePlain any_stream t.messaging → IsAnswerTo t u happens frame → IsNoOpening frame.bytes
 answers_open_none t u (event.Request peer bytes) frame possible plain is = absurd possible
 answers_open_none t u (event.Frame number bytes) frame possible plain is = is.opens_nothing
 answers_open_none t u (event.Inquiry peer bytes) frame possible plain is = is.opens_nothing

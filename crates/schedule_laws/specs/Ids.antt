@@ -27,7 +27,7 @@ use Rattle.segment_world.specs.World.{World, ReportedEvent}
 use Rattle.segment_world.specs.Story.{Story, runs, begins}
 use Rattle.segment_world.specs.Configs.{opening_world}
 use Rattle.device_laws.specs.Ids.{FrameIds, DatagramId}
-use Rattle.device_laws.specs.Carrying.{Passes, TableIds, SlotCame}
+use Rattle.device_laws.specs.Carrying.{Passes, TableIds, HasClass3Ids, SlotCame}
 use Rattle.device_laws.specs.Plain.{IsPlainFrame, IsPlainDevice}
 use Rattle.schedule_laws.specs.Lives.{AreLives}
 use Rattle.schedule_laws.specs.Stories.{led_to}
@@ -72,21 +72,26 @@ SentHolds P sent = DatagramId P sent.bytes
 abbrev pub any_opening : ℕ → Bool
 any_opening opening = true
 
+-- each stream goes between two devices of the world
+abbrev pub any_stream : ℕ → Bool
+any_stream number = true
+
 -- the frame has no id that a device may still allocate, and opens no class 3 connection
 abbrev pub IsDrawnFrame : List DeviceTable → List ℕ → Type 0
 IsDrawnFrame tables bytes = FrameIds (Passes (is_drawn tables)) bytes × IsPlainFrame bytes
 
--- All devices have whole tables. No id that a device may still allocate is anywhere: in no table, in no datagram that was ever
--- sent, and in no frame that waits on a stream, whether it is read as a request or as a reply. There is no class 3 connection, and
--- no frame that waits on a stream asks for one. Each request that waits for an application came over a stream, and has no service
--- of an opening.
+-- All devices have whole tables. No id that a device may still allocate is anywhere: in no connection of class 1 or 3, in no
+-- datagram that was ever sent, and in no frame that waits on a stream, whether it is read as a request or as a reply. No frame that
+-- waits on a stream asks for a class 3 connection. Each request that waits for an application came over a stream or a class 3
+-- connection, and has no service of an opening if it came over a stream itself.
 pub record IdsAreDrawn (w : World) : Type 0 where
   pub whole : (device : ℕ) (t : DeviceTable) → slice_get w.tables device ≡ Some t → IsWholeDevice t
   pub apart : AreApart w.tables
   pub tables : (device : ℕ) (t : DeviceTable) → slice_get w.tables device ≡ Some t → TableIds (is_drawn w.tables) any_opening t
+  pub class3 : (device : ℕ) (t : DeviceTable) → slice_get w.tables device ≡ Some t → HasClass3Ids (is_drawn w.tables) t
   pub sent : AllByRecursion (SentHolds (Passes (is_drawn w.tables))) w.sent
   pub streams : StreamsHold (IsDrawnFrame w.tables) w.streams
-  pub plain : (device : ℕ) (t : DeviceTable) → slice_get w.tables device ≡ Some t → IsPlainDevice t
+  pub plain : (device : ℕ) (t : DeviceTable) → slice_get w.tables device ≡ Some t → IsPlainDevice any_stream t
 
 -- every schedule keeps it
 abbrev pub SchedulesKeepIdsDrawn : Type 0

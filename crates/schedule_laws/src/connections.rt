@@ -10,10 +10,10 @@ use adapter_table::laws::profiles_stay;
 use answer_sizes::answers_are_small;
 use cip_tables::laws::{next_id_never_falls, tables_are_whole};
 use device_laws::{
-    a_scanners_streams_come_with_events, answers_send_what_is_made, connections_keep_their_ids,
-    counters_never_fall, ids_are_carried, openings_are_numbered, plain_devices_stay_plain,
-    replies_carry_opened_ids, scanners_ask_for_their_own_ids, scanners_send_no_success,
-    slots_have_the_ids_of_their_success,
+    a_scanners_streams_come_with_events, answers_send_what_is_made, class3_ids_are_carried,
+    connections_keep_their_ids, counters_never_fall, ids_are_carried, openings_are_numbered,
+    plain_devices_stay_plain, replies_carry_opened_ids, scanners_ask_for_their_own_ids,
+    scanners_send_no_success, slots_have_the_ids_of_their_success,
 };
 
 /// The connection that a slot's opening opened at an adapter joins the points that the slot's configuration names: it consumes
@@ -34,6 +34,7 @@ pub fn connections_join_points()
     ids_are_drawn();
     an_id_opens_one_connection();
     ids_are_carried();
+    class3_ids_are_carried();
     plain_devices_stay_plain();
     tables_are_whole();
     next_id_never_falls();

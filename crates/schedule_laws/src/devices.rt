@@ -8,10 +8,10 @@ use crate::made_once::an_id_opens_one_connection;
 use adapter_table::laws::profiles_stay;
 use cip_tables::laws::{next_id_never_falls, tables_are_whole};
 use device_laws::{
-    a_scanners_streams_come_with_events, answers_send_what_is_made, connections_keep_their_ids,
-    counters_never_fall, devices_send_over_their_streams, ids_are_carried,
-    plain_devices_stay_plain, replies_carry_opened_ids, scanners_ask_for_their_own_ids,
-    scanners_send_no_success, slots_have_the_ids_of_their_success,
+    a_scanners_streams_come_with_events, answers_send_what_is_made, class3_ids_are_carried,
+    connections_keep_their_ids, counters_never_fall, devices_send_over_their_streams,
+    ids_are_carried, plain_devices_stay_plain, replies_carry_opened_ids,
+    scanners_ask_for_their_own_ids, scanners_send_no_success, slots_have_the_ids_of_their_success,
 };
 
 /// Each device keeps the address of its profile, and no two devices have one address, unless two of the configurations have one,
@@ -26,6 +26,7 @@ pub fn devices_stand()
     ids_are_drawn();
     an_id_opens_one_connection();
     ids_are_carried();
+    class3_ids_are_carried();
     plain_devices_stay_plain();
     tables_are_whole();
     next_id_never_falls();
@@ -48,6 +49,7 @@ pub fn streams_follow_their_marks()
 {
     ids_are_drawn();
     ids_are_carried();
+    class3_ids_are_carried();
     plain_devices_stay_plain();
     tables_are_whole();
     next_id_never_falls();

@@ -24,7 +24,7 @@ use adapter_table::laws as adapters;
 use cip_tables::laws as tables;
 pub use connections::connections_join_points;
 use device_laws::{
-    counters_never_fall, ids_are_carried, ids_are_drawn_with_openings,
+    class3_ids_are_carried, counters_never_fall, ids_are_carried, ids_are_drawn_with_openings,
     owners_follow_one_another as owners_of_runs, plain_devices_stay_plain,
     replies_establish_their_own_slot as replies_of_steps,
 };
@@ -59,7 +59,7 @@ pub fn owners_follow_one_another()
 
 /// No connection id that a device may still allocate is anywhere in the world: in no table, in no datagram that was ever
 /// sent, and in no frame that waits on a stream. The tables are whole, and the incarnations are bytes that are not 0 and
-/// differ. There is no class 3 connection: a scanner opens none.
+/// differ. No frame that waits on a stream opens a class 3 connection: a scanner opens none. Devices may have such connections.
 ///
 /// - `schedule`: if it holds of a world, it holds after every schedule from that world.
 /// - `opened`: it holds of a world that begins from configurations of lives, whose incarnations are bytes.
@@ -72,6 +72,7 @@ pub fn ids_are_drawn()
     // A step carries ids or allocates the next ones, keeps tables whole, and moves the counter only forward; the
     // profile, and with it the incarnation, stays.
     ids_are_carried();
+    class3_ids_are_carried();
     plain_devices_stay_plain();
     tables::tables_are_whole();
     tables::next_id_never_falls();
@@ -101,6 +102,7 @@ pub fn later_connections_accept_nothing_sent_before()
 {
     // The same laws of steps as for `ids_are_drawn`; later openings of a scanner have later ids.
     ids_are_carried();
+    class3_ids_are_carried();
     plain_devices_stay_plain();
     ids_are_drawn_with_openings();
     tables::tables_are_whole();

@@ -6,8 +6,8 @@ use crate::ids_are_drawn;
 use adapter_table::laws::profiles_stay;
 use cip_tables::laws::{next_id_never_falls, tables_are_whole};
 use device_laws::{
-    counters_never_fall, ids_are_carried, new_connections_are_requested, plain_devices_stay_plain,
-    replies_carry_opened_ids, scanners_ask_once,
+    class3_ids_are_carried, counters_never_fall, ids_are_carried, new_connections_are_requested,
+    plain_devices_stay_plain, replies_carry_opened_ids, scanners_ask_once,
 };
 
 /// Each T->O id that a scanner allocated is used once at most: one request that asks for it waits on a stream, or one
@@ -20,6 +20,7 @@ pub fn ids_are_used_once()
     // A stream gives each frame once, a scanner asks for each id once, and an adapter asks for none.
     ids_are_drawn();
     ids_are_carried();
+    class3_ids_are_carried();
     plain_devices_stay_plain();
     tables_are_whole();
     counters_never_fall();

@@ -12,9 +12,10 @@ use adapter_table::laws::{accepted_datagrams_are_newer, profiles_stay};
 use cip_tables::laws::{next_id_never_falls, tables_are_whole};
 use device_laws::{
     a_scanners_streams_come_with_events, accepted_numbers_are_newer, answers_send_what_is_made,
-    bytes_are_from_scratch, connections_keep_their_ids, counters_never_fall, ids_are_carried,
-    openings_are_numbered, plain_devices_stay_plain, replies_carry_opened_ids,
-    scanners_ask_for_their_own_ids, scanners_send_no_success, slots_have_the_ids_of_their_success,
+    bytes_are_from_scratch, class3_ids_are_carried, connections_keep_their_ids,
+    counters_never_fall, ids_are_carried, openings_are_numbered, plain_devices_stay_plain,
+    replies_carry_opened_ids, scanners_ask_for_their_own_ids, scanners_send_no_success,
+    slots_have_the_ids_of_their_success,
 };
 use segment_world::laws::projections_are_runs;
 
@@ -66,6 +67,7 @@ pub fn ids_name_openings()
     ids_are_drawn();
     an_id_opens_one_connection();
     ids_are_carried();
+    class3_ids_are_carried();
     plain_devices_stay_plain();
     tables_are_whole();
     next_id_never_falls();
@@ -118,6 +120,7 @@ pub fn an_id_names_one_producer()
     answers_send_what_is_made();
     ids_are_drawn();
     ids_are_carried();
+    class3_ids_are_carried();
     plain_devices_stay_plain();
     tables_are_whole();
     next_id_never_falls();

@@ -9,9 +9,10 @@ use crate::points::images_hold_accepted_data;
 use adapter_table::laws::profiles_stay;
 use cip_tables::laws::{next_id_never_falls, tables_are_whole};
 use device_laws::{
-    a_scanners_streams_come_with_events, answers_send_what_is_made, connections_keep_their_ids,
-    counters_never_fall, ids_are_carried, plain_devices_stay_plain, replies_carry_opened_ids,
-    scanners_ask_for_their_own_ids, scanners_send_no_success, slots_have_the_ids_of_their_success,
+    a_scanners_streams_come_with_events, answers_send_what_is_made, class3_ids_are_carried,
+    connections_keep_their_ids, counters_never_fall, ids_are_carried, plain_devices_stay_plain,
+    replies_carry_opened_ids, scanners_ask_for_their_own_ids, scanners_send_no_success,
+    slots_have_the_ids_of_their_success,
 };
 
 /// A life is named by its incarnation byte: two lives with one byte are one life. Each connection id, of what was produced and of
@@ -24,6 +25,7 @@ pub fn a_life_is_named_by_its_byte()
     answers_send_what_is_made();
     ids_are_drawn();
     ids_are_carried();
+    class3_ids_are_carried();
     plain_devices_stay_plain();
     tables_are_whole();
     next_id_never_falls();

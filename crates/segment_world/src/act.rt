@@ -2,6 +2,7 @@
 
 ghost use Rattle.std.specs.Prelude.{◌≡◌, IfNone, IfOk, IfSome, false};
 ghost use Rattle.cip_events.specs.Arrivals.{is_own};
+ghost use Rattle.cip_events.specs.declared.event.Event.TheVariants as event;
 ghost use Rattle.cip_events.specs.Outcomes.{Follows};
 ghost use Rattle.cip_tables.specs.Step.{step};
 ghost use Rattle.segment_world.specs.World.{event_of_call, event_of_ready};
@@ -49,6 +50,10 @@ pub enum Call {
         status: u8,
         bytes: Items<u8>,
     },
+    /// The host says what it has counted of the interface of an adapter.
+    Counters {
+        bytes: Items<u8>,
+    },
     /// A number of milliseconds passes, at most 60,000.
     Tick {
         ms: u32,
@@ -66,8 +71,17 @@ pub enum ReadyCall<'a> {
     Event(Event),
 }
 
+/// The call that says what a host has counted, with a copy of the bytes.
+fn counters_call(alloc: Global, bytes: &[u8]) -> Result<Call, OutOfMemory>
+    ensures { IfOk result (λ call. event_of_call call ≡ event.Counters bytes.now) }
+{
+    Ok(Call::Counters {
+        bytes: Items::copy_of(alloc, bytes)?,
+    })
+}
+
 impl Call {
-    /// Makes the call ready, with a copy of the bytes of an explicit request, of an answer to one, or of an inquiry.
+    /// Makes the call ready, with a copy of the bytes of an explicit request, of an answer to one, of counters, or of an inquiry.
     /// `OutOfMemory` is the only error.
     pub fn ready(&self, alloc: Global) -> Result<ReadyCall<'_>, OutOfMemory>
         ensures { IfOk result (λ ready. event_of_ready ready ≡ event_of_call self.now) }
@@ -94,6 +108,9 @@ impl Call {
             } => ReadyCall::Event(Event::Respond {
                 number: *number,
                 status: *status,
+                bytes: Items::copy_of(alloc, bytes.as_slice())?,
+            }),
+            Call::Counters { bytes } => ReadyCall::Event(Event::Counters {
                 bytes: Items::copy_of(alloc, bytes.as_slice())?,
             }),
             Call::Tick { ms } => ReadyCall::Event(Event::Tick { ms: *ms }),
@@ -147,6 +164,7 @@ impl Call {
                 peer: *peer,
                 bytes: Items::copy_of(alloc, bytes.as_slice())?,
             },
+            Event::Counters { bytes } => counters_call(alloc, bytes.as_slice())?,
         }))
     }
 }

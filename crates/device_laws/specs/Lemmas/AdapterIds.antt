@@ -21,9 +21,8 @@ use Rattle.cip_encap.specs.declared.packet.ItemFault.TheVariants.{Bad}
 use Rattle.cip_encap.specs.declared.packet.SocketAddress.{SocketAddress}
 use Rattle.cip_encap.specs.Message.{MessageFields, header_widths, header_numbers, message_text}
 use Rattle.cip_encap.specs.Reading.{message_reading}
-use Rattle.cip_encap.specs.ConnectedReading.{connected_reading}
 use Rattle.cip_encap.specs.Packet.{PacketFields, packet_widths, packet_numbers, socket_count, socket_items, packet_text}
-use Rattle.cip_encap.specs.PacketReading.{behind_socket, are_sockets, packet_reading}
+use Rattle.cip_encap.specs.AnyItems.{behind_item, are_items, any_packet_reading}
 use Rattle.cip_encap.specs.ReadsBack.{ItemsReadBack}
 use Rattle.cip_epath.specs.Path.{PathFields}
 use Rattle.adapter_table.specs.Paths.{opening_path}
@@ -88,13 +87,14 @@ use Rattle.adapter_table.specs.Rates.{has_opened_enough_at}
 use Rattle.adapter_table.specs.StatedLimits.{exceeds, limited, paced, limited_admission, is_wrong_closer, is_wrong_ender}
 use Rattle.adapter_table.specs.declared.maker_limits.MakerLimits.{MakerLimits}
 use Rattle.adapter_table.specs.Opening.{opened_t_o_id, opened_row, opened_table}
+use Rattle.adapter_table.specs.Counting.{with_counters}
 use Rattle.adapter_table.specs.Closing.{stays, without_triad, closed_table}
 use Rattle.adapter_table.specs.Datagrams.{is_for, accepted_row, accepted_if_for, row_delivery, accepted_table, delivered, found_datagram, datagram_of, received}
 use Rattle.adapter_table.specs.Productions as productions
 use Rattle.adapter_table.specs.Productions.{state_producer, producer_in, producers, production_of, is_due, due_producers, produced_state, produced_row, produces_on_change, producers_on_change, changed_state, changed_row}
-use Rattle.adapter_table.specs.Requests.{Next, Served, open_service, judged_open, admitted_open, served_open, close_of, served_close, end_of, served_end, router_refusal, object_served, served_object, served}
+use Rattle.adapter_table.specs.Requests.{Next, Served, counted_once, open_service, judged_open, admitted_open, served_open, close_of, served_close, end_of, served_end, router_refusal, object_served, served_object, served}
 use Rattle.adapter_table.specs.Streams.{is_stream, is_taken, with_stream, without_stream, has_session, registered_table, stream_opened, cut_of, stream_cut}
-use Rattle.adapter_table.specs.Encapsulation.{Handled, refusal, unanswered, session_begun, session_ended, register_session, request_replied, request_handled, packet_replied, unit_replied, handled, reply_frames, framed, frame_answer, stream_answer, frame_of, frame, outside_session}
+use Rattle.adapter_table.specs.Encapsulation.{Handled, items_for, connected_items_for, refusal, unanswered, session_begun, session_ended, register_session, request_replied, request_handled, packet_replied, unit_replied, handled, reply_frames, framed, frame_answer, stream_answer, frame_of, frame, outside_session}
 use Rattle.adapter_table.specs.Ticks.{has_expired, expired_row, expired_rows, clocked_table, expired_table, produced_table, advanced, late_frames, aged_next, tick}
 use Rattle.adapter_table.specs.Step.{written_table, changed_table, written, write_of, write, adapter_step}
 use Rattle.answer_sizes.specs.Sizes.{IsShortFrame, IsSmall}
@@ -105,7 +105,10 @@ use Rattle.device_laws.specs.Lemmas.Payloads.{opened_ids, closed_ids, object_ids
 use Rattle.device_laws.specs.Lemmas.ConnectedTexts.{connected_bad}
 use Rattle.device_laws.specs.Lemmas.MessageSteps.{IsItemless, IsOfMessages, unit_of, respond_holds}
 use Rattle.device_laws.specs.Lemmas.InquiryTexts.{IsPlainText, plain_services, plain_ids, inquiry_plain}
+use Rattle.adapter_table.specs.Lemmas.CountLemmas.{counted_by_keeps}
+use Rattle.adapter_table.specs.Lemmas.ItemLemmas.{items_hold}
 use Rattle.adapter_table.specs.Lemmas.PassiveLemmas.{passive_holds}
+use Rattle.adapter_table.specs.Lemmas.PlainLemmas.{counters_hold}
 use Rattle.adapter_table.specs.Lemmas.FrameLemmas.{answer_has}
 use Rattle.adapter_table.specs.Describing.{is_variable, fixed}
 
@@ -334,10 +337,16 @@ replied_holds : (P Q : ℕ → Type 0) (to : ℕ) (t : AdapterTable) (s : Option
 replied_holds P Q to t None rows holds = λ below. (tt, rows)
 replied_holds P Q to t (Some s) rows holds = holds
 
+-- what is counted has the same ids
+counted_holds : (P Q : ℕ → Type 0) (to : ℕ) (request : RouterRequestFields) (s : Option Served) → (next_of to s ≤ to → AnyHolds P Q s) → next_of to (counted_once request s) ≤ to → AnyHolds P Q (counted_once request s)
+counted_holds P Q to request None holds below = holds below
+counted_holds P Q to request (Some s) holds below = counted_by_keeps (λ (u : Served). u.table.next_id ≤ to → ServedHolds P Q u) (λ u counters keeps. keeps) request s holds below
+
 request_holds : (P Q : ℕ → Type 0) → Cuts P → (to : ℕ) (t : AdapterTable) (stream : Stream) (context : ℕ) (request : RouterRequestFields) (asks : Option OwnRequest) → HasDrawn P Q t to → RequestIds P request → RowsHold P Q t.rows → HandledHolds P Q to (request_handled t stream context request asks)
 unfolding messages_table
 request_holds P Q cuts to t stream context request None drawn ids rows =
-    replied_holds P Q to t (stream_served t stream request) rows (λ below. over_stream_holds P Q cuts t stream request to below drawn ids rows)
+    replied_holds P Q to t (counted_once request (stream_served t stream request)) rows
+    (counted_holds P Q to request (stream_served t stream request) (λ below. over_stream_holds P Q cuts t stream request to below drawn ids rows))
 request_holds P Q cuts to t stream context request (Some own) drawn ids rows =
     either (HandledHolds P Q to) (cannot_ask t stream.peer) (request_replied t (Some (router_refusal t own.service status.ResourceUnavailable))) _
     (λ below. refusal_holds P Q t own.service status.ResourceUnavailable rows) (λ below. (tt, rows))
@@ -363,28 +372,28 @@ itemless_ids P (Some (connected connection count text)) none = tt
 -- what becomes of a connected message
 of_messages : (P Q : ℕ → Type 0) (to : ℕ) (t : AdapterTable) (done : Handled) → IsOfMessages t done → RowsHold P Q t.rows → HandledHolds P Q to done
 of_messages P Q to t done is rows = λ below.
-    (itemless_ids P done.reply is.reply, subst (λ (u : AdapterTable). RowsHold P Q u.rows) (sym is.table) (messages_hold P Q t t.next_id is.messages rows))
+    (itemless_ids P done.reply is.reply, subst (λ (u : AdapterTable). RowsHold P Q u.rows) (sym is.table) (messages_hold P Q (with_counters t is.counters) t.next_id is.messages rows))
 
-handled_holds : (P Q : ℕ → Type 0) → Cuts P → (to : ℕ) (t : AdapterTable) (stream : Stream) (request_header : RequestHeader) (body : List ℕ) (kind : Command) → HasDrawn P Q t to → PacketIds P (packet_reading body) → RowsHold P Q t.rows → HandledHolds P Q to (handled t stream request_header body kind)
+handled_holds : (P Q : ℕ → Type 0) → Cuts P → (to : ℕ) (t : AdapterTable) (stream : Stream) (request_header : RequestHeader) (body : List ℕ) (kind : Command) → HasDrawn P Q t to → PacketIds P (any_packet_reading body) → RowsHold P Q t.rows → HandledHolds P Q to (handled t stream request_header body kind)
 unfolding handled without_stream
 handled_holds P Q cuts to t stream request_header body command.RegisterSession drawn ids rows = register_holds P Q to t stream body rows
 handled_holds P Q cuts to t stream request_header body command.UnregisterSession drawn ids rows =
     either (HandledHolds P Q to) (has_session stream request_header.session) (session_ended t stream) (unanswered t) (λ below. (tt, rows)) (λ below. (tt, rows))
 handled_holds P Q cuts to t stream request_header body command.SendRrData drawn ids rows =
-    either (HandledHolds P Q to) (has_session stream request_header.session) _ _ (packet_holds P Q cuts to t stream request_header.context (packet_reading body) drawn ids rows) (λ below. (tt, rows))
+    either (HandledHolds P Q to) (has_session stream request_header.session) _ _ (packet_holds P Q cuts to t stream request_header.context (items_for t.profile.description body) drawn (items_hold (PacketIds P) (λ fault. tt) t.profile.description body ids) rows) (λ below. (tt, rows))
 handled_holds P Q cuts to t stream request_header body command.SendUnitData drawn ids rows =
-    either (HandledHolds P Q to) (has_session stream request_header.session) (unit_replied t stream (connected_reading body)) (refusal t (outside_session t.profile.description))
-    (of_messages P Q to t (unit_replied t stream (connected_reading body)) (unit_of t stream (connected_reading body)) rows) (λ below. (tt, rows))
+    either (HandledHolds P Q to) (has_session stream request_header.session) (unit_replied t stream (connected_items_for t.profile.description body)) (refusal t (outside_session t.profile.description))
+    (of_messages P Q to t (unit_replied t stream (connected_items_for t.profile.description body)) (unit_of t stream (connected_items_for t.profile.description body)) rows) (λ below. (tt, rows))
 handled_holds P Q cuts to t stream request_header body _ drawn ids rows = λ below. (tt, rows)
 
 -- ---- frames
 
-pub plain_protocol : packet_reading protocol_text ≡ Err Bad
-unfolding packet_reading are_sockets behind_socket
+pub plain_protocol : any_packet_reading protocol_text ≡ Err Bad
+unfolding any_packet_reading are_items behind_item
 plain_protocol = refl
 
-pub plain_none : packet_reading [] ≡ Err Bad
-unfolding packet_reading are_sockets behind_socket
+pub plain_none : any_packet_reading [] ≡ Err Bad
+unfolding any_packet_reading are_items behind_item
 plain_none = refl
 
 pub some_bytes : (reply : ReplyFields) → 1 ≤ length (reply_text reply)
@@ -404,7 +413,7 @@ few_bytes m payload socket is short =
     let same : length m.payload ≡ length (packet_text payload socket) = ap length is in
     omega (arith, short, same, length-append header m.payload, length-append front (payload ++ socket_items socket), length-append payload (socket_items socket))
 
-reply_ids : ItemsReadBack → (P : ℕ → Type 0) (request_header : RequestHeader) (reply : FrameReply) → SaysIds P reply → length (message_text (reply_message request_header reply)) ≤ 2048 → PacketIds P (packet_reading (reply_message request_header reply).payload)
+reply_ids : ItemsReadBack → (P : ℕ → Type 0) (request_header : RequestHeader) (reply : FrameReply) → SaysIds P reply → length (message_text (reply_message request_header reply)) ≤ 2048 → PacketIds P (any_packet_reading (reply_message request_header reply).payload)
 reply_ids back P request_header (router_reply reply address) ids short =
     packet_ids back P (reply_text reply) (option_map socket_of address) (some_bytes reply) (few_bytes (reply_message request_header (router_reply reply address)) (reply_text reply) (option_map socket_of address) refl short) ids
 reply_ids back P request_header services ids short = subst (PacketIds P) (sym plain_services) tt
@@ -610,4 +619,5 @@ adapter_holds back P Q cuts to t (event.Inquiry peer bytes) drawn ids answered r
 adapter_holds back P Q cuts to t (event.Write point bytes) drawn ids answered rows = found_write P Q cuts to t point bytes (find (is_at point) t.profile.inputs) rows
 adapter_holds back P Q cuts to t (event.Tick ms) drawn ids answered rows = tick_holds back P Q cuts to t ms rows
 adapter_holds back P Q cuts to t (event.Respond number general bytes) drawn ids answered rows = respond_hold back P Q to t number general bytes answered rows
+adapter_holds back P Q cuts to t (event.Counters bytes) drawn ids answered rows = counters_hold (OkHolds P Q to) t bytes (λ why. tt) (λ below small. (record { frames = tt; datagrams = tt }, rows))
 adapter_holds back P Q cuts to t other drawn ids answered rows = passive_holds (OkHolds P Q to) t (λ why. tt) (λ verdict below small. (record { frames = tt; datagrams = tt }, rows)) other refl

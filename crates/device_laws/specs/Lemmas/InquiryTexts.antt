@@ -6,7 +6,7 @@ use Rattle.std.proofs.lemmas.Bool.{le-ltb}
 use Rattle.cip_types.specs.Fields.{field_at, fields_at, then_at}
 use Rattle.cip_types.specs.Texts.{Tailed}
 use Rattle.cip_encap.specs.Message.{MessageFields, message_text}
-use Rattle.cip_encap.specs.PacketReading.{parts_reading, found_reading, are_sockets, behind_socket, packet_reading}
+use Rattle.cip_encap.specs.AnyItems.{any_parts, any_found, are_items, behind_item, any_packet_reading}
 use Rattle.cip_encap.specs.declared.packet.ItemFault.TheVariants.{Bad}
 use Rattle.cip_encap.specs.declared.packet.SocketAddress.{SocketAddress}
 use Rattle.list_identity.specs.declared.inquiry.Inquiry.{Inquiry}
@@ -23,16 +23,16 @@ use Rattle.device_laws.specs.Lemmas.Texts.{message_ids}
 
 -- ---- data that are no items
 
-pub plain_services : packet_reading services_text ≡ Err Bad
-unfolding packet_reading are_sockets behind_socket
+pub plain_services : any_packet_reading services_text ≡ Err Bad
+unfolding any_packet_reading are_items behind_item
 plain_services = refl
 
 -- an interface handle that is not 0
-parts_bad : (interface : ℕ) (numbers rest : List ℕ) → (interface == 0) ≡ false → parts_reading (interface ∷ numbers) rest ≡ Err Bad
+parts_bad : (interface : ℕ) (numbers rest : List ℕ) → (interface == 0) ≡ false → any_parts (interface ∷ numbers) rest ≡ Err Bad
 parts_bad interface (timeout ∷ count ∷ address ∷ address_len ∷ kind ∷ len ∷ []) rest other = rw other refl
 parts_bad interface _ rest other = refl
 
-front_bad : (interface : ℕ) (found : Option Tailed) → (interface == 0) ≡ false → found_reading (then_at found (λ ns after. Some (interface ∷ ns, after))) ≡ Err Bad
+front_bad : (interface : ℕ) (found : Option Tailed) → (interface == 0) ≡ false → any_found (then_at found (λ ns after. Some (interface ∷ ns, after))) ≡ Err Bad
 front_bad interface None other = refl
 front_bad interface (Some p) other = parts_bad interface p.0 p.1 other
 
@@ -43,21 +43,21 @@ first_four a b c d rest =
     rw some refl
 
 -- what begins with an item type of 000C and a count of 1
-counted_bad : (rest : List ℕ) → packet_reading (1 ∷ 0 ∷ 0x0C ∷ 0 ∷ rest) ≡ Err Bad
-unfolding packet_reading
+counted_bad : (rest : List ℕ) → any_packet_reading (1 ∷ 0 ∷ 0x0C ∷ 0 ∷ rest) ≡ Err Bad
+unfolding any_packet_reading
 counted_bad rest =
-    subst (λ (first : Option (ℕ × List ℕ)). found_reading (then_at first (λ n after. then_at (fields_at (w16 ∷ w16 ∷ w16 ∷ w16 ∷ w16 ∷ w16 ∷ []) after) (λ ns more. Some (n ∷ ns, more)))) ≡ Err Bad)
+    subst (λ (first : Option (ℕ × List ℕ)). any_found (then_at first (λ n after. then_at (fields_at (w16 ∷ w16 ∷ w16 ∷ w16 ∷ w16 ∷ w16 ∷ []) after) (λ ns more. Some (n ∷ ns, more)))) ≡ Err Bad)
     (sym (first_four 1 0 0x0C 0 rest)) (front_bad (from_le_bytes w32 (1 ∷ 0 ∷ 0x0C ∷ 0 ∷ [])) (fields_at (w16 ∷ w16 ∷ w16 ∷ w16 ∷ w16 ∷ w16 ∷ []) rest) refl)
 
-item_bad : (s : StationIdentity) (at : SocketAddress) → packet_reading (identity_item s at) ≡ Err Bad
+item_bad : (s : StationIdentity) (at : SocketAddress) → any_packet_reading (identity_item s at) ≡ Err Bad
 unfolding identity_item item_head
 item_bad s at = counted_bad (to_le_bytes w16 (fixed_bytes + length s.name) ++ (to_le_bytes w16 1 ++ (view_socket at ++ (view_device s ++ view_name s))))
 
-interfaces_bad : packet_reading (0 ∷ 0 ∷ []) ≡ Err Bad
-unfolding packet_reading are_sockets behind_socket
+interfaces_bad : any_packet_reading (0 ∷ 0 ∷ []) ≡ Err Bad
+unfolding any_packet_reading are_items behind_item
 interfaces_bad = refl
 
-data_bad : (question : Inquiry) (s : StationIdentity) (at : SocketAddress) → packet_reading (inquiry_data question s at) ≡ Err Bad
+data_bad : (question : Inquiry) (s : StationIdentity) (at : SocketAddress) → any_packet_reading (inquiry_data question s at) ≡ Err Bad
 data_bad inquiry.Services s at = plain_services
 data_bad inquiry.Identity s at = item_bad s at
 data_bad inquiry.Interfaces s at = interfaces_bad
@@ -68,7 +68,7 @@ data_bad inquiry.Interfaces s at = interfaces_bad
 pub record IsPlainText (text : List ℕ) : Type 0 where
   pub message : MessageFields
   pub is : text ≡ message_text message
-  pub bad : packet_reading message.payload ≡ Err Bad
+  pub bad : any_packet_reading message.payload ≡ Err Bad
 
 text_plain : (s : StationIdentity) (at : SocketAddress) (found : Option InquiryMessage) → IfSome (option_map (inquiry_text s at) found) IsPlainText
 text_plain s at None = tt

@@ -1,5 +1,5 @@
 -- What connected messages, requests to the maker's own objects, answers of the application and time do to class 3 connections
--- and to requests that wait: all else of an adapter's table stays.
+-- and to requests that wait: all else of an adapter's table stays, but what is counted of a message.
 use Rattle.std.proofs.Common.{◌≡◌, ℕ, ◌+◌, nat_lt, Bool, true, false, cond, List, [], ◌∷◌, length, find, Option, Some, None, Result, Ok, Err, refl, ap}
 use Rattle.std.specs.Option.{IfSome}
 use Rattle.base_lemmas.specs.Booleans.{either}
@@ -15,22 +15,23 @@ use Rattle.cip_router.specs.declared.refusal.Status.TheVariants as router
 use Rattle.cip_router.specs.Frames.{FrameReply, services, registered, other_version, router_reply, connected}
 use Rattle.cip_router.specs.Frames as frames
 use Rattle.cip_router.specs.Replies.{own}
-use Rattle.cip_router.specs.Requests.{RouterRequestFields, nothing, refused, closing, object, opening, router_request_reading}
+use Rattle.cip_router.specs.Requests.{RouterRequestFields, router_request_reading}
 use Rattle.messaging.specs.declared.class3.Class3Connection.{Class3Connection}
 use Rattle.messaging.specs.declared.requests.Waiting.{Waiting}
 use Rattle.messaging.specs.declared.table.Messaging.{Messaging}
 use Rattle.messaging.specs.Changes.{longest_answer, has_request_number, executed, repeated, referred_over}
 use Rattle.messaging.specs.Class3Connections.{is_class3, repeats_last}
+use Rattle.adapter_table.specs.declared.counters.DeviceCounters.{DeviceCounters}
 use Rattle.adapter_table.specs.declared.table.AdapterTable.{AdapterTable}
 use Rattle.adapter_table.specs.declared.table.Stream.{Stream}
 use Rattle.adapter_table.specs.Answering.{responded, respond_of, respond}
+use Rattle.adapter_table.specs.Counting.{with_counters}
+use Rattle.adapter_table.specs.Lemmas.CountLemmas.{connected_stays, counted_table}
 use Rattle.adapter_table.specs.Connected.{service_in, fitted_text, connected_served, next_deadline, executed_table}
 use Rattle.adapter_table.specs.Encapsulation.{Handled, refusal, undelivered, kept_reply, message_repeated, message_replied, message_served, message_executed, message_found, unit_replied}
 use Rattle.adapter_table.specs.Messages.{messages_table}
-use Rattle.adapter_table.specs.Objects.{ObjectAnswer, said, denied, resetting, answering, refusing, unrouted}
-use Rattle.adapter_table.specs.Carrying.{object_answer}
 use Rattle.adapter_table.specs.Own.{OwnRequest, own_of, cannot_ask}
-use Rattle.adapter_table.specs.Requests.{Next, Served, open_service, router_refusal, object_served, served_object}
+use Rattle.adapter_table.specs.Requests.{Next, Served, counted_by, counted_once, router_refusal}
 
 -- ---- connected messages
 
@@ -43,59 +44,52 @@ IsItemless (router_reply reply address) = ⊥
 IsItemless (frames.refused why) = Unit {0}
 IsItemless (connected connection count text) = Unit {0}
 
--- all of the table but its messages stays, and the reply is such a one
+-- all of the table but its messages and its counters stays, and the reply is such a one
 pub record IsOfMessages (t : AdapterTable) (done : Handled) : Type 0 where
   pub messages : Messaging
-  pub table : done.table ≡ messages_table t t.next_id messages
+  pub counters : DeviceCounters
+  pub table : done.table ≡ messages_table (with_counters t counters) t.next_id messages
   pub reply : IfSome done.reply IsItemless
 
-pub same_table : (t : AdapterTable) → t ≡ messages_table t t.next_id t.messaging
+pub same_table : (t : AdapterTable) → t ≡ messages_table (with_counters t t.counters) t.next_id t.messaging
 unfolding messages_table
 same_table t = refl
 
 refusal_of : (t : AdapterTable) (why : EncapStatus) → IsOfMessages t (refusal t why)
-refusal_of t why = record { messages = t.messaging; table = same_table t; reply = tt }
+refusal_of t why = record { messages = t.messaging; counters = t.counters; table = same_table t; reply = tt }
 
 undelivered_of : (t : AdapterTable) (why : Delivery) → IsOfMessages t (undelivered t why)
-undelivered_of t why = record { messages = t.messaging; table = same_table t; reply = tt }
+undelivered_of t why = record { messages = t.messaging; counters = t.counters; table = same_table t; reply = tt }
 
-replied_of : (t : AdapterTable) (d : Class3Connection) (count service : ℕ) (s : Served) → s.table ≡ t → IsOfMessages t (message_replied d count service s)
-replied_of t d count service s same = record {
+replied_of : (t : AdapterTable) (d : Class3Connection) (count service : ℕ) (s : Served) (counters : DeviceCounters) → s.table ≡ with_counters t counters → IsOfMessages t (message_replied d count service s)
+replied_of t d count service s counters same = record {
   messages = executed t.messaging d.o_t_id count (fitted_text d service s.reply) (next_deadline t d);
+  counters = counters;
   table = ap (λ (u : AdapterTable). executed_table u d count (fitted_text d service s.reply)) same;
   reply = tt;
 }
 
-object_table : (t : AdapterTable) (service : ℕ) (answer : ObjectAnswer) → (object_served t service answer).table ≡ t
-object_table t service (said by value) = refl
-object_table t service (denied why) = refl
-object_table t service (resetting kind) = refl
-object_table t service (answering by general content) = refl
-object_table t service (refusing named why) = refl
-object_table t service (unrouted words) = refl
+-- what is served of a message is counted
+counted_of : (t : AdapterTable) (d : Class3Connection) (count first : ℕ) (request : RouterRequestFields) (s : Option Served) → IfSome s (λ u. u.table ≡ t) → IsOfMessages t (message_served t d count first (counted_once request s))
+counted_of t d count first request None stays = refusal_of t encap.IncorrectData
+counted_of t d count first request (Some s) stays = replied_of t d count first (counted_by request s) (counted_by request s).table.counters (counted_table t request s stays)
 
-served_of : (t : AdapterTable) (d : Class3Connection) (count first : ℕ) (request : RouterRequestFields) → IsOfMessages t (message_served t d count first (connected_served t d.peer request))
-unfolding served_object
-served_of t d count first nothing = refusal_of t encap.IncorrectData
-served_of t d count first (refused service why) = replied_of t d count first (router_refusal t service why) refl
-served_of t d count first (closing request) = replied_of t d count first (router_refusal t 0x4E router.Service) refl
-served_of t d count first (object service class instance attribute body) =
-    replied_of t d count first (object_served t service (object_answer t service class instance attribute body)) (object_table t service (object_answer t service class instance attribute body))
-served_of t d count first (opening large request) = replied_of t d count first (router_refusal t (open_service large) router.Service) refl
+served_of : (t : AdapterTable) (d : Class3Connection) (count first : ℕ) (request : RouterRequestFields) → IsOfMessages t (message_served t d count first (counted_once request (connected_served t d.peer request)))
+served_of t d count first request = counted_of t d count first request (connected_served t d.peer request) (connected_stays t d.peer request)
 
 executed_of : (t : AdapterTable) (d : Class3Connection) (count first : ℕ) (request : RouterRequestFields) (asks : Option OwnRequest) → IsOfMessages t (message_executed t d count first request asks)
 executed_of t d count first request None = served_of t d count first request
 executed_of t d count first request (Some asks) =
     either (IsOfMessages t) (cannot_ask t d.peer) (message_replied d count asks.service (router_refusal t asks.service router.ResourceUnavailable)) _
-    (replied_of t d count asks.service (router_refusal t asks.service router.ResourceUnavailable) refl)
-    (record { messages = referred_over t.messaging d.peer d.o_t_id count asks.service (next_deadline t d) t.clock; table = refl; reply = tt })
+    (replied_of t d count asks.service (router_refusal t asks.service router.ResourceUnavailable) t.counters refl)
+    (record { messages = referred_over t.messaging d.peer d.o_t_id count asks.service (next_deadline t d) t.clock; counters = t.counters; table = refl; reply = tt })
 
 kept_itemless : (d : Class3Connection) (count : ℕ) (text : List ℕ) → IfSome (kept_reply d count text) IsItemless
 kept_itemless d count [] = tt
 kept_itemless d count (first ∷ rest) = tt
 
 repeated_of : (t : AdapterTable) (d : Class3Connection) (count : ℕ) → IsOfMessages t (message_repeated t d count)
-repeated_of t d count = record { messages = repeated t.messaging d.o_t_id (next_deadline t d); table = refl; reply = kept_itemless d count d.reply }
+repeated_of t d count = record { messages = repeated t.messaging d.o_t_id (next_deadline t d); counters = t.counters; table = refl; reply = kept_itemless d count d.reply }
 
 found_of : (t : AdapterTable) (count : ℕ) (message : List ℕ) (found : Option Class3Connection) → IsOfMessages t (message_found t count message found)
 found_of t count message None = undelivered_of t UnknownId

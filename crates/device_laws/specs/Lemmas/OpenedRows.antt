@@ -9,9 +9,8 @@ use Rattle.cip_types.specs.Fields.{fields_at}
 use Rattle.cip_encap.specs.declared.message.EncapFault.{EncapFault}
 use Rattle.cip_encap.specs.declared.packet.ItemFault.{ItemFault}
 use Rattle.cip_encap.specs.Message.{MessageFields, header_widths}
-use Rattle.cip_encap.specs.ConnectedReading.{connected_reading}
 use Rattle.cip_encap.specs.Packet.{PacketFields}
-use Rattle.cip_encap.specs.PacketReading.{packet_reading}
+use Rattle.cip_encap.specs.AnyItems.{any_packet_reading}
 use Rattle.cip_encap.specs.Reading.{message_reading}
 use Rattle.cip_events.specs.declared.event.Verdict.TheVariants.{BadFrame}
 use Rattle.cip_events.specs.Answers.{plain_answer}
@@ -38,16 +37,19 @@ use Rattle.adapter_table.specs.Messages.{messages_table}
 use Rattle.adapter_table.specs.Own.{OwnRequest, own_of, cannot_ask}
 use Rattle.adapter_table.specs.Closing.{stays, without_triad, closed_table}
 use Rattle.adapter_table.specs.Connections.{Row}
-use Rattle.adapter_table.specs.Encapsulation.{Handled, refusal, unanswered, session_begun, session_ended, register_session, request_replied, request_handled, packet_replied, unit_replied, handled, framed, frame_answer, stream_answer, frame_of, outside_session}
+use Rattle.adapter_table.specs.Counting.{with_counters}
+use Rattle.adapter_table.specs.Encapsulation.{Handled, items_for, connected_items_for, refusal, unanswered, session_begun, session_ended, register_session, request_replied, request_handled, packet_replied, unit_replied, handled, framed, frame_answer, stream_answer, frame_of, outside_session}
 use Rattle.adapter_table.specs.Inquiries.{inquiry_reply}
 use Rattle.adapter_table.specs.Objects.{ObjectAnswer}
 use Rattle.adapter_table.specs.Carrying.{object_answer}
 use Rattle.adapter_table.specs.Objects as objects
 use Rattle.adapter_table.specs.Opening.{opened_row, opened_table}
-use Rattle.adapter_table.specs.Requests.{Next, Served, judged_open, admitted_open, served_open, close_of, served_close, end_of, served_end, router_refusal, object_served, served_object, served}
+use Rattle.adapter_table.specs.Requests.{Next, Served, counted_once, judged_open, admitted_open, served_open, close_of, served_close, end_of, served_end, router_refusal, object_served, served_object, served}
 use Rattle.adapter_table.specs.Rows.{has_triad}
 use Rattle.adapter_table.specs.StatedLimits.{limited_admission, is_wrong_closer, is_wrong_ender}
 use Rattle.adapter_table.specs.Streams.{without_stream, has_session, registered_table}
+use Rattle.adapter_table.specs.Lemmas.CountLemmas.{counted_keeps}
+use Rattle.adapter_table.specs.Lemmas.ItemLemmas.{items_any}
 use Rattle.adapter_table.specs.Lemmas.LimitLemmas.{limited_is}
 use Rattle.adapter_table.specs.Lemmas.FrameLemmas.{answer_has}
 use Rattle.device_laws.specs.Lemmas.Lists.{all_both, all_filtered}
@@ -144,7 +146,8 @@ over_stream_rows O t stream (closing request) makes rows = served_rows O t strea
 over_stream_rows O t stream (object service class instance attribute body) makes rows = served_rows O t stream.peer (object service class instance attribute body) makes rows
 
 request_rows : (O : Row → Type 0) (t : AdapterTable) (stream : Stream) (context : ℕ) (requested : RouterRequestFields) (own : Option OwnRequest) → Makes O t requested → RowsAre O t → HandledRows O (request_handled t stream context requested own)
-request_rows O t stream context requested None makes rows = replied_rows O t (stream_served t stream requested) (over_stream_rows O t stream requested makes rows) rows
+request_rows O t stream context requested None makes rows =
+    replied_rows O t (counted_once requested (stream_served t stream requested)) (counted_keeps (ServedRows O) (λ s counters kept. kept) requested (stream_served t stream requested) (over_stream_rows O t stream requested makes rows)) rows
 request_rows O t stream context requested (Some own) makes rows =
     either (HandledRows O) (cannot_ask t stream.peer) (request_replied t (Some (router_refusal t own.service status.ResourceUnavailable))) _ rows (messages_rows O t t.next_id _ rows)
 
@@ -153,19 +156,21 @@ packet_rows O t stream context (Err why) makes rows = rows
 packet_rows O t stream context (Ok packet) makes rows = request_rows O t stream context (router_request_reading packet.payload) (own_of t.profile.objects (router_request_reading packet.payload)) (makes packet refl) rows
 
 unit_rows : (O : Row → Type 0) (t : AdapterTable) (done : Handled) → IsOfMessages t done → RowsAre O t → HandledRows O done
-unit_rows O t done is rows = subst (RowsAre O) (sym is.table) (messages_rows O t t.next_id is.messages rows)
+unit_rows O t done is rows = subst (RowsAre O) (sym is.table) (messages_rows O (with_counters t is.counters) t.next_id is.messages rows)
 
-handled_rows : (O : Row → Type 0) (t : AdapterTable) (stream : Stream) (echo : RequestHeader) (body : List ℕ) (requested : Command) → PacketMakes O t (packet_reading body) → RowsAre O t → HandledRows O (handled t stream echo body requested)
+handled_rows : (O : Row → Type 0) (t : AdapterTable) (stream : Stream) (echo : RequestHeader) (body : List ℕ) (requested : Command) → PacketMakes O t (any_packet_reading body) → RowsAre O t → HandledRows O (handled t stream echo body requested)
 unfolding handled
 handled_rows O t stream echo body command.Nop makes rows = rows
 handled_rows O t stream echo body command.ListServices makes rows = rows
 handled_rows O t stream echo body command.RegisterSession makes rows = register_rows O t stream body rows
 handled_rows O t stream echo body command.UnregisterSession makes rows =
     either (HandledRows O) (has_session stream echo.session) (session_ended t stream) (unanswered t) (without_rows O t stream.number rows) rows
-handled_rows O t stream echo body command.SendRrData makes rows = either (HandledRows O) (has_session stream echo.session) _ _ (packet_rows O t stream echo.context (packet_reading body) makes rows) rows
+handled_rows O t stream echo body command.SendRrData makes rows =
+    either (HandledRows O) (has_session stream echo.session) _ _
+    (packet_rows O t stream echo.context (items_for t.profile.description body) (λ packet is. makes packet (items_any t.profile.description body packet is)) rows) rows
 handled_rows O t stream echo body command.SendUnitData makes rows =
-    either (HandledRows O) (has_session stream echo.session) (unit_replied t stream (connected_reading body)) (refusal t (outside_session t.profile.description))
-    (unit_rows O t (unit_replied t stream (connected_reading body)) (unit_of t stream (connected_reading body)) rows) rows
+    either (HandledRows O) (has_session stream echo.session) (unit_replied t stream (connected_items_for t.profile.description body)) (refusal t (outside_session t.profile.description))
+    (unit_rows O t (unit_replied t stream (connected_items_for t.profile.description body)) (unit_of t stream (connected_items_for t.profile.description body)) rows) rows
 handled_rows O t stream echo body command.Other makes rows = rows
 
 abbrev pub NextRows : (Row → Type 0) → Next → Type 0
@@ -177,7 +182,7 @@ wrong_length_rows O t stream (Some h) rows =
     either (NextRows O) (is_silent (command_of (request_header_in h.0).command)) (plain_answer BadFrame, t) (framed stream.number (request_header_in h.0) (refusal t encap.InvalidLength)) rows rows
 
 abbrev pub MessageMakes : (Row → Type 0) → AdapterTable → Result MessageFields EncapFault → Type 0
-MessageMakes O t reading = (m : MessageFields) → reading ≡ Ok m → PacketMakes O t (packet_reading m.payload)
+MessageMakes O t reading = (m : MessageFields) → reading ≡ Ok m → PacketMakes O t (any_packet_reading m.payload)
 
 message_rows : (O : Row → Type 0) (t : AdapterTable) (stream : Stream) (header : Option Tailed) (reading : Result MessageFields EncapFault) → MessageMakes O t reading → RowsAre O t → NextRows O (frame_answer t stream (frame_fields header reading))
 message_rows O t stream header (Err why) makes rows = wrong_length_rows O t stream header rows

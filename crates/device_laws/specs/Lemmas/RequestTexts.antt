@@ -18,7 +18,8 @@ use Rattle.cip_fwdopen.specs.Request.{with_target, request_of, request_reading}
 use Rattle.cip_encap.specs.declared.packet.ItemFault.{ItemFault}
 use Rattle.cip_encap.specs.Message.{message_text}
 use Rattle.cip_encap.specs.Packet.{PacketFields}
-use Rattle.cip_encap.specs.PacketReading.{packet_reading}
+use Rattle.cip_encap.specs.AnyItems.{any_packet_reading}
+use Rattle.cip_encap.specs.Lemmas.AnyItemLemmas.{any_back}
 use Rattle.cip_encap.specs.ReadsBack.{ItemsReadBack}
 use Rattle.cip_router.specs.Requests.{RouterRequestFields, nothing, refused, object, request_to_open, request_to_manager, router_request_of, router_request_reading}
 use Rattle.cip_router.specs.Requests as router
@@ -82,7 +83,7 @@ open_read Q large request holds =
     subst (λ (found : Option Tailed). ReadSo Q (answer_of (found_image (open_of large) (fixed_found path_len found)))) (sym (fields_cut (open_widths large) (open_numbers large request) request.path refl))
     (open_found Q large _ (numbers, request.path) holds)
 
-requested_of_manager : (Q : OpenFields → Type 0) (service : ℕ) (body : List ℕ) → RequestOpens Q (request_to_manager service body) → RequestOpens Q (router_request_reading (service ∷ 2 ∷ 0x20 ∷ 6 ∷ 0x24 ∷ 1 ∷ body))
+requested_of_manager : (Q : OpenFields → Type 0) (service : ℕ) (body : List ℕ) → RequestOpens Q (request_to_manager service None body) → RequestOpens Q (router_request_reading (service ∷ 2 ∷ 0x20 ∷ 6 ∷ 0x24 ∷ 1 ∷ body))
 unfolding router_request_reading request_reading
 requested_of_manager Q service body holds =
     subst (λ (f : Option (Tailed × List ℕ)). RequestOpens Q (router_request_of service (request_of f))) (sym (manager_front service body))
@@ -99,19 +100,19 @@ HoldsAsRead Q (opening large request) = Q (read_back large request)
 HoldsAsRead Q (closing request) = Unit {0}
 HoldsAsRead Q (requesting bytes) = IsExplicit bytes
 
-pub packet_opens : ItemsReadBack → (Q : OpenFields → Type 0) (sent : Sent) (request : Request) → sent.request ≡ request → HoldsAsRead Q request → length (message_text (sent_message sent)) ≤ 2048 → PacketOpens Q (packet_reading (sent_message sent).payload)
+pub packet_opens : ItemsReadBack → (Q : OpenFields → Type 0) (sent : Sent) (request : Request) → sent.request ≡ request → HoldsAsRead Q request → length (message_text (sent_message sent)) ≤ 2048 → PacketOpens Q (any_packet_reading (sent_message sent).payload)
 packet_opens back Q sent registering is holds few = rw is (subst (PacketOpens Q) (sym plain_protocol) tt)
 packet_opens back Q sent (opening large fields) is holds few =
     let body = manager_text (open_service large) (open_text large fields) in
-    rw is (subst (PacketOpens Q) (sym (back body None (omega arith) (few_bytes (sent_message sent) body None (rw is refl) few))) (payload_opens Q large fields holds))
+    rw is (subst (PacketOpens Q) (sym (any_back back body None (omega arith) (few_bytes (sent_message sent) body None (rw is refl) few))) (payload_opens Q large fields holds))
 packet_opens back Q sent (closing fields) is holds few =
     let body = manager_text 0x4E (close_text fields) in
     let none = close_request_ids (λ id. ⊥) (close_text fields) in
-    rw is (subst (PacketOpens Q) (sym (back body None (omega arith) (few_bytes (sent_message sent) body None (rw is refl) few)))
+    rw is (subst (PacketOpens Q) (sym (any_back back body None (omega arith) (few_bytes (sent_message sent) body None (rw is refl) few)))
     (opens_none Q (router_request_reading body) none.requested))
 packet_opens back Q sent (requesting bytes) is explicit few =
     let none = explicit_ids (λ id. ⊥) bytes explicit in
-    rw is (subst (PacketOpens Q) (sym (back bytes None (explicit_some bytes explicit) (few_bytes (sent_message sent) bytes None (rw is refl) few)))
+    rw is (subst (PacketOpens Q) (sym (any_back back bytes None (explicit_some bytes explicit) (few_bytes (sent_message sent) bytes None (rw is refl) few)))
     (opens_none Q (router_request_reading bytes) none.requested))
 
 -- ---- the T->O type and id
@@ -179,7 +180,7 @@ holds_requested profile byte (requesting bytes) asks = asks
 pub frame_opens : ItemsReadBack → (Q : OpenFields → Type 0) (sent : Sent) → HoldsAsRead Q sent.request → length (message_text (sent_message sent)) ≤ 2048 → OpeningsAre Q (sent_frame sent).bytes
 frame_opens back Q sent holds few request is =
     let same : MessageBack (sent_message sent) is.message = message_back (sent_message sent) is.message is.reads in
-    let packet : PacketOpens Q (Ok is.packet) = subst (PacketOpens Q) (ap packet_reading (sym same.payload) ∙ is.packet_is) (packet_opens back Q sent sent.request refl holds few) in
+    let packet : PacketOpens Q (Ok is.packet) = subst (PacketOpens Q) (ap any_packet_reading (sym same.payload) ∙ is.packet_is) (packet_opens back Q sent sent.request refl holds few) in
     subst (RequestOpens Q) is.opens packet
 
 frame_asks : ItemsReadBack → (profile : ScannerProfile) → profile.incarnation ≤ 255 → (sent : Sent) → SentAsks profile sent → length (message_text (sent_message sent)) ≤ 2048 → FrameAsks profile (sent_frame sent)

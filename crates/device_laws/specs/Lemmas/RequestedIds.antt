@@ -8,7 +8,7 @@ use Rattle.cip_encap.specs.declared.message.EncapFault.{EncapFault}
 use Rattle.cip_encap.specs.declared.packet.ItemFault.{ItemFault}
 use Rattle.cip_encap.specs.Message.{MessageFields, message_text}
 use Rattle.cip_encap.specs.Packet.{PacketFields}
-use Rattle.cip_encap.specs.PacketReading.{packet_reading}
+use Rattle.cip_encap.specs.AnyItems.{any_packet_reading}
 use Rattle.cip_encap.specs.Reading.{message_reading}
 use Rattle.cip_encap.specs.ReadsBack.{ItemsReadBack}
 use Rattle.cip_events.specs.declared.event.Event.{Event}
@@ -69,7 +69,7 @@ packet_has P id (Ok packet) ids asks = request_has P id (router_request_reading 
 
 message_has : (P : ℕ → Type 0) (id : ℕ) (reading : Result MessageFields EncapFault) → MessageIds P reading → message_asks id reading ≡ true → P id
 message_has P id (Err why) ids asks = no_way asks
-message_has P id (Ok m) ids asks = packet_has P id (packet_reading m.payload) ids asks
+message_has P id (Ok m) ids asks = packet_has P id (any_packet_reading m.payload) ids asks
 
 -- the id for which the bytes ask is one of theirs
 frame_has : (P : ℕ → Type 0) (id : ℕ) (bytes : List ℕ) → FrameIds P bytes → asks_id id bytes ≡ true → P id
@@ -80,9 +80,9 @@ nothing_packet : (id : ℕ) (reading : Result PacketFields ItemFault) → OpensN
 nothing_packet id (Err why) none asks = no_way asks
 nothing_packet id (Ok packet) none asks = request_has (λ id. ⊥) id (router_request_reading packet.payload) none asks
 
-nothing_message : (id : ℕ) (reading : Result MessageFields EncapFault) → ((m : MessageFields) → reading ≡ Ok m → OpensNothing (packet_reading m.payload)) → message_asks id reading ≡ true → ⊥
+nothing_message : (id : ℕ) (reading : Result MessageFields EncapFault) → ((m : MessageFields) → reading ≡ Ok m → OpensNothing (any_packet_reading m.payload)) → message_asks id reading ≡ true → ⊥
 nothing_message id (Err why) none asks = no_way asks
-nothing_message id (Ok m) none asks = nothing_packet id (packet_reading m.payload) (none m refl) asks
+nothing_message id (Ok m) none asks = nothing_packet id (any_packet_reading m.payload) (none m refl) asks
 
 -- a frame that is no request to open asks for no id
 pub none_requested : (id : ℕ) (bytes : List ℕ) → IsNoOpening bytes → asks_id id bytes ≡ true → ⊥

@@ -15,9 +15,8 @@ use Rattle.cip_encap.specs.Message.{MessageFields, header_widths}
 use Rattle.cip_encap.specs.Reading.{message_reading}
 use Rattle.cip_types.specs.Texts.{Tailed}
 use Rattle.cip_types.specs.Fields.{fields_at}
-use Rattle.cip_encap.specs.ConnectedReading.{connected_reading}
 use Rattle.cip_encap.specs.Packet.{PacketFields}
-use Rattle.cip_encap.specs.PacketReading.{packet_reading}
+use Rattle.cip_encap.specs.AnyItems.{any_packet_reading}
 use Rattle.cip_events.specs.declared.event.Event.{Event}
 use Rattle.cip_events.specs.declared.event.Event.TheVariants as event
 use Rattle.cip_events.specs.declared.event.StepFault.{StepFault}
@@ -50,7 +49,9 @@ use Rattle.adapter_table.specs.Connections.{Row}
 use Rattle.adapter_table.specs.declared.row.State.{State}
 use Rattle.adapter_table.specs.declared.row.State.TheVariants.{Established, TimedOut}
 use Rattle.adapter_table.specs.declared.opening_rates.rates.NodeOpenings.{NodeOpenings}
+use Rattle.adapter_table.specs.declared.counters.DeviceCounters.{DeviceCounters}
 use Rattle.adapter_table.specs.declared.table.AdapterTable.{AdapterTable}
+use Rattle.adapter_table.specs.Counting.{with_counters, counted_link}
 use Rattle.adapter_table.specs.Rates.{with_openings}
 use Rattle.adapter_table.specs.declared.table.Stream.{Stream}
 use Rattle.adapter_table.specs.Checks.{Check, Admitted}
@@ -60,7 +61,7 @@ use Rattle.adapter_table.specs.Own.{OwnRequest, own_of, cannot_ask}
 use Rattle.adapter_table.specs.StatedLimits.{limited_admission, is_wrong_closer, is_wrong_ender}
 use Rattle.adapter_table.specs.Closing.{stays, without_triad, closed_table}
 use Rattle.adapter_table.specs.Datagrams.{is_for, accepted_row, accepted_if_for, row_delivery, accepted_table, delivered, found_datagram, datagram_of, received}
-use Rattle.adapter_table.specs.Encapsulation.{Handled, refusal, unanswered, session_begun, session_ended, register_session, request_replied, request_handled, packet_replied, unit_replied, handled, framed, frame_answer, stream_answer, frame_of, frame, outside_session, frame_for}
+use Rattle.adapter_table.specs.Encapsulation.{Handled, items_for, connected_items_for, refusal, unanswered, session_begun, session_ended, register_session, request_replied, request_handled, packet_replied, unit_replied, handled, framed, frame_answer, stream_answer, frame_of, frame, outside_session, frame_for}
 use Rattle.adapter_table.specs.Newest.{was_opened_as}
 use Rattle.adapter_table.specs.Opening.{opened_row, opened_table}
 use Rattle.adapter_table.specs.Objects.{ObjectAnswer}
@@ -69,7 +70,7 @@ use Rattle.adapter_table.specs.Objects as objects
 use Rattle.adapter_table.specs.Inquiries.{inquiry_reply, inquired_by, inquired}
 use Rattle.adapter_table.specs.Productions.{producer_of, produced_state, produced_row, changed_state, changed_row}
 use Rattle.adapter_table.specs.Profiles.{is_at}
-use Rattle.adapter_table.specs.Requests.{Next, Served, judged_open, admitted_open, served_open, close_of, served_close, end_of, served_end, router_refusal, object_served, served_object, served, replied, answered, requested_by, requested}
+use Rattle.adapter_table.specs.Requests.{Next, Served, counted_once, judged_open, admitted_open, served_open, close_of, served_close, end_of, served_end, router_refusal, object_served, served_object, served, replied, answered, requested_by, requested}
 use Rattle.adapter_table.specs.Rows.{lives, has_triad, written_state, written_row}
 use Rattle.adapter_table.specs.Sound.{IdsAreDrawn}
 use Rattle.adapter_table.specs.Step.{written_table, changed_table, written, write_of, write, adapter_step}
@@ -83,7 +84,10 @@ use Rattle.device_laws.specs.Lemmas.MessageSteps.{IsOfMessages, unit_of, respond
 use Rattle.device_laws.specs.Lemmas.Admissions.{opening_produced}
 use Rattle.device_laws.specs.Lemmas.Serving.{new_row_found}
 use Rattle.adapter_table.specs.Lemmas.LimitLemmas.{limited_is}
+use Rattle.adapter_table.specs.Lemmas.CountLemmas.{counted_keeps}
+use Rattle.adapter_table.specs.Lemmas.ItemLemmas.{items_any}
 use Rattle.adapter_table.specs.Lemmas.PassiveLemmas.{passive_holds}
+use Rattle.adapter_table.specs.Lemmas.PlainLemmas.{counters_hold}
 use Rattle.adapter_table.specs.Lemmas.FrameLemmas.{answer_has}
 
 -- ---- a list and its elements
@@ -258,6 +262,32 @@ served_after O t peer (closing request) asks drawn = end_after O t peer request 
 served_after O t peer (object service class instance attribute body) asks drawn = object_after O t peer service (object_answer t service class instance attribute body)
 served_after O t peer (opening large request) asks drawn = open_after O t peer large request (limited_admission t peer (whole_request t.profile.description request)) refl (asks large request refl) drawn
 
+-- what is counted changes neither connections nor streams
+
+recounted_source : (t next : AdapterTable) (counters : DeviceCounters) (request : OpenFields) (row : Row) → IsProduced t next request row → IsProduced t (with_counters next counters) request row
+recounted_source t next counters request row (inl joins) = inl joins
+recounted_source t next counters request row (inr (inl starts)) = inr (inl (record { t_o = starts.t_o; producer = starts.producer; drawn = starts.drawn }))
+recounted_source t next counters request row (inr (inr single)) = inr (inr single)
+
+recounted_row : (O : OpenFields → Type 0) (t next : AdapterTable) (peer : Node) (counters : DeviceCounters) (row : Row) → RowAfter O t next peer row → RowAfter O t (with_counters next counters) peer row
+recounted_row O t next peer counters row (inl was) = inl was
+recounted_row O t next peer counters row (inr opens) = inr (record {
+  new = record { new = opens.new.new; peer_is = opens.new.peer_is };
+  request = opens.request;
+  so = opens.so;
+  produced = recounted_source t next counters opens.request row opens.produced;
+})
+
+recounted : (O : OpenFields → Type 0) (t : AdapterTable) (peer : Node) (next : AdapterTable) (counters : DeviceCounters) → TableAfter O t peer next → TableAfter O t peer (with_counters next counters)
+recounted O t peer next counters goes = record {
+  rows = all_more (RowAfter O t next peer) (RowAfter O t (with_counters next counters) peer) (recounted_row O t next peer counters) next.rows goes.rows;
+  streams = goes.streams;
+}
+
+both_after : (O : OpenFields → Type 0) (t : AdapterTable) (peer : Node) (counters : DeviceCounters) (next_id : ℕ) (m : Messaging) → TableAfter O t peer (messages_table (with_counters t counters) next_id m)
+unfolding messages_table
+both_after O t peer counters next_id m = record { rows = old_rows O t (messages_table (with_counters t counters) next_id m) peer t.rows (were_there t); streams = were_open t }
+
 -- ---- messages
 
 abbrev HandledAfter : (OpenFields → Type 0) → AdapterTable → Node → Handled → Type 0
@@ -311,7 +341,9 @@ over_stream_after O t stream (closing request) asks drawn = served_after O t str
 over_stream_after O t stream (object service class instance attribute body) asks drawn = served_after O t stream.peer (object service class instance attribute body) asks drawn
 
 request_after : (O : OpenFields → Type 0) (t : AdapterTable) (stream : Stream) (context : ℕ) (requested : RouterRequestFields) (own : Option OwnRequest) → ((large : Bool) (request : OpenFields) → requested ≡ opening large request → O request) → IdsAreDrawn t.profile t.next_id t.rows → HandledAfter O t stream.peer (request_handled t stream context requested own)
-request_after O t stream context requested None asks drawn = replied_after O t stream.peer (stream_served t stream requested) (over_stream_after O t stream requested asks drawn)
+request_after O t stream context requested None asks drawn =
+    replied_after O t stream.peer (counted_once requested (stream_served t stream requested))
+    (counted_keeps (ServedAfter O t stream.peer) (λ s counters goes. recounted O t stream.peer s.table counters goes) requested (stream_served t stream requested) (over_stream_after O t stream requested asks drawn))
 request_after O t stream context requested (Some own) asks drawn =
     either (HandledAfter O t stream.peer) (cannot_ask t stream.peer) (request_replied t (Some (router_refusal t own.service status.ResourceUnavailable))) _ (stays_so O t stream.peer) (messages_after O t stream.peer t.next_id _)
 
@@ -321,9 +353,9 @@ packet_after O t stream context (Ok packet) asks drawn =
     request_after O t stream context (router_request_reading packet.payload) (own_of t.profile.objects (router_request_reading packet.payload)) (asks packet refl) drawn
 
 unit_after : (O : OpenFields → Type 0) (t : AdapterTable) (peer : Node) (done : Handled) → IsOfMessages t done → HandledAfter O t peer done
-unit_after O t peer done is = subst (TableAfter O t peer) (sym is.table) (messages_after O t peer t.next_id is.messages)
+unit_after O t peer done is = subst (TableAfter O t peer) (sym is.table) (both_after O t peer is.counters t.next_id is.messages)
 
-handled_after : (O : OpenFields → Type 0) (t : AdapterTable) (stream : Stream) (echo : RequestHeader) (body : List ℕ) (requested : Command) → PacketRequests O (packet_reading body) → IdsAreDrawn t.profile t.next_id t.rows → HandledAfter O t stream.peer (handled t stream echo body requested)
+handled_after : (O : OpenFields → Type 0) (t : AdapterTable) (stream : Stream) (echo : RequestHeader) (body : List ℕ) (requested : Command) → PacketRequests O (any_packet_reading body) → IdsAreDrawn t.profile t.next_id t.rows → HandledAfter O t stream.peer (handled t stream echo body requested)
 unfolding handled
 handled_after O t stream echo body command.Nop asks drawn = stays_so O t stream.peer
 handled_after O t stream echo body command.ListServices asks drawn = stays_so O t stream.peer
@@ -331,10 +363,10 @@ handled_after O t stream echo body command.RegisterSession asks drawn = register
 handled_after O t stream echo body command.UnregisterSession asks drawn =
     either (HandledAfter O t stream.peer) (has_session stream echo.session) (session_ended t stream) (unanswered t) (without_after O t stream.peer stream.number) (stays_so O t stream.peer)
 handled_after O t stream echo body command.SendRrData asks drawn =
-    either (HandledAfter O t stream.peer) (has_session stream echo.session) _ _ (packet_after O t stream echo.context (packet_reading body) asks drawn) (stays_so O t stream.peer)
+    either (HandledAfter O t stream.peer) (has_session stream echo.session) _ _ (packet_after O t stream echo.context (items_for t.profile.description body) (λ packet is. asks packet (items_any t.profile.description body packet is)) drawn) (stays_so O t stream.peer)
 handled_after O t stream echo body command.SendUnitData asks drawn =
-    either (HandledAfter O t stream.peer) (has_session stream echo.session) (unit_replied t stream (connected_reading body)) (refusal t (outside_session t.profile.description))
-    (unit_after O t stream.peer (unit_replied t stream (connected_reading body)) (unit_of t stream (connected_reading body))) (stays_so O t stream.peer)
+    either (HandledAfter O t stream.peer) (has_session stream echo.session) (unit_replied t stream (connected_items_for t.profile.description body)) (refusal t (outside_session t.profile.description))
+    (unit_after O t stream.peer (unit_replied t stream (connected_items_for t.profile.description body)) (unit_of t stream (connected_items_for t.profile.description body))) (stays_so O t stream.peer)
 handled_after O t stream echo body command.Other asks drawn = stays_so O t stream.peer
 
 abbrev NextAfter : (OpenFields → Type 0) → AdapterTable → Node → Next → Type 0
@@ -347,7 +379,7 @@ misfit_after O t stream (Some h) =
 
 -- what holds where the message is a request to open
 abbrev MessageRequests : (OpenFields → Type 0) → Result MessageFields EncapFault → Type 0
-MessageRequests O reading = (m : MessageFields) → reading ≡ Ok m → PacketRequests O (packet_reading m.payload)
+MessageRequests O reading = (m : MessageFields) → reading ≡ Ok m → PacketRequests O (any_packet_reading m.payload)
 
 message_after : (O : OpenFields → Type 0) (t : AdapterTable) (stream : Stream) (header : Option Tailed) (reading : Result MessageFields EncapFault) → MessageRequests O reading → IdsAreDrawn t.profile t.next_id t.rows → NextAfter O t stream.peer (frame_answer t stream (frame_fields header reading))
 message_after O t stream header (Err why) asks drawn = misfit_after O t stream header
@@ -418,7 +450,9 @@ answered_came t peer bytes None goes = table_stays t (event.Request peer bytes)
 answered_came t peer bytes (Some s) goes = peer_came t s.table peer bytes goes
 
 request_came : (t : AdapterTable) (peer : Node) (bytes : List ℕ) (requested : RouterRequestFields) (own : Option OwnRequest) → IdsAreDrawn t.profile t.next_id t.rows → OkCame t (event.Request peer bytes) (Ok (requested_by t peer requested own))
-request_came t peer bytes requested None drawn = answered_came t peer bytes (served t peer requested) (served_after Anything t peer requested (λ large request is. tt) drawn)
+request_came t peer bytes requested None drawn =
+    answered_came t peer bytes (counted_once requested (served t peer requested))
+    (counted_keeps (ServedAfter Anything t peer) (λ s counters goes. recounted Anything t peer s.table counters goes) requested (served t peer requested) (served_after Anything t peer requested (λ large request is. tt) drawn))
 request_came t peer bytes requested (Some own) drawn =
     either (λ (next : Next). Came t next.1 (event.Request peer bytes)) (cannot_ask t peer) (replied peer (router_refusal t own.service status.ResourceUnavailable)) _
     (table_stays t (event.Request peer bytes)) (peer_came t _ peer bytes (messages_after Anything t peer t.next_id _))
@@ -503,6 +537,7 @@ step_came t (event.Tick ms) drawn = tick_came t ms
 step_came t (event.Respond number general bytes) drawn =
     respond_holds (OkCame t (event.Respond number general bytes)) t number general bytes (λ why. tt)
     (λ w found few. messages_came t t (event.Respond number general bytes) t.next_id _ (were_there t) refl)
+step_came t (event.Counters bytes) drawn = counters_hold (OkCame t (event.Counters bytes)) t bytes (λ why. tt) (rows_stay t (counted_link t bytes) (event.Counters bytes) (were_there t) refl)
 step_came t other drawn = passive_holds (OkCame t other) t (λ why. tt) (λ verdict. table_stays t other) other refl
 
 pub connections_keep : ConnectionsKeepTheirIds

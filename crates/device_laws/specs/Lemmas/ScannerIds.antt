@@ -12,7 +12,7 @@ use Rattle.cip_datagram.specs.Datagram.{DatagramFields}
 use Rattle.cip_datagram.specs.Reading.{datagram_reading}
 use Rattle.cip_encap.specs.declared.message.EncapFault.{EncapFault}
 use Rattle.cip_encap.specs.Message.{MessageFields, message_text}
-use Rattle.cip_encap.specs.PacketReading.{packet_reading}
+use Rattle.cip_encap.specs.AnyItems.{any_packet_reading}
 use Rattle.cip_encap.specs.Reading.{message_reading}
 use Rattle.cip_encap.specs.ReadsBack.{ItemsReadBack}
 use Rattle.cip_events.specs.declared.event.Event.{Event}
@@ -69,7 +69,7 @@ use Rattle.scanner_table.specs.Lemmas.PassiveLemmas.{passive_holds}
 
 -- ---- requests that are sent
 
-request_packet : ItemsReadBack → (P : ℕ → Type 0) → Cuts P → (request : Sent) (requested_ids : Request) → request.request ≡ requested_ids → RequestId P requested_ids → length (message_text (sent_message request)) ≤ 2048 → PacketIds P (packet_reading (sent_message request).payload)
+request_packet : ItemsReadBack → (P : ℕ → Type 0) → Cuts P → (request : Sent) (requested_ids : Request) → request.request ≡ requested_ids → RequestId P requested_ids → length (message_text (sent_message request)) ≤ 2048 → PacketIds P (any_packet_reading (sent_message request).payload)
 request_packet back P cuts request registering is holds short = rw is (subst (PacketIds P) (sym plain_protocol) tt)
 request_packet back P cuts request (opening large fields) is holds short =
     let body = manager_text (open_service large) (open_text large fields) in

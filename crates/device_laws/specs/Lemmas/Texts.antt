@@ -14,8 +14,9 @@ use Rattle.cip_encap.specs.declared.packet.SocketAddress.{SocketAddress}
 use Rattle.cip_encap.specs.Message.{MessageFields, header_widths, header_numbers, message_text}
 use Rattle.cip_encap.specs.Reading as messages
 use Rattle.cip_encap.specs.Packet.{packet_text}
-use Rattle.cip_encap.specs.PacketReading.{packet_reading}
+use Rattle.cip_encap.specs.AnyItems.{any_packet_reading}
 use Rattle.cip_encap.specs.ReadsBack.{ItemsReadBack}
+use Rattle.cip_encap.specs.Lemmas.AnyItemLemmas.{any_back}
 use Rattle.device_laws.specs.Ids.{PayloadIds, PacketIds, MessageIds, FrameIds, ReadId, DatagramId}
 
 pub either : {X : Type 0} (P : X → Type 0) (b : Bool) (x y : X) → P x → P y → P (cond b x y)
@@ -88,18 +89,18 @@ datagram_id P d holds =
 
 -- ---- messages
 
-sized_ids : (P : ℕ → Type 0) (len : ℕ) (m : MessageFields) → PacketIds P (packet_reading m.payload) → MessageIds P (messages.sized_reading len m)
+sized_ids : (P : ℕ → Type 0) (len : ℕ) (m : MessageFields) → PacketIds P (any_packet_reading m.payload) → MessageIds P (messages.sized_reading len m)
 sized_ids P len m holds =
     either (MessageIds P) (ltb (length m.payload) len) (Err encap_fault.Truncated) _ tt
     (either (MessageIds P) (ltb len (length m.payload)) (Err encap_fault.Trailing) (Ok m) tt holds)
 
 -- the ids of a message that was written are those of its data
-pub message_ids : (P : ℕ → Type 0) (m : MessageFields) → PacketIds P (packet_reading m.payload) → FrameIds P (message_text m)
+pub message_ids : (P : ℕ → Type 0) (m : MessageFields) → PacketIds P (any_packet_reading m.payload) → FrameIds P (message_text m)
 unfolding messages.message_reading
 message_ids P m holds =
     subst (λ (found : Option Tailed). MessageIds P (messages.found_reading found)) (sym (fields_cut header_widths (header_numbers m) m.payload refl))
     (sized_ids P _ _ holds)
 
 -- the ids of items are those of their data
-pub packet_ids : ItemsReadBack → (P : ℕ → Type 0) (payload : List ℕ) (socket : Option SocketAddress) → 1 ≤ length payload → length payload ≤ 65535 → PayloadIds P payload → PacketIds P (packet_reading (packet_text payload socket))
-packet_ids back P payload socket some few holds = subst (PacketIds P) (sym (back payload socket some few)) holds
+pub packet_ids : ItemsReadBack → (P : ℕ → Type 0) (payload : List ℕ) (socket : Option SocketAddress) → 1 ≤ length payload → length payload ≤ 65535 → PayloadIds P payload → PacketIds P (any_packet_reading (packet_text payload socket))
+packet_ids back P payload socket some few holds = subst (PacketIds P) (sym (any_back back payload socket some few)) holds

@@ -8,6 +8,7 @@ returns-clause-unsent c = ids_to_come_are_unsent
 pub returns-clause-connections : goal.returns-clause-connections
 returns-clause-connections c = later_connections (record {
   carry = c.ids_are_carried.ensures;
+  class3 = c.class3_ids_are_carried.ensures;
   plain = c.plain_devices_stay_plain.ensures;
   whole = c.tables_are_whole.ensures.run;
   counts = c.next_id_never_falls.ensures.step;
@@ -18,6 +19,7 @@ returns-clause-connections c = later_connections (record {
 pub returns-clause-slots : goal.returns-clause-slots
 returns-clause-slots c = later_slots (record {
   carry = c.ids_are_carried.ensures;
+  class3 = c.class3_ids_are_carried.ensures;
   plain = c.plain_devices_stay_plain.ensures;
   whole = c.tables_are_whole.ensures.run;
   counts = c.next_id_never_falls.ensures.step;
@@ -28,6 +30,7 @@ returns-clause-slots c = later_slots (record {
 pub returns-clause-groups : goal.returns-clause-groups
 returns-clause-groups c = later_groups (record {
   carry = c.ids_are_carried.ensures;
+  class3 = c.class3_ids_are_carried.ensures;
   plain = c.plain_devices_stay_plain.ensures;
   whole = c.tables_are_whole.ensures.run;
   counts = c.next_id_never_falls.ensures.step;

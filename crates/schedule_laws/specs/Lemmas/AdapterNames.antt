@@ -9,7 +9,7 @@ use Rattle.base_lemmas.specs.Lists.{found_passes}
 use Rattle.cip_types.specs.declared.names.ConnId.{ConnId}
 use Rattle.cip_encap.specs.declared.message.EncapFault.{EncapFault}
 use Rattle.cip_encap.specs.Message.{MessageFields}
-use Rattle.cip_encap.specs.PacketReading.{packet_reading}
+use Rattle.cip_encap.specs.AnyItems.{any_packet_reading}
 use Rattle.cip_encap.specs.Reading.{message_reading}
 use Rattle.cip_events.specs.declared.event.Answer.{Answer}
 use Rattle.cip_events.specs.declared.event.Event.{Event}
@@ -45,6 +45,7 @@ use Rattle.device_laws.specs.Plain.{IsPlainRequest, PlainPacket, PlainMessage, I
 use Rattle.device_laws.specs.Replies.{IsOfRow, IsOfClass3, IsOfNew, IsSuccessOf, IsReplyTo, IsLateReply, IsAnswerTo}
 use Rattle.device_laws.specs.RowIds.{WasThere, IsSingle, IsProduced, IsNewOver, IsNewRow, RowCame, WasOpen, StreamCame, Came}
 use Rattle.device_laws.specs.Productions.{End, end_at}
+use Rattle.schedule_laws.specs.Ids.{any_stream}
 use Rattle.schedule_laws.specs.Chronicle.{Opened, opens_row, other_end, requester, opened_for, frame_opens}
 use Rattle.schedule_laws.specs.Names.{IsScannerIn, IsOfGroup, IsOwn, IsEntry, HasEntry, IsOpenedWith}
 use Rattle.schedule_laws.specs.Streams.{Ends, ends_of, Waiting, IsBetween, IsOver}
@@ -331,7 +332,7 @@ stream_named Q w new device t happens s later known comes (inr is) = opened_stre
 -- a plain frame opens no class 3 connection
 no_class3 : {X : Type 0} (t u : AdapterTable) (bytes : List ℕ) (m : MessageFields) (o : made.Opened) → IsPlainFrame bytes → message_reading bytes ≡ Ok m → IsOfClass3 t u m.payload o → X
 no_class3 t u bytes m o plain reads is =
-    let message : PlainPacket (packet_reading m.payload) = subst PlainMessage reads plain in
+    let message : PlainPacket (any_packet_reading m.payload) = subst PlainMessage reads plain in
     let packet : IsPlainRequest (router_request_reading is.packet.payload) = subst PlainPacket is.packet_is message in
     let class_1 : is_message_trigger is.request.trigger ≡ false = subst IsPlainRequest is.opens packet in
     absurd (let e : false ≡ true = sym class_1 ∙ is.trigger in cc)
@@ -403,7 +404,7 @@ known_over w device number (s ∷ streams) any known =
     known_step w device number (is_stream number s) s (list_any (is_stream number) streams) refl any known.0 (λ later. known_over w device number streams later known.1)
 
 -- a reply to a request that waited has no success, since no such request has the service of an opening
-late_named : (w new : World) (opened more : List Opened) (device : ℕ) (t u : AdapterTable) (frame : Frame) → AdapterStep w new opened device t u → ArePlain t.messaging → IsLateReply t frame → SendsPlainly frame → FrameSent (Waits new (opened ++ more)) (map ends_of w.streams) device frame
+late_named : (w new : World) (opened more : List Opened) (device : ℕ) (t u : AdapterTable) (frame : Frame) → AdapterStep w new opened device t u → ArePlain any_stream t.messaging → IsLateReply t frame → SendsPlainly frame → FrameSent (Waits new (opened ++ more)) (map ends_of w.streams) device frame
 late_named w new opened more device t u frame step referred (inl is) plain k e to at = absurd (let x = sym is.to ∙ to in cc)
 late_named w new opened more device t u frame step referred (inr is) plain k e to at =
     let named = step.named in
@@ -417,7 +418,7 @@ late_named w new opened more device t u frame step referred (inr is) plain k e t
     (record {
       sender = record { table = Adapter u; is = step.after };
       context = is.context;
-      successes = successes_more (λ c o. ⊥) (λ c o. IsOpenedWith (opened ++ more) device (end_at other c) o.o_t_id.0 o.t_o_id.0) (λ c o never. absurd never) frame.bytes (is.successes referred.services);
+      successes = successes_more (λ c o. ⊥) (λ c o. IsOpenedWith (opened ++ more) device (end_at other c) o.o_t_id.0 o.t_o_id.0) (λ c o never. absurd never) frame.bytes (is.successes any_stream referred.services refl);
       opens_nothing = λ adapter. is.opens_nothing;
       asks = λ scanner there. absurd (let x = sym step.after ∙ there in cc);
       plain = plain;
@@ -473,7 +474,7 @@ quiet_named w new opened device t u happens answer step comes came none sends fr
     rows row (inl was) = row_later w new opened [] device t u row step was
     rows row (inr by) = absurd (none row by)
 
-pub adapter_named : (w new : World) (opened : List Opened) (device : ℕ) (t u : AdapterTable) (happens : Event) (answer : Answer) → AdapterStep w new opened device t u → EventArrives (Waits w opened) w device happens → ArePlain t.messaging → Came t u happens → AllByRecursion (IsAnswerTo t u happens) answer.frames → AllByRecursion SendsPlainly answer.frames → LeavesNamed w new opened (frame_opens w device (Adapter t) happens (Adapter u)) device u answer
+pub adapter_named : (w new : World) (opened : List Opened) (device : ℕ) (t u : AdapterTable) (happens : Event) (answer : Answer) → AdapterStep w new opened device t u → EventArrives (Waits w opened) w device happens → ArePlain any_stream t.messaging → Came t u happens → AllByRecursion (IsAnswerTo t u happens) answer.frames → AllByRecursion SendsPlainly answer.frames → LeavesNamed w new opened (frame_opens w device (Adapter t) happens (Adapter u)) device u answer
 adapter_named w new opened device t u (event.Request peer bytes) answer step comes referred came frames plain = absurd comes
 adapter_named w new opened device t u (event.Frame n bytes) answer step comes referred came frames plain = frame_named w new opened device t u n bytes answer step comes came frames plain
 adapter_named w new opened device t u (event.Inquiry peer bytes) answer step comes referred came frames plain =

@@ -1,5 +1,5 @@
 -- If each id that passes one test passes another, then the ids of tables, frames and datagrams do.
-use Rattle.std.proofs.Common.{ℕ, Bool, true, false, cond, List, [], ◌∷◌, find, Option, Some, None, Result, Ok, Err}
+use Rattle.std.proofs.Common.{ℕ, Bool, true, false, cond, List, [], ◌∷◌, find, Option, Some, None, Result, Ok, Err, refl}
 use Rattle.std.specs.Option.{IfSome}
 use Rattle.cip_types.specs.declared.names.ConnId.{ConnId}
 use Rattle.cip_datagram.specs.declared.datagram.DatagramFault.{DatagramFault}
@@ -9,7 +9,7 @@ use Rattle.cip_encap.specs.declared.message.EncapFault.{EncapFault}
 use Rattle.cip_encap.specs.declared.packet.ItemFault.{ItemFault}
 use Rattle.cip_encap.specs.Message.{MessageFields}
 use Rattle.cip_encap.specs.Packet.{PacketFields}
-use Rattle.cip_encap.specs.PacketReading.{packet_reading}
+use Rattle.cip_encap.specs.AnyItems.{any_packet_reading}
 use Rattle.cip_encap.specs.Reading.{message_reading}
 use Rattle.cip_events.specs.declared.event.Event.{Event}
 use Rattle.cip_events.specs.declared.event.Event.TheVariants.{Request, Frame, Respond}
@@ -23,6 +23,7 @@ use Rattle.messaging.specs.declared.requests.Requester.{Requester}
 use Rattle.messaging.specs.declared.requests.Requester.TheVariants as asker
 use Rattle.messaging.specs.declared.requests.Waiting.{Waiting}
 use Rattle.messaging.specs.Changes.{has_request_number}
+use Rattle.messaging.specs.Lemmas.EachOfLemmas.{each_weaker}
 use Rattle.messaging.specs.Sound.{EachOf}
 use Rattle.adapter_table.specs.declared.table.AdapterTable.{AdapterTable}
 use Rattle.scanner_table.specs.declared.slot.SlotState.{SlotState}
@@ -32,12 +33,12 @@ use Rattle.scanner_table.specs.Slots.{indexed_slots}
 use Rattle.cip_tables.specs.declared.table.DeviceTable.{DeviceTable}
 use Rattle.cip_tables.specs.declared.table.DeviceTable.TheVariants.{Adapter, Scanner}
 use Rattle.segment_world.specs.Transit.Streams.{QueueItem, Opening as Opens, Queued, Ending, Stream}
-use Rattle.device_laws.specs.Ids.{RequestIds, ReplyIds, PacketIds, MessageIds, FrameIds, ReadId, DatagramId, RowIds, EventIds, WayIds, AnsweredIds, RequestedId, StateIds}
-use Rattle.device_laws.specs.Carrying.{Passes, SlotIds, TableIds, AnswerPasses}
+use Rattle.device_laws.specs.Ids.{RequestIds, ReplyIds, PacketIds, MessageIds, FrameIds, ReadId, DatagramId, RowIds, Class3Ids, EventIds, WayIds, AnsweredIds, RequestedId, StateIds}
+use Rattle.device_laws.specs.Carrying.{Passes, SlotIds, TableIds, HasClass3Ids, AnswerPasses}
 use Rattle.device_laws.specs.Lemmas.Payloads.{own_ids}
 use Rattle.device_laws.specs.Plain.{IsPlainFrame, IsPlainDevice, IsPlainEvent, ArePlain}
-use Rattle.device_laws.specs.Replies.{IsPlainService, IsOfStream}
-use Rattle.schedule_laws.specs.Ids.{ItemHolds, StreamHolds, StreamsHold}
+use Rattle.device_laws.specs.Replies.{PlainFor, IsOfStream}
+use Rattle.schedule_laws.specs.Ids.{any_stream, ItemHolds, StreamHolds, StreamsHold}
 use Rattle.schedule_laws.specs.Lemmas.Lists.{all_more}
 use Rattle.schedule_laws.specs.Lemmas.Moves.{EventHolds}
 
@@ -66,7 +67,7 @@ packet_more P Q more (Ok packet) ids = record {
 
 message_more : (P Q : ℕ → Type 0) → More P Q → (reading : Result MessageFields EncapFault) → MessageIds P reading → MessageIds Q reading
 message_more P Q more (Err fault) ids = tt
-message_more P Q more (Ok m) ids = packet_more P Q more (packet_reading m.payload) ids
+message_more P Q more (Ok m) ids = packet_more P Q more (any_packet_reading m.payload) ids
 
 pub frame_more : (P Q : ℕ → Type 0) → More P Q → (bytes : List ℕ) → FrameIds P bytes → FrameIds Q bytes
 frame_more P Q more bytes ids = message_more P Q more (message_reading bytes) ids
@@ -96,6 +97,10 @@ table_more p q openings more (Adapter t) ids =
     all_more (RowIds (Passes p) (Passes openings)) (RowIds (Passes q) (Passes openings)) (λ row holds. record { o_t = more _ holds.o_t; t_o = more _ holds.t_o; opening = holds.opening }) t.rows ids
 table_more p q openings more (Scanner t) ids = all_more (SlotIds (Passes p)) (SlotIds (Passes q)) (λ indexed holds. state_more (Passes p) (Passes q) more indexed.slot.state holds) (indexed_slots t) ids
 
+pub class3_more : (p q : ℕ → Bool) → More (Passes p) (Passes q) → (t : DeviceTable) → HasClass3Ids p t → HasClass3Ids q t
+class3_more p q more (Adapter t) ids = each_weaker (Class3Ids (Passes p)) (Class3Ids (Passes q)) (λ d both. (more _ both.0, more _ both.1)) t.messaging.class3_connections ids
+class3_more p q more (Scanner t) ids = tt
+
 -- ---- streams and events
 
 item_more : (P Q : List ℕ → Type 0) → ((bytes : List ℕ) → P bytes → Q bytes) → (item : QueueItem) → ItemHolds P item → ItemHolds Q item
@@ -120,9 +125,9 @@ event_first P R (Request peer bytes) holds = holds
 event_first P R (Frame stream bytes) holds = holds.0
 event_first P R other holds = tt
 
-pub event_plain : (P : List ℕ → Type 0) (happens : Event) → EventHolds (λ bytes. P bytes × IsPlainFrame bytes) happens → IsPlainEvent happens
+pub event_plain : (P : List ℕ → Type 0) (happens : Event) → EventHolds (λ bytes. P bytes × IsPlainFrame bytes) happens → IsPlainEvent any_stream happens
 event_plain P (Request peer bytes) holds = holds
-event_plain P (Frame stream bytes) holds = holds.1
+event_plain P (Frame stream bytes) holds = λ over. holds.1
 event_plain P other holds = tt
 
 -- ---- answers of applications
@@ -138,24 +143,24 @@ each_two : (P R : Waiting → Type 0) (xs : List Waiting) → EachOf P xs → Ea
 each_two P R [] first second = tt
 each_two P R (x ∷ xs) first second = ((first.0, second.0), each_two P R xs first.1 second.1)
 
-way_ids : (P : ℕ → Type 0) (from : Requester) (service status : ℕ) (bytes : List ℕ) → IsPlainService service → IsOfStream from → WayIds P from (own_reply_text service status bytes)
+way_ids : (P : ℕ → Type 0) (from : Requester) (service status : ℕ) (bytes : List ℕ) → PlainFor any_stream from service → IsOfStream from → WayIds P from (own_reply_text service status bytes)
 way_ids P (asker.Peer node) service status bytes plain over = absurd over
-way_ids P (asker.Stream number context) service status bytes plain over = own_ids P service status bytes (record { small = plain.small; large = plain.large })
+way_ids P (asker.Stream number context) service status bytes plain over = let is = plain refl in own_ids P service status bytes (record { small = is.small; large = is.large })
 way_ids P (asker.Class3Connection id count) service status bytes plain over = tt
 
 some_more : (A B : Waiting → Type 0) → ((w : Waiting) → A w → B w) → (o : Option Waiting) → IfSome o A → IfSome o B
 some_more A B more None holds = tt
 some_more A B more (Some w) holds = more w holds
 
-answered_ids : (P : ℕ → Type 0) (t : AdapterTable) (happens : Event) → ArePlain t.messaging → AnsweredIds P t happens
+answered_ids : (P : ℕ → Type 0) (t : AdapterTable) (happens : Event) → ArePlain any_stream t.messaging → AnsweredIds P t happens
 answered_ids P t (Respond number status bytes) plain =
-    some_more (λ w. IsPlainService w.service × IsOfStream w.asker) (λ w. WayIds P w.asker (own_reply_text w.service status bytes)) (λ w is. way_ids P w.asker w.service status bytes is.0 is.1)
+    some_more (λ w. PlainFor any_stream w.asker w.service × IsOfStream w.asker) (λ w. WayIds P w.asker (own_reply_text w.service status bytes)) (λ w is. way_ids P w.asker w.service status bytes is.0 is.1)
     (find (has_request_number number) t.messaging.waiting)
-    (found_waiting (λ w. IsPlainService w.service × IsOfStream w.asker) (has_request_number number) t.messaging.waiting
-    (each_two (λ w. IsPlainService w.service) (λ w. IsOfStream w.asker) t.messaging.waiting plain.services plain.over))
+    (found_waiting (λ w. PlainFor any_stream w.asker w.service × IsOfStream w.asker) (has_request_number number) t.messaging.waiting
+    (each_two (λ w. PlainFor any_stream w.asker w.service) (λ w. IsOfStream w.asker) t.messaging.waiting plain.services plain.over))
 answered_ids P t other plain = tt
 
 -- what the application of a plain device answers has no id
-pub answer_passes : (ids : ℕ → Bool) (t : DeviceTable) (happens : Event) → IsPlainDevice t → AnswerPasses ids t happens
+pub answer_passes : (ids : ℕ → Bool) (t : DeviceTable) (happens : Event) → IsPlainDevice any_stream t → AnswerPasses ids t happens
 answer_passes ids (Adapter t) happens plain = answered_ids (Passes ids) t happens plain
 answer_passes ids (Scanner t) happens plain = tt

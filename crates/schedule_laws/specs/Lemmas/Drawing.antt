@@ -30,16 +30,17 @@ use Rattle.segment_world.specs.Story.{Story, goes_on, runs}
 use Rattle.cip_events.specs.declared.event.Frame.{Frame}
 use Rattle.device_laws.specs.Ids.{FrameIds, HasFrameIds, HasDatagramId}
 use Rattle.device_laws.specs.Plain.{IsPlainFrame, SendsPlainly, IsPlainDevice, PlainDevicesStayPlain}
-use Rattle.device_laws.specs.Carrying.{Passes, TableIds, StepsCarryIds}
-use Rattle.schedule_laws.specs.Ids.{is_drawn, AreApart, StreamsHold, SentHolds, IsDrawnFrame, IdsAreDrawn, SchedulesKeepIdsDrawn}
+use Rattle.device_laws.specs.Carrying.{Passes, TableIds, HasClass3Ids, StepsCarryIds, StepsCarryClass3Ids}
+use Rattle.schedule_laws.specs.Ids.{is_drawn, any_stream, AreApart, StreamsHold, SentHolds, IsDrawnFrame, IdsAreDrawn, SchedulesKeepIdsDrawn}
 use Rattle.schedule_laws.specs.Lemmas.Lists.{all_both, all_more}
 use Rattle.schedule_laws.specs.Lemmas.Moves.{answered_holds, Came, Rests, Moves, act_moves, runs_keep}
-use Rattle.schedule_laws.specs.Lemmas.Carrying.{More, frame_more, datagram_more, table_more, streams_more, event_more, event_first, event_plain, answer_passes}
+use Rattle.schedule_laws.specs.Lemmas.Carrying.{More, frame_more, datagram_more, table_more, class3_more, streams_more, event_more, event_first, event_plain, answer_passes}
 use Rattle.schedule_laws.specs.Lemmas.Tests.{any_set, drawn_parts, parts_drawn, set_cases, now_drawn, zero_drawn}
 
 -- the laws of the steps of devices
 pub record StepLaws : Type 0 where
   pub carry : StepsCarryIds
+  pub class3 : StepsCarryClass3Ids
   pub plain : PlainDevicesStayPlain
   pub whole : RunsKeepWhole
   pub counts : StepsCountOn
@@ -54,10 +55,11 @@ pub record Drawn (q : Openings) (w : World) : Type 0 where
   pub whole : (device : ℕ) (t : DeviceTable) → slice_get w.tables device ≡ Some t → IsWholeDevice t
   pub apart : AreApart w.tables
   pub tables : (device : ℕ) (t : DeviceTable) → slice_get w.tables device ≡ Some t → TableIds (is_drawn w.tables) (q device) t
+  pub class3 : (device : ℕ) (t : DeviceTable) → slice_get w.tables device ≡ Some t → HasClass3Ids (is_drawn w.tables) t
   pub opens : (device : ℕ) (t : DeviceTable) → slice_get w.tables device ≡ Some t → (n : ℕ) → next_id_of t ≤ n → q device n ≡ true
   pub sent : AllByRecursion (SentHolds (Passes (is_drawn w.tables))) w.sent
   pub streams : StreamsHold (IsDrawnFrame w.tables) w.streams
-  pub plain : (device : ℕ) (t : DeviceTable) → slice_get w.tables device ≡ Some t → IsPlainDevice t
+  pub plain : (device : ℕ) (t : DeviceTable) → slice_get w.tables device ≡ Some t → IsPlainDevice any_stream t
 
 -- ---- a step
 
@@ -138,7 +140,11 @@ came_drawn laws q w new reported drawn came =
     (event_more (Passes (is_drawn w.tables)) now more reported.event (event_first (FrameIds (Passes (is_drawn w.tables))) IsPlainFrame reported.event came.event))
     (answer_passes (is_drawn tables) came.before reported.event (drawn.plain reported.device came.before at))
     (table_more (is_drawn w.tables) (is_drawn tables) (q reported.device) more came.before (drawn.tables reported.device came.before at)) in
-    let plainly = laws.plain came.before reported.event reported.answer came.after came.stepped whole_t (event_plain (FrameIds (Passes (is_drawn w.tables))) reported.event came.event) (drawn.plain reported.device came.before at) in
+    let messages = laws.class3 (is_drawn tables) came.before reported.event reported.answer came.after came.stepped
+    (λ counter from below. now_drawn w.tables reported.device came.before came.after counter drawn.apart at same below (whole_in_range came.after whole_u))
+    (event_more (Passes (is_drawn w.tables)) now more reported.event (event_first (FrameIds (Passes (is_drawn w.tables))) IsPlainFrame reported.event came.event))
+    (class3_more (is_drawn w.tables) (is_drawn tables) more came.before (drawn.class3 reported.device came.before at)) in
+    let plainly = laws.plain any_stream came.before reported.event reported.answer came.after came.stepped whole_t (event_plain (FrameIds (Passes (is_drawn w.tables))) reported.event came.event) (drawn.plain reported.device came.before at) in
     subst (Drawn q) (sym came.leaves) (record {
       whole = λ e x there. elim (set_cases w.tables reported.device e came.before came.after x at there) [
         | inl own ↦ subst IsWholeDevice (sym own.1) whole_u
@@ -156,6 +162,10 @@ came_drawn laws q w new reported drawn came =
         | inl own ↦ subst (λ (n : ℕ). TableIds (is_drawn tables) (q n) x) (sym own.0) (subst (TableIds (is_drawn tables) (q reported.device)) (sym own.1) done.0)
         | inr other ↦ table_more (is_drawn w.tables) (is_drawn tables) (q e) more x (drawn.tables e x other.1)
       ];
+      class3 = λ e x there. elim (set_cases w.tables reported.device e came.before came.after x at there) [
+        | inl own ↦ subst (HasClass3Ids (is_drawn tables)) (sym own.1) messages
+        | inr other ↦ class3_more (is_drawn w.tables) (is_drawn tables) more x (drawn.class3 e x other.1)
+      ];
       opens = λ e x there. elim (set_cases w.tables reported.device e came.before came.after x at there) [
         | inl own ↦ λ n from. subst (λ (k : ℕ). q k n ≡ true) (sym own.0) (drawn.opens reported.device came.before at n (let e2 = ap next_id_of own.1 in omega (arith, counts, from, e2)))
         | inr other ↦ drawn.opens e x other.1
@@ -166,7 +176,7 @@ came_drawn laws q w new reported drawn came =
       streams = answered_holds (IsDrawnFrame tables) reported.device reported.answer came.streams (all_pairs (HasFrameIds now) SendsPlainly reported.answer.frames done.1.frames plainly.1)
           (streams_more (IsDrawnFrame w.tables) (IsDrawnFrame tables) (λ bytes is. (frame_more (Passes (is_drawn w.tables)) now more bytes is.0, is.1)) came.streams came.queued);
       plain = λ e x there. elim (set_cases w.tables reported.device e came.before came.after x at there) [
-        | inl own ↦ subst IsPlainDevice (sym own.1) plainly.0
+        | inl own ↦ subst (IsPlainDevice any_stream) (sym own.1) plainly.0
         | inr other ↦ drawn.plain e x other.1
       ];
     })
@@ -191,10 +201,11 @@ rests_drawn q w new drawn rests =
       whole = subst (λ (l : List DeviceTable). (device : ℕ) (t : DeviceTable) → slice_get l device ≡ Some t → IsWholeDevice t) back drawn.whole;
       apart = subst AreApart back drawn.apart;
       tables = subst (λ (l : List DeviceTable). (device : ℕ) (t : DeviceTable) → slice_get l device ≡ Some t → TableIds (is_drawn l) (q device) t) back drawn.tables;
+      class3 = subst (λ (l : List DeviceTable). (device : ℕ) (t : DeviceTable) → slice_get l device ≡ Some t → HasClass3Ids (is_drawn l) t) back drawn.class3;
       opens = subst (λ (l : List DeviceTable). (device : ℕ) (t : DeviceTable) → slice_get l device ≡ Some t → (n : ℕ) → next_id_of t ≤ n → q device n ≡ true) back drawn.opens;
       sent = subst (λ (l : List DeviceTable). AllByRecursion (SentHolds (Passes (is_drawn l))) new.sent) back (subst (AllByRecursion (SentHolds (Passes (is_drawn w.tables)))) (sym rests.sent) drawn.sent);
       streams = subst (λ (l : List DeviceTable). StreamsHold (IsDrawnFrame l) new.streams) back rests.queued;
-      plain = subst (λ (l : List DeviceTable). (device : ℕ) (t : DeviceTable) → slice_get l device ≡ Some t → IsPlainDevice t) back drawn.plain;
+      plain = subst (λ (l : List DeviceTable). (device : ℕ) (t : DeviceTable) → slice_get l device ≡ Some t → IsPlainDevice any_stream t) back drawn.plain;
     }
 
 -- ---- a schedule
@@ -218,10 +229,10 @@ runs_drawn laws q was now acts ran drawn =
 -- ---- of all opening numbers
 
 pub all_drawn : (w : World) → IdsAreDrawn w → Drawn (λ device opening. true) w
-all_drawn w is = record { whole = is.whole; apart = is.apart; tables = is.tables; opens = λ device t at n from. refl; sent = is.sent; streams = is.streams; plain = is.plain }
+all_drawn w is = record { whole = is.whole; apart = is.apart; tables = is.tables; class3 = is.class3; opens = λ device t at n from. refl; sent = is.sent; streams = is.streams; plain = is.plain }
 
 pub drawn_all : (w : World) → Drawn (λ device opening. true) w → IdsAreDrawn w
-drawn_all w is = record { whole = is.whole; apart = is.apart; tables = is.tables; sent = is.sent; streams = is.streams; plain = is.plain }
+drawn_all w is = record { whole = is.whole; apart = is.apart; tables = is.tables; class3 = is.class3; sent = is.sent; streams = is.streams; plain = is.plain }
 
 pub schedules_keep : StepLaws → SchedulesKeepIdsDrawn
 schedules_keep laws start acts story ran is =

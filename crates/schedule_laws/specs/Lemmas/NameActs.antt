@@ -31,7 +31,7 @@ use Rattle.device_laws.specs.Replies.{RepliesCarryOpenedIds, ScannersSendNoSucce
 use Rattle.device_laws.specs.RowIds.{ConnectionsKeepTheirIds}
 use Rattle.device_laws.specs.SlotIds.{SlotsHaveTheIdsOfTheirSuccess}
 use Rattle.device_laws.specs.TargetStreams.{StreamsComeWithEvents}
-use Rattle.schedule_laws.specs.Ids.{is_drawn, any_opening, IdsAreDrawn}
+use Rattle.schedule_laws.specs.Ids.{is_drawn, any_opening, any_stream, IdsAreDrawn}
 use Rattle.schedule_laws.specs.Lemmas.Drawing.{StepLaws}
 use Rattle.schedule_laws.specs.Lemmas.Tests.{drawn_parts, set_cases}
 use Rattle.device_laws.specs.Made.{Made, makes, adapter_makes}
@@ -155,9 +155,9 @@ adapter_makes_later w opened more device t happens named =
     all_more (MadeByEntry opened device) (MadeByEntry (opened ++ more) device) (λ m is. made_later opened more device m is) (adapter_makes t happens) (adapter_makes_named w opened device t happens named.rows)
 
 -- a frame that comes is plain
-arrived_plain : (w : World) (opened : List Opened) (device : ℕ) (happens : Event) → EventArrives (Waits w opened) w device happens → IsPlainEvent happens
+arrived_plain : (w : World) (opened : List Opened) (device : ℕ) (happens : Event) → EventArrives (Waits w opened) w device happens → IsPlainEvent any_stream happens
 arrived_plain w opened device (event.Request peer bytes) comes = comes
-arrived_plain w opened device (event.Frame n bytes) comes = let waits = comes.holds in waits.plain
+arrived_plain w opened device (event.Frame n bytes) comes = λ over. let waits = comes.holds in waits.plain
 arrived_plain w opened device other comes = tt
 
 event_leaves : NameLaws → (w new : World) (opened : List Opened) (device : ℕ) (t u : DeviceTable) (happens : Event) (answer : Answer) → step t happens ≡ Ok (answer, u) → DeviceStays t u → slice_get w.tables device ≡ Some t → slice_get new.tables device ≡ Some u → Later w new → IdsAreDrawn w → IdsAreDrawn new → AllByRecursion (IsEntry w opened) opened → IdsAreApart opened → TableIsNamed w opened device t → EventArrives (Waits w opened) w device happens → EventLeaves w new opened (frame_opens w device t happens u) device t u happens answer
@@ -169,13 +169,13 @@ event_leaves laws w new opened device (Adapter t) (Adapter u) happens answer is 
     let info : AdapterStep w new opened device t u = record { at = at; after = after; later = later; entries = entries; named = named; drawn = whole.sound.ids_are_drawn; next_drawn = next_whole.sound.ids_are_drawn; fits = ids_fit new.tables u.rows (next_drawn.tables device (Adapter u) after); stays = stays; groups = whole.sound.producers.multicast } in
     let came = laws.rows t happens answer u stepped whole in
     let referred = drawn.plain device (Adapter t) at in
-    let plain = laws.steps.plain (Adapter t) happens answer (Adapter u) is whole (arrived_plain w opened device happens comes) referred in
+    let plain = laws.steps.plain any_stream (Adapter t) happens answer (Adapter u) is whole (arrived_plain w opened device happens comes) referred in
     let leaves = adapter_named w new opened device t u happens answer info comes referred came (laws.replies t happens answer u stepped whole) plain.1 in
     record { entries = leaves.entries; apart = adapter_apart w new opened device t u happens drawn next_whole.sound.ids_are_left info apart comes came; table = leaves.table; frames = leaves.frames; made = λ scanner. absurd (never_scanner new device u after scanner); made_by = λ adapter. adapter_makes_later w opened (frame_opens w device (Adapter t) happens (Adapter u)) device t happens named }
 event_leaves laws w new opened device (Scanner t) (Scanner u) happens answer is stays at after later drawn next_drawn entries apart named comes =
     let stepped = scanner_result (scanner_step t happens) answer u is in
     let whole = drawn.whole device (Scanner t) at in
-    let plain = laws.steps.plain (Scanner t) happens answer (Scanner u) is whole (arrived_plain w opened device happens comes) tt in
+    let plain = laws.steps.plain any_stream (Scanner t) happens answer (Scanner u) is whole (arrived_plain w opened device happens comes) tt in
     subst (λ (l : List Opened). EventLeaves w new opened [] device (Scanner t) (Scanner u) happens answer) (append-nil opened)
     (record {
       entries = tt;

@@ -10,6 +10,7 @@ returns c = join_points (record {
   names = record {
     steps = record {
       carry = c.ids_are_carried.ensures;
+      class3 = c.class3_ids_are_carried.ensures;
       plain = c.plain_devices_stay_plain.ensures;
       whole = c.tables_are_whole.ensures.run;
       counts = c.next_id_never_falls.ensures.step;

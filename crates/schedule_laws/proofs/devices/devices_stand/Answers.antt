@@ -5,6 +5,7 @@ pub returns : goal.returns
 returns c = devices_stand c.answers_send_what_is_made.ensures c.ids_are_drawn.ensures.schedule c.ids_are_drawn.ensures.opened c.an_id_opens_one_connection.ensures (record {
   steps = record {
     carry = c.ids_are_carried.ensures;
+    class3 = c.class3_ids_are_carried.ensures;
     plain = c.plain_devices_stay_plain.ensures;
     whole = c.tables_are_whole.ensures.run;
     counts = c.next_id_never_falls.ensures.step;

@@ -5,6 +5,7 @@ pub returns : goal.returns
 returns c = ids_used_once (record {
   steps = record {
     carry = c.ids_are_carried.ensures;
+    class3 = c.class3_ids_are_carried.ensures;
     plain = c.plain_devices_stay_plain.ensures;
     whole = c.tables_are_whole.ensures.run;
     counts = c.next_id_never_falls.ensures.step;

@@ -5,6 +5,7 @@ pub returns-clause-one_producer : goal.returns-clause-one_producer
 returns-clause-one_producer c = name_one_producer c.answers_send_what_is_made.ensures c.ids_are_drawn.ensures.schedule c.ids_are_drawn.ensures.opened (record {
   steps = record {
     carry = c.ids_are_carried.ensures;
+    class3 = c.class3_ids_are_carried.ensures;
     plain = c.plain_devices_stay_plain.ensures;
     whole = c.tables_are_whole.ensures.run;
     counts = c.next_id_never_falls.ensures.step;
@@ -23,6 +24,7 @@ pub returns-clause-later : goal.returns-clause-later
 returns-clause-later c = later_accept c.answers_send_what_is_made.ensures c.ids_are_drawn.ensures.schedule c.ids_are_drawn.ensures.opened (record {
   steps = record {
     carry = c.ids_are_carried.ensures;
+    class3 = c.class3_ids_are_carried.ensures;
     plain = c.plain_devices_stay_plain.ensures;
     whole = c.tables_are_whole.ensures.run;
     counts = c.next_id_never_falls.ensures.step;
