@@ -325,6 +325,11 @@ static void event(char *line)
         print_value((uint32_t)strtoul(one, NULL, 10));
         return;
     }
+    if (!strcmp(word, "counters")) {
+        size_t len = bytes_of(one);
+        print_answer(eip_counters(&device, (const uint8_t *)one, len, answer, room, &size));
+        return;
+    }
     if (!strcmp(word, "explicit") || !strcmp(word, "answer")) {
         char *bytes = strtok(NULL, " \n");
         if (!two || !bytes)

@@ -168,6 +168,7 @@ uint32_t eip_c_explicit(eip_device *device, uint32_t target, uint32_t number, co
                         size_t room, size_t *size);
 uint32_t eip_c_respond(eip_device *device, uint64_t number, uint8_t status, const uint8_t *bytes, size_t len, uint8_t *out,
                        size_t room, size_t *size);
+uint32_t eip_c_counters(eip_device *device, const uint8_t *bytes, size_t len, uint8_t *out, size_t room, size_t *size);
 uint32_t eip_c_write(eip_device *device, uint32_t point, const uint8_t *bytes, size_t len, uint8_t *out, size_t room,
                      size_t *size);
 uint32_t eip_c_read(eip_device *device, uint32_t point, uint8_t *out, size_t room, size_t *size);
@@ -402,6 +403,21 @@ static inline uint32_t eip_respond(eip_device *device, uint64_t number, uint8_t 
                                    uint8_t *out, size_t room, size_t *size)
 {
     EIP_CALL(bytes, len, eip_c_respond(device, number, status, eip_bytes(bytes), len, out, room, size));
+}
+
+/* WHAT THE HOST COUNTS
+ *
+ * An adapter whose profile has a line `describe` answers attributes 4 and 5 of its Ethernet Link object with what its host said last:
+ * eleven numbers of 32 bits of its interface, and twelve of its medium, little-endian. Before that they are zeros. Say them before
+ * the frame or request that asks for them, or as often as they are to be new. */
+
+/* The bytes of these numbers. */
+#define EIP_COUNTERS 92
+
+/* The host says what it has counted. EIP_NOT_ALLOWED_NOW without a line `describe`, EIP_WRONG_LENGTH for another number of bytes. */
+static inline uint32_t eip_counters(eip_device *device, const uint8_t *bytes, size_t len, uint8_t *out, size_t room, size_t *size)
+{
+    EIP_CALL(bytes, len, eip_c_counters(device, eip_bytes(bytes), len, out, room, size));
 }
 
 /* INQUIRIES

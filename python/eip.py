@@ -639,6 +639,7 @@ _FUNCTIONS: dict[str, list[Any]] = {
     "inquire": [_AT, _U32, *_BYTES, *_OUT],
     "explicit": [_AT, _U32, _U32, *_BYTES, *_OUT],
     "respond": [_AT, ctypes.c_uint64, ctypes.c_uint8, *_BYTES, *_OUT],
+    "counters": [_AT, *_BYTES, *_OUT],
     "write": [_AT, _U32, *_BYTES, *_OUT],
     "read": [_AT, _U32, *_OUT],
     "tick": [_AT, _U32, *_OUT],
@@ -817,6 +818,12 @@ class Device:
         """
         number = _number(number, 0xFFFFFFFFFFFFFFFF, "number")
         return self._event(self._calls.eip_c_respond, number, _number(status, 0xFF, "status"), data, len(data))
+
+    def counters(self, data: bytes) -> Answer:
+        """The host says what it has counted of the interface of a described adapter: 92 bytes, eleven numbers of the interface and
+        twelve of its medium. Attributes 4 and 5 of its Ethernet Link object read them; before the first call they are zeros.
+        """
+        return self._event(self._calls.eip_c_counters, data, len(data))
 
     # Points
 

@@ -125,6 +125,7 @@ CALLS: dict[str, Callable[[Device, list[str]], Union[Answer, Delivery, bytes]]] 
     "inquiry": lambda device, words: device.inquire(words[0], bytes_of(words[1])),
     "explicit": lambda device, words: device.explicit(words[0], int(words[1]), bytes_of(words[2])),
     "answer": lambda device, words: device.respond(int(words[0]), int(words[1], 16), bytes_of(words[2])),
+    "counters": lambda device, words: device.counters(bytes_of(words[0])),
     "write": lambda device, words: device.write(int(words[0]), bytes_of(words[1])),
     "read": lambda device, words: device.read(int(words[0])),
     "tick": lambda device, words: device.tick(int(words[0])),
@@ -214,6 +215,9 @@ class RecordedDevice(Device):
     def respond(self, number: int, status: int = 0, data: bytes = b"") -> Answer:
         event = f"answer {number} {status:02x} {hex_of(data)}"
         return self._recorded(event, lambda: super(RecordedDevice, self).respond(number, status, data))
+
+    def counters(self, data: bytes) -> Answer:
+        return self._recorded(f"counters {hex_of(data)}", lambda: super(RecordedDevice, self).counters(data))
 
     def write(self, point: int, data: bytes) -> Answer:
         return self._recorded(f"write {point} {hex_of(data)}", lambda: super(RecordedDevice, self).write(point, data))

@@ -9,7 +9,7 @@ void eip_fuzz_readers(const uint8_t *bytes, size_t len);
 void eip_fuzz_splitter(const uint8_t *bytes, size_t len);
 int LLVMFuzzerTestOneInput(const uint8_t *bytes, size_t len);
 
-enum { ROOM = 1 << 18, KINDS = 14 };
+enum { ROOM = 1 << 18, KINDS = 15 };
 
 /* Two outputs, three inputs of which one is long, a configuration, two own classes. */
 static const char adapter[] = "adapter 16 192.168.1.10 255.255.255.0 1 12 7 2 3\noutput 150 4 zero hold\noutput 149 4 hold zero\n"
@@ -38,7 +38,8 @@ static uint32_t near_point(uint8_t small)
 static event event_of(uint8_t kind, uint8_t small, const uint8_t *bytes, size_t len)
 {
     static const enum event_kind kinds[KINDS] = {REQUEST, STREAM, FRAME, DATAGRAM, WRITE, READ,    TICK,
-                                                 TICK,    START,  STOP,  CUT,      RESPOND, INQUIRY, EXPLICIT};
+                                                 TICK,    START,  STOP,  CUT,      RESPOND, INQUIRY, EXPLICIT,
+                                                 COUNTERS};
     event it = {.kind = kinds[kind % KINDS], .node = near_node(small), .number = small % 4, .bytes = bytes, .len = len};
     switch (it.kind) {
     case STREAM: it.node = near_node(small / 4); break;
@@ -160,7 +161,7 @@ static void print_bytes(const event *it)
 static void print_event(const event *it)
 {
     static const char *const words[] = {"", "request", "stream", "frame", "cut", "datagram", "inquiry", "write",
-                                        "read", "tick", "mode", "start", "stop", "explicit", "answer"};
+                                        "read", "tick", "mode", "start", "stop", "explicit", "answer", "counters"};
     fputs(words[it->kind], trace);
     if (it->kind == STREAM || it->kind == FRAME || it->kind == CUT || (it->kind >= WRITE && it->kind <= STOP && it->kind != MODE))
         fprintf(trace, " %u", it->number);

@@ -296,6 +296,23 @@ class Device:
             if stream:
                 stream.close()
 
+    def counters(self):
+        """The counters of the Connection Manager, 1 to 8."""
+        numbers = struct.pack("<9H", 8, *range(1, 9))
+        reply, _ = self.asked(forms.request(forms.GET_LIST, forms.path_of(forms.MANAGER, 1), numbers))
+        if len(reply) != 4 + 2 + 8 * 6:
+            raise ValueError(f"no counters: {reply.hex()}")
+        return [struct.unpack_from("<H", reply, 6 + 6 * it + 4)[0] for it in range(8)]
+
+    def counted(self, act):
+        """What each of them counts of something that is done."""
+        try:
+            before = self.counters()
+            act(self)
+            return " ".join(str((now - then) % 65536) for then, now in zip(before, self.counters()))
+        except ValueError as fault:
+            return str(fault)
+
     def restarted(self, type_):
         """The reply to a reset, and what comes behind it: the stream ends, and the connection ids of the next life are others."""
         before = self.class3[0] >> 24

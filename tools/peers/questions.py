@@ -14,11 +14,7 @@ ROUTES = "session", "class3"
 # What devices of this repository do not serve yet, by a pattern of the words of its questions, and why. The run fails once all questions of
 # a pattern are answered as they are to be: then it goes from the list.
 LEFT = {
-    "Connection Manager 1 attribute *": "an adapter counts no openings and closes",
-    "Ethernet Link 1 attribute [45], *": "a device has no way to the counters of its interface",
     "* set to *": "a network sets no attribute of the device's own objects",
-    # messages and openings
-    "items: with a third one *": "an item that nobody knows is refused",
 }
 
 Question = namedtuple("Question", "rule words ask wanted is_read", defaults=(False,))
@@ -43,6 +39,13 @@ def class_instance(revision, largest, most=1, count=1, highest=7):
     return {1: le(2, revision), 2: le(2, most), 3: le(2, count), 4: "??00*", 5: "??00*", 6: le(2, highest), 7: largest if isinstance(largest, str) else le(2, largest)}
 
 
+def control_of(speed, flags):
+    """Speed and duplex are negotiated, or the ones that were forced."""
+    if flags is None:
+        return "????????"
+    return le(2, 2 * (flags >> 1 & 1)) + le(2, min(speed, 65535)) if flags >> 2 & 7 == 4 else "01000000"
+
+
 def instances(maker):
     name, mac = text(maker.name), maker.link and maker.link[2]
     speed, flags = maker.link[:2] if maker.link else (None, None)
@@ -56,7 +59,8 @@ def instances(maker):
         (ROUTER, 0): class_instance(1, 3),
         (ROUTER, 1): {1: is_list_of([IDENTITY, ROUTER, ASSEMBLY, MANAGER, QOS, PORT, INTERFACE, LINK, *maker.objects]), 2: "????", 3: "0100"},
         (ASSEMBLY, 0): class_instance(2, 4, min(max(assemblies, default=0), 65535), len(assemblies)),
-        (MANAGER, 0): class_instance(1, "0000|00 0800"),
+        (MANAGER, 0): class_instance(1, 8),
+        (MANAGER, 1): {number: "????" for number in range(1, 9)},
         (QOS, 0): class_instance(1, 8),
         (QOS, 1): {1: "00", 2: "3b", 3: "2f", 4: "37", 5: "2f", 6: "2b", 7: "1f", 8: "1b"},
         (PORT, 0): class_instance(1, 7, highest=9) | {8: "0100", 9: "0000000004000200"},
@@ -67,24 +71,23 @@ def instances(maker):
             8: "01", 9: "0000" + "????" + group_of(maker), 10: "00", 11: "00" * 35, 13: le(2, maker.inactivity)},
         (LINK, 0): class_instance(4, 11),
         (LINK, 1): {
-            1: le(4, speed), 2: le(4, flags), 3: mac or "????????????", 7: "02", 8: "01", 9: "01", 10: "*", 11: f"??0000000?{speed16}0?"},
+            1: le(4, speed), 2: le(4, flags), 3: mac or "????????????", 4: "??" * 44, 5: "??" * 48, 6: control_of(speed, flags), 7: "02", 8: "01", 9: "01", 10: "*", 11: f"??0000000?{speed16}0?"},
         **{(ASSEMBLY, point): {3: "00" * size or "", 4: le(2, size)} for point, size in points.items() if point},
         **{(ASSEMBLY, point): {3: "", 4: "0000"} for point in maker.heartbeats},
     }
 
 
-RULES = {IDENTITY: "31.2", ROUTER: "31.19", ASSEMBLY: "31.6", MANAGER: "31.1", QOS: "31.24", PORT: "31.25", INTERFACE: "31.4", LINK: "31.5"}
+RULES = {IDENTITY: "31.2", ROUTER: "31.19", ASSEMBLY: "31.6", MANAGER: "31.35", QOS: "31.24", PORT: "31.25", INTERFACE: "31.4", LINK: "31.5"}
 NAMES = {IDENTITY: "Identity", ROUTER: "Message Router", ASSEMBLY: "Assembly", MANAGER: "Connection Manager", QOS: "QoS", PORT: "Port",
          INTERFACE: "TCP/IP Interface", LINK: "Ethernet Link"}
 MOST_ATTRIBUTES = 14
 NO_INSTANCES = 2, 255, 256, 65535, 65536
 NO_CLASSES = 0x00, 0x03, 0x05, 0x07, 0x37, 0x43, 0x47, 0x64, 0xF3, 0xF7, 0xFF, 0x100, 0x300, 0xFFFF
-COUNTERS = {(MANAGER, 1): {number: 2 for number in range(1, 9)}, (LINK, 1): {4: 44, 5: 48}}  # and how many bytes each has
 SERVICES = [0x00, 0x02, 0x06, 0x07, 0x08, 0x09, 0x0D, 0x0F, 0x11, 0x13, 0x14, 0x15, 0x16, 0x17, 0x18, 0x19, 0x1A, 0x1B, 0x1C, 0x1F, 0x31, 0x32,
             0x4B, 0x4C, 0x4D, 0x4F, 0x50, 0x53, 0x55, 0x59, 0x5C, 0x63, 0x7F]
 MANAGERS = [FORWARD_CLOSE, FORWARD_OPEN, LARGE_FORWARD_OPEN]  # the services of the Connection Manager alone
 ALL_OF = {(IDENTITY, 1): range(1, 8), (INTERFACE, 1): range(1, 14), (LINK, 1): range(1, 12)}  # what Get_Attributes_All answers
-DEFAULTS = {(INTERFACE, 7): "00" * 6, (INTERFACE, 12): "00", (LINK, 4): "00" * 44, (LINK, 5): "00" * 48, (LINK, 6): "00" * 4}  # of attributes that a device has not
+DEFAULTS = {(INTERFACE, 7): "00" * 6, (INTERFACE, 12): "00"}  # of attributes that a device has not
 
 
 def router(rule, words, service, path, wanted, data=b"", routes=ROUTES, is_read=False):
@@ -99,19 +102,14 @@ def reads(maker):
     """Each attribute that an instance has, and each that it has not."""
     for (class_, instance), attributes in instances(maker).items():
         name = f"{NAMES[class_]} {instance}"
-        counted = COUNTERS.get((class_, instance), {})
         for number in [*range(MOST_ATTRIBUTES + 1), 99, 255, 256, 300]:
             value, path = attributes.get(number), path_of(class_, instance, number)
             rule = RULES[class_] if instance else "31.20" if 4 <= number <= 7 else "31.7"
-            if number in counted:
-                yield from router(rule, f"{name} attribute {number}", GET, path, "00 " + "??" * counted[number])
-            elif value is None:
+            if value is None:
                 yield from router("31.12", f"{name} has no attribute {number}", GET, path, "14")
             else:
                 wanted = value if callable(value) else f"00 {value}".strip()
                 yield from router(rule, f"{name} attribute {number}", GET, path, wanted, is_read=True)
-    for number, size in COUNTERS[(MANAGER, 1)].items():
-        yield from router("31.1", f"Connection Manager 1 attribute {number}", GET, path_of(MANAGER, 1, number), "00 " + "??" * size)
 
 
 def everything(maker):
@@ -126,7 +124,7 @@ def everything(maker):
 
 def services(maker):
     """Services that an instance has not; services of instances and classes that are not there."""
-    for class_, instance in [*instances(maker), (MANAGER, 1)]:
+    for class_, instance in instances(maker):
         name, path = f"{NAMES[class_]} {instance}", path_of(class_, instance)
         absent = SERVICES + ([] if (class_, instance) in ALL_OF else [GET_ALL]) + ([] if class_ == MANAGER and instance else MANAGERS)
         for service in absent + ([] if (class_, instance) == (IDENTITY, 1) else [RESET]):
@@ -244,8 +242,8 @@ def routed(maker):
     get, vendor = request(GET, path_of(IDENTITY, 1, 1)), le(2, maker.vendor)
     rows = [
         ("without a route", get, b"", GET, f"00 {vendor}"), ("of odd length", request(RESET, path_of(IDENTITY, 1), b"\2"), b"", RESET, "20"),
-        ("that is refused", request(GET, path_of(IDENTITY, 1, 99)), b"", GET, "14"), ("to a backplane", get, b"\1\0", UNCONNECTED_SEND, "01/0311 01"),
-        ("to another network", get, b"\3\5", UNCONNECTED_SEND, "01/0311 01"), ("of no byte", b"", b"", UNCONNECTED_SEND, "13|20"),
+        ("that is refused", request(GET, path_of(IDENTITY, 1, 99)), b"", GET, "14"), ("to a backplane", get, b"\1\0", UNCONNECTED_SEND, "01/0311 0100"),
+        ("to another network", get, b"\3\5", UNCONNECTED_SEND, "01/0311 0100"), ("of no byte", b"", b"", UNCONNECTED_SEND, "13|20"),
     ]
     for words, inner, route, service, wanted in rows:
         data = b"\x0a\x05" + struct.pack("<H", len(inner)) + inner + b"\0" * (len(inner) % 2) + bytes([len(route) // 2, 0]) + route
@@ -364,6 +362,7 @@ ITEMS = [  # of SendRRData, and whether they are served
     ("connected data", items((0, b""), (0xB1, VENDOR_NUMBER)), False), ("no request", items((0, b""), (0xB2, b"")), False),
     ("a request cut off", items((0, b""), (0xB2, VENDOR_NUMBER, 100)), False), ("a request longer than its length", items((0, b""), (0xB2, VENDOR_NUMBER, 2)), False),
     ("bytes behind them", items((0, b""), REQUEST, rest=b"\0"), False), ("a socket address of 15 bytes", items((0, b""), REQUEST, (0x8000, bytes(15))), False),
+    ("two that nobody knows behind a socket address", items((0, b""), REQUEST, SOCKET, (0x1234, b"abc"), (0x100, b"d")), True),
     ("a third one cut off", items((0, b""), REQUEST, (0x1234, b"", 4)), False), ("a number of 65,535", items((0, b""), REQUEST, count=65535), False),
 ]
 
@@ -389,6 +388,10 @@ def connected(maker):
     for id_ in 0, 1, 0xFFFF_FFFF:
         yield in_session("36.17", f"connection {id_:x}, which is not there",
                          lambda handle, it=id_: message(UNIT, items((0xA1, struct.pack("<I", it)), (0xB1, good)), handle), "none")
+    for words, rest, wanted in ("that nobody knows", (0x1234, b"abc"), "none"), ("of no byte", (0x1234, b""), "none"), ("cut off", (0x1234, b"", 4), "0003"), \
+            ("with a socket address of 15 bytes", (0x8000, bytes(15)), "0003"):
+        yield in_session("12.5", f"a message of a connection that is not there, with a third item {words}",
+                         lambda handle, it=rest: message(UNIT, items((0xA1, bytes(4)), (0xB1, good), it), handle), wanted)
     name = request(GET, path_of(IDENTITY, 1, 1))
     yield Question("36.18", "a message longer than the connection", lambda device: device.over_class3(1, name + bytes(500)), "none")
     yield Question("36.19", "a message twice", lambda device: device.twice(name), "the same reply")
@@ -613,6 +616,69 @@ def meanwhile():
                        lambda device, it=request(service, path, data), held=[OWNER | it for it in held]: device.served_while(it, held), wanted)
 
 
+# COUNTERS: what is done, and what each counter of the Connection Manager counts of it
+NOTHING, OPENED_AND_CLOSED = "0 0 0 0 0 0 0 0", "1 0 0 0 1 0 0 0"
+OPEN_FORMAT, OPEN_OTHER, CLOSE_FORMAT, CLOSE_OTHER = "1 1 0 0 0 0 0 0", "1 0 0 1 0 0 0 0", "0 0 0 0 1 1 0 0", "0 0 0 0 1 0 1 0"
+
+
+def counts(maker):
+    def row(rule, words, act, wanted):
+        return Question(rule, f"what is counted of {words}", lambda device: device.counted(act), wanted)
+
+    def opened(words, fields, wanted, route="session", held=()):
+        fields, held = OWNER | fields, [OWNER | it for it in held]
+        return row("31.36" if wanted == OPENED_AND_CLOSED else "31.39" if wanted == OPEN_OTHER else "31.37", f"an opening {words}",
+                   lambda device: device.open_while(fields, held, route), wanted)
+
+    def served(rule, words, asked, wanted, route="session", service=None):
+        return row(rule, words, lambda device: device.served(asked, route, service), wanted)
+
+    for kind, changed in itertools.product(("owner", "reader", "class3"), ({}, LARGE)):
+        yield opened(f"of a {kind}{', large' if changed else ''}", {"kind": kind, **changed}, OPENED_AND_CLOSED)
+    for words, fields in ("of another type", {"o_t_type": 3}), ("of class 2", {"trigger": 2}), ("of multiplier 8", {"multiplier": 8}), ("each 999 us", {"rpi": 999}), \
+            ("each 0 us", {"rpi": 0}), ("of another size", {"o_t_more": 4}), ("of a point that is not there", {"consumed": 77}), ("of class 3, of no size", {"kind": "class3", "o_t_size": 0}), \
+            ("whose path is of Identity", {"path": "20012401"}), ("of class 3, whose path is of Identity", {"kind": "class3", "path": "20012401"}):
+        yield opened(words, fields, OPEN_OTHER)
+    yield opened("over class 3", {}, OPEN_OTHER, "class3")
+    for text_ in ("2300 2004 C A B", "e000", "2100", "3404 0000", "0100 2004 C A B"):
+        if "C" not in text_ or maker.config:
+            for kind in "owner", "class3":
+                yield opened(f"of a {kind}, whose path is {text_}", {"kind": kind, "path": path_in(maker, text_)}, OPEN_FORMAT)
+    for large, fields in itertools.product((False, True), ({"cut": 0}, {"cut": 10}, {"cut": 34}, {"behind": "00"}, {"behind": "2c64"})):
+        yield opened(f"{'that is large, ' if large else ''}with {fields}", {"large": large, **fields}, OPEN_FORMAT)
+    yield opened("beside an owner, which is opened and closed too", {}, "2 0 0 1 1 0 0 0", held=[{}])
+    triad = struct.pack("<HHI", 998, 0x1337, 0xC0FFEE)
+    for words, changed, wanted in ("of no connection", {}, CLOSE_OTHER), ("without a path", {"path": ""}, CLOSE_OTHER), ("cut behind 9 bytes", {"cut": 9}, CLOSE_FORMAT), \
+            ("of no byte", {"cut": 0}, CLOSE_FORMAT), ("with a byte behind it", {"behind": "00"}, CLOSE_FORMAT):
+        yield row("31.39" if wanted == CLOSE_OTHER else "31.37", f"a close {words}", lambda device, it=changed: device.closed(triad, **it), wanted)
+    close = closing(maker, triad)
+    yield served("31.39", "a close over class 3", close, CLOSE_OTHER, "class3")
+    for route in ROUTES:
+        yield served("31.36", f"a packet with a close, over {route}", request(PACKET, path_of(ROUTER, 1), many(close)), NOTHING, route)
+        send = b"\x0a\x05" + struct.pack("<H", len(close)) + close + b"\0" * (len(close) % 2) + bytes(2)
+        yield served("31.36", f"an Unconnected_Send with a close, over {route}", request(UNCONNECTED_SEND, path_of(MANAGER, 1), send), NOTHING, route, FORWARD_CLOSE)
+        for service, class_ in itertools.product(MANAGERS, (IDENTITY, ASSEMBLY)):
+            yield served("31.36", f"service {service:02x} at {NAMES[class_]}, over {route}", request(service, path_of(class_, 1)), NOTHING, route)
+        for service in GET, GET_ALL, SET, 0x4B:
+            yield served("31.36", f"service {service:02x} at the Connection Manager, over {route}", request(service, path_of(MANAGER, 1, 1)), NOTHING, route)
+        yield served("31.36", f"a packet that reads two counters, over {route}",
+                     request(PACKET, path_of(ROUTER, 1), many(*(request(GET, path_of(MANAGER, 1, it)) for it in (1, 8)))), NOTHING, route)
+
+
+def read_within(maker):
+    """Counters are read by each route: in a list, in a packet, and in an Unconnected_Send."""
+    for class_, number, size in (MANAGER, 1, 2), (MANAGER, 8, 2), (LINK, 4, 44), (LINK, 5, 48), (LINK, 6, 4):
+        get, name = request(GET, path_of(class_, 1, number)), f"{NAMES[class_]} attribute {number}"
+        value = "??" * size
+        yield from router("31.30", f"{name} in a packet", PACKET, path_of(ROUTER, 1), f"00 010004008e000000{value}", many(get))
+        yield from router("31.27", f"{name} in a list", GET_LIST, path_of(class_, 1), f"00 0100{le(2, number)}0000{value}", struct.pack("<HH", 1, number))
+        yield from router("31.28", f"{name} in a list that sets", SET_LIST, path_of(class_, 1), f"0a 0100{le(2, number)}0e00", struct.pack("<HH", 1, number) + bytes(size))
+        for route in ROUTES:
+            send = b"\x0a\x05" + struct.pack("<H", len(get)) + get + bytes(2)
+            yield Question("31.33", f"{name} in an Unconnected_Send, over {route}",
+                           lambda device, it=request(UNCONNECTED_SEND, path_of(MANAGER, 1), send), route=route: device.served(it, route, GET), f"00 {value}")
+
+
 # THE LIST
 
 
@@ -632,6 +698,8 @@ def questions(maker, resets):
         yield from openings(maker)
         yield from closes()
         yield from meanwhile()
+        yield from counts(maker)
+    yield from read_within(maker)
     yield from listed(maker)
     yield from packets(maker)
     yield from routed(maker)

@@ -10,7 +10,8 @@
 #include <string.h>
 
 enum event_kind {
-    NO_EVENT, REQUEST, STREAM, FRAME, CUT, DATAGRAM, INQUIRY, WRITE, READ, TICK, MODE, START, STOP, EXPLICIT, RESPOND
+    NO_EVENT, REQUEST, STREAM, FRAME, CUT, DATAGRAM, INQUIRY, WRITE, READ, TICK, MODE, START, STOP, EXPLICIT, RESPOND,
+    COUNTERS
 };
 
 /* An event. What its kind has no use for is 0. */
@@ -43,6 +44,7 @@ static inline uint32_t perform(eip_device *device, const event *it, uint8_t *out
     case STOP: return eip_stop(device, it->number, out, room, size);
     case EXPLICIT: return eip_explicit(device, it->node, it->number, it->bytes, it->len, out, room, size);
     case RESPOND: return eip_respond(device, it->asked, it->status, it->bytes, it->len, out, room, size);
+    case COUNTERS: return eip_counters(device, it->bytes, it->len, out, room, size);
     case DATAGRAM:
         status = eip_datagram(device, it->node, it->bytes, it->len, &delivery);
         if (status == EIP_DONE && room) {
@@ -82,7 +84,7 @@ static inline enum event_kind kind_of(const char *word, int *behind)
     } kinds[] = {{"request", REQUEST, 2}, {"stream", STREAM, 2}, {"frame", FRAME, 2},       {"cut", CUT, 1},
                  {"datagram", DATAGRAM, 2}, {"inquiry", INQUIRY, 2}, {"write", WRITE, 2},   {"read", READ, 1},
                  {"tick", TICK, 1},       {"mode", MODE, 1},     {"start", START, 1},       {"stop", STOP, 1},
-                 {"explicit", EXPLICIT, 3}, {"answer", RESPOND, 3}};
+                 {"explicit", EXPLICIT, 3}, {"answer", RESPOND, 3}, {"counters", COUNTERS, 1}};
     size_t i;
     for (i = 0; i < sizeof kinds / sizeof *kinds; i++)
         if (!strcmp(word, kinds[i].word)) {
@@ -109,6 +111,7 @@ static inline bool read_event(char *line, event *it)
     case INQUIRY:
     case EXPLICIT: it->node = node_of(words[0]); break;
     case RESPOND: it->asked = strtoull(words[0], NULL, 10); break;
+    case COUNTERS: break;
     case MODE: it->number = !strcmp(words[0], "run"); break;
     default: it->number = (uint32_t)strtoul(words[0], NULL, 10); break;
     }
@@ -118,7 +121,7 @@ static inline bool read_event(char *line, event *it)
         it->number = (uint32_t)strtoul(words[1], NULL, 10);
     else if (it->kind == RESPOND)
         it->status = (uint8_t)strtoul(words[1], NULL, 16);
-    if (it->kind != STREAM && behind > 1)
+    if (it->kind == COUNTERS || (it->kind != STREAM && behind > 1))
         take_bytes(it, words[behind - 1]);
     return true;
 }

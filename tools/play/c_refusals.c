@@ -94,6 +94,7 @@ static void check_refusals(eip_device *device)
     check(eip_start(device, 0, out, sizeof out, &size) == EIP_NOT_ALLOWED_NOW, "a slot of an adapter");
     check(eip_frame(device, 3, four, 4, out, sizeof out, &size) == EIP_NOT_ALLOWED_NOW, "a frame of no stream");
     check(eip_respond(device, 1, 0, four, 4, out, sizeof out, &size) == EIP_NOT_ALLOWED_NOW, "an answer to no request");
+    check(eip_counters(device, four, 4, out, sizeof out, &size) == EIP_NOT_ALLOWED_NOW, "counters of a device that is not described");
     check(eip_tick(device, 1, NULL, 1, &size) == EIP_NULL, "room NULL");
     check(eip_tick(device, 1, out, sizeof out, NULL) == EIP_NULL, "a size NULL");
     check(eip_request(device, 1, NULL, 1, out, sizeof out, &size) == EIP_NULL, "bytes NULL");
@@ -126,6 +127,7 @@ static void check_null(eip_device *device)
         check(eip_inquire(device, 1, NULL, len, out, sizeof out, &size) == EIP_NULL, "an inquiry NULL of a device");
         check(eip_explicit(device, 1, 1, NULL, len, out, sizeof out, &size) == EIP_NULL, "an explicit request NULL");
         check(eip_respond(device, 1, 0, NULL, len, out, sizeof out, &size) == EIP_NULL, "the data of an answer NULL");
+        check(eip_counters(device, NULL, len, out, sizeof out, &size) == EIP_NULL, "counters NULL");
         check(eip_datagram(device, 1, NULL, len, &delivery) == EIP_NULL && delivery == EIP_IDLE, "a datagram NULL");
         check(eip_write(device, 100, NULL, len, out, sizeof out, &size) == EIP_NULL, "a value NULL");
         check(eip_tick(device, 1, NULL, len, &size) == EIP_NULL, "room NULL of any length");

@@ -44,6 +44,25 @@ fn respond_copy(alloc: Global, number: u64, status: u8, bytes: &[u8]) -> Result<
     })
 }
 
+/// An inquiry of a peer with a copy of its bytes.
+fn inquiry_copy(alloc: Global, peer: Node, bytes: &[u8]) -> Result<Event, OutOfMemory>
+    ensures { IfOk result (λ copy. copy ≡ event.Inquiry peer bytes.now) }
+{
+    Ok(Event::Inquiry {
+        peer,
+        bytes: Items::copy_of(alloc, bytes)?,
+    })
+}
+
+/// What a host has counted, with a copy of its bytes.
+fn counters_copy(alloc: Global, bytes: &[u8]) -> Result<Event, OutOfMemory>
+    ensures { IfOk result (λ copy. copy ≡ event.Counters bytes.now) }
+{
+    Ok(Event::Counters {
+        bytes: Items::copy_of(alloc, bytes)?,
+    })
+}
+
 impl Event {
     /// A copy of the event.
     pub fn copy(&self, alloc: Global) -> Result<Event, OutOfMemory>
@@ -64,10 +83,7 @@ impl Event {
                 peer: *peer,
                 bytes: Items::copy_of(alloc, bytes.as_slice())?,
             },
-            Event::Inquiry { peer, bytes } => Event::Inquiry {
-                peer: *peer,
-                bytes: Items::copy_of(alloc, bytes.as_slice())?,
-            },
+            Event::Inquiry { peer, bytes } => inquiry_copy(alloc, *peer, bytes.as_slice())?,
             Event::Write { point, bytes } => Event::Write {
                 point: *point,
                 bytes: Items::copy_of(alloc, bytes.as_slice())?,
@@ -87,6 +103,7 @@ impl Event {
                 status,
                 bytes,
             } => respond_copy(alloc, *number, *status, bytes.as_slice())?,
+            Event::Counters { bytes } => counters_copy(alloc, bytes.as_slice())?,
         })
     }
     /// Whether the other event is the same. Takes no memory.

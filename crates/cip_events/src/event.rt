@@ -77,6 +77,12 @@ pub enum Event {
         status: u8,
         bytes: Items<u8>,
     },
+    /// The host says what it has counted of the interface of a described adapter: 44 bytes of the interface, and 48 of its medium.
+    ///
+    /// Volume 2, chapter 5, Ethernet Link object, attributes 4 and 5.
+    Counters {
+        bytes: Items<u8>,
+    },
 }
 
 /// The recipient of a frame.

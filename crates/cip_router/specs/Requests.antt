@@ -49,9 +49,9 @@ request_to_close service (Err fault) = refused service (data_status fault)
 abbrev pub unconnected_send : ℕ
 unconnected_send = 0x52
 
--- a service of the Connection Manager
-abbrev pub request_to_manager : ℕ → List ℕ → RouterRequestFields
-request_to_manager service body = first_case_or (refused service status.Service) (
+-- a service of the Connection Manager: its own, or those of every object
+abbrev pub request_to_manager : ℕ → Option ℕ → List ℕ → RouterRequestFields
+request_to_manager service attribute body = first_case_or (object service 6 1 attribute body) (
     (service == forward_open, request_to_open service false (open_reading false body))
     ∷ (service == large_forward_open, request_to_open service true (open_reading true body))
     ∷ (service == forward_close, request_to_close service (close_reading body))
@@ -65,7 +65,7 @@ is_manager target = target.class == 6 && target.instance == 1
 -- a service of an object: the Connection Manager's own, or those of other objects
 abbrev pub request_to_object : RequestFields → RouterRequestFields
 request_to_object request = first_case_or (object request.service request.target.class request.target.instance request.target.attribute request.body) (
-    (is_manager request.target, request_to_manager request.service request.body)
+    (is_manager request.target, request_to_manager request.service request.target.attribute request.body)
     ∷ [])
 
 abbrev pub router_request_of : ℕ → Result RequestFields ReadFault → RouterRequestFields

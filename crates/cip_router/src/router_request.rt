@@ -67,8 +67,8 @@ fn request_to_close(service: u8, body: &[u8]) -> RouterRequest<'_>
     }
 }
 
-fn request_to_manager(service: u8, body: &[u8]) -> RouterRequest<'_>
-    ensures { view_router_request result ≡ request_to_manager service body.now }
+fn request_to_manager(service: u8, attribute: Option<u32>, body: &[u8]) -> RouterRequest<'_>
+    ensures { view_router_request result ≡ request_to_manager service attribute body.now }
 {
     if let Some(open) = OpenService::of(service) {
         return request_to_open(open, body);
@@ -76,7 +76,7 @@ fn request_to_manager(service: u8, body: &[u8]) -> RouterRequest<'_>
     match service {
         FORWARD_CLOSE => request_to_close(service, body),
         UNCONNECTED_SEND => RouterRequest::Object(service, CONNECTION_MANAGER, 1, None, body),
-        _ => RouterRequest::Refused(service, Status::Service),
+        _ => RouterRequest::Object(service, CONNECTION_MANAGER, 1, attribute, body),
     }
 }
 
@@ -85,7 +85,7 @@ fn request_to_object<'a>(request: Request<'a>) -> RouterRequest<'a>
 {
     let target = request.target;
     if target.class == CONNECTION_MANAGER && target.instance == 1 {
-        return request_to_manager(request.service, request.body);
+        return request_to_manager(request.service, target.attribute, request.body);
     }
     RouterRequest::Object(
         request.service,
@@ -99,9 +99,8 @@ fn request_to_object<'a>(request: Request<'a>) -> RouterRequest<'a>
 /// Reads a request. Takes no memory.
 ///
 /// The router refuses, in this order: bytes that end within the request path (status 0x13), a path that
-/// is no class and instance (0x04), another service of the Connection Manager than its opens, its close and
-/// Unconnected_Send (0x08), their data too short (0x13) or too long (0x15). The device judges Unconnected_Send, and a request to
-/// another object.
+/// is no class and instance (0x04), data of the opens and the close of the Connection Manager that are too short (0x13) or too long
+/// (0x15). The device judges every other service of it, and a request to another object.
 #[tactic(auto, unfolding(crate::specs::Requests::router_request_reading))]
 pub fn read_router_request(bytes: &[u8]) -> RouterRequest<'_>
     ensures { view_router_request result ≡ router_request_reading bytes.now }

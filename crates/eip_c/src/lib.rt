@@ -5,7 +5,7 @@
 #![tactic(auto)]
 
 ghost use Rattle.std.specs.Prelude.{◌≡◌, ◌<◌, ◌≤◌, Ok};
-ghost use Rattle.cip_events.specs.declared.event.Event.TheVariants.{Request, StreamOpened, Frame, StreamCut, Datagram, Inquiry, Write, Tick, Mode, Start, Stop, Explicit, Respond};
+ghost use Rattle.cip_events.specs.declared.event.Event.TheVariants.{Request, StreamOpened, Frame, StreamCut, Datagram, Inquiry, Write, Tick, Mode, Start, Stop, Explicit, Respond, Counters};
 ghost use Rattle.cip_events.specs.declared.event.Verdict.TheVariants.{Delivered};
 ghost use Rattle.cip_events.specs.Answers.{plain_answer};
 ghost use Rattle.cip_events.specs.Clock.{longest_tick};
@@ -285,6 +285,26 @@ pub extern "C" fn eip_c_respond(
         bytes,
     };
     device.perform(&event, out, size)
+}
+
+// WHAT THE HOST COUNTS
+
+/// The host says what it has counted of the interface of a described adapter: 44 bytes of the interface, 48 of its medium.
+#[unsafe(no_mangle)]
+pub extern "C" fn eip_c_counters(
+    alloc: Global,
+    device: &mut Handle,
+    bytes: &[u8],
+    out: &mut [u8],
+    size: &mut usize,
+) -> u32
+    ensures { Answers (Counters bytes.now)
+        device.old.value result device.new.value (out.old, size.old) (out.new, size.new) }
+{
+    let Ok(bytes) = Items::copy_of(alloc, bytes) else {
+        return OUT_OF_MEMORY;
+    };
+    device.perform(&Event::Counters { bytes }, out, size)
 }
 
 // POINTS AND TIME

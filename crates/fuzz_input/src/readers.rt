@@ -1,7 +1,10 @@
 //! Readers of the codecs.
 
 use cip_datagram::{read_datagram, read_header};
-use cip_encap::{Splitter, read_connected_items, read_items, read_message};
+use cip_encap::{
+    Splitter, read_any_connected_items, read_any_items, read_connected_items, read_items,
+    read_message,
+};
 use cip_epath::{
     key_serial, read_any_message_path, read_any_path, read_message_path, read_path, read_target,
 };
@@ -43,6 +46,8 @@ fn read_packets(bytes: &[u8]) {
     let _message = read_message(bytes).is_ok();
     let _items = read_items(bytes).is_ok();
     let _connected = read_connected_items(bytes).is_ok();
+    let _any = read_any_items(bytes).is_ok();
+    let _any_connected = read_any_connected_items(bytes).is_ok();
 }
 
 fn read_parameters(bytes: &[u8]) {

@@ -84,9 +84,10 @@ impl ScannerSlots {
         ensures hints { IsHinted (H.bounds hints.new) (table_in self.new) }
     {
         match event {
-            Event::Request { .. } | Event::Inquiry { .. } | Event::Respond { .. } => {
-                Err(StepFault::NotAllowedNow)
-            }
+            Event::Request { .. }
+            | Event::Inquiry { .. }
+            | Event::Respond { .. }
+            | Event::Counters { .. } => Err(StepFault::NotAllowedNow),
             Event::StreamOpened { stream, peer } => {
                 let outcome = self.open_stream(*stream, *peer);
                 self.renew(hints);

@@ -1,7 +1,7 @@
 -- One event at a scanner's table.
 use Rattle.std.specs.Prelude.{ℕ, false, [], map, replicate, Result, Ok, Err, Option, Some, None}
 use Rattle.cip_events.specs.declared.event.Event.{Event}
-use Rattle.cip_events.specs.declared.event.Event.TheVariants.{Request, StreamOpened, Frame, StreamCut, Datagram, Inquiry, Write, Read, Tick, Mode, Start, Stop, Explicit, Respond}
+use Rattle.cip_events.specs.declared.event.Event.TheVariants.{Request, StreamOpened, Frame, StreamCut, Datagram, Inquiry, Write, Read, Tick, Mode, Start, Stop, Explicit, Respond, Counters}
 use Rattle.cip_events.specs.declared.event.StepFault.{StepFault}
 use Rattle.cip_events.specs.declared.event.StepFault.TheVariants.{NotAllowedNow}
 use Rattle.scanner_table.specs.declared.profile.SlotConfig.{SlotConfig}
@@ -33,6 +33,7 @@ scanner_step t (Start slot) = start t slot
 scanner_step t (Stop slot) = stop t slot
 scanner_step t (Explicit target number bytes) = explicit_request t target number bytes
 scanner_step t (Respond number status bytes) = Err NotAllowedNow
+scanner_step t (Counters bytes) = Err NotAllowedNow
 
 -- a slot before its first start: its connection is not desired, and output and image are zeros
 abbrev pub fresh_slot : SlotConfig → Slot

@@ -1,5 +1,7 @@
 -- What a station does next: what its input says, and what the script of its device has due.
-use Rattle.std.specs.Prelude.{◌≡◌, ℕ, ◌+◌, ◌-◌, ◌^◌, min, Bool, true, false, List, slice_get, Option, Some, None}
+use Rattle.std.specs.Prelude.{◌≡◌, ◌⊎◌, ℕ, ◌+◌, ◌-◌, ◌^◌, min, Bool, true, false, List, slice_get, Option, Some, None}
+use Rattle.cip_events.specs.declared.event.Event.TheVariants as event
+use Rattle.station.specs.declared.counted.CountedSteps.{CountedSteps}
 use Rattle.station.specs.declared.script.run.DueLine.{DueLine}
 use Rattle.station.specs.declared.script.run.ScriptRun.{ScriptRun}
 use Rattle.station.specs.declared.script.lines.ScriptLine.{ScriptLine}
@@ -93,3 +95,10 @@ GivesWithin false types old now given new = GivesNext types old now given new
 -- What the source of a device gives at this time of its life, and what it is then.
 abbrev pub Gives : {T : Type 0} (types : T → Option StationStep → T → Type 0) → DeviceSteps T → ℕ → StationStep → DeviceSteps T → Type 0
 Gives types old now given new = GivesWithin (is_over now old.end_ms) types old now given new
+
+-- WHAT THE HOST COUNTS
+
+-- Either the device is told what its host has counted, and the source of its steps stays, or that source gives the step.
+abbrev pub Counts : {S H : Type 0} (gives : S → ℕ → StationStep → S → Type 0) → CountedSteps S H → ℕ → StationStep → CountedSteps S H → Type 0
+Counts gives old now given new =
+    ((bytes : List ℕ) × (given ≡ step.Call (event.Counters bytes)) × (new.steps ≡ old.steps)) ⊎ gives old.steps now given new.steps

@@ -4,6 +4,7 @@
 //! `script` says when the lines of a device's script are due, over the time of its plant.
 #![tactic(auto)]
 
+mod counted;
 mod exact;
 mod fault;
 mod life;
@@ -16,6 +17,7 @@ mod sessions;
 mod sources;
 mod step;
 
+pub use counted::{CountedSteps, HostCounts};
 pub use exact::tasks_are_exact;
 pub use fault::EarlyEnd;
 pub use observer::StationObserver;

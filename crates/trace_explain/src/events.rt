@@ -106,6 +106,10 @@ fn push_call(
             write!(out, "the application reads point {point}")?;
             push_name(out, names, point_of(config, *point))
         }
+        Event::Counters { bytes } => {
+            push_text(out, "the host has counted of its interface ")?;
+            push_data(alloc, out, bytes.as_slice())
+        }
         Event::Tick { ms } => Ok(write!(out, "{ms} ms pass")?),
         Event::Mode { run: true } => push_text(out, "the application runs"),
         Event::Mode { run: false } => push_text(out, "the application is idle"),

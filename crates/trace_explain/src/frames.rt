@@ -2,7 +2,7 @@
 
 use crate::identities::push_identity;
 use crate::router::{push_data, push_id, push_reply, push_request};
-use cip_encap::{MessageView, read_connected_items, read_items, read_message};
+use cip_encap::{MessageView, read_any_connected_items, read_any_items, read_message};
 use cip_router::Command;
 use cip_tables::Config;
 use cip_types::OutOfMemory;
@@ -101,7 +101,7 @@ fn push_items(
     items: &[u8],
     to_target: bool,
 ) -> Result<(), OutOfMemory> {
-    match read_items(items) {
+    match read_any_items(items) {
         Ok(packet) => {
             push_text(out, ": ")?;
             push_routed(alloc, out, config, packet.data, to_target)
@@ -123,7 +123,7 @@ fn push_connected(
     items: &[u8],
     to_target: bool,
 ) -> Result<(), OutOfMemory> {
-    match read_connected_items(items) {
+    match read_any_connected_items(items) {
         Ok(packet) => {
             push_text(out, ", connection ")?;
             push_id(out, packet.connection)?;

@@ -53,6 +53,7 @@ event_is (event.Start slot) fits = line_is (codes "start") (decimal slot ∷ [])
 event_is (event.Stop slot) fits = line_is (codes "stop") (decimal slot ∷ []) (line.Event (event.Stop slot)) refl refl (rw (c32 slot fits) refl) (rw (n32 slot fits) refl)
 event_is (event.Explicit target number bytes) fits = line_is (codes "explicit") (node_word target ∷ decimal number ∷ bytes_word bytes ∷ []) (line.Event (event.Explicit target number bytes)) refl refl (rw (node_clean target, c32 number fits.1, bytes_clean bytes fits.2) refl) (rw (node_back target fits.0, n32 number fits.1, bytes_back bytes fits.2) refl)
 event_is (event.Respond number status bytes) fits = line_is (codes "answer") (decimal number ∷ general_word status ∷ bytes_word bytes ∷ []) (line.Event (event.Respond number status bytes)) refl refl (rw (decimal_clean number fits.0, general_clean status fits.1, bytes_clean bytes fits.2) refl) (rw (n64 number fits.0, general_back status fits.1, bytes_back bytes fits.2) refl)
+event_is (event.Counters bytes) fits = line_is (codes "counters") (bytes_word bytes ∷ []) (line.Event (event.Counters bytes)) refl refl (rw (bytes_clean bytes fits) refl) (rw (bytes_back bytes fits) refl)
 
 -- an event, wherever it is allowed
 pub event_reads : (builder builder' : TraceBuilder) (given : Event) → EventFits given → builder_with builder (line.Event given) ≡ Some builder' → Reads builder (line_text (event_words given)) builder'

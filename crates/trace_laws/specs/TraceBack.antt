@@ -126,6 +126,7 @@ EventFits (event.Start slot) = slot < 2 ^ 32
 EventFits (event.Stop slot) = slot < 2 ^ 32
 EventFits (event.Explicit target number bytes) = (target.0 < 2 ^ 32) × (number < 2 ^ 32) × IsBytes bytes
 EventFits (event.Respond number status bytes) = (number < 2 ^ 64) × (status < 2 ^ 8) × IsBytes bytes
+EventFits (event.Counters bytes) = IsBytes bytes
 
 -- OUTCOMES
 

@@ -23,10 +23,10 @@ pub use profile_lines::{
     read_adapter, read_description, read_heartbeat, read_object, read_output, read_point,
 };
 pub use shapes::{
-    ADAPTER, ANSWER, CLASS3_PLACES, CLOSERS, CUT, DESCRIBE, EXPLICIT, FRAME, FROM_NODE, HEARTBEAT,
-    MODE, NODE_CONNECTIONS, NODE_OPENINGS, NUMBER, OUTPUT, OWN_REQUEST, PLACES, POINT, RATE,
-    REPLIED, SCANNER, SEND, SLOT, STREAM, Shape, VALUE, WRITE, WordKind, part_shape_of, shape_of,
-    skip_word,
+    ADAPTER, ANSWER, CLASS3_PLACES, CLOSERS, COUNTERS, CUT, DESCRIBE, EXPLICIT, FRAME, FROM_NODE,
+    HEARTBEAT, MODE, NODE_CONNECTIONS, NODE_OPENINGS, NUMBER, OUTPUT, OWN_REQUEST, PLACES, POINT,
+    RATE, REPLIED, SCANNER, SEND, SLOT, STREAM, Shape, VALUE, WRITE, WordKind, part_shape_of,
+    shape_of, skip_word,
 };
 pub use slot_lines::{read_openings, read_scanner, read_serials, read_slot};
 pub use written_profiles::push_profile;

@@ -165,6 +165,9 @@ pub const MODE: [WordKind; 1] = [WordKind::Mode];
 /// The address, the nodes that consume it, and the bytes of a datagram.
 pub const SEND: [WordKind; 3] = [WordKind::Address, WordKind::Addresses, WordKind::Hex];
 
+/// What a host has counted.
+pub const COUNTERS: [WordKind; 1] = [WordKind::Hex];
+
 /// The bytes of a point.
 pub const VALUE: [WordKind; 1] = [WordKind::Hex];
 
@@ -206,6 +209,7 @@ pub fn shape_of(first: &str) -> Option<Shape>
         "request" | "datagram" | "inquiry" => Some((&FROM_NODE, &[])),
         "explicit" => Some((&EXPLICIT, &[])),
         "answer" => Some((&ANSWER, &[])),
+        "counters" => Some((&COUNTERS, &[])),
         "stream" => Some((&STREAM, &[])),
         "frame" => Some((&FRAME, &[])),
         "cut" => Some((&CUT, &[])),

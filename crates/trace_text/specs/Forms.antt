@@ -13,11 +13,15 @@ use Rattle.trace_lines.specs.declared.forms.TermLine.TheVariants as term
 use Rattle.trace_lines.specs.declared.limit_lines.LimitName.{LimitName}
 use Rattle.trace_lines.specs.Limits.{limit_named, limit_reader}
 use Rattle.trace_lines.specs.Slots.{scanner_reader, openings_reader, serials_reader, slot_reader}
-use Rattle.trace_lines.specs.declared.shapes.TheConstants.{FROM_NODE, EXPLICIT, ANSWER, STREAM, FRAME, CUT, WRITE, NUMBER, MODE}
+use Rattle.trace_lines.specs.declared.shapes.TheConstants.{FROM_NODE, EXPLICIT, ANSWER, COUNTERS, STREAM, FRAME, CUT, WRITE, NUMBER, MODE}
 use Rattle.trace_outcomes.specs.Parts.{part_reader}
 use Rattle.trace_lines.specs.Shapes.{shaped}
 
 -- LINES
+
+-- an inquiry: its peer and its bytes
+abbrev pub inquiry_reader : Reader Event
+inquiry_reader = shaped FROM_NODE (λ peer bytes. ends (event.Inquiry peer bytes))
 
 -- a request that the application has a scanner send: its target, its number and its bytes
 abbrev pub explicit_reader : Reader Event
@@ -26,6 +30,10 @@ explicit_reader = shaped EXPLICIT (λ target number bytes. ends (event.Explicit 
 -- the application's answer to a request: the request's number, the general status, and the data
 abbrev pub answer_reader : Reader Event
 answer_reader = shaped ANSWER (λ number status bytes. ends (event.Respond number status bytes))
+
+-- what a host has counted
+abbrev pub counters_reader : Reader Event
+counters_reader = shaped COUNTERS (λ bytes. ends (event.Counters bytes))
 
 -- the lines of profiles that a word begins; those of limits have their rows
 abbrev pub profile_meanings : Meanings (Reader TraceLine)
@@ -44,13 +52,14 @@ profile_meanings =
     ∷ (codes "slot", mapped line.Slot slot_reader)
     ∷ []
 
--- requests, inquiries, answers, and what happens to a stream
+-- requests, inquiries, answers, counters, and what happens to a stream
 abbrev pub stream_meanings : Meanings (Reader TraceLine)
 stream_meanings =
     (codes "request", mapped line.Event (shaped FROM_NODE (λ peer bytes. ends (event.Request peer bytes))))
-    ∷ (codes "inquiry", mapped line.Event (shaped FROM_NODE (λ peer bytes. ends (event.Inquiry peer bytes))))
+    ∷ (codes "inquiry", mapped line.Event inquiry_reader)
     ∷ (codes "explicit", mapped line.Event explicit_reader)
     ∷ (codes "answer", mapped line.Event answer_reader)
+    ∷ (codes "counters", mapped line.Event counters_reader)
     ∷ (codes "stream", mapped line.Event (shaped STREAM (λ stream peer. ends (event.StreamOpened stream peer))))
     ∷ (codes "frame", mapped line.Event (shaped FRAME (λ stream bytes. ends (event.Frame stream bytes))))
     ∷ (codes "cut", mapped line.Event (shaped CUT (λ stream. ends (event.StreamCut stream))))

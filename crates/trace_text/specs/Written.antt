@@ -4,11 +4,11 @@ use Rattle.std.specs.Prelude.{ℕ, ◌+◌, List, [], ◌∷◌, ◌++◌, codes
 use Rattle.cip_tables.specs.declared.table.Config.{Config}
 use Rattle.cip_tables.specs.declared.table.Config.TheVariants.{Adapter, Scanner}
 use Rattle.cip_events.specs.declared.event.Event.{Event}
-use Rattle.cip_events.specs.declared.event.Event.TheVariants.{Request, StreamOpened, Frame, StreamCut, Datagram, Inquiry, Write, Read, Tick, Mode, Start, Stop, Explicit, Respond}
+use Rattle.cip_events.specs.declared.event.Event.TheVariants.{Request, StreamOpened, Frame, StreamCut, Datagram, Inquiry, Write, Read, Tick, Mode, Start, Stop, Explicit, Respond, Counters}
 use Rattle.cip_events.specs.Outcomes.{Outcome}
 use Rattle.trace_text.specs.declared.trace.Trace.{Trace}
 use Rattle.trace_words.specs.Words.{line_text}
-use Rattle.trace_lines.specs.declared.shapes.TheConstants.{FROM_NODE, EXPLICIT, ANSWER, STREAM, FRAME, CUT, WRITE, NUMBER, MODE}
+use Rattle.trace_lines.specs.declared.shapes.TheConstants.{FROM_NODE, EXPLICIT, ANSWER, COUNTERS, STREAM, FRAME, CUT, WRITE, NUMBER, MODE}
 use Rattle.trace_lines.specs.Shapes.{spelled}
 use Rattle.trace_text.specs.Reading.{Entry}
 use Rattle.trace_outcomes.specs.WrittenOutcomes.{outcome_text}
@@ -32,6 +32,7 @@ event_words (Start slot) = spelled (codes "start" ∷ []) NUMBER slot
 event_words (Stop slot) = spelled (codes "stop" ∷ []) NUMBER slot
 event_words (Explicit target number bytes) = spelled (codes "explicit" ∷ []) EXPLICIT target number bytes
 event_words (Respond number status bytes) = spelled (codes "answer" ∷ []) ANSWER number status bytes
+event_words (Counters bytes) = spelled (codes "counters" ∷ []) COUNTERS bytes
 
 abbrev pub recorded_text : ℕ → Option Outcome → List ℕ
 recorded_text number None = []

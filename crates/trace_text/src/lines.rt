@@ -3,7 +3,7 @@
 ghost use Rattle.std.specs.Prelude.{◌≡◌, ◌++◌, option_map, if◌then◌else◌, Some, None};
 ghost use Rattle.trace_words.specs.Reader.{unread_words, Takes, Finds, meaning};
 ghost use Rattle.trace_words.specs.Words.{number_of};
-ghost use Rattle.trace_text.specs.Forms.{event_of, answer_reader, explicit_reader, is_ascii, limit_or_part, line_of, line_reader, numbered, profile_meanings, stream_meanings};
+ghost use Rattle.trace_text.specs.Forms.{event_of, answer_reader, counters_reader, explicit_reader, inquiry_reader, is_ascii, limit_or_part, line_of, line_reader, numbered, profile_meanings, stream_meanings};
 
 use crate::forms::TraceLine;
 use cip_tables::Event;
@@ -100,7 +100,7 @@ fn read_words(alloc: Global, words: &mut Words<'_>) -> Result<TraceLine, TextFau
     }
 }
 
-/// What follows the word of a request, of an inquiry, of an answer, of a stream's event or of a profile's line, or the
+/// What follows the word of a request, of an inquiry, of an answer, of counters, of a stream's event or of a profile's line, or the
 /// number of an event.
 fn read_other(alloc: Global, words: &mut Words<'_>, word: &str) -> Result<TraceLine, TextFault>
     ensures { Takes (meaning (profile_meanings ++ stream_meanings) (limit_or_part word.now) word.now
@@ -114,15 +114,10 @@ fn read_other(alloc: Global, words: &mut Words<'_>, word: &str) -> Result<TraceL
                 .last(Event::Request { peer, bytes })
                 .map(TraceLine::Event)
         }
-        "inquiry" => {
-            let peer = words.node()?;
-            let bytes = words.bytes(alloc)?;
-            words
-                .last(Event::Inquiry { peer, bytes })
-                .map(TraceLine::Event)
-        }
+        "inquiry" => read_inquiry(alloc, words).map(TraceLine::Event),
         "explicit" => read_explicit(alloc, words).map(TraceLine::Event),
         "answer" => read_answer(alloc, words).map(TraceLine::Event),
+        "counters" => read_counters(alloc, words).map(TraceLine::Event),
         "frame" => {
             let stream = words.u16()?;
             let bytes = words.bytes(alloc)?;
@@ -145,6 +140,27 @@ fn read_other(alloc: Global, words: &mut Words<'_>, word: &str) -> Result<TraceL
         }
         _ => read_profile_line(alloc, words, word),
     }
+}
+
+/// What follows `inquiry`: `NODE HEX`.
+fn read_inquiry(alloc: Global, words: &mut Words<'_>) -> Result<Event, TextFault>
+    ensures { Takes (inquiry_reader (unread_words words.old)) result (unread_words words.new) }
+{
+    let inquiry = Event::Inquiry {
+        peer: words.node()?,
+        bytes: words.bytes(alloc)?,
+    };
+    words.last(inquiry)
+}
+
+/// What follows `counters`: `HEX`.
+fn read_counters(alloc: Global, words: &mut Words<'_>) -> Result<Event, TextFault>
+    ensures { Takes (counters_reader (unread_words words.old)) result (unread_words words.new) }
+{
+    let counters = Event::Counters {
+        bytes: words.bytes(alloc)?,
+    };
+    words.last(counters)
 }
 
 /// What follows `explicit`: `NODE NUMBER HEX`.

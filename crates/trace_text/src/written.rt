@@ -80,6 +80,7 @@ pub fn push_event(out: &mut String, event: &Event) -> Result<(), OutOfMemory>
             status,
             bytes,
         } => push_answer(out, *number, *status, bytes.as_slice()),
+        Event::Counters { bytes } => push_counters(out, bytes.as_slice()),
         Event::Write { point, bytes } => { push_of_number(out, "write", *point, bytes.as_slice()) }
         Event::Read { point } => push_number(out, "read", *point),
         Event::Tick { ms } => push_number(out, "tick", *ms),
@@ -139,6 +140,14 @@ fn push_answer(out: &mut String, number: u64, status: u8, bytes: &[u8]) -> Resul
     push_digits(out, &[status])?;
     push_last_bytes(out, bytes)?;
     Ok(())
+}
+
+fn push_counters(out: &mut String, bytes: &[u8]) -> Result<(), OutOfMemory>
+    ensures { OnOk result
+        (string_bytes out.new ≡ string_bytes out.old ++ line_text (event_words (Event.Counters bytes.now))) }
+{
+    out.push_str("counters")?;
+    push_last_bytes(out, bytes)
 }
 
 fn push_of_node(
