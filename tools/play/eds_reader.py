@@ -117,6 +117,7 @@ class Profile:
         self.most_messages = messages[0] if messages else 64
         # the classes of a described device, and the speed of its link
         self.speeds = [int(line[3]) for line in of("describe")]
+        self.words = sum(self.config.values()) // 2 if self.speeds else 0
         self.classes = [name for name in CLASSES if self.speeds and [str(CLASSES[name][1])] not in of("object")]
 
     def connections(self):
@@ -141,7 +142,7 @@ def segment(first, value):
 # the sections of classes: object, class, revision, attributes of the instance
 CLASSES = {
     "TCP/IP Interface Class": ("TCP/IP Interface Object", 0xF5, 4, [1, 2, 3, 4, 5, 6, 8, 9, 10, 11, 13]),
-    "Ethernet Link Class": ("Ethernet Link Object", 0xF6, 4, [1, 2, 3, 7, 8, 9, 10, 11]),
+    "Ethernet Link Class": ("Ethernet Link Object", 0xF6, 4, list(range(1, 12))),
     "QoS Class": ("QoS Object", 0x48, 1, list(range(1, 9))),
 }
 
@@ -158,12 +159,19 @@ def check_device(device, profile):
 
 
 def check_params(params, profile):
-    same(list(params), ["Param1"], "the parameters")
+    same(list(params), [f"Param{number + 1}" for number in range(1 + profile.words)], "the parameters")
     fields = params["Param1"]
     same(len(fields), 21, "the number of fields of Param1")
     same((number_of(fields[4], "type"), number_of(fields[5], "bytes")), (0xC8, 4), "the type of Param1")
     least, greatest, first = (number_of(field, "a value of Param1") for field in fields[9:12])
     same((least, greatest, first), (profile.least, 10_000_000, max(10_000, profile.least)), "the packet interval")
+    for word in range(profile.words):
+        name = f"Param{word + 2}"
+        fields = params[name]
+        same(len(fields), 21, f"the number of fields of {name}")
+        same((number_of(fields[4], "type"), number_of(fields[5], "bytes")), (0xC7, 2), f"the type of {name}")
+        same(text_of(fields[6], name), f"Configuration word {word}", f"the name of {name}")
+        same([number_of(field, name) for field in fields[9:12]], [0, 65535, 0], f"the values of {name}")
 
 
 def check_points(points, profile):
@@ -173,7 +181,10 @@ def check_points(points, profile):
     wanted = {f"Assem{instance}": size for of in (profile.outputs, profile.inputs, profile.config) for instance, size in of.items()}
     same({name: number_of(fields[2], name) for name, fields in points.items()}, wanted, "the assemblies")
     for name, fields in points.items():
-        need(len(fields) == 8 and text_of(fields[0], name), f"{name}: {fields}")
+        words = [("word", "16") if at % 2 == 0 else ("word", f"Param{at // 2 + 2}") for at in range(2 * profile.words)]
+        members = words if words and name in (f"Assem{instance}" for instance in profile.config) else [None, None]
+        need(text_of(fields[0], name), f"{name}: {fields}")
+        same(fields[6:], members, f"the members of {name}")
 
 
 def check_connection(name, fields, profile):

@@ -1,2 +1,3 @@
 mod NameBytes
 mod Samples
+pub mod Words

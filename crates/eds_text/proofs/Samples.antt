@@ -1,5 +1,6 @@
 -- Parts of data sheets, worked by hand, of a device with outputs 300 of 2 bytes and 151 of 1 byte, and input 70000 of 2 bytes.
 use Rattle.std.specs.Prelude.{ℕ, ◌≡◌, List, [], ◌∷◌, ◌++◌, map, codes, Option, Some, None, true, false, refl}
+use Rattle.std.specs.Fmt.{digits}
 use Rattle.std.specs.List.{filter_map}
 use Rattle.adapter_table.specs.declared.profile.Description.{Description}
 use Rattle.adapter_table.specs.declared.maker_limits.MakerLimits.{MakerLimits}
@@ -14,7 +15,8 @@ use Rattle.eds_text.specs.Classes.{classes_text, interface_text, link_text, qos_
 use Rattle.eds_text.specs.Connections.{connections_of}
 use Rattle.eds_text.specs.Device.{name_line}
 use Rattle.eds_text.specs.Manager.{kind_lines, o_t_line, sheet_path}
-use Rattle.eds_text.specs.Offer.{capacity_of, offered_intervals}
+use Rattle.eds_text.specs.Offer.{capacity_of, offered_intervals, words_of}
+use Rattle.eds_text.specs.Points.{member_text, members_text}
 use Rattle.eds_text.specs.Names.{is_name, is_name_byte, product_name}
 
 island : Profile
@@ -129,6 +131,14 @@ the_rate_of_a_described_device : (capacity_of (record island { description = des
 unfolding island
 the_rate_of_a_described_device = refl
 
+-- the words of a configuration
+configuration_words : (d : Description) → words_of (Some d) (Some (record { instance = 151; len = 6 })) ∷ words_of (Some d) None ∷ words_of None (Some (record { instance = 151; len = 6 })) ∷ [] ≡ 3 ∷ 0 ∷ 0 ∷ []
+configuration_words d = refl
+
+two_members : members_text 0 2 ∷ members_text 0 0 ∷ [] ≡ codes "                16,Param2,\n                16,Param3;\n" ∷ codes "                ,;\n" ∷ []
+unfolding member_text digits
+two_members = refl
+
 capacity_by_the_maker : map (λ limits. capacity_of (record island { limits = limits })) (no_limits ∷ slow ∷ record no_limits { least_rpi = Some 30000 } ∷ [])
     ≡ record { rate = 1000; connections = 64; producers = 1; messages = 64 }
     ∷ record { rate = 50; connections = 6; producers = 1; messages = 64 }
@@ -167,8 +177,8 @@ numbers_of attributes = filter_map (λ (attribute : Attribute). attribute.number
 -- those that the sections of the classes have
 the_attributes_of_the_sections :
     (d : Description) →
-    numbers_of (interface_instance island d).attributes ∷ numbers_of (link_instance d).attributes ∷ numbers_of qos_instance.attributes ∷ []
-    ≡ (1 ∷ 2 ∷ 3 ∷ 4 ∷ 5 ∷ 6 ∷ 8 ∷ 9 ∷ 10 ∷ 11 ∷ 13 ∷ []) ∷ (1 ∷ 2 ∷ 3 ∷ 7 ∷ 8 ∷ 9 ∷ 10 ∷ 11 ∷ []) ∷ (1 ∷ 2 ∷ 3 ∷ 4 ∷ 5 ∷ 6 ∷ 7 ∷ 8 ∷ []) ∷ []
+    numbers_of (interface_instance island d).attributes ∷ numbers_of (link_instance d []).attributes ∷ numbers_of qos_instance.attributes ∷ []
+    ≡ (1 ∷ 2 ∷ 3 ∷ 4 ∷ 5 ∷ 6 ∷ 8 ∷ 9 ∷ 10 ∷ 11 ∷ 13 ∷ []) ∷ (1 ∷ 2 ∷ 3 ∷ 4 ∷ 5 ∷ 6 ∷ 7 ∷ 8 ∷ 9 ∷ 10 ∷ 11 ∷ []) ∷ (1 ∷ 2 ∷ 3 ∷ 4 ∷ 5 ∷ 6 ∷ 7 ∷ 8 ∷ []) ∷ []
 the_attributes_of_the_sections d = refl
 
 the_attributes_of_a_class : (facts : ClassFacts) → numbers_of (class_instance 1 1 1 facts).attributes ≡ 1 ∷ 2 ∷ 3 ∷ 4 ∷ 5 ∷ 6 ∷ 7 ∷ []

@@ -10,7 +10,7 @@ interface_text = codes "\n[TCP/IP Interface Class]\n        Revision = 4;\n     
 
 -- the Ethernet Link object, with the speed and the label of its one instance
 unfoldable pub link_text : Description → List ℕ
-link_text d = codes "\n[Ethernet Link Class]\n        Revision = 4;\n        Object_Name = \"Ethernet Link Object\";\n        Object_Class_Code = 0xF6;\n        MaxInst = 1;\n        Number_Of_Static_Instances = 1;\n        Max_Number_Of_Dynamic_Instances = 0;\n        Class_Attributes = 1,2,3,4,5,6,7;\n        Instance_Attributes = 1,2,3,7,8,9,10,11;\n        InterfaceSpeed1 = " ++ (decimal d.speed ++ codes ";\n        InterfaceLabel1 = \"Ethernet\";\n")
+link_text d = codes "\n[Ethernet Link Class]\n        Revision = 4;\n        Object_Name = \"Ethernet Link Object\";\n        Object_Class_Code = 0xF6;\n        MaxInst = 1;\n        Number_Of_Static_Instances = 1;\n        Max_Number_Of_Dynamic_Instances = 0;\n        Class_Attributes = 1,2,3,4,5,6,7;\n        Instance_Attributes = 1,2,3,4,5,6,7,8,9,10,11;\n        InterfaceSpeed1 = " ++ (decimal d.speed ++ codes ";\n        InterfaceLabel1 = \"Ethernet\";\n")
 
 -- the QoS object, unless the maker's own has its class
 unfoldable pub qos_text : (own : Bool) → List ℕ

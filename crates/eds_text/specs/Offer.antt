@@ -1,12 +1,13 @@
 -- What a data sheet offers of the connections that an adapter admits: packet intervals, triggers, kinds and numbers of
 -- connections. By checks 8 and 16 of a Forward_Open each of them is bounded by the limits that the maker states.
-use Rattle.std.specs.Prelude.{ℕ, nat_lt, max, Bool, true, length, is_none, unwrap_or, Option, Some, None}
+use Rattle.std.specs.Prelude.{ℕ, ◌/◌, nat_lt, max, Bool, true, length, is_none, unwrap_or, Option, Some, None}
 use Rattle.std.specs.Int.{div_ceil}
 use Rattle.cip_types.specs.declared.limits.TheConstants.{LONGEST_RPI_US, MOST_CONNECTIONS}
 use Rattle.cip_productions.specs.declared.kind.Kind.{Kind}
 use Rattle.adapter_table.specs.declared.maker_limits.MakerLimits.{MakerLimits}
 use Rattle.adapter_table.specs.declared.maker_limits.Places.{Places}
 use Rattle.adapter_table.specs.declared.profile.Description.{Description}
+use Rattle.adapter_table.specs.declared.profile.InputPoint.{InputPoint}
 use Rattle.adapter_table.specs.declared.profile.Profile.{Profile}
 use Rattle.adapter_table.specs.Intervals.{least_us}
 use Rattle.adapter_table.specs.Objects.{most_class3}
@@ -34,6 +35,14 @@ offered_least description least = max SHORTEST_OFFERED_US (admitted_least descri
 -- the first one is 10 ms, or the least
 abbrev pub offered_intervals : Profile → OfferedIntervals
 offered_intervals profile = intervals_from (offered_least profile.description profile.limits.least_rpi)
+
+-- CONFIGURATION
+
+-- how many words the configuration of a described device has, each of two bytes: tools ask for one after another
+abbrev pub words_of : Option Description → Option InputPoint → ℕ
+words_of None config = 0
+words_of (Some d) None = 0
+words_of (Some d) (Some point) = point.len / 2
 
 -- TRIGGERS
 

@@ -59,7 +59,7 @@ fn push_link(out: &mut String, description: &Description) -> Result<(), OutOfMem
         Number_Of_Static_Instances = 1;
         Max_Number_Of_Dynamic_Instances = 0;
         Class_Attributes = 1,2,3,4,5,6,7;
-        Instance_Attributes = 1,2,3,7,8,9,10,11;
+        Instance_Attributes = 1,2,3,4,5,6,7,8,9,10,11;
         InterfaceSpeed1 = {speed};
         InterfaceLabel1 = \"Ethernet\";
 "

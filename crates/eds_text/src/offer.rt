@@ -1,12 +1,11 @@
 //! What a data sheet offers of the connections that an adapter admits: packet intervals, triggers, kinds and numbers, by the
 //! limits that its maker states.
 
-ghost use Rattle.std.specs.Prelude.{◌≡◌, ◌<◌};
+ghost use Rattle.std.specs.Prelude.{◌≡◌, ◌<◌, ◌≤◌, ◌^◌};
 ghost use Rattle.adapter_table.specs.Objects.{most_class3};
-ghost use Rattle.adapter_table.specs.Intervals.{least_us};
-ghost use Rattle.eds_text.specs.Offer.{admitted_least, all_of, capacity_of, has_place, offered_intervals, offers_changes, rate_at};
+ghost use Rattle.eds_text.specs.Offer.{admitted_least, all_of, capacity_of, has_place, offered_intervals, offers_changes, rate_at, words_of};
 
-use adapter_table::{Description, MakerLimits, Places, Profile};
+use adapter_table::{Description, InputPoint, MakerLimits, Places, Profile, least_us};
 use cip_productions::Kind;
 use cip_types::limits::{LONGEST_RPI_US, MOST_CONNECTIONS};
 
@@ -43,21 +42,6 @@ pub struct SheetCapacity {
     pub messages: u64,
 }
 
-/// The maker's least packet interval in whole milliseconds, in microseconds: a millisecond where the maker states none.
-fn least_us(least: Option<u32>) -> u32
-    ensures { result ≡ least_us least }
-{
-    let Some(least) = least else {
-        return 1_000;
-    };
-    let ms = least.div_ceil(1_000);
-    if ms > 10_000 {
-        LONGEST_RPI_US
-    } else {
-        1_000 * ms
-    }
-}
-
 /// The least packet interval that the device admits. A described one takes each for one of whole milliseconds, rounded down.
 fn admitted_least(description: &Option<Description>, least: Option<u32>) -> u32
     ensures { result ≡ admitted_least description.now least }
@@ -80,6 +64,19 @@ pub fn offered_intervals(profile: &Profile) -> OfferedIntervals
         least,
         most: LONGEST_RPI_US,
         first: USUAL_RPI_US.max(least),
+    }
+}
+
+/// How many words of two bytes the configuration of a described device has: each is a parameter of its data sheet.
+///
+/// Volume 1, chapter 7, electronic data sheets: Params.
+pub fn words_of(description: &Option<Description>, config: Option<InputPoint>) -> u64
+    ensures value { result ≡ words_of description.now config }
+    ensures few { result ≤ 2 ^ 63 }
+{
+    match (description, config) {
+        (Some(_), Some(config)) => config.len / 2,
+        _ => 0,
     }
 }
 

@@ -1,8 +1,9 @@
 //! The section of the assemblies.
 
-ghost use Rattle.std.specs.Prelude.{◌≡◌, ◌++◌, OnOk, string_bytes};
-ghost use Rattle.eds_text.specs.Points.{config_text, head_text, inputs_text, outputs_text, point_text, points_text};
+ghost use Rattle.std.specs.Prelude.{◌≡◌, ◌≤◌, ◌^◌, ◌++◌, OnOk, string_bytes};
+ghost use Rattle.eds_text.specs.Points.{config_text, head_text, inputs_text, member_text, members_text, outputs_text, point_head, point_text, points_text, word_parameter};
 
+use crate::offer::words_of;
 use adapter_table::{InputPoint, Profile};
 use cip_types::OutOfMemory;
 use trace_words::push_text;
@@ -15,7 +16,11 @@ pub fn push_points(out: &mut String, profile: &Profile) -> Result<(), OutOfMemor
     push_head(out)?;
     push_outputs(out, profile)?;
     push_inputs(out, profile)?;
-    push_config(out, profile.config)
+    push_config(
+        out,
+        words_of(&profile.description, profile.config),
+        profile.config,
+    )
 }
 
 /// Appends the head of the section.
@@ -57,21 +62,66 @@ fn push_inputs(out: &mut String, profile: &Profile) -> Result<(), OutOfMemory>
     Ok(())
 }
 
-/// Appends the configuration, if there is one.
+/// Appends the configuration, if there is one, with so many words.
 #[tactic(auto, unfolding(crate::specs::Points::config_text))]
-fn push_config(out: &mut String, config: Option<InputPoint>) -> Result<(), OutOfMemory>
-    ensures { OnOk result (string_bytes out.new ≡ string_bytes out.old ++ config_text config) }
+fn push_config(out: &mut String, words: u64, config: Option<InputPoint>) -> Result<(), OutOfMemory>
+    requires { words ≤ 2 ^ 63 }
+    ensures { OnOk result (string_bytes out.new ≡ string_bytes out.old ++ config_text words config) }
 {
     match config {
-        Some(config) => push_point(out, "Configuration", config.instance, config.len),
+        Some(config) => {
+            push_point_head(out, "Configuration", config.instance, config.len)?;
+            push_members(out, words)
+        }
         None => Ok(()),
     }
 }
 
-/// Appends a point of so many bytes.
+/// The parameter of the word of this place: the first one is the packet interval.
+pub fn word_parameter(place: u64) -> u64
+    requires { place ≤ 2 ^ 63 }
+    ensures { result ≡ word_parameter place }
+{
+    place + 2
+}
+
+/// Appends so many words as the members of an assembly; without one its one member is the whole point.
+fn push_members(out: &mut String, count: u64) -> Result<(), OutOfMemory>
+    requires { count ≤ 2 ^ 63 }
+    ensures { OnOk result (string_bytes out.new ≡ string_bytes out.old ++ members_text 0 count) }
+{
+    if count == 0 {
+        return push_text(out, "                ,;\n");
+    }
+    for place in 0..count - 1 {
+        push_member(out, place, ",\n")?;
+    }
+    push_member(out, count - 1, ";\n")
+}
+
+/// Appends a member of 16 bits.
+#[tactic(auto, unfolding(crate::specs::Points::member_text))]
+fn push_member(out: &mut String, place: u64, behind: &str) -> Result<(), OutOfMemory>
+    requires { place ≤ 2 ^ 63 }
+    ensures { OnOk result (string_bytes out.new ≡ string_bytes out.old ++ member_text place behind.now) }
+{
+    let number = word_parameter(place);
+    Ok(write!(out, "                16,Param{number}{behind}")?)
+}
+
+/// Appends a point of so many bytes, with its one member.
 #[tactic(auto, unfolding(crate::specs::Points::point_text))]
 fn push_point(out: &mut String, word: &str, instance: u32, len: u64) -> Result<(), OutOfMemory>
     ensures { OnOk result (string_bytes out.new ≡ string_bytes out.old ++ point_text word.now instance len) }
+{
+    push_point_head(out, word, instance, len)?;
+    push_text(out, "                ,;\n")
+}
+
+/// Appends a point of so many bytes, before its members.
+#[tactic(auto, unfolding(crate::specs::Points::point_head))]
+fn push_point_head(out: &mut String, word: &str, instance: u32, len: u64) -> Result<(), OutOfMemory>
+    ensures { OnOk result (string_bytes out.new ≡ string_bytes out.old ++ point_head word.now instance len) }
 {
     Ok(write!(
         out,
@@ -81,7 +131,6 @@ fn push_point(out: &mut String, word: &str, instance: u32, len: u64) -> Result<(
                 {len},
                 0x0000,
                 ,,
-                ,;
 "
     )?)
 }

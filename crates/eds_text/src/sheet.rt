@@ -1,8 +1,8 @@
 //! The whole data sheet.
 
-ghost use Rattle.std.specs.Prelude.{◌≡◌, ◌++◌, IfOk, OnOk, string_bytes};
+ghost use Rattle.std.specs.Prelude.{◌≡◌, ◌≤◌, ◌^◌, ◌++◌, IfOk, OnOk, string_bytes};
 ghost use Rattle.eds_text.specs.Names.{shown_names};
-ghost use Rattle.eds_text.specs.Sheet.{capacity_text, datagrams_text, messages_text, params_text, sheet_text};
+ghost use Rattle.eds_text.specs.Sheet.{capacity_text, datagrams_text, messages_text, params_text, sheet_text, word_text, words_text};
 ghost use Rattle.eds_text.specs.Texts.{port_text};
 
 use crate::classes::push_classes;
@@ -11,9 +11,9 @@ use crate::device::{push_device, push_file};
 use crate::manager::push_manager;
 use crate::names::{SheetNames, sheet_names};
 use crate::offer::{
-    LONGEST_DATAGRAM, OfferedIntervals, SheetCapacity, capacity_of, offered_intervals,
+    LONGEST_DATAGRAM, OfferedIntervals, SheetCapacity, capacity_of, offered_intervals, words_of,
 };
-use crate::points::push_points;
+use crate::points::{push_points, word_parameter};
 use adapter_table::Profile;
 use cip_types::OutOfMemory;
 use std::alloc::Global;
@@ -37,6 +37,7 @@ pub fn write_sheet(
     let names = sheet_names(names, &profile.description);
     push_device(&mut out, &names, profile.identity)?;
     push_params(&mut out, offered_intervals(profile))?;
+    push_words(&mut out, words_of(&profile.description, profile.config))?;
     push_points(&mut out, profile)?;
     push_manager(alloc, &mut out, profile.config, connections.as_slice())?;
     push_port(&mut out)?;
@@ -65,6 +66,43 @@ fn push_params(out: &mut String, intervals: OfferedIntervals) -> Result<(), OutO
                 \"microsecond\",
                 \"\",
                 {least},{most},{first},
+                ,,,,
+                ,,,,
+                ;
+"
+    )?)
+}
+
+/// Appends the words of a configuration as parameters, behind that of the packet interval: each is 0 at first, as at a fresh device.
+fn push_words(out: &mut String, count: u64) -> Result<(), OutOfMemory>
+    requires { count ≤ 2 ^ 63 }
+    ensures { OnOk result (string_bytes out.new ≡ string_bytes out.old ++ words_text 0 count) }
+{
+    for place in 0..count {
+        push_word(out, place)?;
+    }
+    Ok(())
+}
+
+/// Appends the word of this place of a configuration.
+#[tactic(auto, unfolding(crate::specs::Sheet::word_text))]
+fn push_word(out: &mut String, place: u64) -> Result<(), OutOfMemory>
+    requires { place ≤ 2 ^ 63 }
+    ensures { OnOk result (string_bytes out.new ≡ string_bytes out.old ++ word_text place) }
+{
+    let number = word_parameter(place);
+    Ok(write!(
+        out,
+        "        Param{number} =
+                0,
+                ,,
+                0x0000,
+                0xC7,
+                2,
+                \"Configuration word {place}\",
+                \"\",
+                \"\",
+                0,65535,0,
                 ,,,,
                 ,,,,
                 ;
