@@ -1,8 +1,8 @@
 -- Worked links. Times are in milliseconds.
-use Rattle.std.proofs.Common.{◌≡◌, ℕ, false, [], ◌∷◌, Some, None, refl}
+use Rattle.std.proofs.Common.{◌≡◌, ℕ, true, false, [], ◌∷◌, Some, None, refl}
 use Rattle.socket_port.specs.declared.rules.links.TargetLink.{TargetLink}
 use Rattle.socket_port.specs.declared.rules.links.LinkState.TheVariants.{Down, Opening, Registering, Open}
-use Rattle.socket_port.specs.Rules.Links.{requested_link, at_target, received_link, opening_link, failed_link, given_up_link, lost_link, new_link, registering_link, registered_link, renewed_link, renewed_stream, succeeded_link, wait_of}
+use Rattle.socket_port.specs.Rules.Links.{requested_link, at_target, is_due, is_late, is_unregistered, received_link, opening_link, failed_link, given_up_link, lost_link, new_link, registering_link, registered_link, renewed_link, renewed_stream, succeeded_link, wait_of}
 
 abbrev link : ℕ → TargetLink
 link tries = record { state = Open 3; tries = tries; waits = false }
@@ -32,6 +32,17 @@ many_failures = refl
 -- a try at which nothing answered is followed by a second, and does not count
 pub unanswered : given_up_link 5000 (record { state = Opening 5000; tries = 8; waits = false }) ≡ record { state = Down 6000; tries = 8; waits = false }
 unanswered = refl
+
+-- a stream is opened again, and one that does not open or has no session is dropped, in the millisecond that its link has, and not before
+pub due_at : (is_due 5999 (record { state = Down 6000; tries = 1; waits = false }) ≡ false) × (is_due 6000 (record { state = Down 6000; tries = 1; waits = false }) ≡ true)
+due_at = (refl, refl)
+
+pub late_at : (is_late 7999 (record { state = Opening 8000; tries = 0; waits = false }) ≡ false) × (is_late 8000 (record { state = Opening 8000; tries = 0; waits = false }) ≡ true)
+late_at = (refl, refl)
+
+pub unregistered_at : (is_unregistered 5399 (record { state = Registering 7 5400; tries = 0; waits = false }) ≡ false)
+    × (is_unregistered 5400 (record { state = Registering 7 5400; tries = 0; waits = false }) ≡ true)
+unregistered_at = (refl, refl)
 
 -- an opening has 3 seconds, and a session the time that was given
 pub opening : opening_link 5000 new_link ≡ record { state = Opening 8000; tries = 0; waits = false }

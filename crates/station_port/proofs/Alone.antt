@@ -1,72 +1,51 @@
--- The item that names a port is one behind the request of a message.
-use Rattle.std.proofs.Common.{◌≡◌, ℕ, ◌==◌, ◌&&◌, ◌≤◌, nat_le, nat_lt, Bool, true, false, cond, List, [], ◌∷◌, length, take, drop, Option, Some, None, Ok, Err, refl, ap, ◌∙◌, arith, inl, inr, leb-true, length-drop}
-use Rattle.std.specs.Int.{w16, from_le_bytes}
-use Rattle.std.proofs.lemmas.Bool.{cases_Bool, eqb-true}
-use Rattle.std.proofs.lemmas.List.{drop-drop, length-take-le, nil_from_length}
-use Rattle.cip_types.specs.PartLaws.{fields_stand}
+-- A walk over the items behind a request, and a message that has none.
+use Rattle.std.proofs.Common.{◌≡◌, ℕ, ◌+◌, ◌-◌, ◌<◌, ◌≤◌, Bool, true, false, cond, List, drop, Option, Some, None, suc, refl, ap, ◌∙◌, arith}
+use Rattle.std.specs.Int.{w16}
 use Rattle.cip_types.specs.Parts.{number_in}
-use Rattle.cip_encap.specs.declared.message.EncapFault.TheVariants as fault
-use Rattle.cip_encap.specs.declared.packet.ItemFault.TheVariants.{Bad}
-use Rattle.cip_encap.specs.Message.{MessageFields, header_widths}
-use Rattle.cip_encap.specs.Packet.{packet_widths}
-use Rattle.cip_encap.specs.PacketReading as packets
-use Rattle.cip_encap.specs.Reading as messages
+use Rattle.cip_encap.specs.AnyItems.{behind_item}
 use Rattle.station_port.specs.declared.named_ports.named.NamedPort.{NamedPort}
-use Rattle.station_port.specs.NamedPorts.Naming.{is_opening, message_opening_len, named_behind, named_port, opening_len, packet_opening_len, read_opening_len}
+use Rattle.station_port.specs.NamedPorts.Naming.{any_opening_len, named_after, named_among, named_behind, named_first, named_port, or_else}
 
-no_bytes : (bytes : List ℕ) → (length bytes == 0) ≡ true → bytes ≡ []
-no_bytes bytes none = nil_from_length bytes (eqb-true (length bytes) 0 none)
+-- one of the items is at the front
+at_front : (n i : ℕ) (bytes : List ℕ) → i < n → named_among (n - i) bytes ≡ or_else (named_first bytes) (named_after (named_among (n - (i + 1))) (behind_item bytes))
+unfolding named_among
+at_front n i bytes lt = let one : n - i ≡ suc (n - (i + 1)) = omega (arith, lt) in ap (λ (k : ℕ). named_among k bytes) one
 
--- nothing is behind a request that ends the message
-at_the_end : (message rest : List ℕ) (len : ℕ) (opens : Bool) → rest ≡ drop 40 message → len ≤ length rest → drop len rest ≡ [] → named_behind message (cond opens (Some (length (take len rest))) None) ≡ None
-at_the_end message rest len false is long end = refl
-at_the_end message rest len true is long end = rw (length-take-le len rest long, ← is, end) refl
+or_none : (x y other : Option NamedPort) → x ≡ None → y ≡ other → or_else x y ≡ other
+or_none x y other none is = rw none is
 
--- a packet whose data are its end
-packet_alone : (message rest : List ℕ) (timeout len : ℕ) (heads fits : Bool) → rest ≡ drop 40 message → nat_le len (length rest) ≡ fits →
-    named_behind message (read_opening_len (cond (heads && fits && packets.are_sockets 0 (drop len rest)) (Ok (record { timeout = timeout; payload = take len rest })) (Err Bad))) ≡ None
-unfolding packets.are_sockets
-packet_alone message rest timeout len false fits is long = refl
-packet_alone message rest timeout len true false is long = refl
-packet_alone message rest timeout len true true is long =
-    elim (cases_Bool (length (drop len rest) == 0)) [
-      | inl ends ↦ rw ends (at_the_end message rest len (is_opening (take len rest)) is (leb-true len (length rest) long) (no_bytes (drop len rest) ends))
-      | inr more ↦ rw more refl
-    ]
+or_some : (x y : Option NamedPort) (named : NamedPort) → x ≡ Some named → or_else x y ≡ x
+or_some x y named is = rw is refl
 
--- two items
-two_items : (message : List ℕ) → 64 ≤ length message → number_in w16 message 30 ≡ 2 → named_behind message (packet_opening_len (drop 24 message)) ≡ None
-unfolding packets.packet_reading
-two_items message long two =
-    let count : number_in w16 (drop 24 message) 6 ≡ 2 = ap (λ l. from_le_bytes w16 (take 2 l)) (drop-drop 6 24 message) ∙ two in
-    rw (fields_stand packet_widths (drop 24 message) (omega (arith, long, length-drop 24 message)), count)
-    (packet_alone message (drop 16 (drop 24 message)) _ _ _ _ (drop-drop 16 24 message) refl)
+-- the item at the front names a port
+pub among_first : (n i : ℕ) (bytes : List ℕ) (named : NamedPort) → i < n → named_first bytes ≡ Some named → named_among (n - i) bytes ≡ named_first bytes
+among_first n i bytes named lt is = at_front n i bytes lt ∙ or_some _ _ named is
 
-of_command : (message items : List ℕ) (is : Bool) → named_behind message (packet_opening_len items) ≡ None → named_behind message (cond is (packet_opening_len items) None) ≡ None
-of_command message items false none = refl
-of_command message items true none = none
+-- it names none, and others are behind it
+pub among_more : (n i : ℕ) (bytes after : List ℕ) → i < n → named_first bytes ≡ None → behind_item bytes ≡ Some after → named_among (n - i) bytes ≡ named_among (n - (i + 1)) after
+among_more n i bytes after lt none is =
+    at_front n i bytes lt ∙ or_none (named_first bytes) _ _ none (ap (named_after (named_among (n - (i + 1)))) is)
 
-of_size : (message : List ℕ) (short long : Bool) (m : MessageFields) → named_behind message (packet_opening_len m.payload) ≡ None →
-    named_behind message (message_opening_len (cond short (Err fault.Truncated) (cond long (Err fault.Trailing) (Ok m)))) ≡ None
-of_size message true long m none = refl
-of_size message false true m none = refl
-of_size message false false m none = of_command message m.payload (m.command == 0x6F) none
+-- it names none, and is none
+pub among_stop : (n i : ℕ) (bytes : List ℕ) → i < n → named_first bytes ≡ None → behind_item bytes ≡ None → named_among (n - i) bytes ≡ None
+among_stop n i bytes lt none is =
+    at_front n i bytes lt ∙ or_none (named_first bytes) _ _ none (ap (named_after (named_among (n - (i + 1)))) is)
 
-of_parts : (message rest : List ℕ) (command len session status context options : ℕ) → named_behind message (packet_opening_len rest) ≡ None →
-    named_behind message (message_opening_len (messages.parts_reading (command ∷ len ∷ session ∷ status ∷ context ∷ options ∷ []) rest)) ≡ None
-of_parts message rest command len session status context options none =
-    of_size message (nat_lt (length rest) len) (nat_lt len (length rest)) (record { command = command; session = session; status = status; context = context; options = options; payload = rest }) none
+-- no item is left
+pub among_end : (n i : ℕ) (bytes : List ℕ) → n ≤ i → named_among (n - i) bytes ≡ None
+unfolding named_among
+among_end n i bytes le = let none : n - i ≡ 0 = omega (arith, le) in ap (λ (k : ℕ). named_among k bytes) none
 
-none_named : (message : List ℕ) → 64 ≤ length message → number_in w16 message 30 ≡ 2 → named_behind message (opening_len message) ≡ None
-unfolding messages.message_reading
-none_named message long two =
-    rw (fields_stand header_widths message (omega (arith, long))) (of_parts message (drop 24 message) _ _ _ _ _ _ (two_items message long two))
+none_behind : (message : List ℕ) (len : Option ℕ) → number_in w16 message 30 ≡ 2 → named_behind message len ≡ None
+unfolding named_among
+none_behind message None two = refl
+none_behind message (Some len) two = ap (λ (n : ℕ). named_among (n - 2) (drop len (drop 40 message))) two
 
 either_none : (far : Bool) (x : Option NamedPort) → x ≡ None → cond far None x ≡ None
 either_none true x none = refl
 either_none false x none = none
 
 -- a message with two items names no port
-pub no_port : (message : List ℕ) → 64 ≤ length message → number_in w16 message 30 ≡ 2 → named_port message ≡ None
+pub no_port : (message : List ℕ) → number_in w16 message 30 ≡ 2 → named_port message ≡ None
 unfolding named_port
-no_port message long two = either_none _ _ (none_named message long two)
+no_port message two = either_none _ _ (none_behind message (any_opening_len message) two)

@@ -2,3 +2,5 @@ pub mod Messages
 mod Alone
 mod Samples
 mod InquiriesSamples
+mod RoundsSamples
+pub mod LinkNames

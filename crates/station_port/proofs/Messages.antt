@@ -60,6 +60,19 @@ with_one t_o_kind one = front 0x56 ++ middle ++ heads 3 0x32 ++ request t_o_kind
 abbrev pub with_two : List ℕ → List ℕ → List ℕ
 with_two one other = front 0x6A ++ middle ++ heads 4 0x32 ++ request point_to_point ++ one ++ other
 
+-- an item of the type 0x0086, which nobody knows, with 3 bytes; and one whose 40 bytes have 16 and then an item among them
+abbrev pub unknown_item : List ℕ
+unknown_item = 0x86 ∷ 0x00 ∷ 0x03 ∷ 0x00 ∷ 0x01 ∷ 0x80 ∷ 0x10 ∷ []
+
+abbrev pub around : List ℕ → List ℕ
+around one =
+    0x86 ∷ 0x00 ∷ 0x28 ∷ 0x00 ∷ 0x01 ∷ 0x02 ∷ 0x03 ∷ 0x04 ∷ 0x05 ∷ 0x06 ∷ 0x07 ∷ 0x08 ∷ 0x09 ∷ 0x0A ∷ 0x0B ∷ 0x0C ∷ 0x0D ∷ 0x0E ∷ 0x0F ∷ 0x10
+    ∷ one ++ 0x11 ∷ 0x12 ∷ 0x13 ∷ 0x14 ∷ []
+
+-- a request with that item of 3 bytes, and one behind it: 27 bytes more
+abbrev pub with_unknown : List ℕ → List ℕ
+with_unknown one = front 0x5D ++ middle ++ heads 4 0x32 ++ request point_to_point ++ unknown_item ++ one
+
 -- the item that an originator's port adds: 2230 at 0.0.0.0
 abbrev pub own_item : List ℕ
 own_item =

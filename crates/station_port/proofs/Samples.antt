@@ -4,6 +4,7 @@ use Rattle.cip_types.specs.declared.names.Node.{Node}
 use Rattle.cip_types.specs.declared.names.Triad.{Triad}
 use Rattle.cip_encap.specs.Reading as messages
 use Rattle.cip_encap.specs.PacketReading as packets
+use Rattle.cip_encap.specs.AnyItems as any_items
 use Rattle.cip_epath.specs.Reading as paths
 use Rattle.cip_fwdopen.specs.Close as closes
 use Rattle.cip_fwdopen.specs.Open as opens
@@ -15,52 +16,71 @@ use Rattle.cip_encap.specs.declared.packet.SocketAddress.{SocketAddress}
 use Rattle.station_port.specs.declared.named_ports.held.NamedRoute.{NamedRoute}
 use Rattle.station_port.specs.declared.named_ports.ports.ItemUse.TheVariants.{Unused, Named, Obeyed, Honoured}
 use Rattle.station_port.specs.declared.named_ports.reply.ReplyOutcome.TheVariants.{Opened, Closed, Nothing}
-use Rattle.station_port.specs.NamedPorts.Naming.{named_in, named_port}
+use Rattle.station_port.specs.NamedPorts.Naming.{named_among, named_port}
 use Rattle.station_port.specs.NamedPorts.Closing.{closed_triad}
 use Rattle.station_port.specs.NamedPorts.Destinations.{at_host, destination_in, named_destination}
 use Rattle.station_port.specs.NamedPorts.Editing.{with_item, without_item}
 use Rattle.station_port.specs.NamedPorts.Replies.{reply_outcome}
 use Rattle.station_port.specs.NamedPorts.Held.{after_answer, after_reply, without_closed}
 use Rattle.station_port.specs.NamedPorts.Ports.{requested_after, requested_on, destination_for, received_after, seen_after, sent_after}
-use Rattle.station_port.proofs.Messages.{answering, asking, closed, closing, item, multicast, o_t_item, opened, other_command, own_item, point_to_point, refused, short_item, t_o_item, with_one, with_two}
+use Rattle.station_port.proofs.Messages.{answering, around, asking, closed, closing, item, multicast, o_t_item, opened, other_command, own_item, point_to_point, refused, short_item, t_o_item, unknown_item, with_one, with_two, with_unknown}
 
 -- ---- the port that a request names
 
 pub a_port_is_named : named_port (with_one point_to_point t_o_item) ≡ Some (record { from_end = 20; port = 2230 })
-unfolding named_port messages.message_reading packets.packet_reading packets.are_sockets packets.behind_socket router_request_reading requests.request_reading paths.target_reading paths.segments_at paths.segment_at paths.logical_at paths.value_at opens.open_reading words.params16
+unfolding named_port messages.message_reading named_among any_items.any_packet_reading any_items.are_items any_items.behind_item router_request_reading requests.request_reading paths.target_reading paths.segments_at paths.segment_at paths.logical_at paths.value_at opens.open_reading words.params16
 a_port_is_named = refl
 
 -- among the items behind the request
 
-pub behind_another_item : named_in (o_t_item ++ t_o_item) ≡ Some (record { from_end = 20; port = 2230 })
+pub behind_another_item : named_among 2 (o_t_item ++ t_o_item) ≡ Some (record { from_end = 20; port = 2230 })
+unfolding named_among any_items.behind_item
 behind_another_item = refl
 
-pub in_front_of_another_item : named_in (t_o_item ++ o_t_item) ≡ Some (record { from_end = 40; port = 2230 })
+pub in_front_of_another_item : named_among 2 (t_o_item ++ o_t_item) ≡ Some (record { from_end = 40; port = 2230 })
+unfolding named_among any_items.behind_item
 in_front_of_another_item = refl
 
-pub no_item_names_none : named_in [] ≡ None
+pub no_item_names_none : named_among 0 [] ≡ None
+unfolding named_among any_items.behind_item
 no_item_names_none = refl
 
-pub another_direction_names_none : named_in o_t_item ≡ None
+pub another_direction_names_none : named_among 1 o_t_item ≡ None
+unfolding named_among any_items.behind_item
 another_direction_names_none = refl
 
-pub another_family_names_none : named_in (item 1 3 0x08 0xB6) ≡ None
+pub another_family_names_none : named_among 1 (item 1 3 0x08 0xB6) ≡ None
+unfolding named_among any_items.behind_item
 another_family_names_none = refl
 
-pub port_0_names_none : named_in (item 1 2 0 0) ≡ None
+pub port_0_names_none : named_among 1 (item 1 2 0 0) ≡ None
+unfolding named_among any_items.behind_item
 port_0_names_none = refl
 
-pub a_good_item_behind_a_bad_one_names_its_port : named_in (item 1 2 0 0 ++ t_o_item) ≡ Some (record { from_end = 20; port = 2230 })
+pub a_good_item_behind_a_bad_one_names_its_port : named_among 2 (item 1 2 0 0 ++ t_o_item) ≡ Some (record { from_end = 20; port = 2230 })
+unfolding named_among any_items.behind_item
 a_good_item_behind_a_bad_one_names_its_port = refl
+
+pub behind_an_item_that_nobody_knows : named_among 2 (unknown_item ++ t_o_item) ≡ Some (record { from_end = 20; port = 2230 })
+unfolding named_among any_items.behind_item
+behind_an_item_that_nobody_knows = refl
+
+pub within_an_item_that_nobody_knows_is_none : named_among 1 (around t_o_item) ≡ None
+unfolding named_among any_items.behind_item
+within_an_item_that_nobody_knows_is_none = refl
 
 -- in whole messages
 
+pub a_port_is_named_among_items_that_nobody_knows : named_port (with_unknown t_o_item) ≡ Some (record { from_end = 20; port = 2230 })
+unfolding named_port messages.message_reading named_among any_items.any_packet_reading any_items.are_items any_items.behind_item router_request_reading requests.request_reading paths.target_reading paths.segments_at paths.segment_at paths.logical_at paths.value_at opens.open_reading words.params16
+a_port_is_named_among_items_that_nobody_knows = refl
+
 pub another_length_names_none : named_port (with_one point_to_point short_item) ≡ None
-unfolding named_port messages.message_reading packets.packet_reading packets.are_sockets packets.behind_socket router_request_reading requests.request_reading paths.target_reading paths.segments_at paths.segment_at paths.logical_at paths.value_at opens.open_reading words.params16
+unfolding named_port messages.message_reading named_among any_items.any_packet_reading any_items.are_items any_items.behind_item router_request_reading requests.request_reading paths.target_reading paths.segments_at paths.segment_at paths.logical_at paths.value_at opens.open_reading words.params16
 another_length_names_none = refl
 
 pub a_multicast_one_names_none : named_port (with_one multicast t_o_item) ≡ None
-unfolding named_port messages.message_reading packets.packet_reading packets.are_sockets packets.behind_socket router_request_reading requests.request_reading paths.target_reading paths.segments_at paths.segment_at paths.logical_at paths.value_at opens.open_reading words.params16
+unfolding named_port messages.message_reading named_among any_items.any_packet_reading any_items.are_items any_items.behind_item router_request_reading requests.request_reading paths.target_reading paths.segments_at paths.segment_at paths.logical_at paths.value_at opens.open_reading words.params16
 a_multicast_one_names_none = refl
 
 pub another_command_names_none : named_port other_command ≡ None
@@ -68,7 +88,7 @@ unfolding named_port messages.message_reading
 another_command_names_none = refl
 
 pub a_close_names_none : named_port closing ≡ None
-unfolding named_port messages.message_reading packets.packet_reading packets.are_sockets packets.behind_socket router_request_reading requests.request_reading paths.target_reading paths.segments_at paths.segment_at paths.logical_at paths.value_at closes.close_reading
+unfolding named_port messages.message_reading named_among any_items.any_packet_reading any_items.are_items any_items.behind_item router_request_reading requests.request_reading paths.target_reading paths.segments_at paths.segment_at paths.logical_at paths.value_at closes.close_reading
 a_close_names_none = refl
 
 -- ---- an item is added and taken off
@@ -107,17 +127,17 @@ pub a_target_adds_none : sent_after Honoured (asking point_to_point) ≡ None
 a_target_adds_none = refl
 
 pub a_bad_item_stays : seen_after Honoured (with_one point_to_point (item 1 2 0 0)) ≡ None
-unfolding named_port messages.message_reading packets.packet_reading packets.are_sockets packets.behind_socket router_request_reading requests.request_reading paths.target_reading paths.segments_at paths.segment_at paths.logical_at paths.value_at opens.open_reading words.params16
+unfolding named_port messages.message_reading named_among any_items.any_packet_reading any_items.are_items any_items.behind_item router_request_reading requests.request_reading paths.target_reading paths.segments_at paths.segment_at paths.logical_at paths.value_at opens.open_reading words.params16
 a_bad_item_stays = refl
 
 -- ---- what is requested
 
 pub a_request_without_a_port_ends_what_was_requested : requested_after Honoured 3 (asking point_to_point) (Some (record { stream = 3; port = 2230 })) ≡ None
-unfolding named_port messages.message_reading packets.packet_reading packets.are_sockets packets.behind_socket router_request_reading requests.request_reading paths.target_reading paths.segments_at paths.segment_at paths.logical_at paths.value_at opens.open_reading words.params16
+unfolding named_port messages.message_reading named_among any_items.any_packet_reading any_items.are_items any_items.behind_item router_request_reading requests.request_reading paths.target_reading paths.segments_at paths.segment_at paths.logical_at paths.value_at opens.open_reading words.params16
 a_request_without_a_port_ends_what_was_requested = refl
 
 pub a_request_names_a_port : requested_after Honoured 3 (with_one point_to_point t_o_item) None ≡ Some (record { stream = 3; port = 2230 })
-unfolding named_port messages.message_reading packets.packet_reading packets.are_sockets packets.behind_socket router_request_reading requests.request_reading paths.target_reading paths.segments_at paths.segment_at paths.logical_at paths.value_at opens.open_reading words.params16
+unfolding named_port messages.message_reading named_among any_items.any_packet_reading any_items.are_items any_items.behind_item router_request_reading requests.request_reading paths.target_reading paths.segments_at paths.segment_at paths.logical_at paths.value_at opens.open_reading words.params16
 a_request_names_a_port = refl
 
 pub over_another_stream_none_was_requested : requested_on 4 (Some (record { stream = 3; port = 2230 })) ≡ None

@@ -1,8 +1,10 @@
 pub mod Causes
 pub mod Closes
+pub mod Counters
 pub mod Finding
 pub mod Items
 pub mod Reaching
+pub mod Rounds
 pub mod Streams
 pub mod NamedPorts
 pub mod Alarm

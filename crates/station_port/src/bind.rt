@@ -5,6 +5,7 @@ ghost use Rattle.std.specs.Prelude.{◌≡◌};
 ghost use Rattle.station_port.specs.Reaching.{group_hops};
 
 use crate::fault::{StationFault, StationSocket, cause_of};
+use crate::streams::make_room;
 use cip_types::Node;
 use mio::net::{TcpListener, UdpSocket};
 use std::io;
@@ -40,6 +41,7 @@ pub fn page_listener<R: Net>(
 pub(crate) fn datagrams<R: Net>(rt: &R, at: SocketAddr) -> Result<UdpSocket, StationFault> {
     let udp = made(StationSocket::Udp, UdpSocket::bind(rt, at))?;
     made(StationSocket::Udp, udp.set_multicast_ttl_v4(group_hops()))?;
+    make_room(&udp);
     Ok(udp)
 }
 

@@ -2,7 +2,7 @@
 //! group's address then receives its datagrams, where one at the station's own address receives none.
 
 use crate::place::StationPlace;
-use crate::streams::{DATAGRAMS, shared_socket};
+use crate::streams::{DATAGRAMS, make_room, shared_socket};
 use cip_types::limits::MOST_SLOTS;
 use cip_types::{Node, OutOfMemory};
 use mio::net::UdpSocket;
@@ -145,6 +145,7 @@ impl GroupSockets {
 /// A socket at the address and the UDP port of a group, which a wait reports.
 fn group_socket<R: Net>(rt: &R, registry: &Registry, group: DataGroup) -> Option<UdpSocket> {
     let mut socket = shared_socket(rt, group.address, group.port)?;
+    make_room(&socket);
     match registry.register(&mut socket, DATAGRAMS, Interest::READABLE) {
         Ok(()) => Some(socket),
         Err(_) => None,

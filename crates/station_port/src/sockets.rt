@@ -10,6 +10,7 @@ use crate::fault::{StationFault, StationSocket};
 use crate::finder::{Finder, NextInquiry};
 use crate::groups::GroupSockets;
 use crate::named_ports::ItemPorts;
+use crate::rounds::{PollRound, PollSource, PollSources};
 use crate::streams::{
     DATAGRAMS, KeptStreams, LISTENER, NopTimer, Ready, STREAMS, SessionAnswer, Targets, Welcome,
     address_of, session_answer, wait_for_streams,
@@ -18,7 +19,7 @@ use cip_events::Arrival;
 use cip_types::limits::MOST_STREAMS;
 use cip_types::{Items, Node, OutOfMemory};
 use mio::net::{TcpListener, TcpStream, UdpSocket};
-use mio::{Interest, Registry};
+use mio::{Events, Interest, Registry};
 use socket_port::{PollOrder, ReadOutcome, SpareBytes, accepted, node_of, received};
 use std::alloc::Global;
 use std::net::{Net, SocketAddr};
@@ -26,6 +27,9 @@ use udp_runner::{DataGroup, EndCause, Output, PortFault, sent_port};
 
 /// The numbers of streams are below this one.
 const STREAM_NUMBERS: u16 = MOST_STREAMS as u16;
+
+/// A poll reads each of so many kinds of sockets once at most.
+const SOURCES: u32 = 4;
 
 /// A UDP datagram has fewer bytes. A read of a stream takes at most as many.
 const BUFFER_BYTES: usize = 65_536;
@@ -55,6 +59,7 @@ pub(crate) struct StationSockets {
     buffer: Vec<u8>,
     spare: SpareBytes,
     order: PollOrder,
+    round: PollRound,
     nop: NopTimer,
     pub(crate) ready: Ready,
 }
@@ -85,6 +90,7 @@ impl StationSockets {
             buffer: vec![in alloc; 0; BUFFER_BYTES]?,
             spare: SpareBytes::none(),
             order: PollOrder::begin(),
+            round: PollRound::begin(),
             nop: NopTimer::begin(),
             ready: Ready::all(),
         })
@@ -107,9 +113,15 @@ impl StationSockets {
         )
     }
 
-    /// Whether this poll is one in sixteen, which asks every socket.
-    pub(crate) fn asks_all(&mut self) -> bool {
-        self.order.asks_streams_first()
+    /// Whether the system is to be asked which sockets have something.
+    pub(crate) fn asks_system(&mut self) -> bool {
+        self.ready.asks_system(self.round.is_over())
+    }
+
+    /// The system has reported these sockets: a round of polls begins.
+    pub(crate) fn begin_round(&mut self, events: &Events) {
+        self.ready.mark_all(events);
+        self.round = PollRound::begin();
     }
 
     /// Opens the streams that are due, ends those that are overdue (silent ones, and those without a session in time), and
@@ -187,42 +199,48 @@ impl StationSockets {
         self.targets.succeed(target);
     }
 
-    /// The arrival that is there now. A poll that asks all asks first for an inquiry, of which there are few, then the
-    /// streams, and then the datagrams. Any other poll asks the datagrams, the streams, and for an inquiry.
+    /// The arrival that is there now, if there is one: what a round of polls reads next, until something came or nothing is left.
     pub(crate) fn poll(
         &mut self,
         registry: &Registry,
-        all: bool,
         now_ms: u64,
     ) -> Result<Option<Arrival>, PortFault> {
-        if all {
-            self.admit(registry, now_ms)?;
-            return self.first_inquiry(now_ms);
+        let mut left = self.sources();
+        let round = self.round;
+        self.round.note_poll(left.datagrams);
+        for _ in 0..SOURCES {
+            let source = round.next_source(left);
+            let came = self.read_from(source, registry, now_ms)?;
+            if came.is_some() {
+                return Ok(came);
+            }
+            left = left.without(source);
         }
-        if let Some(arrival) = self.first_datagram(now_ms)? {
-            return Ok(Some(arrival));
-        }
-        self.admit(registry, now_ms)?;
-        self.poll_inquiries(now_ms)
+        Ok(None)
     }
 
-    /// An inquiry, or else the arrival of a stream, or else a datagram.
-    fn first_inquiry(&mut self, now_ms: u64) -> Result<Option<Arrival>, PortFault> {
-        if let Some(arrival) = self.poll_inquiries(now_ms)? {
-            return Ok(Some(arrival));
-        }
-        if let Some(arrival) = self.poll_streams(now_ms)? {
-            return Ok(Some(arrival));
-        }
-        self.poll_datagrams()
+    /// What may have something.
+    fn sources(&self) -> PollSources {
+        PollSources::of(&self.ready, self.finder.is_some())
     }
 
-    /// A datagram, or else the arrival of a stream.
-    fn first_datagram(&mut self, now_ms: u64) -> Result<Option<Arrival>, PortFault> {
-        if let Some(arrival) = self.poll_datagrams()? {
-            return Ok(Some(arrival));
+    /// What one source has. A connection that is accepted is no arrival yet.
+    fn read_from(
+        &mut self,
+        source: PollSource,
+        registry: &Registry,
+        now_ms: u64,
+    ) -> Result<Option<Arrival>, PortFault> {
+        match source {
+            PollSource::Datagrams => self.poll_datagrams(),
+            PollSource::Inquiries => self.poll_inquiries(now_ms),
+            PollSource::Streams => self.poll_streams(now_ms),
+            PollSource::Connections => {
+                self.admit(registry, now_ms)?;
+                Ok(None)
+            }
+            PollSource::Nothing => Ok(None),
         }
-        self.poll_streams(now_ms)
     }
 
     /// Accepts a connection, and adds the streams that have opened.
@@ -289,6 +307,7 @@ impl StationSockets {
             self.ready.datagrams = false;
             return Ok(None);
         };
+        self.round.note_datagram();
         let Some(peer) = node_of(from) else {
             return Ok(None);
         };

@@ -4,6 +4,7 @@ ghost use Rattle.std.specs.Prelude.{◌≡◌, IfOk};
 
 use crate::alarm::Alarm;
 use crate::bind::{datagrams, listen, made};
+use crate::counters::{CountersRequested, names_link};
 use crate::fault::{StationFault, StationSocket};
 use crate::finder::Finder;
 use crate::groups::GroupSockets;
@@ -46,6 +47,9 @@ pub struct StationPort<R: System + Drop> {
     alarm: Option<Alarm>,
     busy: BusyTime,
     multicast: bool,
+    /// Whom it tells that a frame waits which may read what the host has counted, and that frame.
+    counters: Option<CountersRequested>,
+    held: Option<Arrival>,
     failures: u64,
 }
 
@@ -117,6 +121,8 @@ impl<R: System + Net + Drop> StationPort<R> {
             alarm: None,
             busy: BusyTime::begin(0),
             multicast,
+            counters: None,
+            held: None,
             failures: 0,
         })
     }
@@ -146,17 +152,39 @@ impl<R: System + Net + Drop> StationPort<R> {
         Ok(())
     }
 
+    /// From now on this port reports each frame that may read what its host has counted, one receive before it gives the frame.
+    pub fn report_counter_reads(&mut self, requested: CountersRequested)
+        ensures { self.new.failures ≡ self.old.failures }
+    {
+        self.counters = Some(requested);
+    }
+
+    /// The arrival, unless it is a frame that may read what the host has counted: that one is held, and told of.
+    fn hold_reader(&mut self, came: Option<Arrival>) -> Option<Arrival>
+        ensures { self.new.failures ≡ self.old.failures }
+    {
+        let reads = match &came {
+            Some(Arrival::Frame { bytes, .. }) => names_link(bytes.as_slice()),
+            _ => false,
+        };
+        match &self.counters {
+            Some(requested) if reads => requested.set(),
+            _ => return came,
+        }
+        self.held = came;
+        None
+    }
+
     /// The arrival that is there now.
     fn next_arrival(&mut self) -> Result<Option<Arrival>, PortFault>
         ensures { self.new.failures ≡ self.old.failures }
     {
         let now_ms = self.now_ms();
         self.sockets.advance(&self.rt, self.poll.registry(), now_ms);
-        let all = self.sockets.asks_all();
-        if self.sockets.ready.asks_system(all) {
+        if self.sockets.asks_system() {
             self.mark_reported(Duration::ZERO);
         }
-        self.sockets.poll(self.poll.registry(), all, now_ms)
+        self.sockets.poll(self.poll.registry(), now_ms)
     }
 }
 
@@ -208,7 +236,7 @@ impl<R: System + Drop> StationPort<R> {
         if self.poll.poll(&mut self.events, Some(most)).is_err() {
             return false;
         }
-        self.sockets.ready.mark_all(&self.events);
+        self.sockets.begin_round(&self.events);
         true
     }
 
@@ -262,7 +290,7 @@ impl<R: System + Net + Drop> Port for StationPort<R> {
 
     fn wait(&mut self, most: Duration) {
         self.rest();
-        if self.sockets.ready.any() {
+        if self.held.is_some() || self.sockets.ready.any() {
             return;
         }
         let length = self.length_of(most);
@@ -272,11 +300,17 @@ impl<R: System + Net + Drop> Port for StationPort<R> {
     }
 
     fn receive(&mut self) -> Result<Option<Arrival>, PortFault> {
-        let came = self.next_arrival();
-        if came.is_err() {
-            self.failures += 1;
+        if let Some(held) = self.held.take() {
+            return Ok(Some(held));
         }
-        came
+        let came = self.next_arrival();
+        match came {
+            Ok(came) => Ok(self.hold_reader(came)),
+            Err(fault) => {
+                self.failures += 1;
+                Err(fault)
+            }
+        }
     }
 
     fn recycle(&mut self, bytes: Items<u8>) {

@@ -19,4 +19,5 @@ pub use nop::NopTimer;
 pub use ready::{DATAGRAMS, FINDER, LISTENER, OPENINGS, Ready, STREAMS, WAKER};
 pub use sessions::{SessionAnswer, asks_session, session_answer};
 pub use shared_sockets::shared_socket;
+pub use stream_options::make_room;
 pub use targets::{DialOutcome, Targets};

@@ -1,6 +1,6 @@
 """What the sockets of a station are set to, what passes them, and how often the system is asked for what came."""
 
-import contextlib, ctypes, errno, os, resource, select, socket, struct, threading, time
+import contextlib, ctypes, errno, os, resource, select, signal, socket, struct, threading, time
 from rim.host import PRESENT, Station, need, sure, usual, wait
 from rim.pages import PORT, Events
 from rim.peers import INPUT_ONLY, MULTICAST, REGISTER, Originator, Silent, Target, served
@@ -15,6 +15,7 @@ IDLE_S = 4  # seconds in which the wakes of a station are counted
 MOST_WAKES = 5  # of an idle station in this time: one that tells a browser how it is wakes eight times, one that asks each millisecond 4,000 times
 MOST_SHOWN = 8  # snapshots in two seconds: one each half second, and what the beginning of a life brings
 LEFT_S = 2.5  # seconds in which a page finds that a browser has left: it says once in a second that it is there
+MOST_TRYING = 60  # of one that opens a stream each second, which is refused
 TRIES = 3
 MOST_WORK = 0.6  # seconds of the processors for an idle station in this time: one that never waits takes what it gets
 ROUNDED = 0.005  # seconds: the port and its device have milliseconds of their own
@@ -23,6 +24,12 @@ REFUSALS = {1, 2, 3, 4, 5, 7}  # the sessions that a target refuses: the sixth i
 WAITS = [1, 1, 1, 1, 2, 1, 1]  # seconds from the end of each stream to the next one: five refused, one served and cut, one refused
 GIVEN_UP_MS = 10_000  # a stream is given up whose bytes its peer does not acknowledge for so long
 INACTIVE_S = 120  # the usual inactivity time-out: a peer that is gone is to be found before it
+ASKED = 4_194_304  # bytes: a station asks for so much room for the datagrams that wait at its socket
+HELD = 1024  # bytes of it that a short datagram takes, at most
+ROUND = 64  # so many datagrams come before a request that comes behind them
+MOST_IN_FRONT = 4 * ROUND  # those of a round that has begun, and those before a tick, too
+BURST = 100_000  # datagrams without a pause
+SERVICES = struct.pack("<HHII8sI", 4, 0, 0, 0, b"", 0)  # ListServices, which needs no session
 
 
 def sockets_of(station):
@@ -165,6 +172,83 @@ def run_flooded(bench):
     bench.clear()
 
 
+def lost_at(station):
+    """How many datagrams the system has dropped at the sockets of a station."""
+    with open(f"/proc/{station.process.pid}/net/udp") as file:
+        return sum(int(line.split()[12]) for line in file if line.split()[1].endswith(":08AE"))
+
+
+def room_of(station):
+    """The bytes of room that a station's socket of datagrams has; None where the system lends no socket of a child."""
+    found = sockets_of(station)
+    if found is None:
+        return None
+    return next(it.getsockopt(socket.SOL_SOCKET, socket.SO_RCVBUF) for it in found if it.type == socket.SOCK_DGRAM and it.getsockname()[1] == 2222)
+
+
+def in_front(trace):
+    """How many datagrams a record has in front of each ListServices."""
+    found, count = [], 0
+    with open(trace) as file:
+        for words in filter(None, map(str.split, file)):
+            count += words[0] == "datagram"
+            if words[0] == "frame" and words[2] == SERVICES.hex():
+                found.append(count)
+    return found
+
+
+def wait_and_go_on(adapter, owner, connection, stranger, count):
+    """Datagrams come while a station does not run, and then a request."""
+    adapter.process.send_signal(signal.SIGSTOP)
+    for number in range(count):
+        connection.produce(owner.udp, struct.pack("<I", number + 1))
+    stranger.tcp.sendall(SERVICES)
+    time.sleep(0.05)
+    adapter.process.send_signal(signal.SIGCONT)
+    need(stranger.tcp.recv(65536)[:1] == SERVICES[:1], "a request behind a burst is answered")
+    last = struct.pack("<I", count).hex()
+    wait(lambda: owner.read(150) == last, "the newest datagram of a burst reaches the output")
+
+
+def flow(adapter, owner, connection):
+    """A burst at full speed, beside reads over a stream: the datagrams that were dropped, the reads, and the longest of them."""
+    before, child, longest, reads = lost_at(adapter), os.fork(), 0.0, 0
+    if child == 0:
+        try:
+            for number in range(BURST):
+                connection.produce(owner.udp, struct.pack("<I", number + 1))
+        finally:
+            os._exit(0)
+    while os.waitpid(child, os.WNOHANG) == (0, 0):
+        begin = time.monotonic()
+        owner.read(150)
+        longest, reads = max(longest, time.monotonic() - begin), reads + 1
+    return lost_at(adapter) - before, reads, longest
+
+
+def run_bursts(bench):
+    """Datagrams that come faster than a station takes them wait, as many as its host allows, and come before a request that comes
+    behind them: at most so many that others have their turn."""
+    with open("/proc/sys/net/core/rmem_max") as file:
+        room = 2 * min(ASKED, int(file.read()))
+    trace, bursts = bench.file("bursts.trace"), [20, 40, 60, min(2000, room // HELD)]
+    adapter = bench.adapter("--record", trace, log="bursts")
+    owner = Originator(bench, host="owner", rpi_ms=1000)
+    connection, stranger = owner.open(), Silent(bench, bench.network.extra[0])
+    need(stranger.is_registered(), "a second peer registers a session")
+    sure(room_of(adapter) in (None, room), f"the datagrams that wait at a station may take {room:,} bytes, as many as its host allows")
+    for count in bursts:
+        wait_and_go_on(adapter, owner, connection, stranger, count)
+    sure(lost_at(adapter) == 0, f"{bursts[-1]} datagrams that come at once are all taken")
+    lost, reads, longest = flow(adapter, owner, connection)
+    sure(reads > 0, f"{BURST:,} datagrams without a pause: {lost:,} are dropped, and beside them {reads} reads over a stream take {longest * 1000:.1f} ms at most")
+    need(adapter.end() == 0, "the adapter ends with status 0")
+    fronts = [count - sum(bursts[:place]) for place, count in enumerate(in_front(trace)[-len(bursts):])]
+    sure(fronts[:3] == bursts[:3] and ROUND <= fronts[3] <= MOST_IN_FRONT, f"a request that comes behind 20, 40, 60 and {bursts[3]} of them is "
+         f"answered behind {', '.join(map(str, fronts))}")
+    bench.clear()
+
+
 def run_no_files(bench):
     """A connection comes as no file is left for it: it is accepted once one is."""
     adapter = bench.adapter(log="no_files")
@@ -213,15 +297,24 @@ def run_idle(bench):
     sure(0 < shown <= MOST_SHOWN, f"a browser gets {shown} snapshots in 2 s of an adapter to which nothing comes")
     events.stream.close()
     time.sleep(LEFT_S)
+    rests(adapter, "an adapter to which nothing comes, and whose browser has left,")
+    need(adapter.end() == 0, "the adapter ends with status 0")
+    scanner = Station(bench, "owner", "scanner", bench.file("owner.profile"), log="idle_owner")
+    rests(scanner, "a scanner none of whose slots is started")
+    scanner.call("start 0")
+    rests(scanner, "a scanner whose target is not there", MOST_TRYING)
+    need(scanner.end() == 0, "the scanner ends with status 0")
+    bench.clear()
+
+
+def rests(station, what, most_wakes=MOST_WAKES):
+    """A station neither wakes often nor works without a wait."""
     # (what else the system has its thread do is not there each time)
     for _ in range(TRIES):
-        wakes, seconds = wakes_and_work(adapter)
-        if wakes <= MOST_WAKES and seconds < MOST_WORK:
+        wakes, seconds = wakes_and_work(station)
+        if wakes <= most_wakes and seconds < MOST_WORK:
             break
-    sure(wakes <= MOST_WAKES and seconds < MOST_WORK, f"an adapter to which nothing comes, and whose browser has left, wakes {wakes} times and "
-         f"works {seconds:.2f} s in {IDLE_S} s")
-    need(adapter.end() == 0, "the adapter ends with status 0")
-    bench.clear()
+    sure(wakes <= most_wakes and seconds < MOST_WORK, f"{what} wakes {wakes} times and works {seconds:.2f} s in {IDLE_S} s")
 
 
 def waits_in(trace):

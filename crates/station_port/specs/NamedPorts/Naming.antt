@@ -9,9 +9,9 @@
 --   24   interface handle and time-out
 --   30   item count     u16
 --   32   null address item, and the head of the data item
---   40   the request; behind it items of 20 bytes: type and length, then family and port with their most significant
---        byte first, an address, and 8 zeros
-use Rattle.std.specs.Prelude.{ℕ, ◌==◌, ◌||◌, not, nat_lt, if◌then◌else◌, Bool, true, false, List, length, take, drop, Option, Some, None, Result, Ok, Err}
+--   40   the request; behind it items: type and length, and so many bytes. Those of a socket address are 16: family and port with their
+--        most significant byte first, an address, and 8 zeros
+use Rattle.std.specs.Prelude.{ℕ, zero, suc, ◌-◌, ◌==◌, ◌||◌, not, nat_lt, if◌then◌else◌, Bool, true, false, List, length, take, drop, Option, Some, None, Result, Ok, Err}
 use Rattle.std.specs.Option.{option_map}
 use Rattle.std.specs.Int.{w16, w32, from_be_bytes}
 use Rattle.cip_types.specs.Parts.{number_in}
@@ -24,6 +24,7 @@ use Rattle.cip_encap.specs.Message.{MessageFields}
 use Rattle.cip_encap.specs.Reading.{message_reading}
 use Rattle.cip_encap.specs.Packet.{PacketFields}
 use Rattle.cip_encap.specs.PacketReading.{packet_reading}
+use Rattle.cip_encap.specs.AnyItems.{any_packet_reading, behind_item}
 use Rattle.cip_router.specs.Requests.{RouterRequestFields, opening, router_request_reading}
 use Rattle.station_port.specs.declared.named_ports.named.NamedPort.{NamedPort}
 
@@ -58,6 +59,17 @@ message_opening_len (Ok message) = if message.command == 0x6F then packet_openin
 abbrev pub opening_len : List ℕ → Option ℕ
 opening_len message = message_opening_len (message_reading message)
 
+-- the same of a message with items of any type behind its request, as a described device takes it
+abbrev pub any_packet_opening_len : List ℕ → Option ℕ
+any_packet_opening_len items = read_opening_len (any_packet_reading items)
+
+abbrev pub any_message_opening_len : Result MessageFields EncapFault → Option ℕ
+any_message_opening_len (Err fault) = None
+any_message_opening_len (Ok message) = if message.command == 0x6F then any_packet_opening_len message.payload else None
+
+abbrev pub any_opening_len : List ℕ → Option ℕ
+any_opening_len message = any_message_opening_len (message_reading message)
+
 -- ---- the item
 
 -- the number at a position, its most significant byte first
@@ -86,7 +98,7 @@ abbrev pub named_at : ℕ → Option ℕ → Option NamedPort
 named_at from_end None = None
 named_at from_end (Some port) = Some (record { from_end = from_end; port = port })
 
--- the port that the first item names
+-- the port that the item at the front names, with the bytes from there on
 abbrev pub named_first : List ℕ → Option NamedPort
 named_first items = named_at (length items) (port_in items)
 
@@ -94,14 +106,20 @@ abbrev pub or_else : Option NamedPort → Option NamedPort → Option NamedPort
 or_else None other = other
 or_else (Some named) other = Some named
 
--- the port that one of the first two items names
-abbrev pub named_in : List ℕ → Option NamedPort
-named_in items = or_else (named_first items) (named_first (drop 20 items))
+abbrev pub named_after : (List ℕ → Option NamedPort) → Option (List ℕ) → Option NamedPort
+named_after among None = None
+named_after among (Some rest) = among rest
 
+-- the port that the first of so many items names which names one
+unfoldable pub named_among : ℕ → List ℕ → Option NamedPort
+named_among zero items = None
+named_among (suc n) items = or_else (named_first items) (named_after (named_among n) (behind_item items))
+
+-- the items behind the request are two fewer than all
 abbrev pub named_behind : List ℕ → Option ℕ → Option NamedPort
 named_behind message None = None
-named_behind message (Some len) = named_in (drop len (drop 40 message))
+named_behind message (Some len) = named_among (number_in w16 message 30 - 2) (drop len (drop 40 message))
 
 -- the port that a message of a stream names, whose 24 bytes of header are followed by at most 2,048
 unfoldable pub named_port : List ℕ → Option NamedPort
-named_port message = if nat_lt (length message) 64 || nat_lt 2072 (length message) then None else named_behind message (opening_len message)
+named_port message = if nat_lt (length message) 64 || nat_lt 2072 (length message) then None else named_behind message (any_opening_len message)

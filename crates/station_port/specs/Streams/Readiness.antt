@@ -12,9 +12,9 @@ all_ready = record { listener = true; datagrams = true; streams = true; openings
 abbrev pub any_ready : Ready → Bool
 any_ready ready = ready.listener || (ready.datagrams || (ready.streams || (ready.openings || ready.finder)))
 
--- a poll asks the system if it asks every socket, or none may have something; but not if the wait before it did
+-- a poll asks the system if the round is over, or no socket may have something; but not if the wait before it did
 abbrev pub asks_system : Bool → Ready → Bool
-asks_system all ready = not ready.reported && (all || not (any_ready ready))
+asks_system over ready = not ready.reported && (over || not (any_ready ready))
 
 -- the system was asked: a listener whose connection could not be accepted may have it still
 abbrev pub with_refused : Ready → Ready

@@ -1,12 +1,12 @@
 //! The port that a request to open a connection names, and the socket address of an item.
 
 ghost use Rattle.std.specs.Prelude.{◌≡◌, ◌≤◌, length, IfSome};
-ghost use Rattle.station_port.specs.NamedPorts.Naming.{named_first, named_in, named_port, port_in, socket_in};
+ghost use Rattle.station_port.specs.NamedPorts.Naming.{named_among, named_first, named_port, port_in, socket_in};
 
 use crate::named_ports::bytes::{be16_in, be32_in, behind};
-use crate::named_ports::opening::opening_len;
+use crate::named_ports::opening::any_opening_len;
 use cip_encap::item::T_O_SOCKET_ADDRESS;
-use cip_encap::{HEADER_LEN, SocketAddress};
+use cip_encap::{HEADER_LEN, SocketAddress, after_item};
 use cip_types::Node;
 use cip_types::fields::u16_in;
 use cip_types::limits::LONGEST_MESSAGE;
@@ -47,8 +47,8 @@ pub struct NamedPort {
 }
 
 /// The port that a message names for T->O datagrams, if it is a request to open a connection whose T->O datagrams go to its
-/// originator alone: that of the first of two items behind the request which is of the T->O direction, of the Internet's family
-/// and of a port that is not 0. The address of the item is not read.
+/// originator alone: that of the first item behind the request which is of the T->O direction, of the Internet's family and of a port
+/// that is not 0. Items of other types are passed over, as the device of each target's port does. The address of the item is not read.
 ///
 /// Volume 2, chapter 2, socket address item.
 #[tactic(auto, unfolding(crate::specs::NamedPorts::Naming::named_port))]
@@ -64,24 +64,30 @@ pub fn named_port(message: &[u8]) -> Option<NamedPort>
     if u16_in(message, COUNT_AT) == ITEMS_ALONE {
         return None;
     }
-    let len = opening_len(message)?;
-    named_in(behind(behind(message, BEFORE_REQUEST), len))
+    let len = any_opening_len(message)?;
+    let items = behind(behind(message, BEFORE_REQUEST), len);
+    let count = u16_in(message, COUNT_AT);
+    named_among(count.saturating_sub(ITEMS_ALONE), items)
 }
 
-/// The port that one of the first two items names.
-fn named_in(items: &[u8]) -> Option<NamedPort>
-    ensures { result ≡ named_in items.now }
+/// The port that the first of so many items names which names one.
+fn named_among(count: u16, items: &[u8]) -> Option<NamedPort>
+    ensures { result ≡ named_among count items.now }
 {
-    match port_in(items) {
-        Some(port) => Some(NamedPort {
-            from_end: items.len(),
-            port,
-        }),
-        None => named_first(behind(items, ITEM_BYTES)),
+    let mut rest = items;
+    for done in 0..count {
+        if let Some(named) = named_first(rest) {
+            return Some(named);
+        }
+        match after_item(rest) {
+            Some(after) => rest = after,
+            None => return None,
+        }
     }
+    None
 }
 
-/// The port that the first item names.
+/// The port that the item at the front names, with the bytes from there on.
 fn named_first(items: &[u8]) -> Option<NamedPort>
     ensures { result ≡ named_first items.now }
 {

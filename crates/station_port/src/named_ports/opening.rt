@@ -2,10 +2,10 @@
 
 ghost use Rattle.std.specs.Prelude.{◌≡◌};
 ghost use Rattle.station_port.specs.NamedPorts.Closing.{closed_in, closed_triad, packet_closed_triad};
-ghost use Rattle.station_port.specs.NamedPorts.Naming.{is_opening, is_point_to_point, opening_len, packet_opening_len};
+ghost use Rattle.station_port.specs.NamedPorts.Naming.{any_opening_len, any_packet_opening_len, is_opening, is_point_to_point, opening_len, packet_opening_len};
 
 use cip_encap::command::SEND_RR_DATA;
-use cip_encap::{read_items, read_message};
+use cip_encap::{read_any_items, read_items, read_message};
 use cip_netparams::ConnectionType;
 use cip_router::{RouterRequest, read_router_request};
 use cip_types::Triad;
@@ -28,6 +28,28 @@ fn packet_opening_len(items: &[u8]) -> Option<usize>
     ensures { result ≡ packet_opening_len items.now }
 {
     match read_items(items) {
+        Ok(packet) if is_opening(packet.data) => Some(packet.data.len()),
+        _ => None,
+    }
+}
+
+/// The same of a message with items of any type behind its request, as a described device takes it.
+///
+/// Volume 1, chapter 3, Forward_Open service.
+pub(crate) fn any_opening_len(message: &[u8]) -> Option<usize>
+    ensures { result ≡ any_opening_len message.now }
+{
+    match read_message(message) {
+        Ok(message) if message.command == SEND_RR_DATA => any_packet_opening_len(message.data),
+        _ => None,
+    }
+}
+
+/// The bytes of the request among these items and others, if it asks for that.
+fn any_packet_opening_len(items: &[u8]) -> Option<usize>
+    ensures { result ≡ any_packet_opening_len items.now }
+{
+    match read_any_items(items) {
         Ok(packet) if is_opening(packet.data) => Some(packet.data.len()),
         _ => None,
     }

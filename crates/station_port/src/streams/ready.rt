@@ -81,14 +81,14 @@ impl Ready {
     }
 
     /// Whether a poll asks the system which sockets have something: not if the wait before it did. While one may have
-    /// something, only a poll does that asks them all.
-    pub fn asks_system(&mut self, all: bool) -> bool
-        ensures asks { result ≡ asks_system all self.old }
+    /// something, a poll asks only if the round is over.
+    pub fn asks_system(&mut self, is_over: bool) -> bool
+        ensures asks { result ≡ asks_system is_over self.old }
         ensures begins { self.new ≡ record self.old { reported = false } }
     {
         let reported = self.reported;
         self.reported = false;
-        !reported && (all || !self.any())
+        !reported && (is_over || !self.any())
     }
 
     /// The listener gave a connection, or failed with this error. Another one may wait behind a connection, and none does

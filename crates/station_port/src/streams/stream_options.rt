@@ -1,7 +1,7 @@
-//! What the system does for the streams of a station. Each of these is done as far as the system has it.
+//! What the system does for the sockets of a station. Each of these is done as far as the system has it.
 
 use libc::net as c;
-use mio::net::TcpStream;
+use mio::net::{TcpStream, UdpSocket};
 use std::os::fd::AsRawFd;
 
 /// A silent peer is probed after so many seconds, and then again after each so many.
@@ -14,6 +14,9 @@ const MOST_PROBES: u32 = 3;
 
 /// A stream whose bytes its peer does not take for so many milliseconds is cut.
 const UNTAKEN_MS: u32 = 10_000;
+
+/// The datagrams that wait at a socket may take so many bytes. The system doubles the number for what it needs itself, and caps it.
+const WAITING_BYTES: u32 = 4_194_304;
 
 /// The bytes of C's `int`, and those of its `sockaddr_in`.
 pub(crate) const INT_BYTES: u32 = 4;
@@ -57,6 +60,20 @@ pub fn watch_peer(socket: &TcpStream) {
             c::IPPROTO_TCP,
             c::TCP_USER_TIMEOUT,
             &int(UNTAKEN_MS),
+            INT_BYTES,
+        )
+    };
+}
+
+/// Has the system keep more datagrams that wait at a socket, as many as the host allows: a burst that comes faster than a device
+/// takes it is not dropped as long as there is room.
+pub fn make_room(socket: &UdpSocket) {
+    let _ = unsafe {
+        c::setsockopt(
+            socket.as_raw_fd(),
+            c::SOL_SOCKET,
+            c::SO_RCVBUF,
+            &int(WAITING_BYTES),
             INT_BYTES,
         )
     };
