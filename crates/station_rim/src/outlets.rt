@@ -24,6 +24,9 @@ const BATCH_BYTES: usize = 4_096;
 /// that shares its processor has its time.
 const BATCHES_IN_A_ROW: u32 = 64;
 
+/// A writer behind which nothing waits pauses for so many microseconds: the texts that come meanwhile are written by one call.
+const GATHERING_US: u64 = 250;
+
 /// The way from a station to a writer. Its lock is held only while a text is put in or taken out.
 #[derive(Drop)]
 struct Channel {
@@ -91,8 +94,17 @@ impl SharedLines {
                 }
             }
             batch.clear();
-            self.channel.way.lock(rt).note_written();
+            if self.has_written_all(rt) {
+                thread::sleep(rt, Duration::from_micros(GATHERING_US));
+            }
         }
+    }
+
+    /// What the writer took is written or discarded. Whether nothing waits behind it.
+    fn has_written_all<R: Wait>(&self, rt: &R) -> bool {
+        let mut way = self.channel.way.lock(rt);
+        way.note_written();
+        way.is_waiting()
     }
 
     /// Waits for the next text, and takes those that wait, as far as they fit in a batch. Answers the one behind them, if it
@@ -130,6 +142,13 @@ impl SharedLines {
         }
     }
 
+    /// Wakes the writer, if it waited for what was put in. While something is on its way it looks for more by itself.
+    fn wake(&self, waits: bool) {
+        if waits {
+            self.channel.more.notify_one();
+        }
+    }
+
     /// Who offered state last has ended, and offers none again.
     pub fn release<R: Wait>(&self, rt: &R) {
         self.channel.way.lock(rt).release();
@@ -150,15 +169,19 @@ pub struct LineEntrance<R: Wait + Drop> {
 
 impl<R: Wait + Drop> LineSink for LineEntrance<R> {
     fn line(&mut self, text: &[u8]) {
-        let _ = self.lines.channel.way.lock(&self.rt).offer(text);
-        self.lines.channel.more.notify_one();
+        let mut way = self.lines.channel.way.lock(&self.rt);
+        let waits = way.is_waiting();
+        let _ = way.offer(text);
+        drop(way);
+        self.lines.wake(waits);
     }
 
     fn state(&mut self, text: &[u8]) -> bool {
         let mut way = self.lines.channel.way.lock(&self.rt);
+        let waits = way.is_waiting();
         let offered = way.offer_state(text);
         drop(way);
-        self.lines.channel.more.notify_one();
+        self.lines.wake(waits);
         matches!(offered, Offer::Taken)
     }
 }

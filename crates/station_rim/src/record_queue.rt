@@ -17,8 +17,8 @@ const MOST_BYTES: usize = 4_194_304;
 
 const MOST_ENTRIES: usize = 65_536;
 
-/// Entries that wait are written together, so many bytes at a time. Behind them the writer pauses for a millisecond, so that a
-/// station that shares its processor has its time.
+/// Entries that wait are written together, so many bytes at a time. Behind them the writer pauses for a millisecond: those that come
+/// meanwhile are written by one call, and a station that shares its processor has its time.
 const BATCH_BYTES: usize = 65_536;
 
 /// Entries on their way, and where they go.
@@ -106,9 +106,7 @@ impl SharedRecord {
                 written = self.write(rt, &mut file, entry.as_slice());
             }
             self.channel.way.lock(rt).record.note(written.is_err());
-            if !is_last {
-                thread::sleep(rt, Duration::from_millis(1));
-            }
+            thread::sleep(rt, Duration::from_millis(1));
         }
     }
 
@@ -163,8 +161,14 @@ pub struct Entries<R: Wait + Drop> {
 
 impl<R: Wait + Drop> Write for Entries<R> {
     fn write(&mut self, entry: &[u8]) -> io::Result<usize> {
-        let put = self.record.channel.way.lock(&self.rt).record.put(entry);
-        self.record.channel.more.notify_one();
+        let mut way = self.record.channel.way.lock(&self.rt);
+        let waits = way.record.is_waiting();
+        let put = way.record.put(entry);
+        drop(way);
+        // (a writer that has something on its way looks for more by itself)
+        if waits {
+            self.record.channel.more.notify_one();
+        }
         match put {
             Ok(()) => Ok(entry.len()),
             Err(PutFault::Failed) => Err(io::Error::from(ErrorKind::BrokenPipe)),
