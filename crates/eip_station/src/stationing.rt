@@ -10,7 +10,7 @@ use cip_tables::Config;
 use cip_types::OutOfMemory;
 use command_lines::{Options, StationTask, file_of, word_from_end};
 use page_feed::PageFeed;
-use station::{DeviceSteps, EarlyEnd, InputSteps, LifeEnd};
+use station::{CountedSteps, DeviceSteps, EarlyEnd, InputSteps, LifeEnd};
 use station_lines::{CallLines, LineSink, NoLines};
 use station_port::{StationPlace, StationPort};
 use station_record::{Recorder, Start, StateFault, forget_record, name_of, stem_of};
@@ -19,9 +19,9 @@ use station_rim::{
     report_line,
 };
 use station_setup::{
-    MOST_LIVES, OpenStation, OpenedPort, StationOutputs, described, incarnation_of, is_scanner,
-    names_in, open_life_port, passed_ms, recorder_in, socket_place, start_in, station_of,
-    with_incarnation, with_serials,
+    HostCounters, MOST_LIVES, OpenStation, OpenedPort, StationOutputs, described, host_of,
+    incarnation_of, is_scanner, names_in, open_life_port, passed_ms, recorder_in, socket_place,
+    start_in, station_of, with_incarnation, with_serials,
 };
 use std::fs::File;
 use std::random::RandomSource;
@@ -303,6 +303,7 @@ where
     let mut opened = opened;
     opened.port.set_alarm(setting.shared.alarm.share()?)?;
     seed_delays(&rt, &mut opened.port);
+    let host = host_of(rt, config, &mut opened)?;
     let (waker, slots) = (opened.port.waker()?, opened.slots);
     let names = names_of(setting)?;
     let recorder = recorder_of(setting, config, &names)?;
@@ -320,9 +321,9 @@ where
     keep(setting, start)?;
     let end = if reads_lines(setting.options) {
         let lines = setting.rim.input.share()?.lines(rt, waker);
-        live(setting, &mut station, lines, slots)?
+        live(setting, &mut station, lines, host, slots)?
     } else {
-        live(setting, &mut station, NoLines, slots)?
+        live(setting, &mut station, NoLines, host, slots)?
     };
     life_end(end, station.record_fault())
 }
@@ -332,6 +333,7 @@ fn live<R, O, E, L>(
     setting: &Stationed<'_, R>,
     station: &mut OpenStation<R, O, E>,
     lines: L,
+    host: HostCounters<R>,
     slots: u32,
 ) -> Result<LifeEnd, Failure>
 where
@@ -342,7 +344,8 @@ where
 {
     let alloc = setting.rt.alloc();
     let end_ms = left_ms(setting.options.seconds, setting.begun_ms);
-    let mut steps = DeviceSteps::unscripted(alloc, InputSteps::new(alloc, lines), end_ms);
+    let steps = DeviceSteps::unscripted(alloc, InputSteps::new(alloc, lines), end_ms);
+    let mut steps = CountedSteps::new(steps, host);
     Ok(station.live(&mut steps, slots)?)
 }
 

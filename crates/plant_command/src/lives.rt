@@ -10,14 +10,14 @@ use cip_tables::Config;
 use cip_types::{Node, OutOfMemory};
 use page_feed::PageFeed;
 use plant_rim::{DeviceFailure, DeviceSetup, NameForm, NamedLines, PlantJob, SharedPlant};
-use station::{DeviceSteps, LifeEnd, ScriptRun};
+use station::{CountedSteps, DeviceSteps, LifeEnd, ScriptRun};
 use station_lines::LineSink;
 use station_port::StationPlace;
 use station_record::{Recorder, forget_record};
 use station_rim::{Entries, LabelledLines, LineEntrance, SharedRecord};
 use station_setup::{
-    MOST_LIVES, OpenedPort, StationOutputs, described, incarnation_of, open_life_port, passed_ms,
-    recorder_in, station_of, with_incarnation,
+    MOST_LIVES, OpenedPort, StationOutputs, described, host_of, incarnation_of, open_life_port,
+    passed_ms, recorder_in, station_of, with_incarnation,
 };
 use std::alloc::Global;
 use std::fs::File;
@@ -275,6 +275,8 @@ impl Life<'_> {
     {
         let recorder = self.recorder(rt, record)?;
         self.report_start(rt, &opened)?;
+        let mut opened = opened;
+        let host = host_of(rt, self.config, &mut opened)?;
         let (waker, slots) = (opened.port.waker()?, opened.slots);
         let outputs = StationOutputs {
             recorder,
@@ -286,9 +288,10 @@ impl Life<'_> {
         *lives = self.number;
         let typed = self.setup.typed.share()?.steps(rt, waker);
         let script = self.setup.script.as_slice();
-        let mut steps = DeviceSteps::scripted(rt.alloc(), script, *run, typed, self.begun_ms);
+        let steps = DeviceSteps::scripted(rt.alloc(), script, *run, typed, self.begun_ms);
+        let mut steps = CountedSteps::new(steps, host);
         let lived = station.live(&mut steps, slots);
-        *run = steps.run();
+        *run = steps.steps().run();
         life_end(lived?, station.record_fault())
     }
 }

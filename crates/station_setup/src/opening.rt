@@ -1,6 +1,7 @@
 //! What opens a station: its profile in a file, its device, its port at a real address, and its record; and the station of these.
 
 mod devices;
+mod host_counters;
 mod lives;
 mod places;
 mod ports;
@@ -11,6 +12,7 @@ mod stations;
 mod unserved;
 
 pub use devices::{incarnation_of, is_scanner, with_incarnation, with_serials};
+pub use host_counters::{HostCounters, host_of};
 pub use lives::{MOST_LIVES, open_life_port, passed_ms};
 pub use places::{SocketPlace, socket_place};
 pub use ports::{OpenedPort, open_port};

@@ -17,8 +17,8 @@ const MOST_TRIES: u32 = 50;
 
 const RETRY_MS: u64 = 100;
 
-/// A device has at most so many lives.
-pub const MOST_LIVES: u32 = 1_000_000;
+/// A device has fewer lives than so many: one that a peer resets a hundred times a second has them for more than a year.
+pub const MOST_LIVES: u32 = u32::MAX;
 
 /// The milliseconds since a moment. A clock that cannot be read adds none.
 pub fn passed_ms<R: Clock>(rt: &R, origin: Instant) -> u64 {
