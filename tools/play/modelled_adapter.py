@@ -169,6 +169,7 @@ class Adapter:
         self.points = {150: bytes(4), 100: bytes(4), 101: bytes(200), 151: b""}
         self.now, self.events, self.next_id, self.next_number = 0, 0, 1, 1
         self.streams, self.sessions, self.rows, self.class3_connections, self.waiting = {}, set(), [], [], []
+        self.counters = dict.fromkeys(range(1, 9), 0)  # of the Connection Manager, by attribute (31.35)
 
     def record(self, line, verdict="done", parts=(), notes=()):
         self.events += 1
@@ -181,40 +182,50 @@ class Adapter:
         """The reply and notices to a request; or no reply, and what it is to (6)."""
         service, data = request[0], request[2 + 2 * request[1]:] if len(request) > 1 else b""
         if len(request) < 2 or len(request) < 2 + 2 * request[1]:
-            return reply_of(service, 0x13), []
+            return self.counted(reply_of(service, 0x13)), []
         path = path_of(request[2:2 + 2 * request[1]])
         if path is None or [kind for kind, _ in path] not in (["class", "instance"], ["class", "instance", "attribute"]):
             return reply_of(service, 0x04), []
         at = tuple(value for _, value in path) + (None,) * (3 - len(path))
-        if at[:2] == (6, 1):
+        if at[:2] == (6, 1) and service in (OPEN, LARGE_OPEN, CLOSE):
             return self.managed(service, data)
         if at[0] in OWN:
             return None, ("own", service, at, data)
         return self.served(service, *at, data)
 
     def managed(self, service, data):
-        """A request to the Connection Manager, whose data have their length."""
-        heads = {CLOSE: (12, 10), OPEN: (36, 35), LARGE_OPEN: (40, 39)}
-        if service not in heads:
-            return reply_of(service, 0x08), []
-        head, words = heads[service]
+        """A request to open or to close a connection, whose data have their length."""
+        head, words = {CLOSE: (12, 10), OPEN: (36, 35), LARGE_OPEN: (40, 39)}[service]
         length = head + 2 * data[words] if len(data) >= head else head
         if len(data) != length:
-            return reply_of(service, 0x13 if len(data) < length else 0x15), []
+            return self.counted(reply_of(service, 0x13 if len(data) < length else 0x15)), []
         return None, ("manager", service, data)
+
+    def counted(self, reply):
+        """The reply to a request, which is counted if it is one to open or to close a connection (31.35 to 31.39)."""
+        service, general, extended = reply[0] & 0x7F, reply[2], int.from_bytes(reply[4:4 + 2 * reply[3]][:2], "little")
+        if service in (OPEN, LARGE_OPEN, CLOSE):
+            first = 5 if service == CLOSE else 1
+            is_format, is_resource = general in (0x13, 0x15) or extended == 0x0315, extended == 0x0113
+            self.counters[first] += 1
+            if general:
+                self.counters[first + (1 if is_format else 2 if is_resource or service == CLOSE else 3)] += 1
+        return reply
 
     def served(self, service, number, instance, attribute, data):
         """A request to one of the device's own objects (31)."""
         values, services = None, {0x0E, 0x10}
         if number == 4 and instance in self.points:
             values = {3: self.points[instance], 4: struct.pack("<H", len(self.points[instance]))}
+        elif (number, instance) == (6, 1):
+            values, services = {it: struct.pack("<H", count) for it, count in self.counters.items()}, services if self.described else set()
         elif self.described and (number, instance) == (1, 1):
             values, services = self.identity(), services | {0x05}
         elif self.described and (number, instance) == (2, 1):
             values = {}
         if values is None:
             return reply_of(service, 0x05), []
-        if not self.described:  # (31.18)
+        if not self.described and number == 4:  # (31.18)
             values, services = {3: values[3]}, {0x0E}
         if service not in services:
             return reply_of(service, 0x08), []
@@ -381,6 +392,7 @@ class Adapter:
         if reply is None:
             stream = way.get("stream")
             reply, rest = self.connects(*rest[1:], way["node"] if stream is None else self.streams[stream], stream)
+            self.counted(reply)
         return "done", [over(reply)], rest
 
     # EVENTS
@@ -437,7 +449,7 @@ class Adapter:
             verdict = self.refer(rest, has_room, class3=(it, count))
             return (verdict,) if verdict else ("done", [self.carried(it, count, reply_of(rest[1], 0x02))])
         if reply is None:
-            reply, rest = reply_of(rest[1], 0x08), []
+            reply, rest = self.counted(reply_of(rest[1], 0x08)), []
         return "done", [self.carried(it, count, reply)], rest
 
     def answer(self, number, status, data):
@@ -453,6 +465,7 @@ class Adapter:
         self.now += ms
         by_deadline = lambda them: sorted((it for it in them if it.deadline <= self.now), key=lambda it: (it.deadline, it.id))
         expired, ended = by_deadline(it for it in self.rows if it.is_established), by_deadline(self.class3_connections)
+        self.counters[8] += len(expired) + len(ended)
         for it in expired:
             it.is_established = False
         self.end(ended)
@@ -500,8 +513,8 @@ class Draw:
     REQUESTS = [bytes.fromhex(it) for it in (
         "0e03200424643003 0e03200424653003 0e0320042464300300 0e03200424013003 0e03200124013007 050220012401 05022001240101 "
         "05022001240102 0e0320 0e 0e012064 0e0220062401 0e03206424 0e03200124013005 0e02200424aa 0e03206424612001 54022006240100 "
-        "4e0220062401 0e0220022401 9002206424aa 1003200424643004"
-    ).split()] + [b""]
+        "4e0220062401 0e0220022401 9002206424aa 1003200424643004 100320062401300100 1003200624013009 0e0320062401300100 5b03200624 54022001240100"
+    ).split()] + [bytes.fromhex("0e0320062401") + bytes([0x30, it]) for it in range(1, 10)] + [b""]
     WRONG_PATHS = [bytes.fromhex(it) for it in "20022402 20042401 200224012401 2002 200224018000 2100020024 ff002401".split()] + [b""]
 
     def __init__(self, rand):

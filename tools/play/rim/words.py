@@ -173,6 +173,7 @@ def run_attributes(bench):
         "get {} 1 1 7": ('product-name "Valve island"', "product name"),
         "get {} 1 0 1": ("revision 1", "revision of the class"),
         "get {} 245 1 5": (rf'interface address {re.escape(target)} mask .* gateway 0\.0\.0\.0 .* domain ""', "TCP/IP Interface, configuration"),
+        "get {} 245 1 4": ("physical-link bytes 020020f62401", "the path of its link, which names the class that has counters"),
         "get {} 245 1 13": ("inactivity-timeout 120", "inactivity time-out"),
         "get {} 246 1 1": (r"speed \d+", "Ethernet Link, speed"),
         "get {} 246 1 3": (r"physical-address [0-9a-f:]{17}", "physical address"),
@@ -193,6 +194,8 @@ def run_attributes(bench):
     adapter.process.send_signal(signal.SIGCONT)
     replied(scanner, f"get {target} 1 1 1", "vendor 1", "it goes on")
     need(scanner.end() == 0 == adapter.end(), "both end with status 0")
+    with open(bench.file("asked.trace")) as file:
+        sure(not any(line.startswith("counters ") for line in file), "no reply gives the scanner what its host has counted")
     bench.replay("asked")
     bench.clear()
 
