@@ -20,8 +20,8 @@ use station_rim::{
 };
 use station_setup::{
     HostCounters, MOST_LIVES, OpenStation, OpenedPort, StationOutputs, described, host_of,
-    incarnation_of, is_scanner, names_in, open_life_port, passed_ms, recorder_in, socket_place,
-    start_in, station_of, with_incarnation, with_serials,
+    incarnation_of, is_scanner, names_in, open_life_port, passed_ms, recorder_in, rest_before_life,
+    socket_place, start_in, station_of, with_incarnation, with_serials,
 };
 use std::fs::File;
 use std::random::RandomSource;
@@ -136,6 +136,8 @@ where
         if setting.options.record_from_end.is_some() && !drain_record(&setting.rt, setting.rim) {
             return Ok(());
         }
+        let left_ms = left_ms(setting.options.seconds, passed_ms(&setting.rt, origin));
+        rest_before_life(&setting.rt, origin, setting.begun_ms, left_ms);
     }
     Ok(())
 }

@@ -17,7 +17,7 @@ use station_record::{Recorder, forget_record};
 use station_rim::{Entries, LabelledLines, LineEntrance, SharedRecord};
 use station_setup::{
     MOST_LIVES, OpenedPort, StationOutputs, described, host_of, incarnation_of, open_life_port,
-    passed_ms, recorder_in, station_of, with_incarnation,
+    passed_ms, recorder_in, rest_before_life, station_of, with_incarnation,
 };
 use std::alloc::Global;
 use std::fs::File;
@@ -109,6 +109,7 @@ where
             Some(next) => incarnation = next,
             None => return Ok(()),
         }
+        rest_before_life(&rt, origin, begun_ms, None);
     }
     Ok(())
 }

@@ -10,9 +10,9 @@ use cip_types::{Items, OutOfMemory};
 
 /// What the host of a station has counted of its interface.
 pub trait HostCounts {
-    /// What the host has counted, if a request waits that reads it: each is told of once. Never waits. The fault: an allocation was
-    /// refused.
-    fn next_counters(&mut self) -> Result<Option<Items<u8>>, OutOfMemory>;
+    /// What the host has counted, if a request waits that reads it: each is told of once. The time is that of the device. Never
+    /// waits. The fault: an allocation was refused.
+    fn next_counters(&mut self, now_ms: u64) -> Result<Option<Items<u8>>, OutOfMemory>;
 }
 
 /// The steps of a station whose device is told what its host has counted, before each request that reads it.
@@ -44,7 +44,7 @@ impl<S: StepSource, H: HostCounts> StepSource for CountedSteps<S, H> {
     ghost gives = { λ old now step new. Counts S.gives old now step new };
 
     fn next_step(&mut self, now_ms: u64) -> Result<StationStep, OutOfMemory> {
-        match self.host.next_counters()? {
+        match self.host.next_counters(now_ms)? {
             Some(bytes) => Ok(StationStep::Call(Event::Counters { bytes })),
             None => self.steps.next_step(now_ms),
         }

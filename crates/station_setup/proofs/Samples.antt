@@ -11,9 +11,10 @@ use Rattle.scanner_table.specs.declared.profile.ScannerProfile.{ScannerProfile}
 use Rattle.station_port.specs.declared.fault.StationSocket.TheVariants as socket
 use Rattle.station_port.specs.declared.place.StationPlace.{StationPlace}
 use Rattle.trace_words.specs.Words.{node_word}
+use Rattle.station_setup.specs.Opening.Counts.{are_read}
 use Rattle.station_setup.specs.Opening.Places.{no_place, place_of_socket}
 use Rattle.station_setup.specs.Opening.Profiles.{refusal_of}
-use Rattle.station_setup.specs.Opening.Starts.{counting_of, more_tries}
+use Rattle.station_setup.specs.Opening.Starts.{counting_of, more_tries, pause_before_life, pause_within}
 use Rattle.station_setup.specs.Opening.Unserved.{defect_text}
 use Rattle.station_setup.specs.Settings.{inactivity_of, incarnation_in, port_of, reporting_of, scanner_place}
 use Rattle.station_setup.specs.declared.opening.profiles.TraceRefusal.TheVariants as refusal
@@ -64,6 +65,16 @@ counted has_file = (refl, refl)
 
 tries : (more_tries 1 ≡ 0) × (more_tries 2 ≡ 50)
 tries = (refl, refl)
+
+pauses : (pause_before_life 0 ≡ 1000) × ((pause_before_life 999 ≡ 1) × ((pause_before_life 1000 ≡ 0) × (pause_before_life 60000 ≡ 0)))
+pauses = (refl, (refl, (refl, refl)))
+
+pauses_that_end : (pause_within 800 None ≡ 800) × ((pause_within 800 (Some 300) ≡ 300) × (pause_within 800 (Some 900) ≡ 800))
+pauses_that_end = (refl, (refl, refl))
+
+-- what the host has counted, read at 4.2 s
+readings : (are_read None 0 ≡ true) × ((are_read (Some 4200) 5199 ≡ false) × ((are_read (Some 4200) 5200 ≡ true) × (are_read (Some 0) 0 ≡ false)))
+readings = (refl, (refl, (refl, refl)))
 
 -- WHERE A STATION IS
 

@@ -13,7 +13,7 @@ mod unserved;
 
 pub use devices::{incarnation_of, is_scanner, with_incarnation, with_serials};
 pub use host_counters::{HostCounters, host_of};
-pub use lives::{MOST_LIVES, open_life_port, passed_ms};
+pub use lives::{MOST_LIVES, open_life_port, passed_ms, rest_before_life};
 pub use places::{SocketPlace, socket_place};
 pub use ports::{OpenedPort, open_port};
 pub use profiles::{UnusableProfile, names_in, profile_in, unread_profile};

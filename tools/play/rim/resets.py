@@ -10,6 +10,7 @@ from rim.peers import Originator, originator, served
 RESET = bytes([5, 2, 0x20, 1, 0x24, 1])  # service Reset of the Identity object's instance
 SECONDS, RESET_S = 4, 2  # so long a station runs, and so long after its beginning it is reset
 CALLS, AT_ONCE = 5, 0.3  # seconds: a station looks for calls each second by itself, and at once where its input wakes it
+RESETS, LIFE_S = 10, 1  # so many resets, and from the beginning of a life to that of the next one it is at least so long
 UNREAD_S, WRITES = 0.2, 40  # a record of so many long writes is not read for so long: less than a station waits for it at its end
 
 
@@ -113,4 +114,22 @@ def run_unread_reset(bench):
     with open(lives[0]) as file:
         kept = sum(line.startswith("write 101") for line in file)
     sure(kept == WRITES, f"a record that is read late has all of its life, {kept} writes, and that of the next life has its own events alone")
+    bench.clear()
+
+
+def run_quick_resets(bench):
+    """Resets as fast as they are served: a life begins at the earliest a second behind the beginning of the last one."""
+    adapter, begin = bench.adapter("--incarnation", "20", log="quick_resets"), time.monotonic()
+    for _ in range(RESETS):
+        reset(bench, adapter)
+    seconds, begun = time.monotonic() - begin, len(incarnations(adapter))
+    sure(begun == RESETS + 1 and seconds >= LIFE_S * (RESETS - 1), f"{RESETS} resets that are sent as fast as they are served take {seconds:.1f} s")
+    late = sorted(taken_in(adapter, 0x0A0B0D00 + turn) for turn in range(CALLS))
+    sure(late[CALLS // 2] < AT_ONCE, f"what is typed behind them is taken within {late[0] * 1000:.0f} to {late[-1] * 1000:.0f} ms")
+    peer = Originator(bench)
+    with served("a reset"):
+        originator.expect("the status of a reset", peer.session.request(RESET)[:2], (0, ()))
+    late = taken_in(adapter, 0x0A0B0E00)
+    sure(late < LIFE_S + AT_ONCE, f"what is typed behind a reset is taken by the next life, {late:.2f} s later")
+    need(adapter.end() == 0, "the adapter ends with status 0")
     bench.clear()

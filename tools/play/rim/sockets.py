@@ -11,6 +11,8 @@ NOTHING = bytes(24)  # NOP, which has no answer
 PIDFD_GETFD = 438  # the number of the system's call on most machines; Python has no name for it
 REFUSED = {errno.EPERM, errno.ENOSYS}  # what a system says that does not lend a socket of a child
 IP_RECVTTL = 12  # the number of the option on Linux; Python has no name for it
+COUNTERS = bytes([0x0E, 3, 0x20, 0xF6, 0x24, 1, 0x30, 4])  # Get_Attribute_Single of the Ethernet Link object, attribute 4
+READS, READ_S = 300, 1  # the counters are read so often; the files that have them at most once in such a time
 IDLE_S = 4  # seconds in which the wakes of a station are counted
 MOST_WAKES = 5  # of an idle station in this time: one that tells a browser how it is wakes eight times, one that asks each millisecond 4,000 times
 MOST_SHOWN = 8  # snapshots in two seconds: one each half second, and what the beginning of a life brings
@@ -246,6 +248,33 @@ def run_bursts(bench):
     fronts = [count - sum(bursts[:place]) for place, count in enumerate(in_front(trace)[-len(bursts):])]
     sure(fronts[:3] == bursts[:3] and ROUND <= fronts[3] <= MOST_IN_FRONT, f"a request that comes behind 20, 40, 60 and {bursts[3]} of them is "
          f"answered behind {', '.join(map(str, fronts))}")
+    bench.clear()
+
+
+def run_counted_frames(bench):
+    """Frames that read the counters of the link: what the host has counted is read once in a second."""
+    path = bench.file("counted_frames.trace")
+    adapter, peer = bench.adapter("--record", path, log="counted_frames"), Originator(bench)
+
+    def read():
+        with served("the counters of the link"):
+            general, extended, value, _ = peer.session.request(COUNTERS)
+            need((general, extended, len(value)) == (0, (), 44), f"eleven counters are read: {general:02x} {value.hex()}")
+        return value
+
+    begin, values = time.monotonic(), set()
+    for _ in range(READS):
+        values.add(read())
+    seconds = time.monotonic() - begin
+    most = int(seconds / READ_S) + 1
+    sure(1 <= len(values) <= most and values != {bytes(44)}, f"{READS} reads of the counters within {seconds:.2f} s: {len(values)} readings of them")
+    time.sleep(READ_S + 0.1)
+    sure(read() not in values, "a second later they are others")
+    need(adapter.end() == 0, "the adapter ends with status 0")
+    with open(path) as file:
+        count = sum(line.startswith("counters ") for line in file)
+    sure(2 <= count <= most + 1, f"the record has {count} entries of what the host has counted")
+    bench.replay("counted_frames")
     bench.clear()
 
 

@@ -1,5 +1,8 @@
 //! What the host of a station has counted of its interface, as its files say.
 
+ghost use Rattle.std.specs.Prelude.{◌≡◌};
+ghost use Rattle.station_setup.specs.Opening.Counts.{are_read};
+
 use crate::opening::devices::is_scanner;
 use crate::opening::ports::OpenedPort;
 use cip_tables::Config;
@@ -20,12 +23,27 @@ const COUNTS: &str = "/proc/net/dev";
 /// No more of either file is read.
 const LONGEST: u64 = 65_536;
 
+/// The files are read again so long after they were read.
+const LEAST_MS: u64 = 1000;
+
 /// What the host of a station has counted of the interface of an address. A host that does not say it has counted nothing.
 #[derive(Drop)]
 pub struct HostCounters<R> {
     rt: R,
     address: Node,
     requested: CountersRequested,
+    /// When the files were last read, by the time of the device.
+    read_ms: Option<u64>,
+}
+
+/// Whether the files are read, which were last read at this time.
+fn are_read(read_ms: Option<u64>, now_ms: u64) -> bool
+    ensures { result ≡ are_read read_ms now_ms }
+{
+    match read_ms {
+        Some(read) => now_ms.saturating_sub(read) >= LEAST_MS,
+        None => true,
+    }
 }
 
 impl<R: AllocGlobal + Files> HostCounters<R> {
@@ -38,6 +56,7 @@ impl<R: AllocGlobal + Files> HostCounters<R> {
             rt,
             address,
             requested,
+            read_ms: None,
         }
     }
 
@@ -57,10 +76,11 @@ impl<R: AllocGlobal + Files> HostCounters<R> {
 }
 
 impl<R: AllocGlobal + Files + Drop> HostCounts for HostCounters<R> {
-    fn next_counters(&mut self) -> Result<Option<Items<u8>>, OutOfMemory> {
-        if !self.requested.take() {
+    fn next_counters(&mut self, now_ms: u64) -> Result<Option<Items<u8>>, OutOfMemory> {
+        if !self.requested.take() || !are_read(self.read_ms, now_ms) {
             return Ok(None);
         }
+        self.read_ms = Some(now_ms);
         match self.counted()? {
             Some(bytes) => Ok(Some(Items::from_vec(bytes))),
             None => Ok(None),
