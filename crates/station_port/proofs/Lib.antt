@@ -4,3 +4,5 @@ mod Samples
 mod InquiriesSamples
 mod RoundsSamples
 pub mod LinkNames
+mod HostSamples
+pub mod HostWalks

@@ -1,1 +1,3 @@
+pub mod HostFiles
+pub mod HostLines
 pub mod Requests
