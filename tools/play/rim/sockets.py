@@ -1,7 +1,7 @@
 """What the sockets of a station are set to, what passes them, and how often the system is asked for what came."""
 
 import contextlib, ctypes, errno, os, resource, select, signal, socket, struct, threading, time
-from rim.host import PRESENT, Station, need, sure, usual, wait
+from rim.host import PRESENT, Station, need, run, sure, usual, wait
 from rim.pages import PORT, Events
 from rim.peers import INPUT_ONLY, MULTICAST, REGISTER, Originator, Silent, Target, served
 
@@ -274,7 +274,8 @@ def run_counted_frames(bench):
     with open(path) as file:
         count = sum(line.startswith("counters ") for line in file)
     sure(2 <= count <= most + 1, f"the record has {count} entries of what the host has counted")
-    bench.replay("counted_frames")
+    done = run(bench.program, "replay", path)
+    sure(done.returncode == 0, f"it replays{done.stderr.decode()}")
     bench.clear()
 
 
