@@ -24,6 +24,10 @@ class Wrong(Exception):
     pass
 
 
+class Certain(Wrong):
+    """What no machine that is late excuses."""
+
+
 class Untried(Exception):
     """What a part is to show was not tried, since this machine kept the test's own peers from their time."""
 

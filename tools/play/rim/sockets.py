@@ -1,7 +1,7 @@
 """What the sockets of a station are set to, what passes them, and how often the system is asked for what came."""
 
 import contextlib, ctypes, errno, os, resource, select, signal, socket, struct, threading, time
-from rim.host import PRESENT, Station, need, run, sure, usual, wait
+from rim.host import PRESENT, Certain, Station, need, run, sure, usual, wait
 from rim.pages import PORT, Events
 from rim.peers import INPUT_ONLY, MULTICAST, REGISTER, Originator, Silent, Target, served
 
@@ -344,7 +344,10 @@ def rests(station, what, most_wakes=MOST_WAKES):
         wakes, seconds = wakes_and_work(station)
         if wakes <= most_wakes and seconds < MOST_WORK:
             break
-    sure(wakes <= most_wakes and seconds < MOST_WORK, f"{what} wakes {wakes} times and works {seconds:.2f} s in {IDLE_S} s")
+    said = f"{what} wakes {wakes} times and works {seconds:.2f} s in {IDLE_S} s"
+    if seconds >= MOST_WORK:
+        raise Certain(said)
+    sure(wakes <= most_wakes, said)
 
 
 def waits_in(trace):
