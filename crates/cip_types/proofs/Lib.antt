@@ -1,2 +1,3 @@
+mod Blocks
 pub mod Samples
 pub mod Insertion

@@ -1,8 +1,10 @@
 -- What worked numbers and bytes say.
 use Rattle.std.proofs.Common.{◌≡◌, [], ◌∷◌, Some, None, true, false, refl}
+use Rattle.std.specs.Prelude.{replicate}
 use Rattle.std.specs.Int.{w8, w16, w32}
 use Rattle.cip_types.specs.Circle.{is_newer}
 use Rattle.cip_types.specs.Fields.{fields_text, field_at, fields_at}
+use Rattle.cip_types.specs.Ids.{ids_of_incarnation, id_at, end_number, is_block, may_take, with_block}
 
 -- ahead of a number round the circle
 pub newer_round : is_newer 0 0xFFFF_FFFF ≡ true
@@ -40,3 +42,60 @@ no_word = refl
 
 pub no_double_word : field_at w32 (0x65 ∷ 0x6E ∷ 0x64 ∷ []) ≡ None
 no_double_word = refl
+
+-- CONNECTION IDS
+
+-- the ids of incarnation 0x10: 1 to 2^24 - 1 behind the byte
+pub first_of_10 : id_at (ids_of_incarnation 0x10 ∷ []) 1 ≡ record { 0 = 0x1000_0001 }
+first_of_10 = refl
+
+pub last_of_10 : id_at (ids_of_incarnation 0x10 ∷ []) 16777215 ≡ record { 0 = 0x10FF_FFFF }
+last_of_10 = refl
+
+pub end_of_10 : end_number (ids_of_incarnation 0x10 ∷ []) ≡ 16777216
+end_of_10 = refl
+
+-- two blocks: 5 and 6, then 100 to 102; the third number is 100
+pub third : id_at (record { first = 5; count = 2 } ∷ (record { first = 100; count = 3 } ∷ [])) 3 ≡ record { 0 = 100 }
+third = refl
+
+pub ends_at_six : end_number (record { first = 5; count = 2 } ∷ (record { first = 100; count = 3 } ∷ [])) ≡ 6
+ends_at_six = refl
+
+-- all ids but 0: a device gives all but the last one
+pub all_ids : end_number (record { first = 1; count = 0xFFFF_FFFF } ∷ []) ≡ 0xFFFF_FFFF
+all_ids = refl
+
+-- a block from 0 on, one with the id 2^32, and one that is all but that
+pub none_from_zero : is_block (record { first = 0; count = 1 }) ≡ false
+none_from_zero = refl
+
+pub none_behind_the_end : is_block (record { first = 0xFFFF_FFFF; count = 2 }) ≡ false
+none_behind_the_end = refl
+
+pub last_one : is_block (record { first = 0xFFFF_FFFF; count = 1 }) ≡ true
+last_one = refl
+
+-- a block may be taken that begins where one ends, and not one that has its last id; one without ids overlaps nothing
+pub right_behind : may_take (record { first = 5; count = 2 } ∷ []) (record { first = 7; count = 1 }) ≡ true
+right_behind = refl
+
+pub overlaps : may_take (record { first = 5; count = 2 } ∷ []) (record { first = 6; count = 1 }) ≡ false
+overlaps = refl
+
+pub empty_inside : may_take (record { first = 5; count = 20 } ∷ []) (record { first = 9; count = 0 }) ≡ true
+empty_inside = refl
+
+-- 64 blocks are the most
+pub full : may_take (replicate 64 (record { first = 5; count = 0 })) (record { first = 9; count = 1 }) ≡ false
+full = refl
+
+pub nearly_full : may_take (replicate 63 (record { first = 5; count = 0 })) (record { first = 9; count = 1 }) ≡ true
+nearly_full = refl
+
+-- one that begins where the last one ends continues it
+pub continues : with_block (record { first = 1; count = 4 } ∷ (record { first = 5; count = 2 } ∷ [])) (record { first = 7; count = 3 }) ≡ record { first = 1; count = 4 } ∷ (record { first = 5; count = 5 } ∷ [])
+continues = refl
+
+pub another : with_block (record { first = 5; count = 2 } ∷ []) (record { first = 8; count = 3 }) ≡ record { first = 5; count = 2 } ∷ (record { first = 8; count = 3 } ∷ [])
+another = refl

@@ -10,3 +10,4 @@ pub mod TextLaws
 pub mod Indices
 pub mod Firsts
 pub mod Ids
+pub mod IdLaws

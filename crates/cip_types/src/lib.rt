@@ -15,7 +15,10 @@ mod open_streams;
 mod order;
 
 pub use circle::{newer32, same16};
-pub use ids::connection_id;
+pub use ids::{
+    IdBlock, add_block, are_ids, end_number, first_block, id_at, ids_behind, ids_left, may_take,
+    one_block, part_of_ids,
+};
 pub use items::Items;
 pub use memory::OutOfMemory;
 pub use names::{ConnId, Fault, Identity, Mismatch, Ms, Node, Triad};

@@ -25,6 +25,9 @@ pub const LONGEST_RPI_US: u32 = 10_000_000;
 /// to the first of the next (limit 2.6). The counter of an id is below it.
 pub const IDS_PER_INCARNATION: u32 = 1 << 24;
 
+/// The blocks of connection ids that a device holds (limit 2.6).
+pub const MOST_ID_BLOCKS: usize = 64;
+
 /// The longest tick, in milliseconds (limit 2.7).
 pub const LONGEST_TICK_MS: u32 = 60_000;
 
