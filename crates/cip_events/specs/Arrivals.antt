@@ -13,7 +13,8 @@ arrival_event (arrival.Cut stream) = event.StreamCut stream
 arrival_event (arrival.Datagram peer bytes) = event.Datagram peer bytes
 arrival_event (arrival.Inquiry peer bytes) = event.Inquiry peer bytes
 
--- the event is a call of the device's own application, a tick, or an inquiry, which changes nothing and goes over no stream
+-- the event is a call of the device's own application, a block of ids, a tick, or an inquiry, which changes nothing and goes over
+-- no stream
 abbrev pub is_own : Event → Bool
 is_own (event.Request peer bytes) = false
 is_own (event.StreamOpened stream peer) = false

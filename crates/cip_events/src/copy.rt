@@ -104,6 +104,7 @@ impl Event {
                 bytes,
             } => respond_copy(alloc, *number, *status, bytes.as_slice())?,
             Event::Counters { bytes } => counters_copy(alloc, bytes.as_slice())?,
+            Event::Ids { block } => Event::Ids { block: *block },
         })
     }
     /// Whether the other event is the same. Takes no memory.

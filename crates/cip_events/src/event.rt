@@ -5,7 +5,7 @@ ghost use Rattle.std.specs.Prelude.{◌≡◌};
 use crate::consumers::Consumers;
 use crate::profile_fault::ProfileFault;
 use crate::small_bytes::SmallBytes;
-use cip_types::{ConnId, Fault, Items, Mismatch, Node, OutOfMemory, Triad};
+use cip_types::{ConnId, Fault, IdBlock, Items, Mismatch, Node, OutOfMemory, Triad};
 use thiserror::Error;
 
 /// An event of a device.
@@ -82,6 +82,10 @@ pub enum Event {
     /// Volume 2, chapter 5, Ethernet Link object, attributes 4 and 5.
     Counters {
         bytes: Items<u8>,
+    },
+    /// The device gets a further block of connection ids.
+    Ids {
+        block: IdBlock,
     },
 }
 

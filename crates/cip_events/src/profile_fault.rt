@@ -8,8 +8,8 @@ use thiserror::Error;
 /// The first fault of a profile.
 #[derive(Clone, Copy, Debug, PartialEq, Eq, Error)]
 pub enum ProfileFault {
-    /// The incarnation is 0.
-    #[error("the incarnation is 0")]
+    /// The incarnation is 0, or the ids do not begin at 1 or above, or do not end below 2^32.
+    #[error("the incarnation is 0, or the ids are out of range")]
     Incarnation,
     /// The mask is not ones and then zeros, or the address within the network is 0.
     #[error("the address or its mask is none")]
