@@ -33,8 +33,9 @@ longest_answer = 1400
 abbrev pub no_number : ℕ
 no_number = 2 ^ 64 - 1
 
-abbrev pub fresh_messaging : Messaging
-fresh_messaging = record { class3_connections = []; waiting = []; next_number = 1 }
+-- there is nothing yet, and requests are numbered from this number on
+abbrev pub fresh_messaging : ℕ → Messaging
+fresh_messaging first = record { class3_connections = []; waiting = []; next_number = first }
 
 -- ---- requests that can be answered
 

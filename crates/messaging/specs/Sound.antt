@@ -1,6 +1,7 @@
 -- What holds of class 3 connections and of requests to the application at every table that a run reaches.
 use Rattle.std.specs.Prelude.{ℕ, ◌≡◌, ◌≤◌, ◌<◌, true, false, List, [], ◌∷◌, length}
-use Rattle.cip_types.specs.Ids.{connection_id}
+use Rattle.cip_types.specs.declared.ids.IdBlock.{IdBlock}
+use Rattle.cip_types.specs.Ids.{id_at}
 use Rattle.messaging.specs.declared.class3.Class3Connection.{Class3Connection}
 use Rattle.messaging.specs.declared.requests.Waiting.{Waiting}
 use Rattle.messaging.specs.declared.table.Messaging.{Messaging}
@@ -27,9 +28,10 @@ TriadsDiffer d later = has_class3_triad d.triad later ≡ false
 abbrev pub IdsDiffer : Class3Connection → Class3Connection → Type 0
 IdsDiffer d later = has_class3_id d.o_t_id later ≡ false
 
--- the O->T id is the device's, and its counter, which is the opening number, is below the next one
-pub record IsDrawn (incarnation next_id : ℕ) (d : Class3Connection) : Type 0 where
-  pub id : d.o_t_id ≡ connection_id incarnation d.opening
+-- the O->T id is the device's, and its number, which is the opening number, is below the next one
+pub record IsDrawn (ids : List IdBlock) (next_id : ℕ) (d : Class3Connection) : Type 0 where
+  pub id : d.o_t_id ≡ id_at ids d.opening
+  pub begins : 1 ≤ d.opening
   pub below : d.opening < next_id
 
 -- ---- requests to the application
@@ -45,11 +47,11 @@ CanBeAnswered class3_connections w = can_be_answered class3_connections w ≡ tr
 
 -- ---- all of it
 
-pub record IsSoundMessaging (incarnation next_id : ℕ) (m : Messaging) : Type 0 where
+pub record IsSoundMessaging (ids : List IdBlock) (next_id : ℕ) (m : Messaging) : Type 0 where
   pub few_class3_connections : length m.class3_connections ≤ most_class3_connections
   pub triads_differ : EachTwoOf TriadsDiffer m.class3_connections
   pub ids_differ : EachTwoOf IdsDiffer m.class3_connections
-  pub are_drawn : EachOf (IsDrawn incarnation next_id) m.class3_connections
+  pub are_drawn : EachOf (IsDrawn ids next_id) m.class3_connections
   pub few_waiting : length m.waiting ≤ most_waiting
   pub numbers_rise : EachTwoOf NumbersRise m.waiting
   pub numbered : EachOf (IsNumberedBelow m.next_number) m.waiting

@@ -2,6 +2,7 @@
 //! law.
 
 ghost use Rattle.std.specs.Prelude.{◌≡◌, ◌<◌, ℕ, List, Some, find, not, true};
+ghost use Rattle.cip_types.specs.declared.ids.IdBlock.{IdBlock};
 ghost use Rattle.cip_types.specs.declared.names.ConnId.{ConnId};
 ghost use Rattle.cip_types.specs.declared.names.Ms.{Ms};
 ghost use Rattle.messaging.specs.declared.class3.Class3Connection.{Class3Connection};
@@ -15,8 +16,8 @@ ghost use Rattle.messaging.specs.Times.{first_moment, is_idle};
 /// A message that was executed is from then on the last one of its connection, and its count repeats it. The
 /// connection has the reply.
 pub fn executed_messages_are_last()
-    ensures { (incarnation next_id : ℕ) (m : Messaging) (stream : ℕ) (id : ConnId) (count : ℕ) (reply : List ℕ)
-        (deadline : Ms) (d : Class3Connection) → IsSoundMessaging incarnation next_id m
+    ensures { (ids : List IdBlock) (next_id : ℕ) (m : Messaging) (stream : ℕ) (id : ConnId) (count : ℕ) (reply : List ℕ)
+        (deadline : Ms) (d : Class3Connection) → IsSoundMessaging ids next_id m
         → find (is_class3 stream id) m.class3_connections ≡ Some d
         → find (is_class3 stream id) (executed m id count reply deadline).class3_connections
         ≡ Some (executed_class3 count reply deadline d) }
@@ -24,9 +25,9 @@ pub fn executed_messages_are_last()
 
 /// A message that is repeated changes nothing of its connection but the deadline.
 pub fn repetitions_move_deadlines()
-    ensures { (incarnation next_id : ℕ) (m : Messaging) (stream : ℕ) (id : ConnId) (deadline : Ms)
+    ensures { (ids : List IdBlock) (next_id : ℕ) (m : Messaging) (stream : ℕ) (id : ConnId) (deadline : Ms)
         (d : Class3Connection)
-        → IsSoundMessaging incarnation next_id m → find (is_class3 stream id) m.class3_connections ≡ Some d
+        → IsSoundMessaging ids next_id m → find (is_class3 stream id) m.class3_connections ≡ Some d
         → find (is_class3 stream id) (repeated m id deadline).class3_connections
         ≡ Some (repeated_class3 deadline d) }
 {}
@@ -39,8 +40,8 @@ pub fn answered_requests_wait_no_more()
 
 /// At a time at which no deadline has come nothing ends, and nothing changes.
 pub fn idle_times_change_nothing()
-    ensures { (incarnation next_id : ℕ) (clock : Ms) (m : Messaging)
-        → IsSoundMessaging incarnation next_id m → is_idle clock m ≡ true → IsCalm clock m }
+    ensures { (ids : List IdBlock) (next_id : ℕ) (clock : Ms) (m : Messaging)
+        → IsSoundMessaging ids next_id m → is_idle clock m ≡ true → IsCalm clock m }
 {}
 
 /// Before the first of the deadlines none has come.

@@ -58,14 +58,14 @@ impl Model for MessagingState {
 }
 
 impl MessagingState {
-    /// No connection, and no request. Takes no memory.
-    pub fn new(alloc: Global) -> MessagingState
-        ensures { result ≡ fresh_messaging }
+    /// No connection, and no request: the first one gets this number. Takes no memory.
+    pub fn new(alloc: Global, first: u64) -> MessagingState
+        ensures { result ≡ fresh_messaging first }
     {
         MessagingState {
             class3_connections: Vec::new(alloc),
             waiting: Vec::new(alloc),
-            next_number: 1,
+            next_number: first,
         }
     }
 
