@@ -38,6 +38,7 @@ table described = adapter_table (record {
   description = described;
   limits = no_limits;
   objects = 0x64 ∷ [];
+  ids = None;
 })
 
 -- ---- lists of attributes of the Identity object

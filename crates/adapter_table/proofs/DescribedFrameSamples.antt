@@ -36,6 +36,7 @@ profile description = record {
   description = description;
   limits = no_limits;
   objects = [];
+  ids = None;
 }
 
 -- with a stream of 192.168.1.20, whose session is registered

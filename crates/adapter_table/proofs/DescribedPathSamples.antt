@@ -36,6 +36,7 @@ profile description = record {
   description = description;
   limits = no_limits;
   objects = [];
+  ids = None;
 }
 
 -- ---- paths

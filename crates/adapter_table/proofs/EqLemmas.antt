@@ -32,6 +32,8 @@ use Rattle.messaging.specs.contracts.requests.RequesterPartialEq.TheImpl as aske
 use Rattle.messaging.specs.contracts.requests.WaitingPartialEq.TheImpl as waiting
 use Rattle.messaging.specs.contracts.table.MessagingPartialEq.TheImpl as messaging
 use Rattle.cip_types.specs.contracts.names.IdentityPartialEq.TheImpl as identity
+use Rattle.cip_types.specs.contracts.ids.IdBlockPartialEq.TheImpl as block
+use Rattle.cip_types.specs.declared.ids.IdBlock.{IdBlock}
 use Rattle.adapter_table.specs.contracts.maker_limits.PlacesPartialEq.TheImpl as places
 use Rattle.adapter_table.specs.contracts.maker_limits.NodeLimitsPartialEq.TheImpl as node_limits
 use Rattle.adapter_table.specs.contracts.maker_limits.MakerLimitsPartialEq.TheImpl as limits
@@ -55,6 +57,12 @@ use Rattle.cip_productions.specs.Lemmas.EqualLemmas.{kind_decides, last_decides,
 use Rattle.cip_events.specs.Lemmas.EqualLemmas.{ms_decides, node_decides, id_decides, triad_decides}
 
 -- ---- times, addresses, ids
+
+block_decides : (a b : IdBlock) → Decides ((block.ghosts).eq a b) (a ≡ b)
+block_decides a b = search rules
+
+ids_decide : (a b : Option IdBlock) → Decides (option_eq (block.ghosts).eq a b) (a ≡ b)
+ids_decide a b = search (rules, block_decides)
 
 identity_decides : (a b : Identity) → Decides ((identity.ghosts).eq a b) (a ≡ b)
 identity_decides a b = search rules
@@ -165,7 +173,8 @@ profile_decides a b =
     (Decides-and _ _ (Decides-eqb a.listen_only b.listen_only)
     (Decides-and _ _ (described_decides a.description b.description)
     (Decides-and _ _ (limits_decide a.limits b.limits)
-    (pointwise_decides Decides-eqb a.objects b.objects))))))))))))
+    (Decides-and _ _ (pointwise_decides Decides-eqb a.objects b.objects)
+    (ids_decide a.ids b.ids)))))))))))))
 
 stream_decides : (a b : Stream) → Decides ((stream.ghosts).eq a b) (a ≡ b)
 stream_decides a b = search rules
@@ -245,8 +254,9 @@ adapter_decides a b =
     (Decides-and _ _ (pointwise_decides (connection_decides state_row state.ghosts state.dict state_decides) a.rows b.rows)
     (Decides-and _ _ (pointwise_decides value_decides a.values b.values)
     (Decides-and _ _ (ms_decides a.clock b.clock)
+    (Decides-and _ _ (pointwise_decides block_decides a.ids b.ids)
     (Decides-and _ _ (Decides-eqb a.next_id b.next_id)
     (Decides-and _ _ (pointwise_decides stream_decides a.streams b.streams)
     (Decides-and _ _ (messaging_decides a.messaging b.messaging)
     (Decides-and _ _ (pointwise_decides openings_decide a.openings b.openings)
-    (counters_decide a.counters b.counters)))))))))
+    (counters_decide a.counters b.counters))))))))))

@@ -4,12 +4,13 @@ use Rattle.std.specs.List.{list_any}
 use Rattle.cip_types.specs.declared.names.Triad.{Triad}
 use Rattle.cip_types.specs.declared.names.ConnId.{ConnId}
 use Rattle.cip_types.specs.declared.names.Ms.{Ms}
-use Rattle.adapter_table.specs.declared.profile.Profile.{Profile}
+use Rattle.cip_types.specs.declared.ids.IdBlock.{IdBlock}
 use Rattle.adapter_table.specs.Connections.{Row}
 use Rattle.adapter_table.specs.declared.row.State.TheVariants.{TimedOut}
 use Rattle.adapter_table.specs.Rows.{has_triad, drives, drivers}
+use Rattle.adapter_table.specs.EachLemmas.{each_map}
 use Rattle.adapter_table.specs.Ticks.{has_expired, expired_row, expired_rows}
-use Rattle.adapter_table.specs.Sound.{TriadsDiffer, has_o_t_id, IdsDiffer, IdsAreDrawn, Agree, AllAgree, GroupsAgree}
+use Rattle.adapter_table.specs.Sound.{TriadsDiffer, has_o_t_id, IdsDiffer, IsDrawn, IdsAreDrawn, Agree, AllAgree, GroupsAgree}
 
 -- a connection that has timed out, or is as it was
 abbrev faded : Bool → Row → Row
@@ -22,10 +23,6 @@ same_triad_faded false row = refl
 same_id_faded : (b : Bool) (row : Row) → (faded b row).o_t_id ≡ row.o_t_id
 same_id_faded true row = refl
 same_id_faded false row = refl
-
-same_opening_faded : (b : Bool) (row : Row) → (faded b row).opening ≡ row.opening
-same_opening_faded true row = refl
-same_opening_faded false row = refl
 
 -- who drives an output still does, or has timed out
 count_step : (expires drives_it : Bool) (row row' : Row) (left removed rows : List Row) → length left + length removed ≡ length rows → length (cond (not expires && drives_it) (row' ∷ left) left) + length (cond expires (cond drives_it (row ∷ removed) removed) removed) ≡ length (cond drives_it (row ∷ rows) rows)
@@ -65,11 +62,12 @@ pub ids_expired : (clock : Ms) (rows : List Row) → IdsDiffer rows → IdsDiffe
 ids_expired clock [] differ = tt
 ids_expired clock (row ∷ rows) differ = (rw (same_id_faded (has_expired clock row) row) (any_id_expired clock row.o_t_id rows ∙ differ.0), ids_expired clock rows differ.1)
 
-pub drawn_expired : (clock : Ms) (profile : Profile) (next_id : ℕ) (rows : List Row) → IdsAreDrawn profile next_id rows → IdsAreDrawn profile next_id (expired_rows clock rows)
-drawn_expired clock profile next_id [] drawn = tt
-drawn_expired clock profile next_id (row ∷ rows) drawn =
-    let b = has_expired clock row in
-    (rw (same_id_faded b row, same_opening_faded b row) drawn.0, rw (same_opening_faded b row) drawn.1, drawn_expired clock profile next_id rows drawn.2)
+row_drawn : (b : Bool) (ids : List IdBlock) (next_id : ℕ) (row : Row) → IsDrawn ids next_id row → IsDrawn ids next_id (faded b row)
+row_drawn true ids next_id row is = record { id = is.id; begins = is.begins; below = is.below }
+row_drawn false ids next_id row is = is
+
+pub drawn_expired : (clock : Ms) (ids : List IdBlock) (next_id : ℕ) (rows : List Row) → IdsAreDrawn ids next_id rows → IdsAreDrawn ids next_id (expired_rows clock rows)
+drawn_expired clock ids next_id rows drawn = each_map (IsDrawn ids next_id) (expired_row clock) (λ row. row_drawn (has_expired clock row) ids next_id row) rows drawn
 
 agree_faded : (x y : Bool) (a b : Row) → Agree a b → Agree (faded x a) (faded y b)
 agree_faded true y a b agree = λ here there. absurd cc

@@ -51,6 +51,7 @@ profile = record {
   description = None;
   limits = no_limits;
   objects = [];
+  ids = None;
 }
 
 -- its peer, at 192.168.1.20

@@ -55,6 +55,7 @@ profile limits = record {
   description = None;
   limits = limits;
   objects = [];
+  ids = None;
 }
 
 abbrev least_of : ℕ → MakerLimits

@@ -267,6 +267,7 @@ requests_are_within = record {
       let more = within_messaged t (t.next_id + 1) (with_class3 t.messaging (opened_class3 t stream request)) within in
       record { places = more.places; nodes = more.nodes };
   tallied = λ t next counters goes within. within_tallied next counters (goes within);
+  taken = λ t block may within. record { places = within.places; nodes = within.nodes };
 }
 
 -- ---- an event

@@ -26,6 +26,7 @@ profile = record {
   description = None;
   limits = no_limits;
   objects = [];
+  ids = None;
 }
 
 -- a connection of the fifth opening that accepted number 7 with count 3; its state is not looked at here

@@ -1,5 +1,5 @@
 -- What each step accepts on a connection is newer than what the table remembers of it, and the next table remembers it.
-use Rattle.std.proofs.Common.{◌≡◌, ◌≢◌, ◌≤◌, ◌<◌, ℕ, ◌+◌, ◌-◌, ◌*◌, ◌^◌, ◌==◌, nat_le, length, Bool, true, false, cond, not, ◌&&◌, List, [], ◌∷◌, map, find, Option, Some, None, Result, Ok, Err, refl, sym, ◌∙◌, ap, subst, arith}
+use Rattle.std.proofs.Common.{◌≡◌, ◌≢◌, ◌≤◌, ◌<◌, ℕ, ◌+◌, ◌-◌, ◌^◌, ◌==◌, nat_le, length, Bool, true, false, cond, not, ◌&&◌, List, [], ◌∷◌, map, find, Option, Some, None, Result, Ok, Err, refl, sym, ◌∙◌, ap, subst, arith}
 use Rattle.std.proofs.lemmas.Bool.{and_parts}
 use Rattle.std.proofs.lemmas.Bool.Decides.{nat_tests}
 use Rattle.base_lemmas.specs.Lists.{found_passes}
@@ -28,7 +28,7 @@ use Rattle.adapter_table.specs.Rates.{with_openings}
 use Rattle.adapter_table.specs.Counting.{with_counters}
 use Rattle.adapter_table.specs.Rows.{is_established, has_triad, Each, written_state, written_row}
 use Rattle.adapter_table.specs.Checks.{Admitted}
-use Rattle.cip_types.specs.Ids.{connection_id}
+use Rattle.cip_types.specs.IdLaws.{ids_differ}
 use Rattle.adapter_table.specs.Opening.{opened_row, opened_table, is_replaced}
 use Rattle.adapter_table.specs.Closing.{without_triad, stays, closed_table}
 use Rattle.adapter_table.specs.Streams.{with_stream, without_stream, registered_table}
@@ -42,7 +42,7 @@ use Rattle.messaging.specs.Times.{aged}
 use Rattle.adapter_table.specs.Messages.{messages_table}
 use Rattle.adapter_table.specs.Ticks.{has_expired, expired_row, expired_rows, clocked_table, expired_table, produced_table, advanced}
 use Rattle.adapter_table.specs.Step.{written_table, changed_table}
-use Rattle.adapter_table.specs.Sound.{IdsAreDrawn, IsSound, OpensBefore}
+use Rattle.adapter_table.specs.Sound.{IsDrawn, IsSound, OpensBefore}
 use Rattle.adapter_table.specs.Newest.{Acceptance, is_applied, acceptance_of, accepted_found, accepted_read, EachAfter, last_accepted, HasNewerNumber, HasOtherCount, IsAppliedNew, IsNotAgain, RemembersLast, TableRemembers}
 use Rattle.adapter_table.specs.Laws.{StepsAcceptAfter, RefusalsAcceptNothing}
 use Rattle.adapter_table.specs.EachLemmas.{each_filter, each_append, each_map, each_found, each_both, each_changed, two_weak, two_found}
@@ -168,6 +168,7 @@ requests_remember opening last = record {
   unstreamed = λ t number remembers. remembers_without opening last t number remembers;
   registered = λ t number remembers. remembers_registered opening last t number remembers;
   messaged = λ t next_id m goes remembers. remembers_messaged opening last t next_id m goes.later remembers;
+  taken = λ t block may remembers. record { there = remembers.there; unopened = remembers.unopened };
   counted = λ t next openings goes remembers. remembers_rows opening last next (with_openings next openings) (omega arith) (goes remembers).there (goes remembers);
   tallied = λ t next counters goes remembers. remembers_rows opening last next (with_counters next counters) (omega arith) (goes remembers).there (goes remembers);
 }
@@ -184,22 +185,6 @@ rising a b before = λ same. absurd (omega arith)
 same_back : (a b : Row) → SameOpening a b → SameOpening b a
 same_back a b is = λ same. sym (is (sym same))
 
--- the O->T id is that of its opening
-abbrev IsDrawnId : Profile → Row → Type 0
-IsDrawnId profile row = row.o_t_id ≡ connection_id profile.incarnation row.opening
-
-drawn_ids : (profile : Profile) (next_id : ℕ) (rows : List Row) → IdsAreDrawn profile next_id rows → Each (IsDrawnId profile) rows
-drawn_ids profile next_id [] drawn = tt
-drawn_ids profile next_id (row ∷ rows) drawn = (drawn.0, drawn_ids profile next_id rows drawn.2)
-
--- each is opened below the next one
-abbrev IsBelow : ℕ → Row → Type 0
-IsBelow next_id row = row.opening < next_id
-
-below_next : (profile : Profile) (next_id : ℕ) (rows : List Row) → IdsAreDrawn profile next_id rows → Each (IsBelow next_id) rows
-below_next profile next_id [] drawn = tt
-below_next profile next_id (row ∷ rows) drawn = (drawn.1, below_next profile next_id rows drawn.2)
-
 for_id : (peer : Node) (id : ℕ) (row : Row) → is_for peer id row ≡ true → row.o_t_id.0 ≡ id
 for_id peer id row is =
     let a = and_parts (is_established row) (row.peer.0 == peer.0 && row.o_t_id.0 == id) is in
@@ -209,11 +194,13 @@ for_id peer id row is =
       same_number m n h = grind (arith, nat_tests)
 
 -- two connections that a datagram is for have one opening number
-one_opening : (profile : Profile) (peer : Node) (id : ℕ) (a b : Row) → IsDrawnId profile a → IsDrawnId profile b → is_for peer id a ≡ true → is_for peer id b ≡ true → a.opening ≡ b.opening
-one_opening profile peer id a b first second a_for b_for =
-    let x : profile.incarnation * 2 ^ 24 + a.opening ≡ id = sym (ap (λ (i : ConnId). i.0) first) ∙ for_id peer id a a_for in
-    let y : profile.incarnation * 2 ^ 24 + b.opening ≡ id = sym (ap (λ (i : ConnId). i.0) second) ∙ for_id peer id b b_for in
-    omega arith
+one_opening : (t : AdapterTable) (peer : Node) (id : ℕ) (a b : Row) → IsSound t → IsDrawn t.ids t.next_id a → IsDrawn t.ids t.next_id b → is_for peer id a ≡ true → is_for peer id b ≡ true → a.opening ≡ b.opening
+one_opening t peer id a b sound first second a_for b_for =
+    let left = sound.ids_are_left in
+    let a_below = first.below in
+    let b_below = second.below in
+    ids_differ t.ids a.opening b.opening sound.blocks first.begins (omega (arith, left, a_below)) second.begins (omega (arith, left, b_below))
+    (ap (λ (i : ConnId). i.0) (sym first.id) ∙ for_id peer id a a_for ∙ sym (for_id peer id b b_for) ∙ ap (λ (i : ConnId). i.0) second.id)
 
 fed_here : (b : Bool) (clock : Ms) (d : DatagramFields) (row : Row) (delivery : Delivery) → b ≡ true → (cond b (accepted_row clock d row) row).last ≡ Some (acceptance_of d delivery).datagram
 fed_here true clock d row delivery is = refl
@@ -229,7 +216,7 @@ unfolding accepted_table
 fed_own t peer d row delivery last found sound remembers =
     let here = found_passes (is_for peer d.connection) t.rows row found in
     let alone = two_found SameOpening same_back (is_for peer d.connection) t.rows row found (λ _. refl) (two_weak OpensBefore SameOpening rising t.rows sound.producers.openings_rise) in
-    let below : row.opening < t.next_id = each_found (IsBelow t.next_id) (is_for peer d.connection) t.rows row found (below_next t.profile t.next_id t.rows sound.ids_are_drawn) in
+    let below : row.opening < t.next_id = (each_found (IsDrawn t.ids t.next_id) (is_for peer d.connection) t.rows row found sound.ids_are_drawn).below in
     record {
       there =
           each_changed (λ other. SameOpening other row) (RemembersLast row.opening (Some (acceptance_of d delivery).datagram)) (accepted_if_for t.clock peer d)
@@ -250,13 +237,13 @@ fed_other : (t : AdapterTable) (peer : Node) (d : DatagramFields) (row : Row) (d
 unfolding accepted_table
 fed_other t peer d row delivery opening last found differs sound remembers =
     let here = found_passes (is_for peer d.connection) t.rows row found in
-    let drawn = drawn_ids t.profile t.next_id t.rows sound.ids_are_drawn in
-    let own = each_found (IsDrawnId t.profile) (is_for peer d.connection) t.rows row found drawn in
+    let drawn = sound.ids_are_drawn in
+    let own = each_found (IsDrawn t.ids t.next_id) (is_for peer d.connection) t.rows row found drawn in
     record {
       there =
-          each_changed (λ other. RemembersLast opening last other × IsDrawnId t.profile other) (RemembersLast opening last) (accepted_if_for t.clock peer d)
-          (λ other both. fed_beside (is_for peer d.connection other) t.clock d opening last other (λ for_it same. other_opening row.opening other.opening opening differs (one_opening t.profile peer d.connection row other own both.1 here for_it) same) both.0) t.rows
-          (each_both (RemembersLast opening last) (IsDrawnId t.profile) (λ other. RemembersLast opening last other × IsDrawnId t.profile other) (λ other first second. (first, second)) t.rows remembers.there drawn);
+          each_changed (λ other. RemembersLast opening last other × IsDrawn t.ids t.next_id other) (RemembersLast opening last) (accepted_if_for t.clock peer d)
+          (λ other both. fed_beside (is_for peer d.connection other) t.clock d opening last other (λ for_it same. other_opening row.opening other.opening opening differs (one_opening t peer d.connection row other sound own both.1 here for_it) same) both.0) t.rows
+          (each_both (RemembersLast opening last) (IsDrawn t.ids t.next_id) (λ other. RemembersLast opening last other × IsDrawn t.ids t.next_id other) (λ other first second. (first, second)) t.rows remembers.there drawn);
       unopened = remembers.unopened;
     } where
       other_opening : (a b o : ℕ) → (a == o) ≡ false → a ≡ b → b ≡ o → ⊥

@@ -305,6 +305,7 @@ settled_effects number = record {
   messaged = λ t next_id m goes settled. settled_messaged number t next_id m (goes.settled number settled);
   counted = λ t openings settled. settled;
   tallied = λ t counters settled. settled;
+  taken = λ t block may settled. settled;
 }
 
 pub steps_settle : (number : ℕ) → StepsKeep (λ t. IsSettled number t.messaging)

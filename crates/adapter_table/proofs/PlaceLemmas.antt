@@ -1,10 +1,12 @@
 -- Class 3 connections and waiting requests stay in place where rows and streams change.
-use Rattle.std.proofs.Common.{◌≡◌, ◌≤◌, ◌<◌, ℕ, ◌+◌, ◌*◌, ◌^◌, ◌==◌, Bool, true, false, cond, not, ◌||◌, ◌&&◌, List, [], ◌∷◌, ◌++◌, map, filter, refl, ◌∙◌, ap, arith}
+use Rattle.std.proofs.Common.{◌≡◌, ◌≤◌, ℕ, ◌==◌, Bool, true, false, cond, not, ◌||◌, ◌&&◌, List, [], ◌∷◌, ◌++◌, map, filter, Option, Some, None, refl, sym, ◌∙◌, ap, arith}
 use Rattle.std.specs.List.{list_any}
-use Rattle.std.proofs.lemmas.Bool.{or_parts, or_left, or_right}
+use Rattle.std.proofs.lemmas.Bool.{or_parts, or_left, or_right, ne_eqb}
 use Rattle.std.proofs.lemmas.Bool.Decides.{nat_tests}
 use Rattle.std.proofs.lemmas.List.Folds.{list_any-append}
-use Rattle.cip_types.specs.Ids.{connection_id}
+use Rattle.cip_types.specs.declared.ids.IdBlock.{IdBlock}
+use Rattle.cip_types.specs.Ids.{end_number, first_block, id_at, is_block}
+use Rattle.cip_types.specs.IdLaws.{IsLeft, next_differs}
 use Rattle.cip_types.specs.declared.names.ConnId.{ConnId}
 use Rattle.cip_types.specs.declared.names.Ms.{Ms}
 use Rattle.cip_types.specs.declared.names.Node.{Node}
@@ -18,7 +20,7 @@ use Rattle.messaging.specs.Class3Connections.{is_on_stream, has_class3_triad}
 use Rattle.messaging.specs.Sound.{EachOf, IsDrawn}
 use Rattle.messaging.specs.Lemmas.EachOfLemmas.{each_weaker}
 use Rattle.messaging.specs.Lemmas.KeptLemmas.{without_stream_keeps, ended_class3_connections, ended_waiting}
-use Rattle.messaging.specs.Lemmas.SoundLemmas.{fresh_sound, sound_later, without_stream_sound}
+use Rattle.messaging.specs.Lemmas.SoundLemmas.{fresh_sound, sound_later, sound_grown, without_stream_sound}
 use Rattle.adapter_table.specs.declared.profile.Profile.{Profile}
 use Rattle.adapter_table.specs.declared.table.AdapterTable.{AdapterTable}
 use Rattle.adapter_table.specs.declared.table.PointValue.{PointValue}
@@ -26,7 +28,8 @@ use Rattle.adapter_table.specs.declared.table.Stream as streams
 use Rattle.adapter_table.specs.Connections.{Row}
 use Rattle.adapter_table.specs.Rows.{has_triad}
 use Rattle.adapter_table.specs.Streams.{is_stream, is_other_stream, new_stream, with_stream, without_stream, registered_stream, registered_table}
-use Rattle.adapter_table.specs.Step.{adapter_table}
+use Rattle.adapter_table.specs.Profiles.{first_ids, first_request}
+use Rattle.adapter_table.specs.Step.{adapter_table, taken_table}
 use Rattle.adapter_table.specs.Ticks.{expired_rows}
 use Rattle.adapter_table.specs.Sound.{has_o_t_id}
 use Rattle.adapter_table.specs.MessagesSound.{carries, IsCarried, IsInPlace, RouteIsOpen, CanGoBack, AreMessagesSound}
@@ -67,9 +70,9 @@ messages_beside t rows values clock names sound = record {
 -- ---- a connection of class 1 is opened
 
 -- it has a triad that no class 3 connection has, and draws its O->T id
-record IsBeside (incarnation next_id : ℕ) (class3_connections : List kept.Class3Connection) (row : Row) : Type 0 where
+record IsBeside (ids : List IdBlock) (next_id : ℕ) (class3_connections : List kept.Class3Connection) (row : Row) : Type 0 where
   triad : list_any (has_class3_triad row.triad) class3_connections ≡ false
-  id : row.o_t_id ≡ connection_id incarnation next_id
+  id : row.o_t_id ≡ id_at ids next_id
 
 no_more : (q : Row → Bool) (left : List Row) (row : Row) → list_any q left ≡ false → q row ≡ false → list_any q (left ++ row ∷ []) ≡ false
 no_more q left row none other = list_any-append q left (row ∷ []) ∙ neither (list_any q left) (q row) none other where
@@ -78,33 +81,31 @@ no_more q left row none other = list_any-append q left (row ∷ []) ∙ neither 
   neither false true first second = absurd cc
   neither false false first second = refl
 
-drawn_other : (incarnation next_id : ℕ) (d : kept.Class3Connection) (row : Row) → row.o_t_id ≡ connection_id incarnation next_id → IsDrawn incarnation next_id d → has_o_t_id d.o_t_id row ≡ false
-drawn_other incarnation next_id d row is drawn =
-    let own : d.o_t_id.0 ≡ incarnation * 2 ^ 24 + d.opening = ap (λ (id : ConnId). id.0) drawn.id in
-    let new : row.o_t_id.0 ≡ incarnation * 2 ^ 24 + next_id = ap (λ (id : ConnId). id.0) is in
-    let below : d.opening < next_id = drawn.below in
-    grind (arith, nat_tests)
+drawn_other : (ids : List IdBlock) (next_id : ℕ) (d : kept.Class3Connection) (row : Row) → IsLeft ids next_id → row.o_t_id ≡ id_at ids next_id → IsDrawn ids next_id d → has_o_t_id d.o_t_id row ≡ false
+drawn_other ids next_id d row left is drawn =
+    ne_eqb row.o_t_id.0 d.o_t_id.0
+    (λ same. next_differs ids next_id d.opening left drawn.begins drawn.below (ap (λ (id : ConnId). id.0) (sym drawn.id) ∙ sym same ∙ ap (λ (id : ConnId). id.0) is))
 
-places_opened : (incarnation next_id : ℕ) (rows left : List Row) (row : Row) (open_streams : List streams.Stream) (class3_connections : List kept.Class3Connection) → NoNewNames rows left → IsBeside incarnation next_id class3_connections row → EachOf (IsDrawn incarnation next_id) class3_connections → EachOf (IsInPlace rows open_streams) class3_connections → EachOf (IsInPlace (left ++ row ∷ []) open_streams) class3_connections
-places_opened incarnation next_id rows left row open_streams [] names beside drawn places = tt
-places_opened incarnation next_id rows left row open_streams (d ∷ class3_connections) names beside drawn places =
+places_opened : (ids : List IdBlock) (next_id : ℕ) (rows left : List Row) (row : Row) (open_streams : List streams.Stream) (class3_connections : List kept.Class3Connection) → IsLeft ids next_id → NoNewNames rows left → IsBeside ids next_id class3_connections row → EachOf (IsDrawn ids next_id) class3_connections → EachOf (IsInPlace rows open_streams) class3_connections → EachOf (IsInPlace (left ++ row ∷ []) open_streams) class3_connections
+places_opened ids next_id rows left row open_streams [] is_left names beside drawn places = tt
+places_opened ids next_id rows left row open_streams (d ∷ class3_connections) is_left names beside drawn places =
     let apart = or_parts (has_class3_triad row.triad d) (list_any (has_class3_triad row.triad) class3_connections) beside.triad in
     let kept_place = place_rows rows left open_streams names d places.0 in
     let here : IsInPlace (left ++ row ∷ []) open_streams d = record {
       triad = no_more (has_triad d.triad) left row kept_place.triad (same_sym d.triad row.triad apart.0);
-      id = no_more (has_o_t_id d.o_t_id) left row kept_place.id (drawn_other incarnation next_id d row beside.id drawn.0);
+      id = no_more (has_o_t_id d.o_t_id) left row kept_place.id (drawn_other ids next_id d row is_left beside.id drawn.0);
       stream = kept_place.stream;
       watchdog = kept_place.watchdog;
       o_t_api_ms = kept_place.o_t_api_ms;
       t_o_api_ms = kept_place.t_o_api_ms;
       reply = kept_place.reply;
     } in
-    (here, places_opened incarnation next_id rows left row open_streams class3_connections names (record { triad = apart.1; id = beside.id }) drawn.1 places.1)
+    (here, places_opened ids next_id rows left row open_streams class3_connections is_left names (record { triad = apart.1; id = beside.id }) drawn.1 places.1)
 
-pub messages_opened : (t : AdapterTable) (left : List Row) (row : Row) (values : List PointValue) (next_id : ℕ) → t.next_id ≤ next_id → NoNewNames t.rows left → list_any (has_class3_triad row.triad) t.messaging.class3_connections ≡ false → row.o_t_id ≡ connection_id t.profile.incarnation t.next_id → AreMessagesSound t → AreMessagesSound (record t { rows = left ++ row ∷ []; values = values; next_id = next_id })
-messages_opened t left row values next_id later names triad id sound = record {
-  own = sound_later t.profile.incarnation t.next_id next_id t.messaging later sound.own;
-  class3_connections = places_opened t.profile.incarnation t.next_id t.rows left row t.streams t.messaging.class3_connections names (record { triad = triad; id = id }) sound.own.are_drawn sound.class3_connections;
+pub messages_opened : (t : AdapterTable) (left : List Row) (row : Row) (values : List PointValue) (next_id : ℕ) → t.next_id ≤ next_id → IsLeft t.ids t.next_id → NoNewNames t.rows left → list_any (has_class3_triad row.triad) t.messaging.class3_connections ≡ false → row.o_t_id ≡ id_at t.ids t.next_id → AreMessagesSound t → AreMessagesSound (record t { rows = left ++ row ∷ []; values = values; next_id = next_id })
+messages_opened t left row values next_id later is_left names triad id sound = record {
+  own = sound_later t.ids t.next_id next_id t.messaging later sound.own;
+  class3_connections = places_opened t.ids t.next_id t.rows left row t.streams t.messaging.class3_connections is_left names (record { triad = triad; id = id }) sound.own.are_drawn sound.class3_connections;
   waiting = sound.waiting;
 }
 
@@ -112,7 +113,16 @@ messages_opened t left row values next_id later names triad id sound = record {
 
 pub messages_later : (t : AdapterTable) (counter : ℕ) → t.next_id ≤ counter → AreMessagesSound t → AreMessagesSound (record t { next_id = counter })
 messages_later t counter later sound = record {
-  own = sound_later t.profile.incarnation t.next_id counter t.messaging later sound.own;
+  own = sound_later t.ids t.next_id counter t.messaging later sound.own;
+  class3_connections = sound.class3_connections;
+  waiting = sound.waiting;
+}
+
+-- ---- a further block of ids
+
+pub messages_taken : (t : AdapterTable) (block : IdBlock) → t.next_id ≤ end_number t.ids → AreMessagesSound t → AreMessagesSound (taken_table t block)
+messages_taken t block left sound = record {
+  own = sound_grown t.ids block t.next_id t.messaging left sound.own;
   class3_connections = sound.class3_connections;
   waiting = sound.waiting;
 }
@@ -204,7 +214,7 @@ messages_without t number sound =
     let left = messages.without_stream t.messaging number in
     let keeps = without_stream_keeps (IsInPlace t.rows t.streams) (CanGoBack t.streams) t.messaging number in
     record {
-      own = without_stream_sound t.profile.incarnation t.next_id t.messaging number sound.own;
+      own = without_stream_sound t.ids t.next_id t.messaging number sound.own;
       class3_connections =
           each_zip (IsInPlace t.rows t.streams) (λ d. not (is_on_stream number d) ≡ true) (IsInPlace t.rows after)
           (λ d is elsewhere. place_streams t.rows t.streams after d (on_left number d.stream t.streams elsewhere) is) left.class3_connections (keeps.class3_connections sound.class3_connections) (ended_class3_connections t.messaging number);
@@ -215,5 +225,10 @@ messages_without t number sound =
 
 -- ---- a fresh table
 
-pub messages_fresh : (profile : Profile) → AreMessagesSound (adapter_table profile)
-messages_fresh profile = record { own = fresh_sound profile.incarnation 1; class3_connections = tt; waiting = tt }
+first_numbered : (incarnation : ℕ) (ids : Option IdBlock) → is_block (first_block incarnation ids) ≡ true → first_request ids ≤ messages.no_number
+first_numbered incarnation None is = omega arith
+first_numbered incarnation (Some block) is = grind (arith, nat_tests)
+
+pub messages_fresh : (profile : Profile) → is_block (first_ids profile) ≡ true → AreMessagesSound (adapter_table profile)
+messages_fresh profile is =
+    record { own = fresh_sound (first_ids profile ∷ []) 1 (first_request profile.ids) (first_numbered profile.incarnation profile.ids is); class3_connections = tt; waiting = tt }

@@ -140,6 +140,7 @@ requests_within = record {
   messaged = λ t next_id m goes are. messaged_within t next_id m are;
   connected = λ t stream request passes carried are. connected_within t stream request passes are;
   tallied = λ t next counters goes are. tallied_within next counters (goes are);
+  taken = λ t block may are. are;
 }
 
 -- ---- an event

@@ -143,4 +143,5 @@ requests_lose = record {
   messaged = λ t next_id m goes whole. loses_messaged t next_id m;
   counted = λ t next openings loses. loses;
   tallied = λ t next counters loses whole. loses_tallied t next counters (loses whole);
+  taken = λ t block may whole. loses_nothing t;
 }

@@ -4,6 +4,7 @@ use Rattle.std.specs.Prelude.{IsTrue}
 use Rattle.std.specs.Option.{option_map}
 use Rattle.std.proofs.lemmas.Bool.{not-false, and_parts, or_parts}
 use Rattle.std.proofs.lemmas.Bool.Decides.{nat_tests}
+use Rattle.cip_types.specs.Ids.{end_number}
 use Rattle.cip_types.specs.declared.names.Node.{Node}
 use Rattle.cip_types.specs.declared.names.Ms.{Ms}
 use Rattle.cip_netparams.specs.declared.Trigger.{Trigger}
@@ -149,7 +150,7 @@ stored_fits t request admitted e bytes is =
 
 -- ---- ids are passed over
 
-pub whole_later : (t : AdapterTable) (counter : ℕ) → t.next_id ≤ counter → counter ≤ 16777216 → IsWhole t → IsWhole (record t { next_id = counter })
+pub whole_later : (t : AdapterTable) (counter : ℕ) → t.next_id ≤ counter → counter ≤ end_number t.ids → IsWhole t → IsWhole (record t { next_id = counter })
 whole_later t counter later last whole =
     let sound = whole.sound in
     record {
@@ -158,10 +159,12 @@ whole_later t counter later last whole =
         one_owner = sound.one_owner;
         triads_differ = sound.triads_differ;
         ids_differ = sound.ids_differ;
-        ids_are_drawn = drawn_later t.profile t.next_id counter t.rows later sound.ids_are_drawn;
+        blocks = sound.blocks;
+        ids_begin = let begins = sound.ids_begin in omega (arith, begins, later);
+        ids_are_drawn = drawn_later t.ids t.next_id counter t.rows later sound.ids_are_drawn;
         listeners_are_supported = sound.listeners_are_supported;
         groups_agree = sound.groups_agree;
-        producers = producers_later t.profile t.next_id counter t.rows later sound.producers;
+        producers = producers_later t.ids t.next_id counter t.rows later sound.producers;
         ids_are_left = last;
         few_streams = sound.few_streams;
         streams_differ = sound.streams_differ;

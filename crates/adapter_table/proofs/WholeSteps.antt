@@ -1,7 +1,9 @@
 -- Each effect keeps a table whole, and so do each step and each run.
-use Rattle.std.proofs.Common.{Bool, not, ◌≡◌, ◌≤◌, ℕ, ◌+◌, ◌^◌, false, List, length, map, find, Some, None, Ok, refl, sym, ◌∙◌, arith}
+use Rattle.std.proofs.Common.{Bool, not, ◌≡◌, ◌≤◌, ℕ, ◌+◌, ◌^◌, true, false, List, length, map, find, Some, None, Ok, refl, sym, ◌∙◌, arith}
+use Rattle.cip_types.specs.declared.ids.IdBlock.{IdBlock}
 use Rattle.cip_types.specs.declared.names.Ms.{Ms}
 use Rattle.cip_types.specs.declared.names.Node.{Node}
+use Rattle.cip_types.specs.Ids.{may_take}
 use Rattle.cip_fwdopen.specs.Open.{OpenFields}
 use Rattle.cip_datagram.specs.Datagram.{DatagramFields}
 use Rattle.cip_events.specs.declared.event.Delivery.{Delivery}
@@ -28,7 +30,7 @@ use Rattle.adapter_table.specs.Datagrams.{is_for, row_delivery, accepted_if_for,
 use Rattle.adapter_table.specs.Productions.{produced_row, changed_row}
 use Rattle.adapter_table.specs.Ticks.{clocked_table, expired, expired_row, expired_rows, expired_values, expired_table, produced_table}
 use Rattle.adapter_table.specs.Requests.{Next}
-use Rattle.adapter_table.specs.Step.{adapter_step, adapter_table, written_table, changed_table}
+use Rattle.adapter_table.specs.Step.{adapter_step, adapter_table, written_table, changed_table, taken_table}
 use Rattle.adapter_table.specs.Whole.{ConsumesOutput, FitsRow, IsWhole}
 use Rattle.adapter_table.specs.Lemmas.CheckLemmas.{admitted_is}
 use Rattle.adapter_table.specs.Fitting.{input_fits, shaped_opening, shaped_put, shaped_closed, shaped_expired, stored_len, shaped_configured}
@@ -38,9 +40,9 @@ use Rattle.adapter_table.proofs.ConsumerLemmas.{consume_kept, consume_expired, a
 use Rattle.adapter_table.specs.Lemmas.FedLemmas.{shaped_fed}
 use Rattle.adapter_table.specs.Laws.{EffectsKeep}
 use Rattle.adapter_table.specs.Lemmas.EffectLemmas.{adapter_keeps}
-use Rattle.adapter_table.proofs.StepLemmas.{sound_fresh, sound_opened, sound_closed, sound_written, sound_fed, sound_advanced, sound_with, sound_without, sound_registered, sound_messaged, sound_counted, sound_tallied}
+use Rattle.adapter_table.proofs.StepLemmas.{sound_fresh, sound_opened, sound_closed, sound_written, sound_fed, sound_advanced, sound_with, sound_without, sound_registered, sound_messaged, sound_counted, sound_tallied, sound_taken, first_is_block, next_is_left}
 use Rattle.adapter_table.specs.RowLimits.{fits_written, fits_expired}
-use Rattle.adapter_table.proofs.PlaceLemmas.{names_left, names_kept, names_expired, names_then, messages_beside, messages_opened, messages_with, messages_without, messages_registered, messages_fresh}
+use Rattle.adapter_table.proofs.PlaceLemmas.{names_left, names_kept, names_expired, names_then, messages_beside, messages_opened, messages_with, messages_without, messages_registered, messages_taken, messages_fresh}
 use Rattle.adapter_table.proofs.WholeLemmas.{fits_due, fits_changed, fits_fed, fits_opened}
 
 pub whole_opened : (t : AdapterTable) (peer : Node) (request : OpenFields) (admitted : Admitted) → admission t request ≡ Ok admitted → IsWhole t → IsWhole (opened_table t (opened_row t peer request admitted) admitted)
@@ -50,7 +52,7 @@ whole_opened t peer request admitted e whole =
     let row = opened_row t peer request admitted in
     let stays_there : Row → Bool = λ r. not (is_replaced t.rows request.triad r) in
     let left = others (is_replaced t.rows request.triad) t.rows in
-    let messages = messages_opened t left row (configured t.profile.config admitted.segment t.values) (t.next_id + drawn_ids admitted.multicast admitted.group) (omega arith) (names_left stays_there t.rows) is.triad_is_new refl whole.messages in
+    let messages = messages_opened t left row (configured t.profile.config admitted.segment t.values) (t.next_id + drawn_ids admitted.multicast admitted.group) (omega arith) (next_is_left t request admitted is whole.sound) (names_left stays_there t.rows) is.triad_is_new refl whole.messages in
     record {
       sound = sound_opened t peer request admitted e whole.sound;
       messages = record { own = messages.own; class3_connections = messages.class3_connections; waiting = messages.waiting };
@@ -154,6 +156,16 @@ whole_tallied t counters whole = record {
   clock = whole.clock;
 }
 
+pub whole_taken : (t : AdapterTable) (block : IdBlock) → may_take t.ids block ≡ true → IsWhole t → IsWhole (taken_table t block)
+whole_taken t block may whole = record {
+  sound = sound_taken t block may whole.sound;
+  messages = messages_taken t block whole.sound.ids_are_left whole.messages;
+  shaped = whole.shaped;
+  consume = whole.consume;
+  fits = whole.fits;
+  clock = whole.clock;
+}
+
 pub whole_effects : EffectsKeep IsWhole
 whole_effects = record {
   opened = whole_opened;
@@ -167,10 +179,11 @@ whole_effects = record {
   messaged = whole_messaged;
   counted = whole_counted;
   tallied = whole_tallied;
+  taken = whole_taken;
 }
 
 pub whole_step : (t : AdapterTable) (event : Event) (next : Next) → adapter_step t event ≡ Ok next → IsWhole t → IsWhole next.1
 whole_step t event next is whole = adapter_keeps IsWhole whole_effects t event next is whole
 
 pub whole_fresh : (profile : Profile) → profile_fault profile ≡ None → IsWhole (adapter_table profile)
-whole_fresh profile none = record { sound = sound_fresh profile; messages = messages_fresh profile; shaped = shaped_opening profile none; consume = tt; fits = tt; clock = omega arith }
+whole_fresh profile none = record { sound = sound_fresh profile none; messages = messages_fresh profile (first_is_block profile none); shaped = shaped_opening profile none; consume = tt; fits = tt; clock = omega arith }

@@ -5,6 +5,7 @@ use Rattle.std.specs.List.{list_any}
 use Rattle.std.specs.Option.{option_map}
 use Rattle.std.specs.Result.{result_ok}
 use Rattle.std.specs.Str.{bytes_eq}
+use Rattle.cip_types.specs.Ids.{ids_left}
 use Rattle.cip_types.specs.declared.names.Ms.{Ms}
 use Rattle.cip_types.specs.declared.names.Triad.{Triad}
 use Rattle.cip_epath.specs.declared.fault.PathFault.{PathFault}
@@ -75,8 +76,8 @@ pub record View : Type 0 where
   pub count : ℕ
   -- some connection has timed out
   pub timed_out : Bool
-  -- the counter of the next connection id
-  pub next_id : ℕ
+  -- how many connection ids are left
+  pub ids_left : ℕ
   -- of an output: an established connection owns it
   pub owned : ℕ → Bool
   -- of an input: the first connection of its group
@@ -86,14 +87,14 @@ pub record View : Type 0 where
 
 -- the same, looked up in the connections, beside those of class 3, of which one may have the triad
 abbrev pub view_at : Profile → Option (List ℕ) → List Row → ℕ → (talks : Bool) → Triad → View
-view_at profile config rows next_id talks triad = record {
+view_at profile config rows left talks triad = record {
   profile = profile;
   config = config;
   in_use = list_any (holds_triad triad) rows || talks;
   established = list_any is_established rows;
   count = length rows;
   timed_out = list_any is_timed_out rows;
-  next_id = next_id;
+  ids_left = left;
   owned = λ point. list_any (drives point) rows;
   group = group_of rows;
   supported = is_supported rows ListenOnly;
@@ -107,7 +108,7 @@ config_bytes values (Some config) = bytes_at values config.instance
 -- the same, looked up in a table
 abbrev pub view_of : AdapterTable → Triad → View
 view_of t triad =
-    view_at t.profile (config_bytes t.values t.profile.config) t.rows t.next_id (list_any (has_class3_triad triad) t.messaging.class3_connections) triad
+    view_at t.profile (config_bytes t.values t.profile.config) t.rows (ids_left t.ids t.next_id) (list_any (has_class3_triad triad) t.messaging.class3_connections) triad
 
 -- SEGMENTS AND KEY
 
@@ -368,7 +369,7 @@ drawn_ids multicast (Some member) = 1
 
 -- fewer ids are left than the opening draws
 abbrev pub lacks_ids : View → OpenFields → Points → Bool
-lacks_ids view request points = nat_lt 16777216 (view.next_id + drawn_ids (is_multicast request.t_o_params.kind) points.group)
+lacks_ids view request points = nat_lt view.ids_left (drawn_ids (is_multicast request.t_o_params.kind) points.group)
 
 -- there are 64 connections, and none has timed out
 abbrev pub lacks_capacity : View → Bool

@@ -2,7 +2,7 @@
 -- transport class 3, and the Connection Manager's extended status codes).
 use Rattle.std.specs.Prelude.{ℕ, ◌+◌, ◌*◌, ◌==◌, ◌||◌, not, nat_lt, nat_le, Bool, false, if◌then◌else◌, List, [], ◌∷◌, length, Option, Some, None, Result, Ok, Err}
 use Rattle.std.specs.List.{list_any}
-use Rattle.cip_types.specs.Ids.{connection_id}
+use Rattle.cip_types.specs.Ids.{id_at, ids_left}
 use Rattle.cip_types.specs.declared.names.Node.{Node}
 use Rattle.cip_types.specs.declared.names.Triad.{Triad}
 use Rattle.cip_epath.specs.declared.fault.PathFault.{PathFault}
@@ -38,8 +38,8 @@ pub record Class3View : Type 0 where
   pub profile : Profile
   -- a connection of any class and state has the triad of the request
   pub in_use : Bool
-  -- the counter of the next connection id
-  pub next_id : ℕ
+  -- how many connection ids are left
+  pub ids_left : ℕ
   -- how many class 3 connections there are
   pub count : ℕ
   -- how many of them the node has that sent the request
@@ -52,7 +52,7 @@ abbrev pub class3_view : AdapterTable → Node → Triad → Class3View
 class3_view t peer triad = record {
   profile = t.profile;
   in_use = list_any (has_triad triad) t.rows || list_any (has_class3_triad triad) t.messaging.class3_connections;
-  next_id = t.next_id;
+  ids_left = ids_left t.ids t.next_id;
   count = length t.messaging.class3_connections;
   node_count = class3_count t.messaging.class3_connections peer;
   opened_enough = has_opened_enough_at t peer;
@@ -105,7 +105,7 @@ class3_checks view request path =
     ∷ check (request.o_t_params.size == 0) refusal.ConsumedSize
     ∷ check (request.t_o_params.size == 0) refusal.ProducedSize
     -- 15: the ids are used up, or there are 64 class 3 connections (0x0113)
-    ∷ check (nat_lt 16777216 (view.next_id + 1)) refusal.OutOfConnections
+    ∷ check (nat_lt view.ids_left 1) refusal.OutOfConnections
     ∷ check (nat_le most_class3_connections view.count) refusal.OutOfConnections
     -- 16: there are as many class 3 connections as the maker states places for, the node has as many of them as the maker
     --     states, or has opened as many of either class in its second (0x0113)
@@ -129,7 +129,7 @@ opened_class3 t stream request =
       triad = request.triad;
       peer = stream.peer;
       stream = stream.number;
-      o_t_id = connection_id t.profile.incarnation t.next_id;
+      o_t_id = id_at t.ids t.next_id;
       t_o_id = request.t_o_id;
       o_t_api_ms = interval_ms request.o_t_rpi;
       t_o_api_ms = interval_ms request.t_o_rpi;

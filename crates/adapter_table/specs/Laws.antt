@@ -4,6 +4,8 @@ use Rattle.std.specs.Prelude.{ℕ, ◌≡◌, ◌≤◌, ◌+◌, ◌^◌, [], L
 use Rattle.std.specs.Option.{option_map}
 use Rattle.cip_types.specs.declared.names.Node.{Node}
 use Rattle.cip_types.specs.declared.names.Ms.{Ms}
+use Rattle.cip_types.specs.declared.ids.IdBlock.{IdBlock}
+use Rattle.cip_types.specs.Ids.{end_number, may_take}
 use Rattle.cip_fwdopen.specs.Open.{OpenFields}
 use Rattle.cip_datagram.specs.Datagram.{DatagramFields}
 use Rattle.cip_datagram.specs.Header.{header_at}
@@ -32,7 +34,7 @@ use Rattle.adapter_table.specs.Ticks.{clocked_table, expired_table, produced_tab
 use Rattle.adapter_table.specs.Points.{bytes_at}
 use Rattle.adapter_table.specs.Rates.{with_openings}
 use Rattle.adapter_table.specs.Requests.{Next}
-use Rattle.adapter_table.specs.Step.{adapter_step, adapter_table, written_table, changed_table}
+use Rattle.adapter_table.specs.Step.{adapter_step, adapter_table, written_table, changed_table, taken_table}
 use Rattle.adapter_table.specs.Messages.{messages_table}
 use Rattle.adapter_table.specs.MessagesSound.{MessagesGoOn}
 use Rattle.adapter_table.specs.Sound.{IsSound}
@@ -84,6 +86,7 @@ pub record EffectsKeep (P : AdapterTable → Type 0) : Type 0 where
   pub messaged : (t : AdapterTable) (next_id : ℕ) (m : Messaging) → MessagesGoOn t next_id m → P t → P (messages_table t next_id m)
   pub counted : (t : AdapterTable) (openings : List NodeOpenings) → P t → P (with_openings t openings)
   pub tallied : (t : AdapterTable) (counters : DeviceCounters) → P t → P (with_counters t counters)
+  pub taken : (t : AdapterTable) (block : IdBlock) → may_take t.ids block ≡ true → P t → P (taken_table t block)
 
 -- the times and the id of an admitted request
 pub record IsTimed (t : AdapterTable) (request : OpenFields) (admitted : Admitted) : Type 0 where
@@ -91,7 +94,7 @@ pub record IsTimed (t : AdapterTable) (request : OpenFields) (admitted : Admitte
   pub o_t_api_ms : admitted.o_t_api_ms ≤ 10000
   pub t_o_api_ms : admitted.t_o_api_ms ≤ 10000
   pub watchdog : admitted.watchdog.0 ≤ 5120000
-  pub left : t.next_id + drawn_ids admitted.multicast admitted.group ≤ 16777216
+  pub left : t.next_id + drawn_ids admitted.multicast admitted.group ≤ end_number t.ids
   pub draws : 1 ≤ drawn_ids admitted.multicast admitted.group
 
 -- an admitted request has times within their limits and an id that is left; a data segment that is to be stored is as

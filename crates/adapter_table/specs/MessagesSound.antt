@@ -2,6 +2,7 @@
 -- beside what holds of them alone, no other connection has their names, and their streams are open.
 use Rattle.std.specs.Prelude.{ℕ, ◌≡◌, ◌≤◌, ◌<◌, ◌+◌, ◌&&◌, Bool, true, false, List, length}
 use Rattle.std.specs.List.{list_any}
+use Rattle.cip_types.specs.Ids.{end_number}
 use Rattle.messaging.specs.declared.class3.Class3Connection as kept
 use Rattle.messaging.specs.declared.requests.Requester.{Requester}
 use Rattle.messaging.specs.declared.requests.Requester.TheVariants.{Peer, Stream, Class3Connection}
@@ -46,7 +47,7 @@ abbrev pub CanGoBack : List streams.Stream → Waiting → Type 0
 CanGoBack open_streams w = RouteIsOpen open_streams w.asker
 
 pub record AreMessagesSound (t : AdapterTable) : Type 0 where
-  pub own : IsSoundMessaging t.profile.incarnation t.next_id t.messaging
+  pub own : IsSoundMessaging t.ids t.next_id t.messaging
   pub class3_connections : EachOf (IsInPlace t.rows t.streams) t.messaging.class3_connections
   pub waiting : EachOf (CanGoBack t.streams) t.messaging.waiting
 
@@ -55,11 +56,11 @@ pub record IsSettled (number : ℕ) (m : Messaging) : Type 0 where
   pub given : number < m.next_number
   pub waits_not : EachOf (λ (w : Waiting). has_request_number number w ≡ false) m.waiting
 
--- The messages of a table become these, and its counter of ids this: it draws at most one, which is left. Where the messages
+-- The messages of a table become these, and its number of ids this: it draws at most one, which is left. Where the messages
 -- were sound, these are. A request that was settled stays so.
 pub record MessagesGoOn (t : AdapterTable) (next_id : ℕ) (m : Messaging) : Type 0 where
   pub later : t.next_id ≤ next_id
   pub one : next_id ≤ t.next_id + 1
-  pub left : t.next_id ≤ 16777216 → next_id ≤ 16777216
+  pub left : t.next_id ≤ end_number t.ids → next_id ≤ end_number t.ids
   pub sound : IsSound t → AreMessagesSound t → AreMessagesSound (messages_table t next_id m)
   pub settled : (number : ℕ) → IsSettled number t.messaging → IsSettled number m

@@ -6,7 +6,7 @@ use Rattle.std.specs.Option.{option_map}
 use Rattle.std.specs.List.{list_any, position_or_len}
 use Rattle.cip_types.specs.declared.names.Triad.{Triad}
 use Rattle.cip_types.specs.declared.names.Node.{Node}
-use Rattle.cip_types.specs.Ids.{connection_id}
+use Rattle.cip_types.specs.Ids.{id_at}
 use Rattle.cip_types.specs.declared.names.ConnId.{ConnId}
 use Rattle.cip_fwdopen.specs.Open.{OpenFields}
 use Rattle.cip_fwdopen.specs.declared.reply.Opened.{Opened}
@@ -79,7 +79,7 @@ opened_state t peer admitted (Some member) = member.state
 -- A joining connection has the T->O id of its group. For a new group the adapter chooses the id, the second that it
 -- draws; for a point to point connection the originator chooses it.
 abbrev pub opened_t_o_id : AdapterTable → OpenFields → Bool → Option Row → ConnId
-opened_t_o_id t request multicast None = if multicast then connection_id t.profile.incarnation (t.next_id + 1) else request.t_o_id
+opened_t_o_id t request multicast None = if multicast then id_at t.ids (t.next_id + 1) else request.t_o_id
 opened_t_o_id t request multicast (Some member) = member.t_o_id
 
 -- the connection that an admitted request opens
@@ -90,7 +90,7 @@ opened_row t peer request admitted = record {
   kind = admitted.kind;
   consumed = admitted.consumed;
   produced = admitted.produced;
-  o_t_id = connection_id t.profile.incarnation t.next_id;
+  o_t_id = id_at t.ids t.next_id;
   t_o_id = opened_t_o_id t request admitted.multicast admitted.group;
   o_t_api_ms = admitted.o_t_api_ms;
   t_o_api_ms = admitted.t_o_api_ms;

@@ -1,9 +1,11 @@
 -- The profile of an adapter, and its first fault
 -- (Volume 1, chapter 3, connection points; Volume 2, chapter 3, multicast addresses need a host id).
-use Rattle.std.specs.Prelude.{ℕ, ◌+◌, ◌-◌, ◌%◌, ◌^◌, ◌==◌, ◌&&◌, ◌||◌, not, nat_le, Bool, true, false, List, [], ◌∷◌, ◌++◌, length, map, Option, Some, None, option_to_list, is_some}
+use Rattle.std.specs.Prelude.{ℕ, ◌+◌, ◌-◌, ◌*◌, ◌%◌, ◌^◌, ◌==◌, ◌&&◌, ◌||◌, not, nat_le, Bool, true, false, List, [], ◌∷◌, ◌++◌, length, map, Option, Some, None, option_to_list, is_some}
 use Rattle.std.specs.Int.{is_power_of_two}
 use Rattle.std.specs.List.{list_any, list_all}
 use Rattle.cip_types.specs.Cases.{Case, first_case}
+use Rattle.cip_types.specs.declared.ids.IdBlock.{IdBlock}
+use Rattle.cip_types.specs.Ids.{are_ids, first_block}
 use Rattle.cip_types.specs.declared.names.Identity.{Identity}
 use Rattle.adapter_table.specs.declared.profile.OutputPoint.{OutputPoint}
 use Rattle.adapter_table.specs.declared.profile.InputPoint.{InputPoint}
@@ -169,12 +171,24 @@ are_own_classes (class ∷ classes) = is_free_class class && (not (list_any (is_
 abbrev pub are_objects : List ℕ → Bool
 are_objects classes = nat_le (length classes) 16 && are_own_classes classes
 
+-- CONNECTION IDS
+
+-- the block of ids that a device begins with: the one that is stated, or its incarnation's
+abbrev pub first_ids : Profile → IdBlock
+first_ids profile = first_block profile.incarnation profile.ids
+
+-- The number of the first request to the application. Lives whose ids differ give no two requests one number, unless one of them
+-- gives more than 2^32.
+abbrev pub first_request : Option IdBlock → ℕ
+first_request None = 1
+first_request (Some block) = block.first * 2 ^ 32 + 1
+
 -- THE FIRST FAULT
 
 -- the faults of a profile, in the order in which they are looked for
 abbrev pub profile_tests : Profile → List (Case ProfileFault)
 profile_tests profile =
-    (profile.incarnation == 0, Incarnation)
+    (not (are_ids profile.incarnation profile.ids), Incarnation)
     ∷ (not (is_address profile.node.0 profile.mask), Address)
     ∷ (not (are_few profile), Points)
     ∷ (not (are_distinct (all_points profile)), SameInstance)

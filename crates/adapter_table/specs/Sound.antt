@@ -2,12 +2,12 @@
 use Rattle.std.specs.Prelude.{ℕ, ◌≡◌, ◌≤◌, ◌<◌, ◌+◌, ◌==◌, Bool, true, false, List, [], ◌∷◌, length}
 use Rattle.std.specs.List.{list_any}
 use Rattle.cip_types.specs.declared.names.ConnId.{ConnId}
-use Rattle.adapter_table.specs.declared.profile.Profile.{Profile}
 use Rattle.adapter_table.specs.Connections.{Row}
 use Rattle.adapter_table.specs.declared.table.Stream.{Stream}
 use Rattle.adapter_table.specs.declared.table.AdapterTable.{AdapterTable}
 use Rattle.adapter_table.specs.Rows.{most_rows, has_triad, drivers, is_established, is_unsupported, is_member, Each, EachTwo}
-use Rattle.cip_types.specs.Ids.{connection_id}
+use Rattle.cip_types.specs.declared.ids.IdBlock.{IdBlock}
+use Rattle.cip_types.specs.Ids.{are_blocks, end_number, id_at}
 use Rattle.adapter_table.specs.Productions.{producer_of}
 use Rattle.adapter_table.specs.Streams.{most_streams, is_stream}
 
@@ -24,10 +24,15 @@ abbrev pub IdsDiffer : List Row → Type 0
 IdsDiffer [] = Unit {0}
 IdsDiffer (row ∷ rows) = (list_any (has_o_t_id row.o_t_id) rows ≡ false) × IdsDiffer rows
 
--- each O->T id is the device's, and its counter, which is the opening number, is below the next one
-abbrev pub IdsAreDrawn : Profile → ℕ → List Row → Type 0
-IdsAreDrawn profile next_id [] = Unit {0}
-IdsAreDrawn profile next_id (row ∷ rows) = (row.o_t_id ≡ connection_id profile.incarnation row.opening) × (row.opening < next_id) × IdsAreDrawn profile next_id rows
+-- The O->T id of the connection is the device's: its number, which is the opening number, is 1 or above, and below the next one.
+pub record IsDrawn (ids : List IdBlock) (next_id : ℕ) (row : Row) : Type 0 where
+  pub id : row.o_t_id ≡ id_at ids row.opening
+  pub begins : 1 ≤ row.opening
+  pub below : row.opening < next_id
+
+-- each O->T id is the device's
+abbrev pub IdsAreDrawn : List IdBlock → ℕ → List Row → Type 0
+IdsAreDrawn ids next_id rows = Each (IsDrawn ids next_id) rows
 
 -- an output has at most one established exclusive owner
 abbrev pub HasOneOwner : List Row → Type 0
@@ -81,14 +86,14 @@ SingleHasItsOwn row = is_established row ≡ true → row.multicast ≡ false �
 abbrev pub SinglesHaveTheirOwn : List Row → Type 0
 SinglesHaveTheirOwn rows = Each SingleHasItsOwn rows
 
--- the counter of an established multicast connection's T->O id is its producer's number plus one, below the next one
-abbrev pub MulticastIdIsDrawn : Profile → ℕ → Row → Type 0
-MulticastIdIsDrawn profile next_id row =
+-- the number of an established multicast connection's T->O id is its producer's number plus one, below the next one
+abbrev pub MulticastIdIsDrawn : List IdBlock → ℕ → Row → Type 0
+MulticastIdIsDrawn ids next_id row =
     is_established row ≡ true → row.multicast ≡ true →
-    (row.t_o_id ≡ connection_id profile.incarnation (producer_of row.state + 1)) × (producer_of row.state + 1 < next_id)
+    (row.t_o_id ≡ id_at ids (producer_of row.state + 1)) × (producer_of row.state + 1 < next_id)
 
-abbrev pub MulticastIdsAreDrawn : Profile → ℕ → List Row → Type 0
-MulticastIdsAreDrawn profile next_id rows = Each (MulticastIdIsDrawn profile next_id) rows
+abbrev pub MulticastIdsAreDrawn : List IdBlock → ℕ → List Row → Type 0
+MulticastIdsAreDrawn ids next_id rows = Each (MulticastIdIsDrawn ids next_id) rows
 
 -- two multicast connections of one input that share its producer
 pub record AreOfOneGroup (a b : Row) : Type 0 where
@@ -106,11 +111,11 @@ abbrev pub GroupsAloneShare : List Row → Type 0
 GroupsAloneShare rows = EachTwo ShareInGroup rows
 
 -- the laws of openings, of producers and of their numbers
-pub record ProducersAreSound (profile : Profile) (next_id : ℕ) (rows : List Row) : Type 0 where
+pub record ProducersAreSound (ids : List IdBlock) (next_id : ℕ) (rows : List Row) : Type 0 where
   pub openings_rise : OpeningsRise rows
   pub are_drawn : ProducersAreDrawn next_id rows
   pub single : SinglesHaveTheirOwn rows
-  pub multicast : MulticastIdsAreDrawn profile next_id rows
+  pub multicast : MulticastIdsAreDrawn ids next_id rows
   pub shared : GroupsAloneShare rows
 
 -- ---- streams, and all of it
@@ -125,10 +130,12 @@ pub record IsSound (t : AdapterTable) : Type 0 where
   pub one_owner : HasOneOwner t.rows
   pub triads_differ : TriadsDiffer t.rows
   pub ids_differ : IdsDiffer t.rows
-  pub ids_are_drawn : IdsAreDrawn t.profile t.next_id t.rows
+  pub blocks : are_blocks t.ids ≡ true
+  pub ids_begin : 1 ≤ t.next_id
+  pub ids_are_drawn : IdsAreDrawn t.ids t.next_id t.rows
   pub listeners_are_supported : ListenersAreSupported t.rows
   pub groups_agree : GroupsAgree t.rows
-  pub producers : ProducersAreSound t.profile t.next_id t.rows
-  pub ids_are_left : t.next_id ≤ 16777216
+  pub producers : ProducersAreSound t.ids t.next_id t.rows
+  pub ids_are_left : t.next_id ≤ end_number t.ids
   pub few_streams : length t.streams ≤ most_streams
   pub streams_differ : StreamsDiffer t.streams

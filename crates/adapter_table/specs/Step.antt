@@ -1,11 +1,13 @@
 -- One event at a device's table.
-use Rattle.std.specs.Prelude.{ℕ, ◌==◌, length, map, find, Bool, if◌then◌else◌, List, [], Option, Some, None, Result, Ok, Err}
+use Rattle.std.specs.Prelude.{ℕ, ◌==◌, length, map, find, Bool, if◌then◌else◌, List, [], ◌∷◌, Option, Some, None, Result, Ok, Err}
 use Rattle.cip_events.specs.declared.event.Event.{Event}
-use Rattle.cip_events.specs.declared.event.Event.TheVariants.{Request, StreamOpened, Frame, StreamCut, Datagram, Inquiry, Write, Read, Tick, Mode, Start, Stop, Explicit, Respond, Counters}
+use Rattle.cip_events.specs.declared.event.Event.TheVariants.{Request, StreamOpened, Frame, StreamCut, Datagram, Inquiry, Write, Read, Tick, Mode, Start, Stop, Explicit, Respond, Counters, Ids}
 use Rattle.cip_events.specs.declared.event.Answer.{Answer}
 use Rattle.cip_events.specs.declared.event.StepFault.{StepFault}
 use Rattle.cip_events.specs.declared.event.StepFault.TheVariants as fault
 use Rattle.cip_events.specs.declared.event.Verdict.TheVariants.{Done}
+use Rattle.cip_types.specs.declared.ids.IdBlock.{IdBlock}
+use Rattle.cip_types.specs.Ids.{may_take, with_block}
 use Rattle.messaging.specs.Changes.{fresh_messaging}
 use Rattle.adapter_table.specs.declared.profile.InputPoint.{InputPoint}
 use Rattle.adapter_table.specs.declared.profile.Profile.{Profile}
@@ -13,7 +15,7 @@ use Rattle.adapter_table.specs.declared.table.AdapterTable.{AdapterTable}
 use Rattle.adapter_table.specs.Counters.{link_len, no_counters}
 use Rattle.adapter_table.specs.Counting.{counted_link}
 use Rattle.adapter_table.specs.declared.profile.Description.{Description}
-use Rattle.adapter_table.specs.Profiles.{is_at}
+use Rattle.adapter_table.specs.Profiles.{first_ids, first_request, is_at}
 use Rattle.adapter_table.specs.Points.{opening_values, put_value, bytes_at}
 use Rattle.adapter_table.specs.Rows.{written_row}
 use Rattle.adapter_table.specs.Inquiries.{inquired}
@@ -71,6 +73,15 @@ counters_with t bytes (Some d) long = if long then Ok (plain_answer Done, counte
 unfoldable pub counters_said : AdapterTable → List ℕ → Result Next StepFault
 counters_said t bytes = counters_with t bytes t.profile.description (length bytes == link_len)
 
+-- the device holds a further block of connection ids
+abbrev pub taken_table : AdapterTable → IdBlock → AdapterTable
+taken_table t block = record t { ids = with_block t.ids block }
+
+-- a further block of connection ids, which has none of those that the device holds
+unfoldable pub take_ids : AdapterTable → IdBlock → Result Next StepFault
+take_ids t block =
+    if may_take t.ids block then Ok (plain_answer Done, taken_table t block) else Err fault.NotAllowedNow
+
 -- Either the first fault, the table staying, or an answer and the next table. Want of memory is never named.
 abbrev pub adapter_step : AdapterTable → Event → Result Next StepFault
 adapter_step t (Request peer bytes) = Ok (requested t peer bytes)
@@ -88,18 +99,20 @@ adapter_step t (Stop slot) = Err fault.NotAllowedNow
 adapter_step t (Explicit target number bytes) = Err fault.NotAllowedNow
 adapter_step t (Respond number status bytes) = respond t number status bytes
 adapter_step t (Counters bytes) = counters_said t bytes
+adapter_step t (Ids block) = take_ids t block
 
--- the table of a fresh adapter: no connections, zeros at all points, clock 0, the first id, no streams, no messages, no openings, nothing
--- counted
+-- the table of a fresh adapter: no connections, zeros at all points, clock 0, the first id of its block, no streams, no messages, no
+-- openings, nothing counted
 abbrev pub adapter_table : Profile → AdapterTable
 adapter_table profile = record {
   profile = profile;
   rows = [];
   values = opening_values profile;
   clock = record { 0 = 0 };
+  ids = first_ids profile ∷ [];
   next_id = 1;
   streams = [];
-  messaging = fresh_messaging;
+  messaging = fresh_messaging (first_request profile.ids);
   openings = [];
   counters = no_counters;
 }

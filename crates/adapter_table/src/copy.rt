@@ -2,6 +2,7 @@
 
 ghost use Rattle.std.specs.Prelude.{◌≡◌, ◌≤◌, ◌↔◌, IfOk, IsTrue};
 ghost use Rattle.adapter_table.specs.Whole.{IsWhole};
+ghost use Rattle.cip_types.specs.Ids.{end_number};
 
 use crate::profile::{Description, Profile};
 use crate::table::AdapterTable;
@@ -62,6 +63,7 @@ impl Profile {
             description,
             limits: self.limits,
             objects,
+            ids: self.ids,
         })
     }
 }
@@ -74,13 +76,14 @@ impl AdapterTable {
         self == other
     }
 
-    /// The table with a later counter for the next connection id. Takes no memory.
+    /// The table with a later number for the next connection id. Takes no memory.
     ///
-    /// The counter is no less than the present one, and at most 16,777,216, at which no id is left.
+    /// The number is no less than the present one, and at most that behind the last id of the table's blocks. Without a stated
+    /// block that is 16,777,216.
     pub fn with_next_id(self, counter: u32) -> AdapterTable
         requires whole { IsWhole self }
         requires later { self.next_id ≤ counter }
-        requires last { counter ≤ 16777216 }
+        requires last { counter ≤ end_number self.ids }
         ensures value { result ≡ record self { next_id = counter } }
         ensures whole { IsWhole result }
     {

@@ -1,7 +1,9 @@
 //! How each step changes a whole table, and the table of a fresh adapter. Each call does nothing: its contract is
 //! the law.
 
-ghost use Rattle.std.specs.Prelude.{ℕ, ◌≡◌, ◌≤◌, None};
+ghost use Rattle.std.specs.Prelude.{ℕ, ◌≡◌, ◌≤◌, List, None};
+ghost use Rattle.cip_types.specs.Ids.{Extends};
+ghost use Rattle.cip_types.specs.declared.ids.IdBlock.{IdBlock};
 ghost use Rattle.adapter_table.specs.declared.profile.Profile.{Profile};
 ghost use Rattle.adapter_table.specs.Profiles.{profile_fault};
 ghost use Rattle.adapter_table.specs.declared.table.AdapterTable.{AdapterTable};
@@ -15,9 +17,9 @@ ghost use Rattle.adapter_table.specs.StatedLimits.{IsWithinLimits, PlacesAreKept
 ghost use Rattle.adapter_table.specs.Newest.{HasNewerNumber, IsAppliedNew, IsNotAgain};
 ghost use Rattle.adapter_table.specs.Laws.{EffectsKeep, AdmittedAreTimed, StoredSegmentsFit, AppliedDataHaveOutputs, AppliedDataFit, StepsKeep, StepsLeave, RefusalsTouchNothing, FreshOutputsAreZeros, StepsAcceptAfter, RefusalsAcceptNothing};
 
-/// The table of a fresh adapter is sound, and a step from a sound table leads to a sound one.
+/// The table of a fresh adapter is sound, if its profile has no fault, and a step from a sound table leads to a sound one.
 pub fn tables_are_sound()
-    ensures fresh { (profile : Profile) → IsSound (adapter_table profile) }
+    ensures fresh { (profile : Profile) → profile_fault profile ≡ None → IsSound (adapter_table profile) }
     ensures steps { StepsKeep IsSound }
 {}
 
@@ -50,6 +52,11 @@ pub fn profiles_stay()
 /// The counter of the next connection id never falls.
 pub fn counters_never_fall()
     ensures { (counter : ℕ) → StepsKeep (λ t. counter ≤ t.next_id) }
+{}
+
+/// The blocks of connection ids grow: the ids of the numbers that they have stay.
+pub fn blocks_grow()
+    ensures { (ids : List IdBlock) → StepsKeep (λ t. Extends ids t.ids) }
 {}
 
 /// An output of a fresh adapter holds zeros; after each event it has the bytes that the event left there, else those

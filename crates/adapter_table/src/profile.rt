@@ -1,11 +1,11 @@
 //! The profile of an adapter: its identity, its address and its connection points.
 
-ghost use Rattle.std.specs.Prelude.{◌≡◌, find};
+ghost use Rattle.std.specs.Prelude.{◌≡◌, ◌+◌, ◌*◌, ◌^◌, find};
 ghost use Rattle.adapter_table.specs.Own.{is_own_class};
-ghost use Rattle.adapter_table.specs.Profiles.{is_at, is_output_at};
+ghost use Rattle.adapter_table.specs.Profiles.{first_ids, first_request, is_at, is_output_at};
 
 use crate::maker_limits::MakerLimits;
-use cip_types::{Identity, Items, Node};
+use cip_types::{IdBlock, Identity, Items, Node, first_block};
 
 /// The action at an output when its owner goes idle or is lost.
 ///
@@ -53,9 +53,9 @@ pub struct Description {
 
 /// An adapter: the byte that begins its connection ids (its incarnation), its address and network mask, its
 /// identity, its points, the two points without data that input-only and listen-only connections consume, its
-/// description, the limits that its maker states, and the classes of the maker's own objects, whose requests its
-/// application answers. A device without a description is found by no inquiry, and has no objects but its Connection
-/// Manager, its assemblies and the maker's own.
+/// description, the limits that its maker states, the classes of the maker's own objects, whose requests its
+/// application answers, and the block of its first connection ids, if that is not its incarnation's. A device without a
+/// description is found by no inquiry, and has no objects but its Connection Manager, its assemblies and the maker's own.
 #[derive(PartialEq, Drop)]
 pub struct Profile {
     pub incarnation: u8,
@@ -70,9 +70,36 @@ pub struct Profile {
     pub description: Option<Description>,
     pub limits: MakerLimits,
     pub objects: Items<u32>,
+    pub ids: Option<IdBlock>,
+}
+
+/// The number of the first request to the application of a device whose ids begin here.
+fn request_behind(first: u32) -> u64
+    ensures { result ≡ first * 2 ^ 32 + 1 }
+{
+    u64::from(first) * (1 << 32) + 1
 }
 
 impl Profile {
+    /// The block of connection ids that the device begins with. Takes no memory.
+    ///
+    /// Volume 1, chapter 3, network connection ids.
+    pub fn first_ids(&self) -> IdBlock
+        ensures { result ≡ first_ids self.now }
+    {
+        first_block(self.incarnation, self.ids)
+    }
+
+    /// The number of the first request to the application. Takes no memory.
+    pub fn first_request(&self) -> u64
+        ensures { result ≡ first_request self.now.ids }
+    {
+        match self.ids {
+            Some(block) => request_behind(block.first),
+            None => 1,
+        }
+    }
+
     /// Whether the class is one of the maker's own. Takes no memory.
     ///
     /// Volume 1, chapter 5, object library.

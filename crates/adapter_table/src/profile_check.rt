@@ -9,7 +9,7 @@ use crate::profile::{Description, InputPoint, OutputPoint, Profile};
 use cip_events::ProfileFault;
 use cip_productions::FARTHEST_NUMBER;
 use cip_types::limits::{LONGEST_CONFIG, LONGEST_POINT, LONGEST_RPI_US, MOST_POINTS};
-use cip_types::{Identity, Node};
+use cip_types::{Identity, Node, are_ids};
 use list_identity::LONGEST_NAME;
 
 /// The bytes of a physical address.
@@ -273,7 +273,7 @@ fn are_objects(classes: &[u32]) -> bool
 fn fault_of(profile: &Profile) -> Option<ProfileFault>
     ensures { result ≡ profile_fault profile.now }
 {
-    if profile.incarnation == 0 {
+    if !are_ids(profile.incarnation, profile.ids) {
         return Some(ProfileFault::Incarnation);
     }
     if !is_address(profile.node, profile.mask) {
@@ -311,7 +311,7 @@ impl Profile {
         !has_point(self.outputs.as_slice(), self, 0)
     }
 
-    /// Checks the profile: its incarnation, its address, how many points it has, that their instances
+    /// Checks the profile: its incarnation and its ids, its address, how many points it has, that their instances
     /// differ, their lengths, its revision, its description, the limits that its maker states, and the classes of the
     /// maker's own objects, in this order. Takes no memory.
     ///

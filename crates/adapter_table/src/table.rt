@@ -4,7 +4,7 @@ use crate::counters::DeviceCounters;
 use crate::opening_rates::NodeOpenings;
 use crate::profile::Profile;
 use crate::row::Row;
-use cip_types::{Items, Ms, Node, Numbered};
+use cip_types::{IdBlock, Items, Ms, Node, Numbered};
 use messaging::Messaging;
 
 /// The bytes of a point.
@@ -32,8 +32,8 @@ impl Numbered for Stream {
     }
 }
 
-/// An adapter: its profile, its connections in opening order, the bytes of its points, its clock, the counter
-/// part of the next connection id, its open streams in the order in which they were opened, its class 3 connections
+/// An adapter: its profile, its connections in opening order, the bytes of its points, its clock, the blocks of its connection
+/// ids, the number of the next one, its open streams in the order in which they were opened, its class 3 connections
 /// with the requests that wait for its application, the openings of each node in its second, and its counters.
 #[derive(PartialEq, Drop)]
 pub struct AdapterTable {
@@ -41,6 +41,7 @@ pub struct AdapterTable {
     pub rows: Items<Row>,
     pub values: Items<PointValue>,
     pub clock: Ms,
+    pub ids: Items<IdBlock>,
     pub next_id: u32,
     pub streams: Items<Stream>,
     pub messaging: Messaging,

@@ -1,11 +1,12 @@
 -- What passing the checks says.
-use Rattle.std.proofs.Common.{◌≡◌, ◌≤◌, ℕ, ◌+◌, nat_lt, nat_le, Bool, true, false, not, ◌&&◌, ◌==◌, subst, List, [], ◌∷◌, length, Option, Some, None, Result, Ok, Err, refl, sym, ◌∙◌, ap, arith}
+use Rattle.std.proofs.Common.{◌-◌, ◌≡◌, ◌≤◌, ℕ, ◌+◌, nat_lt, nat_le, Bool, true, false, not, ◌&&◌, ◌==◌, subst, List, [], ◌∷◌, length, Option, Some, None, Result, Ok, Err, refl, sym, ◌∙◌, ap, arith}
 use Rattle.std.specs.List.{list_any}
 use Rattle.std.specs.Result.{result_ok}
 use Rattle.std.proofs.lemmas.Bool.Decides.{nat_tests}
 use Rattle.std.proofs.lemmas.Bool.{or_parts}
 use Rattle.messaging.specs.Class3Connections.{has_class3_triad}
 use Rattle.base_lemmas.specs.Numbers.{same_if_not}
+use Rattle.cip_types.specs.Ids.{end_number}
 use Rattle.cip_router.specs.declared.refusal.Refusal.{Refusal}
 use Rattle.cip_router.specs.declared.refusal.Refusal.TheVariants as refusal
 use Rattle.cip_epath.specs.declared.fault.PathFault.{PathFault}
@@ -139,7 +140,7 @@ pub record IsAdmitted (t : AdapterTable) (request : OpenFields) (admitted : Admi
   pub is_supported : (is_listener admitted.kind && not (is_supported t.rows admitted.kind admitted.produced)) ≡ false
   pub group_is : admitted.group ≡ joined admitted.multicast (group_of t.rows admitted.produced)
   pub same_api : HasSameApi admitted.t_o_api_ms admitted.group
-  pub ids_are_left : t.next_id + drawn_ids admitted.multicast admitted.group ≤ 16777216
+  pub ids_are_left : t.next_id + drawn_ids admitted.multicast admitted.group ≤ end_number t.ids
   pub capacity_is_left : (nat_le 64 (length t.rows) && not (list_any is_timed_out t.rows)) ≡ false
 
 api_passes : (api : ℕ) (group : Option Row) → joins group (λ member. not (api == member.t_o_api_ms)) ≡ false → HasSameApi api group
@@ -152,8 +153,13 @@ listener_supported ExclusiveOwner rows point is = refl
 listener_supported InputOnly rows point is = refl
 listener_supported ListenOnly rows point is = is
 
-ids_left : (next_id drawn : ℕ) → nat_lt 16777216 (next_id + drawn) ≡ false → next_id + drawn ≤ 16777216
-ids_left next_id drawn left = grind (arith, nat_tests)
+pub draws_some : (multicast : Bool) (group : Option Row) → 1 ≤ drawn_ids multicast group
+draws_some true None = omega arith
+draws_some false None = omega arith
+draws_some multicast (Some member) = omega arith
+
+are_left : (next_id end drawn : ℕ) → 1 ≤ drawn → nat_lt (end - next_id) drawn ≡ false → next_id + drawn ≤ end
+are_left next_id end drawn some left = grind (arith, nat_tests)
 
 pub admitted_is : (t : AdapterTable) (request : OpenFields) (admitted : Admitted) → admission t request ≡ Ok admitted → IsAdmitted t request admitted
 admitted_is t request admitted e =
@@ -185,12 +191,7 @@ admitted_is t request admitted e =
       is_supported = listener_supported j.points.consumer.kind t.rows j.points.path.produced (check_passes _ _ second.1.1.1.1.1.1.0);
       group_is = named.group_is;
       same_api = api_passes (interval_ms request.t_o_rpi) j.points.group (check_passes _ _ third.0);
-      ids_are_left = ids_left t.next_id (drawn_ids (is_multicast request.t_o_params.kind) j.points.group) (check_passes _ _ third.1.1.1.0);
+      ids_are_left = are_left t.next_id (end_number t.ids) (drawn_ids (is_multicast request.t_o_params.kind) j.points.group) (draws_some (is_multicast request.t_o_params.kind) j.points.group) (check_passes _ _ third.1.1.1.0);
       capacity_is_left = check_passes _ _ third.1.1.1.1.0;
     } in
     subst (IsAdmitted t request) j.said made
-
-pub draws_some : (multicast : Bool) (group : Option Row) → 1 ≤ drawn_ids multicast group
-draws_some true None = omega arith
-draws_some false None = omega arith
-draws_some multicast (Some member) = omega arith

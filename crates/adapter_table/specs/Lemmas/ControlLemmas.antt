@@ -1,9 +1,9 @@
--- Events that bring neither data nor time: requests and their answers, streams, and all that leave the table as it is. What one
--- open, one close and each change of a stream and of class 3 connections do, each such event does.
+-- Events that bring neither data nor time: requests and their answers, streams, further ids, and all that leave the table as it
+-- is. What one open, one close and each change of a stream and of class 3 connections do, each such event does.
 use Rattle.std.proofs.Common.{◌≡◌, ◌==◌, ℕ, Bool, true, false, length, List, Option, Some, None, Ok, refl, subst}
 use Rattle.cip_types.specs.declared.names.Node.{Node}
 use Rattle.cip_events.specs.declared.event.Event.{Event}
-use Rattle.cip_events.specs.declared.event.Event.TheVariants.{Request, StreamOpened, Frame, StreamCut, Datagram, Inquiry, Write, Tick, Respond, Counters}
+use Rattle.cip_events.specs.declared.event.Event.TheVariants.{Request, StreamOpened, Frame, StreamCut, Datagram, Inquiry, Write, Tick, Respond, Counters, Ids}
 use Rattle.adapter_table.specs.declared.table.AdapterTable.{AdapterTable}
 use Rattle.adapter_table.specs.Requests.{Next}
 use Rattle.adapter_table.specs.Inquiries.{inquiry_reply, inquired_by, inquired}
@@ -12,7 +12,7 @@ use Rattle.adapter_table.specs.declared.profile.Description.{Description}
 use Rattle.adapter_table.specs.Counters.{link_len}
 use Rattle.adapter_table.specs.Step.{adapter_step, counters_said, counters_with}
 use Rattle.adapter_table.specs.Lemmas.PassiveLemmas.{passive_is}
-use Rattle.adapter_table.specs.Lemmas.RequestLemmas.{RequestsDo, LimitedDo, limited_do, requested_does, frame_does, respond_does, next_is, streamed_is, cut_does}
+use Rattle.adapter_table.specs.Lemmas.RequestLemmas.{RequestsDo, LimitedDo, limited_do, requested_does, frame_does, respond_does, next_is, streamed_is, taken_is, cut_does}
 
 -- the event brings data or time: a datagram, a write or a tick
 abbrev pub brings_data : Event → Bool
@@ -52,6 +52,9 @@ limited_control R does streams t (Write point bytes) next none is = absurd (let 
 limited_control R does streams t (Tick ms) next none is = absurd (let e = none in cc)
 limited_control R does streams t (Respond number status bytes) next none is = respond_does R does t number status bytes next is
 limited_control R does streams t (Counters bytes) next none is = counters_does R does t bytes next is
+limited_control R does streams t (Ids block) next none is =
+    let taken = taken_is t block next is in
+    subst (λ (n : Next). R t n.1) taken.said (does.taken t block taken.may)
 limited_control R does streams t other next none is = subst (λ (n : Next). R t n.1) (passive_is t other next refl is).said (does.stays t)
 
 -- what every opening that is admitted does, one within the limits does

@@ -71,6 +71,7 @@ requests_keep P keep = record {
   messaged = keep.messaged;
   counted = λ t next openings kept holds. keep.counted next openings (kept holds);
   tallied = λ t next counters kept holds. keep.tallied next counters (kept holds);
+  taken = keep.taken;
 }
 
 keeps_judged : (P : AdapterTable → Type 0) (b : Bool) (t fed : AdapterTable) (delivery : Delivery) → P t → P fed → P (cond b (delivered delivery fed) (delivered delivery t)).1

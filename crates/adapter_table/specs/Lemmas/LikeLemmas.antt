@@ -1,12 +1,12 @@
 -- What the laws look at stays where each connection is changed into one like it.
 use Rattle.std.proofs.Common.{◌≡◌, ◌≤◌, ℕ, ◌==◌, nat_le, Bool, true, false, cond, ◌||◌, List, [], ◌∷◌, map, length, refl, sym, ◌∙◌, ap, subst, arith}
 use Rattle.std.specs.List.{list_any}
+use Rattle.cip_types.specs.declared.ids.IdBlock.{IdBlock}
 use Rattle.cip_types.specs.declared.names.Triad.{Triad}
 use Rattle.cip_types.specs.declared.names.ConnId.{ConnId}
 use Rattle.cip_types.specs.declared.names.Node.{Node}
 use Rattle.cip_types.specs.declared.names.Ms.{Ms}
 use Rattle.cip_datagram.specs.Datagram.{DatagramFields}
-use Rattle.adapter_table.specs.declared.profile.Profile.{Profile}
 use Rattle.adapter_table.specs.Connections.{Row}
 use Rattle.cip_productions.specs.declared.kind.Kind.{Kind}
 use Rattle.adapter_table.specs.declared.row.State.{State}
@@ -18,7 +18,7 @@ use Rattle.cip_productions.specs.declared.production.Production.{Production}
 use Rattle.cip_productions.specs.Productions.{produced, changed, changed_by, deferred, is_free}
 use Rattle.adapter_table.specs.Productions.{producer_of, produced_state, produced_row, changed_state, changed_row}
 use Rattle.adapter_table.specs.Datagrams.{is_for, accepted_row, accepted_if_for}
-use Rattle.adapter_table.specs.Sound.{TriadsDiffer, has_o_t_id, IdsDiffer, IdsAreDrawn, ListenersAreSupported, Agree, AllAgree, GroupsAgree}
+use Rattle.adapter_table.specs.Sound.{TriadsDiffer, has_o_t_id, IdsDiffer, IsDrawn, IdsAreDrawn, ListenersAreSupported, Agree, AllAgree, GroupsAgree}
 use Rattle.adapter_table.specs.Lemmas.GroupLemmas.{produced_is}
 
 -- a connection in the place of another
@@ -78,11 +78,17 @@ pub ids_kept : (f : Row → Row) → Keeps f → (rows : List Row) → IdsDiffer
 ids_kept f keeps [] differ = tt
 ids_kept f keeps (row ∷ rows) differ = (rw ((keeps.like row).o_t_id) (any_id_kept f keeps row.o_t_id rows ∙ differ.0), ids_kept f keeps rows differ.1)
 
-pub drawn_kept : (f : Row → Row) → Keeps f → (profile : Profile) (next_id : ℕ) (rows : List Row) → IdsAreDrawn profile next_id rows → IdsAreDrawn profile next_id (map f rows)
-drawn_kept f keeps profile next_id [] drawn = tt
-drawn_kept f keeps profile next_id (row ∷ rows) drawn =
-    let like = keeps.like row in
-    (rw (like.o_t_id, like.opening) drawn.0, rw like.opening drawn.1, drawn_kept f keeps profile next_id rows drawn.2)
+drawn_like : (ids : List IdBlock) (next_id : ℕ) (row row' : Row) → IsLike row row' → IsDrawn ids next_id row → IsDrawn ids next_id row'
+drawn_like ids next_id row row' like is = record {
+  id = rw (like.o_t_id, like.opening) is.id;
+  begins = rw like.opening is.begins;
+  below = rw like.opening is.below;
+}
+
+pub drawn_kept : (f : Row → Row) → Keeps f → (ids : List IdBlock) (next_id : ℕ) (rows : List Row) → IdsAreDrawn ids next_id rows → IdsAreDrawn ids next_id (map f rows)
+drawn_kept f keeps ids next_id [] drawn = tt
+drawn_kept f keeps ids next_id (row ∷ rows) drawn =
+    (drawn_like ids next_id row (f row) (keeps.like row) drawn.0, drawn_kept f keeps ids next_id rows drawn.1)
 
 -- ---- support
 

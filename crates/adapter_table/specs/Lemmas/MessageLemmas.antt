@@ -1,8 +1,9 @@
 -- Each change of class 3 connections and of waiting requests leaves them as sound as they were.
-use Rattle.std.proofs.Common.{◌≡◌, ◌≤◌, ◌<◌, ℕ, ◌+◌, ◌==◌, nat_lt, nat_le, Bool, true, false, cond, not, ◌||◌, List, [], ◌∷◌, length, find, Option, Some, None, refl, arith, leb-true}
+use Rattle.std.proofs.Common.{◌≡◌, ◌≤◌, ◌<◌, ℕ, ◌+◌, ◌-◌, ◌==◌, nat_lt, nat_le, Bool, true, false, cond, not, ◌||◌, List, [], ◌∷◌, length, find, Option, Some, None, refl, arith, leb-true}
 use Rattle.std.specs.List.{list_any}
 use Rattle.std.proofs.lemmas.Bool.{and_parts, or_parts, not-false}
 use Rattle.std.proofs.lemmas.Bool.Decides.{nat_tests}
+use Rattle.cip_types.specs.Ids.{end_number}
 use Rattle.cip_types.specs.declared.names.ConnId.{ConnId}
 use Rattle.cip_types.specs.declared.names.Ms.{Ms}
 use Rattle.cip_types.specs.declared.names.Node.{Node}
@@ -85,7 +86,7 @@ abbrev KeepsPlace : AdapterTable → Messaging → Type 0
 KeepsPlace t m = Keeps (IsInPlace t.rows t.streams) (CanGoBack t.streams) t.messaging m
 
 abbrev StaysSound : AdapterTable → Messaging → Type 0
-StaysSound t m = IsSoundMessaging t.profile.incarnation t.next_id t.messaging → IsSoundMessaging t.profile.incarnation t.next_id m
+StaysSound t m = IsSoundMessaging t.ids t.next_id t.messaging → IsSoundMessaging t.ids t.next_id m
 
 -- nothing is asked: what waits waited before
 abbrev pub WaitsNot : ℕ → Waiting → Type 0
@@ -107,18 +108,18 @@ goes_kept t m own keeps asks =
 
 -- a class 3 connection is closed
 pub goes_closed : (t : AdapterTable) (d : kept.Class3Connection) → MessagesGoOn t t.next_id (without_class3 t.messaging d.triad)
-goes_closed t d = goes_kept t _ (without_class3_sound t.profile.incarnation t.next_id t.messaging d.triad) (without_class3_keeps _ _ t.messaging d.triad) (λ number. without_class3_keeps _ _ t.messaging d.triad)
+goes_closed t d = goes_kept t _ (without_class3_sound t.ids t.next_id t.messaging d.triad) (without_class3_keeps _ _ t.messaging d.triad) (λ number. without_class3_keeps _ _ t.messaging d.triad)
 
 -- its last message was repeated
 pub goes_repeated : (t : AdapterTable) (id : ConnId) (deadline : Ms) → MessagesGoOn t t.next_id (repeated t.messaging id deadline)
 goes_repeated t id deadline =
-    goes_kept t _ (repeated_sound t.profile.incarnation t.next_id t.messaging id deadline) (repeated_keeps _ _ t.messaging id deadline (place_repeated t.rows t.streams deadline))
+    goes_kept t _ (repeated_sound t.ids t.next_id t.messaging id deadline) (repeated_keeps _ _ t.messaging id deadline (place_repeated t.rows t.streams deadline))
     (λ number. repeated_keeps _ _ t.messaging id deadline (λ d is. tt))
 
 -- a message was executed
 pub goes_executed : (t : AdapterTable) (id : ConnId) (count : ℕ) (reply : List ℕ) (deadline : Ms) → length reply ≤ 1404 → MessagesGoOn t t.next_id (executed t.messaging id count reply deadline)
 goes_executed t id count reply deadline short =
-    goes_kept t _ (executed_sound t.profile.incarnation t.next_id t.messaging id count reply deadline)
+    goes_kept t _ (executed_sound t.ids t.next_id t.messaging id count reply deadline)
     (executed_keeps _ _ t.messaging id count reply deadline (place_executed t.rows t.streams count reply deadline short))
     (λ number. executed_keeps _ _ t.messaging id count reply deadline (λ d is. tt))
 
@@ -147,7 +148,7 @@ referred_settled m peer from service clock number settled = record {
 pub goes_referred : (t : AdapterTable) (peer : Node) (from : Requester) (service : ℕ) → lacks_room t.messaging ≡ false → can_be_answered t.messaging.class3_connections (waiting_for t.messaging.next_number peer from service t.clock) ≡ true → RouteIsOpen t.streams from → MessagesGoOn t t.next_id (referred t.messaging peer from service t.clock)
 unfolding messages_table
 goes_referred t peer from service room can opens = goes t _ (λ sound. record {
-  own = referred_sound t.profile.incarnation t.next_id t.messaging peer from service t.clock room can sound.own;
+  own = referred_sound t.ids t.next_id t.messaging peer from service t.clock room can sound.own;
   class3_connections = referred_class3_connections (IsInPlace t.rows t.streams) t.messaging peer from service t.clock sound.class3_connections;
   waiting = referred_places t.streams t.messaging peer from service t.clock opens sound.waiting;
 }) (referred_settled t.messaging peer from service t.clock)
@@ -159,7 +160,7 @@ goes_referred_over t peer id count service deadline found room =
     let keeps = executed_keeps (IsInPlace t.rows t.streams) (CanGoBack t.streams) t.messaging id count [] deadline (place_executed t.rows t.streams count [] deadline (omega arith)) in
     let left = executed t.messaging id count [] deadline in
     goes t _ (λ sound. record {
-      own = referred_over_sound t.profile.incarnation t.next_id t.messaging peer id count service deadline t.clock found room sound.own;
+      own = referred_over_sound t.ids t.next_id t.messaging peer id count service deadline t.clock found room sound.own;
       class3_connections = referred_class3_connections (IsInPlace t.rows t.streams) left peer (Class3Connection id count) service t.clock (keeps.class3_connections sound.class3_connections);
       waiting = referred_places t.streams left peer (Class3Connection id count) service t.clock tt (keeps.waiting sound.waiting);
     })
@@ -169,7 +170,7 @@ goes_referred_over t peer id count service deadline found room =
 
 class3_sound : (t : AdapterTable) (id : ConnId) (count service : ℕ) (reply : ReplyFields) (found : Option kept.Class3Connection) → StaysSound t (class3_keeps t.messaging id count service reply found)
 class3_sound t id count service reply None = λ sound. sound
-class3_sound t id count service reply (Some d) = replied_sound t.profile.incarnation t.next_id t.messaging id count (fitted_text d service reply)
+class3_sound t id count service reply (Some d) = replied_sound t.ids t.next_id t.messaging id count (fitted_text d service reply)
 
 class3_places : (t : AdapterTable) (id : ConnId) (count service : ℕ) (reply : ReplyFields) (found : Option kept.Class3Connection) → KeepsPlace t (class3_keeps t.messaging id count service reply found)
 class3_places t id count service reply None = record { class3_connections = λ all. all; waiting = λ all. all; number = refl }
@@ -198,7 +199,7 @@ reply_places t (Class3Connection id count) service reply = class3_places t id co
 pub goes_answered : (t : AdapterTable) (w : Waiting) (reply : ReplyFields) → MessagesGoOn t t.next_id (answered (with_reply t.messaging w.asker w.service reply) w.number)
 goes_answered t w reply =
     let left = with_reply t.messaging w.asker w.service reply in
-    goes_kept t _ (λ sound. answered_sound t.profile.incarnation t.next_id left w.number (reply_sound t w.asker w.service reply sound))
+    goes_kept t _ (λ sound. answered_sound t.ids t.next_id left w.number (reply_sound t w.asker w.service reply sound))
     (keeps_both _ _ t.messaging left (answered left w.number) (reply_places t w.asker w.service reply) (answered_keeps _ _ left w.number))
     (λ number. keeps_both _ _ t.messaging left (answered left w.number) (reply_asks t.messaging w.asker w.service reply number) (answered_keeps _ _ left w.number))
 
@@ -206,7 +207,7 @@ goes_answered t w reply =
 
 pub goes_aged : (t : AdapterTable) → MessagesGoOn t t.next_id (aged t.clock t.messaging)
 goes_aged t =
-    goes_kept t _ (aged_sound t.profile.incarnation t.next_id t.clock t.messaging)
+    goes_kept t _ (aged_sound t.ids t.next_id t.clock t.messaging)
     (aged_keeps (IsInPlace t.rows t.streams) (CanGoBack t.streams) (λ service d is. place_replied t.rows t.streams (late_text service) (omega arith) d is) t.clock t.messaging)
     (λ number. aged_keeps _ (WaitsNot number) (λ service d is. tt) t.clock t.messaging)
 
@@ -218,8 +219,8 @@ multiplier_fits m h = grind (arith, nat_tests)
 interval_fits : (rpi : ℕ) → is_interval rpi ≡ true → interval_ms rpi ≤ 10000
 interval_fits rpi is = grind (arith, nat_tests)
 
-ids_left : (next_id : ℕ) → nat_lt 16777216 (next_id + 1) ≡ false → next_id + 1 ≤ 16777216
-ids_left next_id h = grind (arith, nat_tests)
+one_is_left : (next_id end : ℕ) → nat_lt (end - next_id) 1 ≡ false → next_id + 1 ≤ end
+one_is_left next_id end h = grind (arith, nat_tests)
 
 room_left : (n : ℕ) → nat_le 64 n ≡ false → n < 64
 room_left n h = grind (arith, nat_tests)
@@ -231,7 +232,7 @@ pub record IsAdmittedClass3 (t : AdapterTable) (request : OpenFields) : Type 0 w
   pub multiplier : request.multiplier ≤ 7
   pub o_t_api_ms : interval_ms request.o_t_rpi ≤ 10000
   pub t_o_api_ms : interval_ms request.t_o_rpi ≤ 10000
-  pub ids : t.next_id + 1 ≤ 16777216
+  pub ids : t.next_id + 1 ≤ end_number t.ids
   pub room : length t.messaging.class3_connections < 64
 
 pub admitted_class3_is : (t : AdapterTable) (peer : Node) (request : OpenFields) → class3_refusal (class3_view t peer request.triad) request ≡ None → IsAdmittedClass3 t request
@@ -251,7 +252,7 @@ admitted_class3_is t peer request passes =
       multiplier = multiplier_fits request.multiplier served.0;
       o_t_api_ms = interval_fits request.o_t_rpi both.0;
       t_o_api_ms = interval_fits request.t_o_rpi both.1;
-      ids = ids_left t.next_id (check_passes _ _ third.0);
+      ids = one_is_left t.next_id (end_number t.ids) (check_passes _ _ third.0);
       room = room_left (length t.messaging.class3_connections) (check_passes _ _ third.1.0);
     }
 
@@ -269,15 +270,16 @@ unfolding messages_table opened_class3 with_class3
 goes_opened t stream request passes carried =
     let is = admitted_class3_is t stream.peer request passes in
     let d = opened_class3 t stream request in
+    let ids = is.ids in
     record {
       later = omega arith;
       one = omega arith;
       left = λ few. is.ids;
       sound = λ sound messages. record {
-        own = with_class3_sound t.profile.incarnation t.next_id (t.next_id + 1) t.messaging d (record { room = is.room; triad = is.class3_connections; id = refl; opening = refl }) (omega arith) messages.own;
+        own = with_class3_sound t.ids t.next_id (t.next_id + 1) t.messaging d (record { room = is.room; triad = is.class3_connections; id = refl; opening = refl; left = record { are = sound.blocks; begins = sound.ids_begin; ends = omega (arith, ids) } }) (omega arith) messages.own;
         class3_connections = each_more (IsInPlace t.rows t.streams) t.messaging.class3_connections d messages.class3_connections (record {
           triad = is.rows;
-          id = next_is_new t.profile t.next_id t.rows sound.ids_are_drawn;
+          id = next_is_new t.ids t.next_id t.rows (record { are = sound.blocks; begins = sound.ids_begin; ends = omega (arith, ids) }) sound.ids_are_drawn;
           stream = carried;
           watchdog = timeout_fits request.multiplier (interval_ms request.o_t_rpi) is.multiplier is.o_t_api_ms;
           o_t_api_ms = is.o_t_api_ms;

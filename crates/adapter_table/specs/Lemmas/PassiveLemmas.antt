@@ -2,7 +2,7 @@
 -- other events, and cites this for all that are passive.
 use Rattle.std.proofs.Common.{◌≡◌, ℕ, Bool, true, false, List, Option, Some, None, Result, Ok, Err}
 use Rattle.cip_events.specs.declared.event.Event.{Event}
-use Rattle.cip_events.specs.declared.event.Event.TheVariants.{Request, StreamOpened, Frame, StreamCut, Datagram, Inquiry, Write, Read, Tick, Respond, Counters}
+use Rattle.cip_events.specs.declared.event.Event.TheVariants.{Request, StreamOpened, Frame, StreamCut, Datagram, Inquiry, Write, Read, Tick, Respond, Counters, Ids}
 use Rattle.cip_events.specs.declared.event.StepFault.{StepFault}
 use Rattle.cip_events.specs.declared.event.StepFault.TheVariants.{NoSuchPoint}
 use Rattle.cip_events.specs.declared.event.Verdict.{Verdict}
@@ -26,6 +26,7 @@ is_passive (Write point bytes) = false
 is_passive (Tick ms) = false
 is_passive (Respond number status bytes) = false
 is_passive (Counters bytes) = false
+is_passive (Ids block) = false
 is_passive other = true
 
 read_passive : (Q : Result Next StepFault → Type 0) (t : AdapterTable) → ((why : StepFault) → Q (Err why)) → ((verdict : Verdict) → Q (Ok (plain_answer verdict, t))) → (found : Option (List ℕ)) → Q (read_of t found)
@@ -46,6 +47,7 @@ passive_holds Q t refused answered (Read point) passive = read_passive Q t refus
 passive_holds Q t refused answered (Tick ms) passive = absurd (let e = passive in cc)
 passive_holds Q t refused answered (Respond number status bytes) passive = absurd (let e = passive in cc)
 passive_holds Q t refused answered (Counters bytes) passive = absurd (let e = passive in cc)
+passive_holds Q t refused answered (Ids block) passive = absurd (let e = passive in cc)
 passive_holds Q t refused answered other passive = search (refused, answered)
 
 -- a passive event that is answered leaves the table as it is

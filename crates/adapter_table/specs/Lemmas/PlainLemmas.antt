@@ -1,14 +1,17 @@
--- Events that a table answers by a verdict and notices alone, if it takes them: streams that open or end, datagrams, and all that
--- leave the table as it is.
+-- Events that a table answers by a verdict and notices alone, if it takes them: streams that open or end, datagrams, further ids,
+-- and all that leave the table as it is.
 use Rattle.std.proofs.Common.{◌≡◌, ◌==◌, ℕ, Bool, true, false, length, List, [], find, Option, Some, None, Result, Ok, Err, refl}
+use Rattle.std.proofs.lemmas.Bool.{cond_both}
 use Rattle.base_lemmas.specs.Booleans.{either}
 use Rattle.cip_types.specs.declared.names.Node.{Node}
+use Rattle.cip_types.specs.Ids.{may_take}
+use Rattle.cip_types.specs.declared.ids.IdBlock.{IdBlock}
 use Rattle.cip_datagram.specs.declared.datagram.DatagramFault.{DatagramFault}
 use Rattle.cip_datagram.specs.Datagram.{DatagramFields}
 use Rattle.cip_datagram.specs.Reading.{datagram_reading}
 use Rattle.cip_events.specs.declared.event.Delivery.TheVariants.{UnknownId, Malformed}
 use Rattle.cip_events.specs.declared.event.Event.{Event}
-use Rattle.cip_events.specs.declared.event.Event.TheVariants.{Request, StreamOpened, Frame, StreamCut, Datagram, Inquiry, Write, Tick, Respond, Counters}
+use Rattle.cip_events.specs.declared.event.Event.TheVariants.{Request, StreamOpened, Frame, StreamCut, Datagram, Inquiry, Write, Tick, Respond, Counters, Ids}
 use Rattle.cip_events.specs.declared.event.Notice.{Notice}
 use Rattle.cip_events.specs.declared.event.StepFault.{StepFault}
 use Rattle.cip_events.specs.declared.event.StepFault.TheVariants.{NotAllowedNow, WrongLength}
@@ -24,7 +27,7 @@ use Rattle.adapter_table.specs.Datagrams.{is_for, row_delivery, accepted_table, 
 use Rattle.adapter_table.specs.declared.profile.Description.{Description}
 use Rattle.adapter_table.specs.Counters.{link_len}
 use Rattle.adapter_table.specs.Counting.{counted_link}
-use Rattle.adapter_table.specs.Step.{adapter_step, counters_said, counters_with}
+use Rattle.adapter_table.specs.Step.{adapter_step, counters_said, counters_with, taken_table, take_ids}
 use Rattle.adapter_table.specs.Lemmas.PassiveLemmas.{passive_holds}
 
 -- what holds of each table with each verdict and notices alone
@@ -56,6 +59,11 @@ pub counters_hold : (Q : Result Next StepFault → Type 0) (t : AdapterTable) (b
 unfolding counters_said
 counters_hold Q t bytes refused holds = counters_by Q t bytes refused holds t.profile.description (length bytes == link_len)
 
+-- what holds of each fault, and of the table with the further block of ids and no more than a verdict, holds after that event
+pub ids_hold : (Q : Result Next StepFault → Type 0) (t : AdapterTable) (block : IdBlock) → ((why : StepFault) → Q (Err why)) → (may_take t.ids block ≡ true → Q (Ok (plain_answer Done, taken_table t block))) → Q (adapter_step t (Ids block))
+unfolding take_ids
+ids_hold Q t block refused holds = cond_both (may_take t.ids block) (Ok (plain_answer Done, taken_table t block)) (Err NotAllowedNow) Q holds (λ full. refused NotAllowedNow)
+
 -- the event can be answered by frames or datagrams
 abbrev pub answers_more : Event → Bool
 answers_more (Request peer bytes) = true
@@ -79,4 +87,5 @@ plain_holds Q t refused holds (Write point bytes) more = absurd (let e = more in
 plain_holds Q t refused holds (Tick ms) more = absurd (let e = more in cc)
 plain_holds Q t refused holds (Respond number status bytes) more = absurd (let e = more in cc)
 plain_holds Q t refused holds (Counters bytes) more = counters_hold Q t bytes refused (holds Done [] (counted_link t bytes))
+plain_holds Q t refused holds (Ids block) more = ids_hold Q t block refused (λ may. holds Done [] (taken_table t block))
 plain_holds Q t refused holds other more = passive_holds Q t refused (λ verdict. holds verdict [] t) other refl

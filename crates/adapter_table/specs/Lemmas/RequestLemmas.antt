@@ -5,6 +5,8 @@ use Rattle.std.specs.Str.{bytes_eq}
 use Rattle.std.proofs.lemmas.Bool.{and_parts, or_parts}
 use Rattle.cip_types.specs.declared.names.Node.{Node}
 use Rattle.cip_types.specs.declared.names.Triad.{Triad}
+use Rattle.cip_types.specs.declared.ids.IdBlock.{IdBlock}
+use Rattle.cip_types.specs.Ids.{may_take}
 use Rattle.cip_fwdopen.specs.Open.{OpenFields}
 use Rattle.cip_fwdopen.specs.Close.{CloseFields}
 use Rattle.cip_encap.specs.declared.packet.ItemFault.{ItemFault}
@@ -59,11 +61,12 @@ use Rattle.adapter_table.specs.Counters.{counted, refused_tally, tally_of}
 use Rattle.adapter_table.specs.Counting.{tallied, with_counters}
 use Rattle.adapter_table.specs.Encapsulation.{Handled, items_for, connected_items_for, refusal, session_begun, register_session, request_replied, request_handled, packet_replied, message_replied, message_served, message_executed, message_found, unit_replied, handled, framed, frame_for, frame_answer, stream_answer, frame_of, frame}
 use Rattle.adapter_table.specs.Inquiries.{inquiry_reply}
+use Rattle.adapter_table.specs.Step.{taken_table, take_ids}
 use Rattle.adapter_table.specs.Lemmas.LimitLemmas.{limited_is}
 use Rattle.adapter_table.specs.Lemmas.MessageLemmas.{found_any, same_number, fitted_short, goes_closed, goes_repeated, goes_executed, goes_referred, goes_referred_over, goes_answered, goes_opened}
 
 -- a request changes nothing, opens a connection, or closes one; a frame may also end a stream, or register a session on one;
--- either may change class 3 connections and waiting requests
+-- either may change class 3 connections and waiting requests; and the device may be given a further block of connection ids
 pub record RequestsDo (R : AdapterTable → AdapterTable → Type 0) : Type 0 where
   pub stays : (t : AdapterTable) → R t t
   pub opened : (t : AdapterTable) (peer : Node) (request : OpenFields) (admitted : Admitted) → admission t request ≡ Ok admitted → R t (opened_table t (opened_row t peer request admitted) admitted)
@@ -73,6 +76,7 @@ pub record RequestsDo (R : AdapterTable → AdapterTable → Type 0) : Type 0 wh
   pub messaged : (t : AdapterTable) (next_id : ℕ) (m : Messaging) → MessagesGoOn t next_id m → R t (messages_table t next_id m)
   pub counted : (t next : AdapterTable) (openings : List NodeOpenings) → R t next → R t (with_openings next openings)
   pub tallied : (t next : AdapterTable) (counters : DeviceCounters) → R t next → R t (with_counters next counters)
+  pub taken : (t : AdapterTable) (block : IdBlock) → may_take t.ids block ≡ true → R t (taken_table t block)
 
 -- the same, where each connection that is opened is within the limits that the maker states
 pub record LimitedDo (R : AdapterTable → AdapterTable → Type 0) : Type 0 where
@@ -84,6 +88,7 @@ pub record LimitedDo (R : AdapterTable → AdapterTable → Type 0) : Type 0 whe
   pub messaged : (t : AdapterTable) (next_id : ℕ) (m : Messaging) → MessagesGoOn t next_id m → R t (messages_table t next_id m)
   pub connected : (t : AdapterTable) (stream : Stream) (request : OpenFields) → class3_refusal (class3_view t stream.peer request.triad) request ≡ None → IsCarried t.streams stream.number → R t (class3_table t (opened_class3 t stream request))
   pub tallied : (t next : AdapterTable) (counters : DeviceCounters) → R t next → R t (with_counters next counters)
+  pub taken : (t : AdapterTable) (block : IdBlock) → may_take t.ids block ≡ true → R t (taken_table t block)
 
 pub limited_do : (R : AdapterTable → AdapterTable → Type 0) → RequestsDo R → LimitedDo R
 limited_do R does = record {
@@ -95,6 +100,7 @@ limited_do R does = record {
   messaged = does.messaged;
   connected = λ t stream request passes carried. does.counted t _ _ (does.messaged t (t.next_id + 1) _ (goes_opened t stream request passes carried));
   tallied = does.tallied;
+  taken = does.taken;
 }
 
 pub next_is : (x y : Next) → ◌≡◌ {A = Result Next StepFault} (Ok x) (Ok y) → x ≡ y
@@ -368,6 +374,19 @@ streamed_is t number peer next is = streamed_by (is_taken t.streams number) t nu
 cut_by : (R : AdapterTable → AdapterTable → Type 0) → LimitedDo R → (t : AdapterTable) (found : Option Stream) (next : Next) → cut_of t found ≡ Ok next → R t next.1
 cut_by R does t None next is = absurd cc
 cut_by R does t (Some stream) next is = subst (λ (n : Next). R t n.1) (next_is _ _ is) (does.unstreamed t stream.number)
+
+-- a further block that is taken has no id of the device's
+pub record IsTaken (t : AdapterTable) (block : IdBlock) (next : Next) : Type 0 where
+  pub may : may_take t.ids block ≡ true
+  pub said : ◌≡◌ {A = Next} (plain_answer Done, taken_table t block) next
+
+taken_by : (b : Bool) (t : AdapterTable) (block : IdBlock) (next : Next) → may_take t.ids block ≡ b → ◌≡◌ {A = Result Next StepFault} (cond b (Ok (plain_answer Done, taken_table t block)) (Err NotAllowedNow)) (Ok next) → IsTaken t block next
+taken_by true t block next may is = record { may = may; said = next_is _ _ is }
+taken_by false t block next may is = absurd cc
+
+pub taken_is : (t : AdapterTable) (block : IdBlock) (next : Next) → take_ids t block ≡ Ok next → IsTaken t block next
+unfolding take_ids
+taken_is t block next is = taken_by (may_take t.ids block) t block next refl is
 
 -- each stream that is cut
 pub cut_does : (R : AdapterTable → AdapterTable → Type 0) → LimitedDo R → (t : AdapterTable) (number : ℕ) (next : Next) → stream_cut t number ≡ Ok next → R t next.1

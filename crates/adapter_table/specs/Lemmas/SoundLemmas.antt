@@ -1,19 +1,22 @@
 -- What keeps the rows sound: some are taken out, one is appended.
-use Rattle.std.proofs.Common.{◌≡◌, ◌≤◌, ◌<◌, ℕ, ◌+◌, ◌*◌, ◌^◌, Bool, true, false, cond, not, ◌||◌, ◌&&◌, nat_le, ◌==◌, List, [], ◌∷◌, ◌++◌, length, filter, find, Option, Some, refl, sym, ◌∙◌, ap, arith, length-append}
+use Rattle.std.proofs.Common.{◌≡◌, ◌≤◌, ◌<◌, ℕ, ◌+◌, Bool, true, false, cond, not, ◌||◌, ◌&&◌, nat_le, ◌==◌, List, [], ◌∷◌, ◌++◌, length, filter, find, Option, Some, refl, sym, ◌∙◌, ap, arith, length-append}
 use Rattle.std.specs.List.{list_any}
 use Rattle.std.proofs.lemmas.Bool.Decides.{nat_tests}
 use Rattle.std.proofs.lemmas.Grind.{common_steps}
 use Rattle.std.proofs.lemmas.List.Elements.{filter-append}
 use Rattle.std.proofs.lemmas.List.Folds.{list_any-append}
-use Rattle.std.proofs.lemmas.Bool.{or_parts, not-false}
+use Rattle.std.proofs.lemmas.Bool.{or_parts, not-false, ne_eqb}
 use Rattle.cip_types.specs.declared.names.Triad.{Triad}
 use Rattle.cip_types.specs.declared.names.ConnId.{ConnId}
-use Rattle.adapter_table.specs.declared.profile.Profile.{Profile}
 use Rattle.adapter_table.specs.Connections.{Row}
 use Rattle.adapter_table.specs.Rows.{same_triad, has_triad, drives, drivers, others, is_timed_out}
-use Rattle.cip_types.specs.Ids.{connection_id}
+use Rattle.cip_types.specs.Ids.{end_number, id_at, with_block}
 use Rattle.adapter_table.specs.Opening.{is_opened_as, is_replaced_by}
 use Rattle.adapter_table.specs.Sound.{TriadsDiffer, has_o_t_id, IdsDiffer, IdsAreDrawn}
+use Rattle.adapter_table.specs.Sound.{IsDrawn as Drawn}
+use Rattle.adapter_table.specs.EachLemmas.{each_filter, each_weak, each_append}
+use Rattle.cip_types.specs.declared.ids.IdBlock.{IdBlock}
+use Rattle.cip_types.specs.IdLaws.{IsLeft, ids_stay, next_differs}
 
 -- ---- some are taken out
 
@@ -47,13 +50,8 @@ ids_filter p (row ∷ rows) differ =
       | false ↦ ids_filter p rows differ.1
     ]
 
-pub drawn_filter : (p : Row → Bool) (profile : Profile) (next_id : ℕ) (rows : List Row) → IdsAreDrawn profile next_id rows → IdsAreDrawn profile next_id (filter p rows)
-drawn_filter p profile next_id [] drawn = tt
-drawn_filter p profile next_id (row ∷ rows) drawn =
-    elim (p row) as (λ b. IdsAreDrawn profile next_id (cond b (row ∷ filter p rows) (filter p rows))) [
-      | true ↦ (drawn.0, drawn.1, drawn_filter p profile next_id rows drawn.2)
-      | false ↦ drawn_filter p profile next_id rows drawn.2
-    ]
+pub drawn_filter : (p : Row → Bool) (ids : List IdBlock) (next_id : ℕ) (rows : List Row) → IdsAreDrawn ids next_id rows → IdsAreDrawn ids next_id (filter p rows)
+drawn_filter p ids next_id rows drawn = each_filter (Drawn ids next_id) p rows drawn
 
 -- none passes, so none is kept
 pub filter_none : (q : Row → Bool) (rows : List Row) → list_any q rows ≡ false → filter q rows ≡ []
@@ -85,13 +83,13 @@ triads_append (row ∷ rows) new differ none =
 -- ---- ids
 
 -- the next id is that of no row
-pub next_is_new : (profile : Profile) (next_id : ℕ) (rows : List Row) → IdsAreDrawn profile next_id rows → list_any (has_o_t_id (connection_id profile.incarnation next_id)) rows ≡ false
-next_is_new profile next_id [] drawn = refl
-next_is_new profile next_id (row ∷ rows) drawn =
-    let rest = next_is_new profile next_id rows drawn.2 in
-    let here : row.o_t_id.0 ≡ profile.incarnation * 2 ^ 24 + row.opening = ap (λ (id : ConnId). id.0) drawn.0 in
-    let below : row.opening < next_id = drawn.1 in
-    let other : has_o_t_id (connection_id profile.incarnation next_id) row ≡ false = grind (arith, nat_tests) in
+pub next_is_new : (ids : List IdBlock) (next_id : ℕ) (rows : List Row) → IsLeft ids next_id → IdsAreDrawn ids next_id rows → list_any (has_o_t_id (id_at ids next_id)) rows ≡ false
+next_is_new ids next_id [] left drawn = refl
+next_is_new ids next_id (row ∷ rows) left drawn =
+    let rest = next_is_new ids next_id rows left drawn.1 in
+    let own = drawn.0 in
+    let other : has_o_t_id (id_at ids next_id) row ≡ false = ne_eqb row.o_t_id.0 (id_at ids next_id).0
+    (λ same. next_differs ids next_id row.opening left own.begins own.below (ap (λ (id : ConnId). id.0) (sym own.id) ∙ same)) in
     rw other rest
 
 other_id : (a b : ConnId) → (a.0 == b.0) ≡ false → (b.0 == a.0) ≡ false
@@ -103,27 +101,32 @@ ids_append (row ∷ rows) new differ none =
     let parts = or_parts (has_o_t_id new.o_t_id row) (list_any (has_o_t_id new.o_t_id) rows) none in
     (rw (list_any-append (has_o_t_id row.o_t_id) rows (new ∷ []), differ.0, other_id row.o_t_id new.o_t_id parts.0) refl, ids_append rows new differ.1 parts.1)
 
-pub drawn_later : (profile : Profile) (next_id later : ℕ) (rows : List Row) → next_id ≤ later → IdsAreDrawn profile next_id rows → IdsAreDrawn profile later rows
-drawn_later profile next_id later [] more drawn = tt
-drawn_later profile next_id later (row ∷ rows) more drawn =
-    let below : row.opening < next_id = drawn.1 in
-    (drawn.0, omega arith, drawn_later profile next_id later rows more drawn.2)
+later_row : (ids : List IdBlock) (next_id later : ℕ) (row : Row) → next_id ≤ later → Drawn ids next_id row → Drawn ids later row
+later_row ids next_id later row more is = record { id = is.id; begins = is.begins; below = let below = is.below in omega (arith, below, more) }
+
+pub drawn_later : (ids : List IdBlock) (next_id later : ℕ) (rows : List Row) → next_id ≤ later → IdsAreDrawn ids next_id rows → IdsAreDrawn ids later rows
+drawn_later ids next_id later rows more drawn = each_weak (Drawn ids next_id) (Drawn ids later) (λ row is. later_row ids next_id later row more is) rows drawn
+
+-- a further block of ids
+pub drawn_grown : (ids : List IdBlock) (block : IdBlock) (next_id : ℕ) (rows : List Row) → next_id ≤ end_number ids → IdsAreDrawn ids next_id rows → IdsAreDrawn (with_block ids block) next_id rows
+drawn_grown ids block next_id rows left drawn = each_weak (Drawn ids next_id) (Drawn (with_block ids block) next_id)
+    (λ row is. let below = is.below in record { id = is.id ∙ sym (ids_stay ids block row.opening (omega (arith, left, below)) is.begins); begins = is.begins; below = below }) rows drawn
 
 -- a row with the next id
-pub record IsDrawn (profile : Profile) (next_id : ℕ) (new : Row) : Type 0 where
-  pub id : new.o_t_id ≡ connection_id profile.incarnation next_id
+pub record IsDrawn (ids : List IdBlock) (next_id : ℕ) (new : Row) : Type 0 where
+  pub id : new.o_t_id ≡ id_at ids next_id
   pub opening : new.opening ≡ next_id
+  pub left : IsLeft ids next_id
 
-pub drawn_new : (profile : Profile) (next_id : ℕ) (rows : List Row) (new : Row) → IsDrawn profile next_id new → IdsAreDrawn profile next_id rows → list_any (has_o_t_id new.o_t_id) rows ≡ false
-drawn_new profile next_id rows new is drawn = rw is.id (next_is_new profile next_id rows drawn)
+pub drawn_new : (ids : List IdBlock) (next_id : ℕ) (rows : List Row) (new : Row) → IsDrawn ids next_id new → IdsAreDrawn ids next_id rows → list_any (has_o_t_id new.o_t_id) rows ≡ false
+drawn_new ids next_id rows new is drawn = rw is.id (next_is_new ids next_id rows is.left drawn)
 
-pub drawn_append : (profile : Profile) (next_id next : ℕ) (rows : List Row) (new : Row) → next_id < next → IsDrawn profile next_id new → IdsAreDrawn profile next_id rows → IdsAreDrawn profile next (rows ++ new ∷ [])
-drawn_append profile next_id next [] new more is drawn =
+pub drawn_append : (ids : List IdBlock) (next_id next : ℕ) (rows : List Row) (new : Row) → next_id < next → IsDrawn ids next_id new → IdsAreDrawn ids next_id rows → IdsAreDrawn ids next (rows ++ new ∷ [])
+drawn_append ids next_id next rows new more is drawn =
     let opening = is.opening in
-    (is.id ∙ ap (connection_id profile.incarnation) (sym is.opening), omega arith, tt)
-drawn_append profile next_id next (row ∷ rows) new more is drawn =
-    let below : row.opening < next_id = drawn.1 in
-    (drawn.0, omega arith, drawn_append profile next_id next rows new more is drawn.2)
+    let begins = is.left.begins in
+    each_append (Drawn ids next) rows new (drawn_later ids next_id next rows (omega (arith, more)) drawn)
+    (record { id = is.id ∙ ap (id_at ids) (sym opening); begins = omega (arith, opening, begins); below = omega (arith, opening, more) })
 
 -- ---- capacity
 
