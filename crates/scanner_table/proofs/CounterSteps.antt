@@ -1,6 +1,7 @@
--- The counters never fall.
+-- The numbers never fall, and blocks of ids stay.
 use Rattle.std.proofs.Common.{◌≡◌, ℕ, suc, Bool, List, [], ◌∷◌, length, length-set, refl, sym, ap, ◌∙◌, arith}
 use Rattle.std.proofs.lemmas.List.{length-map}
+use Rattle.cip_types.specs.IdLaws.{extends_itself, extends_on, block_extends}
 use Rattle.scanner_table.specs.Lemmas.Slotwise.{id_later}
 use Rattle.scanner_table.specs.declared.profile.SlotConfig.{SlotConfig}
 use Rattle.scanner_table.specs.declared.profile.ScannerProfile.{ScannerProfile}
@@ -21,13 +22,13 @@ use Rattle.scanner_table.specs.Lemmas.Moves.{KeptAlways}
 use Rattle.scanner_table.specs.Lemmas.Events.{steps_lead, events_lead}
 
 set_counts : (t : ScannerTable) (number : ℕ) (slot : Slot) → CountsOn t (with_slot t number slot)
-set_counts t number slot = record { profile = refl; slots = λ full. length-set t.slots number slot; ids = omega arith; requests = omega arith }
+set_counts t number slot = record { profile = refl; slots = λ full. length-set t.slots number slot; blocks = extends_itself t.ids; ids = omega arith; requests = omega arith }
 
 drawn_counts : (t : ScannerTable) (config : SlotConfig) (number : ℕ) (slot : Slot) → CountsOn t (with_slot (counted (drawn t config)) number slot)
-drawn_counts t config number slot = record { profile = refl; slots = λ full. length-set t.slots number slot; ids = id_later config.multicast t.next_id; requests = omega arith }
+drawn_counts t config number slot = record { profile = refl; slots = λ full. length-set t.slots number slot; blocks = extends_itself t.ids; ids = id_later config.multicast t.next_id; requests = omega arith }
 
 counted_counts : (t : ScannerTable) (number : ℕ) (slot : Slot) → CountsOn t (with_slot (counted t) number slot)
-counted_counts t number slot = record { profile = refl; slots = λ full. length-set t.slots number slot; ids = omega arith; requests = omega arith }
+counted_counts t number slot = record { profile = refl; slots = λ full. length-set t.slots number slot; blocks = extends_itself t.ids; ids = omega arith; requests = omega arith }
 
 slots_long : (number : ℕ) (configs : List SlotConfig) (slots : List Slot) → length slots ≡ length configs → length (indexed_from number configs slots) ≡ length slots
 slots_long number [] [] full = refl
@@ -36,16 +37,17 @@ slots_long number (config ∷ configs) [] full = refl
 slots_long number (config ∷ configs) (slot ∷ slots) full = ap suc (slots_long (suc number) configs slots (omega (arith, full)))
 
 moded_counts : (t : ScannerTable) (run : Bool) → CountsOn t (moded_table t run)
-moded_counts t run = record { profile = refl; slots = λ full. length-map (indexed_slots t) moded_slot ∙ slots_long 0 t.profile.slots t.slots full; ids = omega arith; requests = omega arith }
+moded_counts t run = record { profile = refl; slots = λ full. length-map (indexed_slots t) moded_slot ∙ slots_long 0 t.profile.slots t.slots full; blocks = extends_itself t.ids; ids = omega arith; requests = omega arith }
 
 produced_counts : (t : ScannerTable) → CountsOn t (produced_table t)
 unfolding produced_table
-produced_counts t = record { profile = refl; slots = λ full. length-map t.slots (produced_slot t.clock); ids = omega arith; requests = omega arith }
+produced_counts t = record { profile = refl; slots = λ full. length-map t.slots (produced_slot t.clock); blocks = extends_itself t.ids; ids = omega arith; requests = omega arith }
 
 counts_after : (t u v : ScannerTable) → CountsOn t u → CountsOn u v → CountsOn t v
 counts_after t u v first next = record {
   profile = next.profile ∙ first.profile;
   slots = λ full. next.slots (first.slots full ∙ full ∙ sym (ap (λ (p : ScannerProfile). length p.slots) first.profile)) ∙ first.slots full;
+  blocks = extends_on t.ids u.ids v.ids first.blocks next.blocks;
   ids = omega (arith, first.ids, next.ids);
   requests = omega (arith, first.requests, next.requests);
 }
@@ -54,18 +56,19 @@ pub counts_always : KeptAlways CountsOn
 counts_always = record {
   widely = record {
     slots = record {
-      same = λ t. record { profile = refl; slots = λ full. refl; ids = omega arith; requests = omega arith };
+      same = λ t. record { profile = refl; slots = λ full. refl; blocks = extends_itself t.ids; ids = omega arith; requests = omega arith };
       after = counts_after;
-      opening = λ t indexed stands closed_before place. drawn_counts t indexed.config indexed.number (opening_slot t indexed);
+      opening = λ t indexed stands closed_before place left. drawn_counts t indexed.config indexed.number (opening_slot t indexed);
       idling = λ t indexed slot stands idle. set_counts t indexed.number slot;
       timing_out = λ t indexed link slot stands is becomes. set_counts t indexed.number slot;
       closing = λ t indexed link desired_up stands is. counted_counts t indexed.number (closing_slot t link desired_up indexed.slot);
     };
-    streams = λ t streams. record { profile = refl; slots = λ full. refl; ids = omega arith; requests = omega arith };
-    clocked = λ t ms. record { profile = refl; slots = λ full. refl; ids = omega arith; requests = omega arith };
+    streams = λ t streams. record { profile = refl; slots = λ full. refl; blocks = extends_itself t.ids; ids = omega arith; requests = omega arith };
+    clocked = λ t ms. record { profile = refl; slots = λ full. refl; blocks = extends_itself t.ids; ids = omega arith; requests = omega arith };
     producing = produced_counts;
     moding = moded_counts;
-    explicit = λ t pending request later. record { profile = refl; slots = λ full. refl; ids = omega arith; requests = later };
+    explicit = λ t pending request later. record { profile = refl; slots = λ full. refl; blocks = extends_itself t.ids; ids = omega arith; requests = later };
+    taken = λ t block may. record { profile = refl; slots = λ full. refl; blocks = block_extends t.ids block may; ids = omega arith; requests = omega arith };
   };
   establishing = λ t indexed o success stands is requested. set_counts t indexed.number (established_slot indexed (new_connection t indexed o success));
   writing = λ t indexed bytes stands. set_counts t indexed.number (output_slot bytes indexed.slot);

@@ -21,6 +21,8 @@ use Rattle.scanner_table.specs.declared.slot.Slot.{Slot}
 use Rattle.scanner_table.specs.declared.table.Stage.{Stage}
 use Rattle.scanner_table.specs.declared.table.TargetStream.{TargetStream}
 use Rattle.scanner_table.specs.declared.table.ScannerTable.{ScannerTable}
+use Rattle.cip_types.specs.contracts.ids.IdBlockPartialEq.TheImpl as block
+use Rattle.cip_types.specs.declared.ids.IdBlock.{IdBlock}
 use Rattle.cip_epath.specs.contracts.key.ElectronicKeyPartialEq.TheImpl as key
 use Rattle.conn_state.specs.contracts.names.LinkPartialEq.TheImpl as link
 use Rattle.conn_state.specs.contracts.names.RequestedPartialEq.TheImpl as desired_up
@@ -39,6 +41,12 @@ use Rattle.cip_productions.specs.Lemmas.EqualLemmas.{trigger_decides, kind_decid
 use Rattle.cip_events.specs.Lemmas.EqualLemmas.{ms_decides, node_decides}
 
 -- ---- times, addresses, ids
+
+block_decides : (a b : IdBlock) → Decides ((block.ghosts).eq a b) (a ≡ b)
+block_decides a b = search rules
+
+ids_decide : (a b : Option IdBlock) → Decides (option_eq (block.ghosts).eq a b) (a ≡ b)
+ids_decide a b = search (rules, block_decides)
 
 link_decides : (a b : Link) → Decides ((link.ghosts).eq a b) (a ≡ b)
 link_decides a b = search rules
@@ -121,7 +129,8 @@ profile_decides a b =
     (Decides-and _ _ (booleans_Decides a.tidy b.tidy)
     (Decides-and _ _ (numbers_decide a.openings b.openings)
     (Decides-and _ _ (numbers_decide a.serials b.serials)
-    (pointwise_decides config_decides a.slots b.slots)))))))))))
+    (Decides-and _ _ (ids_decide a.ids b.ids)
+    (pointwise_decides config_decides a.slots b.slots))))))))))))
 
 -- ---- slots
 
@@ -186,8 +195,9 @@ scanner_decides a b =
     (Decides-and _ _ (pointwise_decides slot_decides a.slots b.slots)
     (Decides-and _ _ (booleans_Decides a.run b.run)
     (Decides-and _ _ (ms_decides a.clock b.clock)
+    (Decides-and _ _ (pointwise_decides block_decides a.ids b.ids)
     (Decides-and _ _ (Decides-eqb a.next_id b.next_id)
     (Decides-and _ _ (Decides-eqb a.next_serial b.next_serial)
     (Decides-and _ _ (Decides-eqb a.next_request b.next_request)
     (Decides-and _ _ (pointwise_decides stream_decides a.streams b.streams)
-    (pointwise_decides explicit_decides a.explicit b.explicit)))))))))
+    (pointwise_decides explicit_decides a.explicit b.explicit))))))))))

@@ -85,7 +85,7 @@ slots_keep : Kept Keeps
 slots_keep = record {
   same = keeps_same;
   after = keeps_after;
-  opening = λ t indexed stands closed_before place. record { profile = refl; clock = refl; explicit = refl; requests = omega arith; streams = λ n here. here };
+  opening = λ t indexed stands closed_before place left. record { profile = refl; clock = refl; explicit = refl; requests = omega arith; streams = λ n here. here };
   idling = λ t indexed slot stands idle. record { profile = refl; clock = refl; explicit = refl; requests = omega arith; streams = λ n here. here };
   timing_out = λ t indexed link slot stands is becomes. record { profile = refl; clock = refl; explicit = refl; requests = omega arith; streams = λ n here. here };
   closing = λ t indexed link desired_up stands is. record { profile = refl; clock = refl; explicit = refl; requests = omega arith; streams = λ n here. here };

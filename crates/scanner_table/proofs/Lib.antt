@@ -1,5 +1,6 @@
 mod EqLemmas
 mod IdsLemmas
+mod FirstIds
 mod RequestLemmas
 mod SmallScanner
 mod OpeningSamples

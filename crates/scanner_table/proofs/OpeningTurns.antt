@@ -177,7 +177,7 @@ turns_always = record {
     slots = record {
       same = λ t. record { profile = refl; turns = λ turns. turns };
       after = turns_after;
-      opening = λ t indexed stands closed_before place. record {
+      opening = λ t indexed stands closed_before place left. record {
         profile = refl;
         turns = λ turns target. turn_taken (indexed.config.target.0 == target.0) t indexed target refl stands place turns;
       };
@@ -195,6 +195,7 @@ turns_always = record {
       turns = λ turns target. within_less t.profile.openings _ (openings_at t target) (count_moded target 0 t.profile.slots t.slots) (turns target);
     };
     explicit = λ t pending request later. record { profile = refl; turns = λ turns. turns };
+    taken = λ t block may. record { profile = refl; turns = λ turns. turns };
   };
   establishing = λ t indexed o success stands is requested.
       let slot = established_slot indexed (new_connection t indexed o success) in

@@ -69,6 +69,7 @@ profile slots = record {
   tidy = false;
   openings = None;
   serials = None;
+  ids = None;
   slots = slots;
 }
 

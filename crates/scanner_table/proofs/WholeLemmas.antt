@@ -166,6 +166,8 @@ whole_with t indexed slot whole at fits desires differ apart = record {
       (λ config is. subst (λ (c : SlotConfig). FitsSlot t.next_request t.clock.0 c slot) (same_Some indexed.config config (sym at ∙ is)) fits);
   desires = λ untidy. set_desired indexed.number t.slots slot (whole.desires untidy) (desires untidy);
   clock = whole.clock;
+  blocks = whole.blocks;
+  ids_begin = whole.ids_begin;
   ids = whole.ids;
   serial_begins = whole.serial_begins;
   serial_ends = whole.serial_ends;

@@ -30,6 +30,7 @@ use Rattle.cip_productions.specs.Acceptance.{is_duplicate}
 use Rattle.cip_types.specs.declared.names.Triad.{Triad}
 use Rattle.conn_state.specs.declared.names.Link.{Link}
 use Rattle.conn_state.specs.Answers.{is_requested_id, answer_tests, has_intervals}
+use Rattle.cip_types.specs.Ids.{end_number}
 use Rattle.scanner_table.specs.declared.profile.SlotConfig.{SlotConfig}
 use Rattle.cip_events.specs.declared.event.Unanswered.{Unanswered}
 use Rattle.cip_router.specs.RouterReplies.{RouterReplyFields}
@@ -126,6 +127,8 @@ whole_counted t left whole = record {
   slots = slots_later t.next_request (t.next_request + 1) t.clock.0 t.clock.0 t.profile.slots t.slots (omega arith) (omega arith) whole.slots;
   desires = whole.desires;
   clock = whole.clock;
+  blocks = whole.blocks;
+  ids_begin = whole.ids_begin;
   ids = whole.ids;
   serial_begins = whole.serial_begins;
   serial_ends = whole.serial_ends;
@@ -134,9 +137,13 @@ whole_counted t left whole = record {
   streams_differ = whole.streams_differ;
 }
 
-id_fits : (multicast : Bool) (next : ℕ) → (multicast || nat_le next 16777215) ≡ true → next ≤ 16777216 → cond multicast next (next + 1) ≤ 16777216
-id_fits true next left fits = fits
-id_fits false next left fits = grind (arith, nat_tests, left)
+id_fits : (multicast : Bool) (next end : ℕ) → (multicast || nat_lt next end) ≡ true → next ≤ end → cond multicast next (next + 1) ≤ end
+id_fits true next end left fits = fits
+id_fits false next end left fits = grind (arith, nat_tests, left)
+
+id_begins : (multicast : Bool) (next : ℕ) → 1 ≤ next → 1 ≤ cond multicast next (next + 1)
+id_begins true next begins = begins
+id_begins false next begins = omega (arith, begins)
 
 serial_step : (b : Bool) (serial : ℕ) → (serial == 65535) ≡ b → 1 ≤ serial → serial ≤ 65535 → (1 ≤ cond b 1 (serial + 1)) × (cond b 1 (serial + 1) ≤ 65535)
 serial_step true serial is begins ends = (omega arith, omega arith)
@@ -152,7 +159,9 @@ whole_drawn t config left whole =
       slots = whole.slots;
       desires = whole.desires;
       clock = whole.clock;
-      ids = id_fits config.multicast t.next_id left whole.ids;
+      blocks = whole.blocks;
+      ids_begin = id_begins config.multicast t.next_id whole.ids_begin;
+      ids = id_fits config.multicast t.next_id (end_number t.ids) left whole.ids;
       serial_begins = serial.0;
       serial_ends = serial.1;
       requests = whole.requests;
@@ -404,6 +413,8 @@ whole_streamed t number target free whole =
       slots = whole.slots;
       desires = whole.desires;
       clock = whole.clock;
+      blocks = whole.blocks;
+      ids_begin = whole.ids_begin;
       ids = whole.ids;
       serial_begins = whole.serial_begins;
       serial_ends = whole.serial_ends;
@@ -428,6 +439,8 @@ whole_without t number whole = record {
   slots = whole.slots;
   desires = whole.desires;
   clock = whole.clock;
+  blocks = whole.blocks;
+  ids_begin = whole.ids_begin;
   ids = whole.ids;
   serial_begins = whole.serial_begins;
   serial_ends = whole.serial_ends;
@@ -447,6 +460,8 @@ whole_explicit t pending whole = record {
   slots = whole.slots;
   desires = whole.desires;
   clock = whole.clock;
+  blocks = whole.blocks;
+  ids_begin = whole.ids_begin;
   ids = whole.ids;
   serial_begins = whole.serial_begins;
   serial_ends = whole.serial_ends;
@@ -509,6 +524,8 @@ whole_staged t number stage whole = record {
   slots = whole.slots;
   desires = whole.desires;
   clock = whole.clock;
+  blocks = whole.blocks;
+  ids_begin = whole.ids_begin;
   ids = whole.ids;
   serial_begins = whole.serial_begins;
   serial_ends = whole.serial_ends;

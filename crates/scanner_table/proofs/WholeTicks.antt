@@ -4,6 +4,9 @@ use Rattle.std.specs.List.{list_any, list_all, AllByRecursion}
 use Rattle.std.proofs.lemmas.Bool.Decides.{nat_tests}
 use Rattle.std.proofs.lemmas.List.{length-replicate}
 use Rattle.base_lemmas.specs.Booleans.{and_none}
+use Rattle.cip_types.specs.declared.ids.IdBlock.{IdBlock}
+use Rattle.cip_types.specs.Ids.{are_ids, end_number, may_take}
+use Rattle.cip_types.specs.IdLaws.{later_ends, stay_blocks}
 use Rattle.cip_types.specs.declared.names.Ms.{Ms}
 use Rattle.cip_types.specs.Cases.{first_case}
 use Rattle.cip_types.specs.Order.{inserted, in_order}
@@ -11,8 +14,10 @@ use Rattle.cip_netparams.specs.declared.Trigger.{Trigger}
 use Rattle.cip_netparams.specs.declared.Trigger.TheVariants.{Cyclic, ChangeOfState}
 use Rattle.cip_events.specs.declared.profile_fault.ProfileFault.TheVariants.{Incarnation, Points, SameInstance, Length, Timing, Limits}
 use Rattle.cip_events.specs.declared.event.Event.{Event}
-use Rattle.cip_events.specs.declared.event.Event.TheVariants.{StreamOpened, Frame, StreamCut, Datagram, Write, Tick, Mode, Start, Stop, Explicit}
+use Rattle.cip_events.specs.declared.event.Event.TheVariants.{StreamOpened, Frame, StreamCut, Datagram, Write, Tick, Mode, Start, Stop, Explicit, Ids}
 use Rattle.cip_events.specs.declared.event.StepFault.TheVariants as fault
+use Rattle.cip_events.specs.declared.event.Verdict.TheVariants.{Done}
+use Rattle.cip_events.specs.Answers.{plain_answer}
 use Rattle.cip_events.specs.Clock.{longest_tick, clock_end}
 use Rattle.cip_productions.specs.Kinds.{is_owner}
 use Rattle.cip_productions.specs.Productions.{due_again}
@@ -23,7 +28,8 @@ use Rattle.scanner_table.specs.declared.slot.Slot.{Slot}
 use Rattle.scanner_table.specs.declared.slot.SlotState.{SlotState}
 use Rattle.scanner_table.specs.declared.slot.SlotState.TheVariants.{Idle, Opening, Established, TimedOut, Closing}
 use Rattle.scanner_table.specs.declared.table.ScannerTable.{ScannerTable}
-use Rattle.scanner_table.specs.Profiles.{profile_fault, are_served, are_apart, has_lengths, keeps_time, are_paced, are_openings, are_serials}
+use Rattle.scanner_table.proofs.FirstIds.{first_blocks, first_is_block}
+use Rattle.scanner_table.specs.Profiles.{first_ids, profile_fault, are_served, are_apart, has_lengths, keeps_time, are_paced, are_openings, are_serials}
 use Rattle.scanner_table.specs.Slots.{IndexedSlot, indexed_from, indexed_slots, slot_at, is_numbered, with_slot}
 use Rattle.scanner_table.specs.Effects.{Effect, and_then, done}
 use Rattle.scanner_table.specs.Opening.{ready_opened}
@@ -33,7 +39,7 @@ use Rattle.scanner_table.specs.Explicit.{explicit_timed_out}
 use Rattle.scanner_table.specs.Productions.{due_on_change, written_connection, produced_connection, written_state, state_is_due, produced_state, produced_slot, produced_table}
 use Rattle.scanner_table.specs.Ticks.{by_deadline, has_expired, expired_slots, expired_state, expired, all_expired, is_overdue, all_given_up, clocked_table, advanced, moved_on, ticked, tick}
 use Rattle.scanner_table.specs.Points.{output_slot, output_written, write_length, write_at, write, same_mode, moded_slot, moded_table, mode, desired_slot, started, start_state, start_at, start}
-use Rattle.scanner_table.specs.Step.{scanner_step, fresh_slot, first_serial, scanner_table}
+use Rattle.scanner_table.specs.Step.{scanner_step, fresh_slot, first_serial, scanner_table, taken_table, take_ids}
 use Rattle.scanner_table.specs.WellFormed.{RequestsDiffer, shares_request, clashes, IdsDiffer, FitsState, FitsSlot, SlotsFit, StateIsDesired, IsDesired, IsWellFormed, IsWatched}
 use Rattle.scanner_table.proofs.IdsLemmas.{Weaker, idle_weaker, timed_out_weaker, same_weaker, linked_weaker, AllWeaker, all_set, all_map, differ_weaker}
 use Rattle.scanner_table.proofs.RequestLemmas.{Quieter, AllQuieter, idle_quieter, established_quieter, timed_out_quieter, same_quieter, set_quieter, map_quieter, differ_quieter}
@@ -137,6 +143,8 @@ whole_slots t slots whole fit desires weaker quieter = record {
   slots = fit;
   desires = desires;
   clock = whole.clock;
+  blocks = whole.blocks;
+  ids_begin = whole.ids_begin;
   ids = whole.ids;
   serial_begins = whole.serial_begins;
   serial_ends = whole.serial_ends;
@@ -202,6 +210,8 @@ clocked_whole t ms in_time whole = record {
   slots = slots_later t.next_request t.next_request t.clock.0 (t.clock.0 + ms) t.profile.slots t.slots (omega arith) (omega arith) whole.slots;
   desires = whole.desires;
   clock = in_time;
+  blocks = whole.blocks;
+  ids_begin = whole.ids_begin;
   ids = whole.ids;
   serial_begins = whole.serial_begins;
   serial_ends = whole.serial_ends;
@@ -338,6 +348,8 @@ moded_whole t run whole = record {
   slots = slots_moded t.next_request t.clock.0 0 t.profile.slots t.slots whole.slots;
   desires = λ untidy. desired_moded 0 t.profile.slots t.slots (whole.desires untidy);
   clock = whole.clock;
+  blocks = whole.blocks;
+  ids_begin = whole.ids_begin;
   ids = whole.ids;
   serial_begins = whole.serial_begins;
   serial_ends = whole.serial_ends;
@@ -394,6 +406,37 @@ start_whole : (t : ScannerTable) (number : ℕ) → IsWellFormed t → LeavesWho
 unfolding start
 start_whole t number whole = start_at_whole t number (slot_at t number) refl whole
 
+-- ---- a further block of ids
+
+taken_whole : (t : ScannerTable) (block : IdBlock) → may_take t.ids block ≡ true → IsWellFormed t → IsWellFormed (taken_table t block)
+taken_whole t block may whole =
+    let now = whole.ids in
+    let more = later_ends t.ids block in
+    record {
+      ids_differ = whole.ids_differ;
+      requests_differ = whole.requests_differ;
+      faultless = whole.faultless;
+      slots = whole.slots;
+      desires = whole.desires;
+      clock = whole.clock;
+      blocks = stay_blocks t.ids block whole.blocks may;
+      ids_begin = whole.ids_begin;
+      ids = omega (arith, now, more);
+      serial_begins = whole.serial_begins;
+      serial_ends = whole.serial_ends;
+      requests = whole.requests;
+      few_streams = whole.few_streams;
+      streams_differ = whole.streams_differ;
+    }
+
+ids_by : (b : Bool) (t : ScannerTable) (block : IdBlock) → may_take t.ids block ≡ b → IsWellFormed t → LeavesWhole (cond b (Ok (plain_answer Done, taken_table t block)) (Err fault.NotAllowedNow))
+ids_by true t block may whole = taken_whole t block may whole
+ids_by false t block may whole = tt
+
+ids_whole : (t : ScannerTable) (block : IdBlock) → IsWellFormed t → LeavesWhole (take_ids t block)
+unfolding take_ids
+ids_whole t block whole = ids_by (may_take t.ids block) t block refl whole
+
 -- ---- a step, and a fresh table
 
 pub advancing_whole : (t : ScannerTable) (ms : ℕ) → t.clock.0 + ms ≤ 2 ^ 48 → IsWellFormed t → IsWellFormed (advanced (clocked_table t ms)).table
@@ -410,6 +453,7 @@ step_whole t (Mode run) whole = mode_whole t run whole
 step_whole t (Start slot) whole = start_whole t slot whole
 step_whole t (Stop slot) whole = stop_whole t slot whole
 step_whole t (Explicit target number bytes) whole = explicit_whole t target number bytes whole
+step_whole t (Ids block) whole = ids_whole t block whole
 step_whole t other whole = passive_holds LeavesWhole t (λ why. tt) (λ verdict. whole) other refl
 
 fresh_fit : (configs : List SlotConfig) → SlotsFit 1 0 configs (map fresh_slot configs)
@@ -461,7 +505,7 @@ serials_fit : (profile : ScannerProfile) → profile_fault profile ≡ None → 
 unfolding profile_fault
 serials_fit profile faultless =
     first_fits profile.serials
-    (last_passes (profile.incarnation == 0) (not (are_served profile)) (not (are_apart profile.slots)) (not (list_all has_lengths profile.slots)) (not (keeps_time profile)) (not (are_paced profile.newer profile.slots)) (not (are_openings profile.openings)) (are_serials profile.serials) Incarnation Points SameInstance Length Timing Limits Limits Limits faultless)
+    (last_passes (not (are_ids profile.incarnation profile.ids)) (not (are_served profile)) (not (are_apart profile.slots)) (not (list_all has_lengths profile.slots)) (not (keeps_time profile)) (not (are_paced profile.newer profile.slots)) (not (are_openings profile.openings)) (are_serials profile.serials) Incarnation Points SameInstance Length Timing Limits Limits Limits faultless)
 
 pub fresh_whole : (profile : ScannerProfile) → profile_fault profile ≡ None → IsWellFormed (scanner_table profile)
 fresh_whole profile faultless = record {
@@ -471,6 +515,8 @@ fresh_whole profile faultless = record {
   slots = fresh_fit profile.slots;
   desires = λ untidy. fresh_desired profile.slots;
   clock = omega arith;
+  blocks = first_blocks (first_ids profile) (first_is_block profile faultless);
+  ids_begin = omega arith;
   ids = omega arith;
   serial_begins = (serials_fit profile faultless).0;
   serial_ends = (serials_fit profile faultless).1;
@@ -479,14 +525,16 @@ fresh_whole profile faultless = record {
   streams_differ = tt;
 }
 
-pub whole_later : (t : ScannerTable) (counter : ℕ) → counter ≤ 16777216 → IsWellFormed t → IsWellFormed (record t { next_id = counter })
-whole_later t counter last whole = record {
+pub whole_later : (t : ScannerTable) (counter : ℕ) → t.next_id ≤ counter → counter ≤ end_number t.ids → IsWellFormed t → IsWellFormed (record t { next_id = counter })
+whole_later t counter later last whole = record {
   ids_differ = whole.ids_differ;
   requests_differ = whole.requests_differ;
   faultless = whole.faultless;
   slots = whole.slots;
   desires = whole.desires;
   clock = whole.clock;
+  blocks = whole.blocks;
+  ids_begin = let begins = whole.ids_begin in omega (arith, begins, later);
   ids = last;
   serial_begins = whole.serial_begins;
   serial_ends = whole.serial_ends;

@@ -1,5 +1,6 @@
--- The counters of a scanner, which never fall.
+-- The next numbers of a scanner, which never fall.
 use Rattle.std.specs.Prelude.{◌≡◌, ◌≤◌, length}
+use Rattle.cip_types.specs.Ids.{Extends}
 use Rattle.scanner_table.specs.declared.table.ScannerTable.{ScannerTable}
 use Rattle.scanner_table.specs.WellFormed.{IsWellFormed}
 
@@ -7,10 +8,12 @@ use Rattle.scanner_table.specs.WellFormed.{IsWellFormed}
 abbrev pub IsFull : ScannerTable → Type 0
 IsFull t = length t.slots ≡ length t.profile.slots
 
--- the profile stays, and so does the number of slots, if there is one for each of the profile's; neither counter falls
+-- the profile stays, and so does the number of slots, if there is one for each of the profile's; the ids of the blocks stay, and
+-- neither number falls
 pub record CountsOn (old new : ScannerTable) : Type 0 where
   pub profile : new.profile ≡ old.profile
   pub slots : IsFull old → length new.slots ≡ length old.slots
+  pub blocks : Extends old.ids new.ids
   pub ids : old.next_id ≤ new.next_id
   pub requests : old.next_request ≤ new.next_request
 

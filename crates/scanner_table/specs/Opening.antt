@@ -1,6 +1,7 @@
 -- Openings: a slot whose connection is desired sends a Forward_Open to its target. With `tidy` it first closes a connection
 -- that timed out (Volume 1, chapter 3, Forward_Open and Forward_Close services).
 use Rattle.std.specs.Prelude.{ℕ, ◌+◌, ◌^◌, ◌==◌, ◌&&◌, ◌||◌, nat_le, nat_lt, Bool, true, false, if◌then◌else◌, List, [], ◌∷◌, length, filter, Option, Some, None}
+use Rattle.cip_types.specs.Ids.{end_number}
 use Rattle.cip_types.specs.declared.names.Node.{Node}
 use Rattle.cip_types.specs.declared.names.Ms.{Ms}
 use Rattle.cip_events.specs.declared.event.Notice.TheVariants as notice
@@ -24,7 +25,7 @@ has_request t = nat_le t.next_request (2 ^ 48)
 
 -- a connection id is left, or the slot needs none, since the target chooses the id of a multicast connection
 abbrev pub has_id : ScannerTable → SlotConfig → Bool
-has_id t config = config.multicast || nat_le t.next_id 16777215
+has_id t config = config.multicast || nat_lt t.next_id (end_number t.ids)
 
 abbrev pub can_open : ScannerTable → SlotConfig → Bool
 can_open t config = has_request t && has_id t config

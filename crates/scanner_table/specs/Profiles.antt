@@ -3,6 +3,8 @@
 -- item).
 use Rattle.std.specs.Prelude.{ℕ, ◌%◌, ◌^◌, ◌==◌, ◌&&◌, ◌||◌, not, nat_le, Bool, true, if◌then◌else◌, List, [], ◌∷◌, length, Option, Some, None}
 use Rattle.std.specs.List.{list_any, list_all}
+use Rattle.cip_types.specs.declared.ids.IdBlock.{IdBlock}
+use Rattle.cip_types.specs.Ids.{are_ids, first_block}
 use Rattle.cip_types.specs.Cases.{Case, first_case}
 use Rattle.cip_netparams.specs.declared.Trigger.{Trigger}
 use Rattle.cip_netparams.specs.declared.Trigger.TheVariants.{Cyclic, ChangeOfState}
@@ -106,12 +108,18 @@ abbrev pub are_serials : Option ℕ → Bool
 are_serials None = true
 are_serials (Some first) = nat_le 1 first && nat_le first 65535
 
+-- CONNECTION IDS
+
+-- the block of ids that a scanner begins with: the one that is stated, or its incarnation's
+abbrev pub first_ids : ScannerProfile → IdBlock
+first_ids profile = first_block profile.incarnation profile.ids
+
 -- THE FIRST FAULT
 
 -- the tests of a profile in their order, each with its fault
 abbrev pub profile_tests : ScannerProfile → List (Case ProfileFault)
 profile_tests profile =
-    (profile.incarnation == 0, Incarnation)
+    (not (are_ids profile.incarnation profile.ids), Incarnation)
     ∷ (not (are_served profile), Points)
     ∷ (not (are_apart profile.slots), SameInstance)
     ∷ (not (list_all has_lengths profile.slots), Length)

@@ -3,7 +3,7 @@
 use Rattle.std.specs.Prelude.{ℕ, ◌+◌, ◌-◌, ◌*◌, ◌/◌, ◌^◌, max, ◌==◌, ◌||◌, nat_lt, nat_le, Bool, false, if◌then◌else◌, List, [], ◌∷◌, ◌++◌, length, Option, Some, None}
 use Rattle.std.specs.Option.{option_map}
 use Rattle.cip_types.specs.Cases.{first_case_or}
-use Rattle.cip_types.specs.Ids.{connection_id}
+use Rattle.cip_types.specs.Ids.{id_at}
 use Rattle.cip_types.specs.declared.names.ConnId.{ConnId}
 use Rattle.cip_types.specs.declared.names.Triad.{Triad}
 use Rattle.cip_netparams.specs.declared.NetParams.{NetParams}
@@ -78,7 +78,7 @@ next_triad t = record { serial = t.next_serial; vendor = t.profile.vendor; origi
 
 -- the consumer chooses the id of a point to point connection, and the producer a multicast one
 abbrev pub next_t_o_id : ScannerTable → SlotConfig → Option ConnId
-next_t_o_id t config = if config.multicast then None else Some (connection_id t.profile.incarnation t.next_id)
+next_t_o_id t config = if config.multicast then None else Some (id_at t.ids t.next_id)
 
 -- a time that a request says: a number of ticks of 2^tick milliseconds each. The byte of the tick is for usual priority
 pub record TimeOut : Type 0 where

@@ -2,6 +2,7 @@
 -- match their configurations, requests and streams are distinct, and numbers are within their limits.
 use Rattle.std.specs.Prelude.{◌≡◌, ℕ, ◌&&◌, ◌+◌, ◌<◌, ◌≤◌, ◌^◌, Bool, true, false, List, [], ◌∷◌, length, None}
 use Rattle.std.specs.List.{list_any, AllByRecursion}
+use Rattle.cip_types.specs.Ids.{are_blocks, end_number}
 use Rattle.cip_netparams.specs.Rate.{timeout}
 use Rattle.scanner_table.specs.declared.profile.SlotConfig.{SlotConfig}
 use Rattle.scanner_table.specs.declared.slot.SlotConnection.{SlotConnection}
@@ -122,7 +123,9 @@ pub record IsWellFormed (t : ScannerTable) : Type 0 where
   pub ids_differ : IdsDiffer (indexed_slots t)
   pub requests_differ : RequestsDiffer t.slots
   pub clock : t.clock.0 ≤ 2 ^ 48
-  pub ids : t.next_id ≤ 16777216
+  pub blocks : are_blocks t.ids ≡ true
+  pub ids_begin : 1 ≤ t.next_id
+  pub ids : t.next_id ≤ end_number t.ids
   pub serial_begins : 1 ≤ t.next_serial
   pub serial_ends : t.next_serial ≤ 65535
   pub requests : t.next_request ≤ 2 ^ 48 + 1

@@ -1,6 +1,7 @@
-//! Copies of profiles and tables, and a table with a later counter for connection ids.
+//! Copies of profiles and tables, and a table with a later number for the next connection id.
 
 ghost use Rattle.std.specs.Prelude.{◌≡◌, ◌≤◌, ◌↔◌, IfOk, IsTrue};
+ghost use Rattle.cip_types.specs.Ids.{end_number};
 ghost use Rattle.scanner_table.specs.WellFormed.{IsWellFormed};
 
 use crate::profile::{ScannerProfile, SlotConfig};
@@ -63,6 +64,7 @@ impl ScannerProfile {
             tidy: self.tidy,
             openings: self.openings,
             serials: self.serials,
+            ids: self.ids,
             slots,
         })
     }
@@ -105,11 +107,13 @@ impl ScannerTable {
         let slots = Items::from_vec(copy_of_slots(alloc, self.slots.as_slice())?);
         let streams = Items::copy_of(alloc, self.streams.as_slice())?;
         let explicit = Items::copy_of(alloc, self.explicit.as_slice())?;
+        let ids = Items::copy_of(alloc, self.ids.as_slice())?;
         Ok(ScannerTable {
             profile,
             slots,
             run: self.run,
             clock: self.clock,
+            ids,
             next_id: self.next_id,
             next_serial: self.next_serial,
             next_request: self.next_request,
@@ -125,13 +129,14 @@ impl ScannerTable {
         self == other
     }
 
-    /// Moves the counter of the next connection id forward. Takes no memory.
+    /// Moves the number of the next connection id forward. Takes no memory.
     ///
-    /// The new counter is no less than the present one, and at most 16,777,216, at which no id is left.
+    /// The new number is no less than the present one, and at most that behind the last id of the table's blocks. Without a
+    /// stated block that is 16,777,216.
     pub fn with_next_id(self, counter: u32) -> ScannerTable
         requires whole { IsWellFormed self }
         requires later { self.next_id ≤ counter }
-        requires last { counter ≤ 16777216 }
+        requires last { counter ≤ end_number self.ids }
         ensures value { result ≡ record self { next_id = counter } }
         ensures whole { IsWellFormed result }
     {

@@ -1,9 +1,12 @@
 //! The profile of a scanner: its identity, and the connections that it keeps open.
 
+ghost use Rattle.std.specs.Prelude.{◌≡◌};
+ghost use Rattle.scanner_table.specs.Profiles.{first_ids};
+
 use cip_epath::ElectronicKey;
 use cip_netparams::Trigger;
 use cip_productions::Kind;
-use cip_types::{Items, Node};
+use cip_types::{IdBlock, Items, Node, first_block};
 
 /// One connection that a scanner keeps open.
 ///
@@ -47,7 +50,7 @@ pub struct SlotConfig {
 /// Volume 1, chapter 3, Forward_Open service, and class 1 transport.
 #[derive(PartialEq, Drop)]
 pub struct ScannerProfile {
-    /// The byte that begins each connection id that the scanner chooses; never 0.
+    /// The byte that begins the connection ids that the scanner chooses, unless the profile states others; never 0.
     pub incarnation: u8,
     /// The address of the scanner.
     pub node: Node,
@@ -69,6 +72,19 @@ pub struct ScannerProfile {
     pub openings: Option<u8>,
     /// The connection serial number of the first opening: never 0. Without one it is 1.
     pub serials: Option<u16>,
+    /// The block of the first connection ids. Without one they are those of the incarnation.
+    pub ids: Option<IdBlock>,
     /// The connections; a slot's number is its index here.
     pub slots: Items<SlotConfig>,
+}
+
+impl ScannerProfile {
+    /// The block of connection ids that the scanner begins with. Takes no memory.
+    ///
+    /// Volume 1, chapter 3, network connection ids.
+    pub fn first_ids(&self) -> IdBlock
+        ensures { result ≡ first_ids self.now }
+    {
+        first_block(self.incarnation, self.ids)
+    }
 }

@@ -8,6 +8,7 @@ use crate::profile::{ScannerProfile, SlotConfig};
 use cip_events::ProfileFault;
 use cip_netparams::{Trigger, api_of};
 use cip_productions::{FARTHEST_NUMBER, Kind};
+use cip_types::are_ids;
 use cip_types::limits::{LONGEST_CONFIG, LONGEST_POINT, LONGEST_WAIT_MS, MOST_SLOTS};
 
 /// The most openings that can wait for replies of one target at one time.
@@ -191,7 +192,7 @@ fn are_long_enough(slots: &[SlotConfig]) -> bool
 fn fault_of(profile: &ScannerProfile) -> Option<ProfileFault>
     ensures { result ≡ profile_fault profile.now }
 {
-    if profile.incarnation == 0 {
+    if !are_ids(profile.incarnation, profile.ids) {
         return Some(ProfileFault::Incarnation);
     }
     if !are_served(profile) {
@@ -221,7 +222,7 @@ fn fault_of(profile: &ScannerProfile) -> Option<ProfileFault>
 impl ScannerProfile {
     /// Checks the profile, and returns the first fault in this order. Takes no memory.
     ///
-    /// - `Incarnation`: the incarnation is 0.
+    /// - `Incarnation`: the incarnation is 0, or the ids do not begin at 1 or above, or do not end below 2^32.
     /// - `Points`: the profile has no slot or more than 64, or a listen-only slot is not multicast.
     /// - `SameInstance`: two multicast slots name one produced point of one target.
     /// - `Length`: an input, an output or configuration data have a length that is not allowed.

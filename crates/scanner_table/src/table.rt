@@ -3,7 +3,7 @@
 use crate::explicit::PendingExplicit;
 use crate::profile::ScannerProfile;
 use crate::slot::Slot;
-use cip_types::{Items, Ms, Node, Numbered};
+use cip_types::{IdBlock, Items, Ms, Node, Numbered};
 
 /// The state of the session on a stream.
 ///
@@ -59,7 +59,9 @@ pub struct ScannerTable {
     pub run: bool,
     /// The time since the scanner was made.
     pub clock: Ms,
-    /// The counter of the next connection id: its low 24 bits.
+    /// The blocks of connection ids.
+    pub ids: Items<IdBlock>,
+    /// The number of the next connection id, through the blocks laid one behind the other.
     pub next_id: u32,
     /// The connection serial number of the next Forward_Open; never 0.
     pub next_serial: u16,

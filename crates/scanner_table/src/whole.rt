@@ -1,6 +1,7 @@
 //! Laws of whole tables of scanners.
 
 ghost use Rattle.std.specs.Prelude.{ℕ, ◌≡◌, ◌≤◌, None, IfOk};
+ghost use Rattle.cip_types.specs.Ids.{end_number};
 ghost use Rattle.cip_events.specs.declared.event.Event.{Event};
 ghost use Rattle.scanner_table.specs.declared.profile.ScannerProfile.{ScannerProfile};
 ghost use Rattle.scanner_table.specs.declared.table.ScannerTable.{ScannerTable};
@@ -42,8 +43,8 @@ pub fn steps_keep_tables_whole()
     explicit_requests_are_pending();
 }
 
-/// A whole table stays whole with a later counter for the next connection id, up to 16,777,216, at which no id is left.
+/// A whole table stays whole with a later number for the next connection id, up to that behind the last id of its blocks.
 pub fn later_counters_keep_tables_whole()
-    ensures { (t : ScannerTable) (counter : ℕ) → t.next_id ≤ counter → counter ≤ 16777216 →
+    ensures { (t : ScannerTable) (counter : ℕ) → t.next_id ≤ counter → counter ≤ end_number t.ids →
         IsWholeScanner t → IsWholeScanner (record t { next_id = counter }) }
 {}

@@ -5,6 +5,8 @@ use Rattle.std.proofs.lemmas.Bool.{and_parts}
 use Rattle.cip_types.specs.Cases.{first_case}
 use Rattle.cip_types.specs.declared.names.Mismatch.{Mismatch}
 use Rattle.cip_types.specs.declared.names.Mismatch.TheVariants as mismatch
+use Rattle.cip_types.specs.declared.ids.IdBlock.{IdBlock}
+use Rattle.cip_types.specs.Ids.{may_take}
 use Rattle.cip_types.specs.declared.names.Ms.{Ms}
 use Rattle.cip_types.specs.declared.names.Node.{Node}
 use Rattle.cip_datagram.specs.declared.datagram.DatagramFault.{DatagramFault}
@@ -14,7 +16,7 @@ use Rattle.cip_encap.specs.declared.message.EncapFault.{EncapFault}
 use Rattle.cip_encap.specs.Message.{MessageFields}
 use Rattle.cip_encap.specs.Reading.{message_reading}
 use Rattle.cip_events.specs.declared.event.Event.{Event}
-use Rattle.cip_events.specs.declared.event.Event.TheVariants.{StreamOpened, Frame, StreamCut, Datagram, Write, Tick, Mode, Start, Stop, Explicit}
+use Rattle.cip_events.specs.declared.event.Event.TheVariants.{StreamOpened, Frame, StreamCut, Datagram, Write, Tick, Mode, Start, Stop, Explicit, Ids}
 use Rattle.cip_events.specs.declared.event.Delivery.TheVariants.{Applied, Duplicate, Old, WrongSize}
 use Rattle.cip_events.specs.declared.event.Notice.{Notice}
 use Rattle.cip_events.specs.declared.event.Notice.TheVariants as notice
@@ -22,6 +24,8 @@ use Rattle.cip_events.specs.declared.event.Reason.{Reason}
 use Rattle.cip_events.specs.declared.event.Reason.TheVariants as reason
 use Rattle.cip_events.specs.declared.event.StepFault.{StepFault}
 use Rattle.cip_events.specs.declared.event.StepFault.TheVariants as fault
+use Rattle.cip_events.specs.declared.event.Verdict.TheVariants.{Done}
+use Rattle.cip_events.specs.Answers.{plain_answer}
 use Rattle.cip_events.specs.Clock.{longest_tick, clock_end}
 use Rattle.cip_fwdopen.specs.declared.reply.Opened as made
 use Rattle.cip_fwdopen.specs.declared.reply.OpenAnswer.{OpenAnswer}
@@ -51,7 +55,7 @@ use Rattle.scanner_table.specs.Slots.{IndexedSlot, indexed_slots, slot_at, is_nu
 use Rattle.scanner_table.specs.Sessions.{session_with, is_stream, is_taken, with_stream, without_stream, with_stage}
 use Rattle.scanner_table.specs.Requests.{is_large}
 use Rattle.scanner_table.specs.Effects.{Next, Effect, nothing, and_then, on_each, counted, changed, done}
-use Rattle.scanner_table.specs.Opening.{has_request, can_open, drawn, opening_slot, resigned, exhausted, open_requested, opened_within, closing_slot, close_requested, cleared_within, opened_from, has_place, open_session, asking_in, asking_session, opened, is_ready_slot, ready_slots, ready_opened, target_opened}
+use Rattle.scanner_table.specs.Opening.{has_request, has_id, can_open, drawn, opening_slot, resigned, exhausted, open_requested, opened_within, closing_slot, close_requested, cleared_within, opened_from, has_place, open_session, asking_in, asking_session, opened, is_ready_slot, ready_slots, ready_opened, target_opened}
 use Rattle.scanner_table.specs.Replies.{open_answer, is_id_free, new_connection, established_slot, failed_slot, refused, disowned, disowned_within, rejected, judged_success, answered}
 use Rattle.scanner_table.specs.Closing.{requested_link, idle_slot, is_close_in_time, given_up_state, given_up, target_lost, closed, slot_resigned, closed_within, stopped, stopped_at}
 use Rattle.scanner_table.specs.Explicit.{is_request, is_over, is_late, others, awaits, has_explicit_length, is_barred, connects_to, explicit_sent, explicit_within, explicit_request, explicit_reply, explicit_ended, explicit_answered, without_explicit, explicit_timed_out, explicit_lost}
@@ -61,7 +65,7 @@ use Rattle.scanner_table.specs.Datagrams.{is_for, slot_pace, accepts_at, accepte
 use Rattle.scanner_table.specs.Points.{output_slot, output_written, write_at, write, same_mode, moded_table, mode, desired_slot, started, start_state, start_at, start, stop_of, stop}
 use Rattle.scanner_table.specs.Productions.{produced_table}
 use Rattle.scanner_table.specs.Ticks.{by_deadline, has_expired, expired_slots, expired_state, expired, all_expired, is_overdue, all_given_up, clocked_table, advanced, moved_on, ticked, tick}
-use Rattle.scanner_table.specs.Step.{scanner_step}
+use Rattle.scanner_table.specs.Step.{scanner_step, taken_table, take_ids}
 use Rattle.scanner_table.specs.Lemmas.SlotLookups.{Stands, Each, EachTwo, Any, Apart, each_any, each_more, each_filter, two_filter, each_passes, each_in_order, two_in_order, each_found, each_stands, slots_apart, get_same, get_other}
 use Rattle.scanner_table.specs.Lemmas.PassiveLemmas.{is_passive, passive_holds}
 
@@ -91,12 +95,13 @@ pub record BecomesTimedOut (link : Link) (old new : Slot) : Type 0 where
 pub record Kept (R : ScannerTable → ScannerTable → Type 0) : Type 0 where
   pub same : (t : ScannerTable) → R t t
   pub after : (t u v : ScannerTable) → R t u → R u v → R t v
-  pub opening : (t : ScannerTable) (indexed : IndexedSlot) → Stands t indexed → is_closed indexed.slot.state ≡ true → has_place t indexed.config.target ≡ true → R t (with_slot (counted (drawn t indexed.config)) indexed.number (opening_slot t indexed))
+  pub opening : (t : ScannerTable) (indexed : IndexedSlot) → Stands t indexed → is_closed indexed.slot.state ≡ true → has_place t indexed.config.target ≡ true → has_id t indexed.config ≡ true → R t (with_slot (counted (drawn t indexed.config)) indexed.number (opening_slot t indexed))
   pub idling : (t : ScannerTable) (indexed : IndexedSlot) (slot : Slot) → Stands t indexed → BecomesIdle indexed.slot slot → R t (with_slot t indexed.number slot)
   pub timing_out : (t : ScannerTable) (indexed : IndexedSlot) (link : Link) (slot : Slot) → Stands t indexed → link_in indexed.slot.state ≡ Some link → BecomesTimedOut link indexed.slot slot → R t (with_slot t indexed.number slot)
   pub closing : (t : ScannerTable) (indexed : IndexedSlot) (link : Link) (desired_up : Bool) → Stands t indexed → link_in indexed.slot.state ≡ Some link → R t (with_slot (counted t) indexed.number (closing_slot t link desired_up indexed.slot))
 
--- it holds too where streams change, time passes, slots produce, the mode changes, and explicit requests are sent and end
+-- it holds too where streams change, time passes, slots produce, the mode changes, explicit requests are sent and end, and
+-- further ids come
 pub record KeptWidely (R : ScannerTable → ScannerTable → Type 0) : Type 0 where
   pub slots : Kept R
   pub streams : (t : ScannerTable) (streams : List TargetStream) → R t (record t { streams = streams })
@@ -104,6 +109,7 @@ pub record KeptWidely (R : ScannerTable → ScannerTable → Type 0) : Type 0 wh
   pub producing : (t : ScannerTable) → R t (produced_table t)
   pub moding : (t : ScannerTable) (run : Bool) → R t (moded_table t run)
   pub explicit : (t : ScannerTable) (pending : List PendingExplicit) (request : ℕ) → t.next_request ≤ request → R t (record t { next_request = request; explicit = pending })
+  pub taken : (t : ScannerTable) (block : IdBlock) → may_take t.ids block ≡ true → R t (taken_table t block)
 
 -- a slot is established by the reply to its opening
 abbrev pub Establishes : (ScannerTable → ScannerTable → Type 0) → ScannerTable → Type 0
@@ -191,13 +197,13 @@ turn_step false t target session is = absurd cc
 open_in_turn : (t : ScannerTable) (target : Node) (asking : Option Session) → asking ≡ open_session t target → IsInTurn t target asking
 open_in_turn t target asking same = λ session is. turn_step (has_place t target) t target session (sym same ∙ is)
 
-open_step : (b : Bool) (R : ScannerTable → ScannerTable → Type 0) → Kept R → (t : ScannerTable) (indexed : IndexedSlot) (session : Session) → Stands t indexed → is_closed indexed.slot.state ≡ true → has_place t indexed.config.target ≡ true → Does R t indexed (cond b (open_requested t indexed session) (exhausted t indexed))
-open_step true R kept t indexed session stands closed_before place = record { leads = kept.opening t indexed stands closed_before place; local = set_local t (counted (drawn t indexed.config)) indexed.number (opening_slot t indexed) refl refl }
-open_step false R kept t indexed session stands closed_before place = does_resigned R kept t indexed (notice.NoIds indexed.number ∷ []) stands
+open_step : (b : Bool) (R : ScannerTable → ScannerTable → Type 0) → Kept R → (t : ScannerTable) (indexed : IndexedSlot) (session : Session) → can_open t indexed.config ≡ b → Stands t indexed → is_closed indexed.slot.state ≡ true → has_place t indexed.config.target ≡ true → Does R t indexed (cond b (open_requested t indexed session) (exhausted t indexed))
+open_step true R kept t indexed session can stands closed_before place = record { leads = kept.opening t indexed stands closed_before place (and_parts (has_request t) (has_id t indexed.config) can).1; local = set_local t (counted (drawn t indexed.config)) indexed.number (opening_slot t indexed) refl refl }
+open_step false R kept t indexed session can stands closed_before place = does_resigned R kept t indexed (notice.NoIds indexed.number ∷ []) stands
 
 within_does : (R : ScannerTable → ScannerTable → Type 0) → Kept R → (t : ScannerTable) (indexed : IndexedSlot) (session : Option Session) → Stands t indexed → is_closed indexed.slot.state ≡ true → IsInTurn t indexed.config.target session → Does R t indexed (opened_within t indexed session)
 within_does R kept t indexed None stands closed_before turn = does_nothing R kept t indexed
-within_does R kept t indexed (Some session) stands closed_before turn = open_step (can_open t indexed.config) R kept t indexed session stands closed_before (turn session refl)
+within_does R kept t indexed (Some session) stands closed_before turn = open_step (can_open t indexed.config) R kept t indexed session refl stands closed_before (turn session refl)
 
 -- the slot has no connection and waits for no reply
 abbrev pub IsClosedSlot : IndexedSlot → Type 0
@@ -475,6 +481,15 @@ pub cut_leads : (R : ScannerTable → ScannerTable → Type 0) → KeptWidely R 
 unfolding stream_cut
 cut_leads R kept t number = cut_of_leads R kept t (find (is_stream number) t.streams)
 
+-- further ids come
+ids_step : (b : Bool) (R : ScannerTable → ScannerTable → Type 0) → KeptWidely R → (t : ScannerTable) (block : IdBlock) → may_take t.ids block ≡ b → Leads R t (cond b (Ok (plain_answer Done, taken_table t block)) (Err fault.NotAllowedNow))
+ids_step true R kept t block may = kept.taken t block may
+ids_step false R kept t block may = tt
+
+ids_leads : (R : ScannerTable → ScannerTable → Type 0) → KeptWidely R → (t : ScannerTable) (block : IdBlock) → Leads R t (take_ids t block)
+unfolding take_ids
+ids_leads R kept t block = ids_step (may_take t.ids block) R kept t block refl
+
 -- an event that leaves the table as it is
 pub passive_leads : (R : ScannerTable → ScannerTable → Type 0) → Kept R → (t : ScannerTable) (event : Event) → is_passive event ≡ true → Leads R t (scanner_step t event)
 passive_leads R kept t event passive = passive_holds (Leads R t) t (λ why. tt) (λ verdict. kept.same t) event passive
@@ -679,6 +694,7 @@ bare_leads R kept t (Mode run) bare = mode_leads R kept t run
 bare_leads R kept t (Start slot) bare = start_leads R kept.slots t slot
 bare_leads R kept t (Stop slot) bare = stop_leads R kept.slots t slot
 bare_leads R kept t (Explicit target number bytes) bare = explicit_leads R kept t target number bytes
+bare_leads R kept t (Ids block) bare = ids_leads R kept t block
 bare_leads R kept t other bare = passive_leads R kept.slots t other refl
 
 in_all_cases : (R : ScannerTable → ScannerTable → Type 0) → KeptAlways R → (t : ScannerTable) → OrEstablished R R t

@@ -2,7 +2,7 @@
 -- other events, and cites this for all that are passive.
 use Rattle.std.proofs.Common.{◌≡◌, Bool, true, false, Option, Some, None, Result, Ok, Err}
 use Rattle.cip_events.specs.declared.event.Event.{Event}
-use Rattle.cip_events.specs.declared.event.Event.TheVariants.{StreamOpened, Frame, StreamCut, Datagram, Write, Read, Tick, Mode, Start, Stop, Explicit}
+use Rattle.cip_events.specs.declared.event.Event.TheVariants.{StreamOpened, Frame, StreamCut, Datagram, Write, Read, Tick, Mode, Start, Stop, Explicit, Ids}
 use Rattle.cip_events.specs.declared.event.StepFault.{StepFault}
 use Rattle.cip_events.specs.declared.event.StepFault.TheVariants.{NoSuchSlot}
 use Rattle.cip_events.specs.declared.event.Verdict.{Verdict}
@@ -26,6 +26,7 @@ is_passive (Mode run) = false
 is_passive (Start slot) = false
 is_passive (Stop slot) = false
 is_passive (Explicit target number bytes) = false
+is_passive (Ids block) = false
 is_passive other = true
 
 read_passive : (Q : Result Next StepFault → Type 0) (t : ScannerTable) → ((why : StepFault) → Q (Err why)) → ((verdict : Verdict) → Q (Ok (plain_answer verdict, t))) → (found : Option IndexedSlot) → Q (read_at t found)
@@ -46,4 +47,5 @@ passive_holds Q t refused answered (Mode run) passive = absurd (let e = passive 
 passive_holds Q t refused answered (Start slot) passive = absurd (let e = passive in cc)
 passive_holds Q t refused answered (Stop slot) passive = absurd (let e = passive in cc)
 passive_holds Q t refused answered (Explicit target number bytes) passive = absurd (let e = passive in cc)
+passive_holds Q t refused answered (Ids block) passive = absurd (let e = passive in cc)
 passive_holds Q t refused answered other passive = search refused

@@ -8,7 +8,7 @@ use Rattle.cip_datagram.specs.Reading.{datagram_reading}
 use Rattle.cip_events.specs.declared.event.Delivery.{Delivery}
 use Rattle.cip_events.specs.declared.event.Delivery.TheVariants.{Applied, Duplicate, Old, UnknownId, WrongSize, Malformed}
 use Rattle.cip_events.specs.declared.event.Event.{Event}
-use Rattle.cip_events.specs.declared.event.Event.TheVariants.{StreamOpened, Frame, StreamCut, Datagram, Write, Tick, Mode, Start, Stop, Explicit}
+use Rattle.cip_events.specs.declared.event.Event.TheVariants.{StreamOpened, Frame, StreamCut, Datagram, Write, Tick, Mode, Start, Stop, Explicit, Ids}
 use Rattle.cip_events.specs.declared.event.StepFault.{StepFault}
 use Rattle.cip_events.specs.declared.event.StepFault.TheVariants.{NoSuchSlot, NotAllowedNow, WrongLength}
 use Rattle.cip_events.specs.declared.event.Verdict.{Verdict}
@@ -25,11 +25,14 @@ use Rattle.scanner_table.specs.Effects.{Next}
 use Rattle.scanner_table.specs.Slots.{IndexedSlot, indexed_slots, slot_at, with_slot}
 use Rattle.scanner_table.specs.Datagrams.{accepts_at, is_for, accepted_table, delivered, accepted, sized, connected, state_received, received_at, received_as, received}
 use Rattle.scanner_table.specs.Points.{output_slot, output_written, write_length, write_at, write, same_mode, moded_table, mode}
-use Rattle.scanner_table.specs.Step.{scanner_step}
+use Rattle.cip_types.specs.declared.ids.IdBlock.{IdBlock}
+use Rattle.cip_types.specs.Ids.{may_take}
+use Rattle.scanner_table.specs.Step.{scanner_step, taken_table, take_ids}
 use Rattle.scanner_table.specs.Lemmas.PassiveLemmas.{passive_holds}
+use Rattle.std.proofs.lemmas.Bool.{cond_both}
 use Rattle.base_lemmas.specs.Booleans.{either}
 
--- the later table differs in slots and mode alone
+-- the later table differs in slots, in the mode and in further ids alone
 pub record DiffersInSlots (t u : ScannerTable) : Type 0 where
   pub profile : u.profile ≡ t.profile
   pub clock : u.clock ≡ t.clock
@@ -51,6 +54,9 @@ set t number slot = record { profile = refl; clock = refl; next_id = refl; next_
 
 moded : (t : ScannerTable) (run : Bool) → DiffersInSlots t (moded_table t run)
 moded t run = record { profile = refl; clock = refl; next_id = refl; next_serial = refl; next_request = refl; streams = refl; explicit = refl }
+
+grown : (t : ScannerTable) (block : IdBlock) → DiffersInSlots t (taken_table t block)
+grown t block = record { profile = refl; clock = refl; next_id = refl; next_serial = refl; next_request = refl; streams = refl; explicit = refl }
 
 -- ---- datagrams
 
@@ -94,7 +100,12 @@ write_holds Q t refused holds bytes (Some indexed) =
 
 -- ---- events
 
--- the event can change more than slots and the mode, or send requests
+-- what holds of each fault, and of the table with the further block of ids and no more than a verdict, holds after that event
+pub ids_hold : (Q : Result Next StepFault → Type 0) (t : ScannerTable) (block : IdBlock) → ((why : StepFault) → Q (Err why)) → (may_take t.ids block ≡ true → Q (Ok (plain_answer Done, taken_table t block))) → Q (scanner_step t (Ids block))
+unfolding take_ids
+ids_hold Q t block refused holds = cond_both (may_take t.ids block) (Ok (plain_answer Done, taken_table t block)) (Err NotAllowedNow) Q holds (λ full. refused NotAllowedNow)
+
+-- the event can change more than slots, the mode and the ids, or send requests
 abbrev pub changes_more : Event → Bool
 changes_more (StreamOpened stream peer) = true
 changes_more (Frame stream bytes) = true
@@ -118,4 +129,5 @@ slots_hold Q t refused holds (Mode run) more =
 slots_hold Q t refused holds (Start slot) more = absurd (let e = more in cc)
 slots_hold Q t refused holds (Stop slot) more = absurd (let e = more in cc)
 slots_hold Q t refused holds (Explicit target number bytes) more = absurd (let e = more in cc)
+slots_hold Q t refused holds (Ids block) more = ids_hold Q t block refused (λ may. holds Done (taken_table t block) (grown t block))
 slots_hold Q t refused holds other more = passive_holds Q t refused (λ verdict. holds verdict t (itself t)) other refl

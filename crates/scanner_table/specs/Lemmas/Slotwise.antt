@@ -3,6 +3,8 @@ use Rattle.std.proofs.Common.{◌≡◌, ◌≤◌, ◌<◌, ℕ, zero, suc, ◌
 use Rattle.std.proofs.lemmas.List.{length-map}
 use Rattle.std.proofs.lemmas.Option.{slice_get_within, same_Some}
 use Rattle.std.proofs.lemmas.Bool.{eqb-false}
+use Rattle.cip_types.specs.Ids.{Extends}
+use Rattle.cip_types.specs.IdLaws.{extends_itself, extends_on, block_extends}
 use Rattle.cip_datagram.specs.Datagram.{DatagramFields}
 use Rattle.cip_fwdopen.specs.declared.reply.Opened as made
 use Rattle.conn_state.specs.Answers.{is_requested_id}
@@ -16,7 +18,8 @@ use Rattle.scanner_table.specs.declared.slot.SlotState.TheVariants.{Opening, Est
 use Rattle.scanner_table.specs.declared.table.ScannerTable.{ScannerTable}
 use Rattle.scanner_table.specs.Slots.{IndexedSlot, indexed_from, indexed_slots, with_slot, is_closed}
 use Rattle.scanner_table.specs.Effects.{counted}
-use Rattle.scanner_table.specs.Opening.{drawn, opening_slot, closing_slot}
+use Rattle.scanner_table.specs.Opening.{has_id, drawn, opening_slot, closing_slot}
+use Rattle.scanner_table.specs.Step.{taken_table}
 use Rattle.scanner_table.specs.Replies.{new_connection, established_slot}
 use Rattle.scanner_table.specs.Datagrams.{accepted_connection, accepted_table}
 use Rattle.scanner_table.specs.Points.{output_slot, moded_slot, moded_table}
@@ -28,19 +31,21 @@ use Rattle.scanner_table.specs.Lemmas.Moves.{BecomesIdle, link_in, BecomesTimedO
 
 -- ---- later tables
 
--- the profile is the same, and neither the counters nor the clock fell
+-- the profile is the same, further blocks of ids are behind the earlier ones, and neither the next numbers nor the clock fell
 pub record Later (t u : ScannerTable) : Type 0 where
   pub profile : u.profile ≡ t.profile
+  pub blocks : Extends t.ids u.ids
   pub ids : t.next_id ≤ u.next_id
   pub requests : t.next_request ≤ u.next_request
   pub clock : t.clock.0 ≤ u.clock.0
 
 pub same_later : (t : ScannerTable) → Later t t
-same_later t = record { profile = refl; ids = omega arith; requests = omega arith; clock = omega arith }
+same_later t = record { profile = refl; blocks = extends_itself t.ids; ids = omega arith; requests = omega arith; clock = omega arith }
 
 pub later_later : (t u v : ScannerTable) → Later t u → Later u v → Later t v
 later_later t u v first next = record {
   profile = next.profile ∙ first.profile;
+  blocks = extends_on t.ids u.ids v.ids first.blocks next.blocks;
   ids = omega (arith, first.ids, next.ids);
   requests = omega (arith, first.requests, next.requests);
   clock = omega (arith, first.clock, next.clock);
@@ -79,7 +84,7 @@ ModesSo S = (t : ScannerTable) (run : Bool) (indexed : IndexedSlot) → S t (mod
 pub record Slotwise (S : Relation) : Type 0 where
   pub stays : StaysSo S
   pub after : (t u v : ScannerTable) (number : ℕ) (config : SlotConfig) (a b c : Slot) → Later t u → Later u v → S t u number config a b → S u v number config b c → S t v number config a c
-  pub opening : (t : ScannerTable) (indexed : IndexedSlot) → is_closed indexed.slot.state ≡ true → S t (with_slot (counted (drawn t indexed.config)) indexed.number (opening_slot t indexed)) indexed.number indexed.config indexed.slot (opening_slot t indexed)
+  pub opening : (t : ScannerTable) (indexed : IndexedSlot) → is_closed indexed.slot.state ≡ true → has_id t indexed.config ≡ true → S t (with_slot (counted (drawn t indexed.config)) indexed.number (opening_slot t indexed)) indexed.number indexed.config indexed.slot (opening_slot t indexed)
   pub idling : (t : ScannerTable) (indexed : IndexedSlot) (slot : Slot) → BecomesIdle indexed.slot slot → S t (with_slot t indexed.number slot) indexed.number indexed.config indexed.slot slot
   pub timing_out : (t : ScannerTable) (indexed : IndexedSlot) (link : Link) (slot : Slot) → link_in indexed.slot.state ≡ Some link → BecomesTimedOut link indexed.slot slot → S t (with_slot t indexed.number slot) indexed.number indexed.config indexed.slot slot
   pub closing : (t : ScannerTable) (indexed : IndexedSlot) (link : Link) (desired_up : Bool) → link_in indexed.slot.state ≡ Some link → S t (with_slot (counted t) indexed.number (closing_slot t link desired_up indexed.slot)) indexed.number indexed.config indexed.slot (closing_slot t link desired_up indexed.slot)
@@ -167,7 +172,7 @@ moded_stands t number config slot is there =
 
 pub moded_goes : (S : Relation) → ModesSo S → (t : ScannerTable) (run : Bool) → Goes S t (moded_table t run)
 moded_goes S by t run = record {
-  later = record { profile = refl; ids = omega arith; requests = omega arith; clock = omega arith };
+  later = record { profile = refl; blocks = extends_itself t.ids; ids = omega arith; requests = omega arith; clock = omega arith };
   fewer = rw (length-map (indexed_slots t) moded_slot) (fewer_slots 0 t.profile.slots t.slots);
   changes = λ number config was at there. record {
     now = moded_slot (indexed_at number config was);
@@ -179,7 +184,7 @@ moded_goes S by t run = record {
 pub produced_goes : (S : Relation) → ProducesSo S → (t : ScannerTable) → Goes S t (produced_table t)
 unfolding produced_table
 produced_goes S by t = record {
-  later = record { profile = refl; ids = omega arith; requests = omega arith; clock = omega arith };
+  later = record { profile = refl; blocks = extends_itself t.ids; ids = omega arith; requests = omega arith; clock = omega arith };
   fewer = rw (length-map t.slots (produced_slot t.clock)) (omega arith);
   changes = λ number config was at there. record {
     now = produced_slot t.clock was;
@@ -195,19 +200,19 @@ id_later true next = omega arith
 id_later false next = omega arith
 
 pub drawn_later : (t : ScannerTable) (config : SlotConfig) (number : ℕ) (slot : Slot) → Later t (with_slot (counted (drawn t config)) number slot)
-drawn_later t config number slot = record { profile = refl; ids = id_later config.multicast t.next_id; requests = omega arith; clock = omega arith }
+drawn_later t config number slot = record { profile = refl; blocks = extends_itself t.ids; ids = id_later config.multicast t.next_id; requests = omega arith; clock = omega arith }
 
 pub counted_later : (t : ScannerTable) (number : ℕ) (slot : Slot) → Later t (with_slot (counted t) number slot)
-counted_later t number slot = record { profile = refl; ids = omega arith; requests = omega arith; clock = omega arith }
+counted_later t number slot = record { profile = refl; blocks = extends_itself t.ids; ids = omega arith; requests = omega arith; clock = omega arith }
 
 pub set_later : (t : ScannerTable) (number : ℕ) (slot : Slot) → Later t (with_slot t number slot)
-set_later t number slot = record { profile = refl; ids = omega arith; requests = omega arith; clock = omega arith }
+set_later t number slot = record { profile = refl; blocks = extends_itself t.ids; ids = omega arith; requests = omega arith; clock = omega arith }
 
 pub goes_kept : (S : Relation) → Slotwise S → Kept (Goes S)
 goes_kept S by = record {
   same = λ t. stays_goes S by.stays t t (same_later t) refl;
   after = goes_after S by;
-  opening = λ t indexed stands closed_before place. set_goes S by.stays t (counted (drawn t indexed.config)) indexed (opening_slot t indexed) (drawn_later t indexed.config indexed.number (opening_slot t indexed)) refl stands (by.opening t indexed closed_before);
+  opening = λ t indexed stands closed_before place left. set_goes S by.stays t (counted (drawn t indexed.config)) indexed (opening_slot t indexed) (drawn_later t indexed.config indexed.number (opening_slot t indexed)) refl stands (by.opening t indexed closed_before left);
   idling = λ t indexed slot stands idle. set_goes S by.stays t t indexed slot (set_later t indexed.number slot) refl stands (by.idling t indexed slot idle);
   timing_out = λ t indexed link slot stands is becomes. set_goes S by.stays t t indexed slot (set_later t indexed.number slot) refl stands (by.timing_out t indexed link slot is becomes);
   closing = λ t indexed link desired_up stands is.
@@ -218,11 +223,12 @@ goes_kept S by = record {
 pub goes_widely : (S : Relation) → Slotwise S → KeptWidely (Goes S)
 goes_widely S by = record {
   slots = goes_kept S by;
-  streams = λ t streams. stays_goes S by.stays t (record t { streams = streams }) (record { profile = refl; ids = omega arith; requests = omega arith; clock = omega arith }) refl;
-  clocked = λ t ms. stays_goes S by.stays t (clocked_table t ms) (record { profile = refl; ids = omega arith; requests = omega arith; clock = omega arith }) refl;
+  streams = λ t streams. stays_goes S by.stays t (record t { streams = streams }) (record { profile = refl; blocks = extends_itself t.ids; ids = omega arith; requests = omega arith; clock = omega arith }) refl;
+  clocked = λ t ms. stays_goes S by.stays t (clocked_table t ms) (record { profile = refl; blocks = extends_itself t.ids; ids = omega arith; requests = omega arith; clock = omega arith }) refl;
   producing = produced_goes S by.producing;
   moding = moded_goes S by.moding;
-  explicit = λ t pending request later. stays_goes S by.stays t (record t { next_request = request; explicit = pending }) (record { profile = refl; ids = omega arith; requests = later; clock = omega arith }) refl;
+  explicit = λ t pending request later. stays_goes S by.stays t (record t { next_request = request; explicit = pending }) (record { profile = refl; blocks = extends_itself t.ids; ids = omega arith; requests = later; clock = omega arith }) refl;
+  taken = λ t block may. stays_goes S by.stays t (taken_table t block) (record { profile = refl; blocks = block_extends t.ids block may; ids = omega arith; requests = omega arith; clock = omega arith }) refl;
 }
 
 -- the premises where a slot becomes established, is written, or accepts a datagram
