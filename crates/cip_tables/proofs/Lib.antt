@@ -1,3 +1,4 @@
+mod LastBlocks
 mod RunKeeps
 mod ScratchLemmas
 mod NewestLemmas

@@ -6,7 +6,7 @@ use Rattle.cip_events.specs.declared.event.StepFault.{StepFault}
 use Rattle.cip_events.specs.declared.event.StepFault.TheVariants.{OutOfMemory, TickTooLong, ClockEnd, NoSuchPoint, WrongLength, NoSuchSlot, NotAllowedNow}
 use Rattle.cip_events.specs.Outcomes.{Outcome, Follows}
 use Rattle.cip_productions.specs.declared.acceptance.Accepted.{Accepted}
-use Rattle.adapter_table.specs.declared.profile.Profile.{Profile}
+use Rattle.cip_types.specs.declared.ids.IdBlock.{IdBlock}
 use Rattle.adapter_table.specs.Connections.{Row}
 use Rattle.adapter_table.specs.Rows.{Each}
 use Rattle.adapter_table.specs.Requests.{Next}
@@ -47,15 +47,15 @@ none_step : (b : Bool) (opening next_id : ℕ) (row : Row) (found : Option Row) 
 none_step true opening next_id row found is below later rest = let same : row.opening ≡ opening = grind (arith, nat_tests) in absurd (omega arith)
 none_step false opening next_id row found is below later rest = rest
 
-none_found : (opening : ℕ) (profile : Profile) (next_id : ℕ) (rows : List Row) → next_id ≤ opening → IdsAreDrawn profile next_id rows → last_of (find (was_opened_as opening) rows) ≡ None
-none_found opening profile next_id [] later drawn = refl
-none_found opening profile next_id (row ∷ rows) later drawn =
-    none_step (row.opening == opening) opening next_id row (find (was_opened_as opening) rows) refl drawn.1 later (none_found opening profile next_id rows later drawn.2)
+none_found : (opening : ℕ) (ids : List IdBlock) (next_id : ℕ) (rows : List Row) → next_id ≤ opening → IdsAreDrawn ids next_id rows → last_of (find (was_opened_as opening) rows) ≡ None
+none_found opening ids next_id [] later drawn = refl
+none_found opening ids next_id (row ∷ rows) later drawn =
+    none_step (row.opening == opening) opening next_id row (find (was_opened_as opening) rows) refl drawn.0.below later (none_found opening ids next_id rows later drawn.1)
 
 remembers_opening : (opening : ℕ) (t : DeviceTable) → IfAdapter IsSound t → IfAdapter (TableRemembers opening (last_in opening t)) t
 remembers_opening opening (Adapter t) sound = record {
   there = remembers_found opening t.rows sound.producers.openings_rise;
-  unopened = λ later. none_found opening t.profile t.next_id t.rows later sound.ids_are_drawn;
+  unopened = λ later. none_found opening t.ids t.next_id t.rows later sound.ids_are_drawn;
 }
 remembers_opening opening (Scanner t) sound = tt
 

@@ -1,5 +1,8 @@
 -- A run keeps what each step keeps.
 use Rattle.std.proofs.Common.{◌≡◌, ◌≤◌, ℕ, List, [], ◌∷◌, None, Result, Ok, Err, IfOk, refl, sym, subst, arith}
+use Rattle.cip_types.specs.IdLaws.{extends_itself, extends_on}
+use Rattle.cip_types.specs.Ids.{Extends, end_number}
+use Rattle.cip_types.specs.declared.ids.IdBlock.{IdBlock}
 use Rattle.cip_events.specs.declared.event.Event.{Event}
 use Rattle.cip_events.specs.declared.event.StepFault.{StepFault}
 use Rattle.cip_events.specs.declared.event.StepFault.TheVariants.{OutOfMemory, TickTooLong, ClockEnd, NoSuchPoint, WrongLength, NoSuchSlot, NotAllowedNow}
@@ -28,10 +31,10 @@ use Rattle.cip_tables.specs.declared.table.Config.{Config}
 use Rattle.cip_tables.specs.declared.table.Config.TheVariants as config
 use Rattle.cip_tables.specs.declared.table.DeviceTable.{DeviceTable}
 use Rattle.cip_tables.specs.declared.table.DeviceTable.TheVariants.{Adapter, Scanner}
-use Rattle.cip_tables.specs.Step.{DeviceNext, as_adapter, as_scanner, step, opening_table}
+use Rattle.cip_tables.specs.Step.{DeviceNext, as_adapter, config_fault, as_scanner, step, opening_table}
 use Rattle.cip_tables.specs.Messages.{OverEveryWholeRun, AnswersAreOnce}
 use Rattle.cip_tables.specs.Run.{Runs}
-use Rattle.cip_tables.specs.Sound.{IsSoundDevice, OverEveryRun, StepsCountOn, RunsCountOn}
+use Rattle.cip_tables.specs.Sound.{IsSoundDevice, OverEveryRun, StepsCountOn, StepsGrow, RunsCountOn}
 use Rattle.cip_tables.specs.StatedLimits.{FreshDevicesOpenWithin, RunsStayWithin, FreshDevicesStayWithin, TypesHavePlaces}
 use Rattle.cip_tables.specs.Whole.{IsWholeDevice, next_id_of, RunsKeepWhole, FreshDevicesAreWhole, TablesAreWhole}
 
@@ -107,22 +110,22 @@ pub whole_adapter : (t : DeviceTable) → IsWholeDevice t → IfAdapter IsSound 
 whole_adapter (Adapter t) whole = whole.sound
 whole_adapter (Scanner t) whole = tt
 
-fresh_adapter : ((profile : Profile) → IsSound (adapter_table profile)) → (made : Config) → IfAdapter IsSound (opening_table made)
-fresh_adapter fresh (config.Adapter profile) = fresh profile
-fresh_adapter fresh (config.Scanner profile) = tt
+fresh_adapter : ((profile : Profile) → profile_fault profile ≡ None → IsSound (adapter_table profile)) → (made : Config) → config_fault made ≡ None → IfAdapter IsSound (opening_table made)
+fresh_adapter fresh (config.Adapter profile) none = fresh profile none
+fresh_adapter fresh (config.Scanner profile) none = tt
 
 -- every adapter's table that a run reaches is sound
-pub reached_sound : StepsKeep IsSound → ((profile : Profile) → IsSound (adapter_table profile)) → OverEveryRun IsSound
+pub reached_sound : StepsKeep IsSound → ((profile : Profile) → profile_fault profile ≡ None → IsSound (adapter_table profile)) → OverEveryRun IsSound
 reached_sound steps fresh = record {
   whole = λ old events outcomes t whole ran. run_keeps IsSound (λ t. Unit {0}) steps all_keep old events outcomes (Adapter t) ran (whole_adapter old whole);
-  fresh = λ made events outcomes t ran. run_keeps IsSound (λ t. Unit {0}) steps all_keep (opening_table made) events outcomes (Adapter t) ran (fresh_adapter fresh made);
+  fresh = λ made events outcomes t none ran. run_keeps IsSound (λ t. Unit {0}) steps all_keep (opening_table made) events outcomes (Adapter t) ran (fresh_adapter fresh made none);
 }
 
 -- what follows from a property of every run holds of every run
 pub over_every : (P Q : AdapterTable → Type 0) → ((t : AdapterTable) → P t → Q t) → OverEveryRun P → OverEveryRun Q
 over_every P Q follows over = record {
   whole = λ old events outcomes t whole ran. follows t (over.whole old events outcomes t whole ran);
-  fresh = λ made events outcomes t ran. follows t (over.fresh made events outcomes t ran);
+  fresh = λ made events outcomes t none ran. follows t (over.fresh made events outcomes t none ran);
 }
 
 -- ---- whole tables
@@ -170,14 +173,35 @@ pub run_counts : ((counter : ℕ) → StepsKeep (λ t. counter ≤ t.next_id)) �
 run_counts steps counts old new events outcomes ran =
     counts_in (next_id_of old) new (run_keeps (λ t. next_id_of old ≤ t.next_id) (λ t. next_id_of old ≤ t.next_id) (steps (next_id_of old)) (scanners_count counts (next_id_of old)) old events outcomes new ran (counts_from old))
 
+-- ---- blocks of ids
+
+grown_in : (ids : List IdBlock) (t : DeviceTable) → InDevice (λ t. Extends ids t.ids) (λ t. Extends ids t.ids) t → Extends ids (ids_of t)
+grown_in ids (Adapter t) grows = grows
+grown_in ids (Scanner t) grows = grows
+
+grows_from : (t : DeviceTable) → InDevice (λ a. Extends (ids_of t) a.ids) (λ s. Extends (ids_of t) s.ids) t
+grows_from (Adapter t) = extends_itself t.ids
+grows_from (Scanner t) = extends_itself t.ids
+
+blocks_said : (t : ScannerTable) (ids : List IdBlock) (said : Result ScannerNext StepFault) → ((next : ScannerNext) → said ≡ Ok next → CountsOn t next.1) → Extends ids t.ids → IfOk said (λ next. Extends ids next.1.ids)
+blocks_said t ids (Ok next) counts grows = extends_on ids t.ids next.1.ids grows (counts next refl).blocks
+blocks_said t ids (Err fault) counts grows = tt
+
+scanners_grow : ScannersLead CountsOn → (ids : List IdBlock) → ScannersKeep (λ t. Extends ids t.ids)
+scanners_grow counts ids t event grows = blocks_said t ids (scanner_step t event) (counts t event) grows
+
+pub steps_grow : ((ids : List IdBlock) → StepsKeep (λ t. Extends ids t.ids)) → ScannersLead CountsOn → StepsGrow
+steps_grow steps counts old event next is =
+    grown_in (ids_of old) next.1 (step_keeps (λ t. Extends (ids_of old) t.ids) (λ t. Extends (ids_of old) t.ids) (steps (ids_of old)) (scanners_grow counts (ids_of old)) old event next is (grows_from old))
+
 -- ---- later counters
 
 abbrev pub LaterScanners : Type 0
-LaterScanners = (t : ScannerTable) (counter : ℕ) → t.next_id ≤ counter → counter ≤ 16777216 → IsWholeScanner t → IsWholeScanner (record t { next_id = counter })
+LaterScanners = (t : ScannerTable) (counter : ℕ) → t.next_id ≤ counter → counter ≤ end_number t.ids → IsWholeScanner t → IsWholeScanner (record t { next_id = counter })
 
-pub later_scanner : LaterScanners → (d : DeviceTable) (t : ScannerTable) (counter : ℕ) → d ≡ Scanner t → next_id_of d ≤ counter → counter ≤ 16777216 → IsWholeDevice d → IsWholeScanner (record t { next_id = counter })
+pub later_scanner : LaterScanners → (d : DeviceTable) (t : ScannerTable) (counter : ℕ) → d ≡ Scanner t → next_id_of d ≤ counter → counter ≤ end_number (ids_of d) → IsWholeDevice d → IsWholeScanner (record t { next_id = counter })
 later_scanner law d t counter is later last whole =
-    law t counter (subst (λ d. next_id_of d ≤ counter) is later) last (subst IsWholeDevice is whole)
+    law t counter (subst (λ d. next_id_of d ≤ counter) is later) (subst (λ d. counter ≤ end_number (ids_of d)) is last) (subst IsWholeDevice is whole)
 
 -- ---- class 3 connections, and requests to the application
 

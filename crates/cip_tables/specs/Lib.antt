@@ -11,3 +11,4 @@ pub mod FollowLaws
 pub mod RunLaws
 pub mod States
 pub mod StatedLimits
+pub mod Ids

@@ -1,5 +1,6 @@
 -- Properties of every adapter's table that a run reaches, and of the counter of connection ids.
-use Rattle.std.specs.Prelude.{◌≡◌, ◌≤◌, List, Ok}
+use Rattle.std.specs.Prelude.{◌≡◌, ◌≤◌, List, None, Ok}
+use Rattle.cip_types.specs.Ids.{Extends}
 use Rattle.cip_events.specs.declared.event.Event.{Event}
 use Rattle.cip_events.specs.Outcomes.{Outcome}
 use Rattle.adapter_table.specs.declared.table.AdapterTable.{AdapterTable}
@@ -8,23 +9,23 @@ use Rattle.scanner_table.specs.Whole.{IsWholeScanner}
 use Rattle.cip_tables.specs.declared.table.Config.{Config}
 use Rattle.cip_tables.specs.declared.table.DeviceTable.{DeviceTable}
 use Rattle.cip_tables.specs.declared.table.DeviceTable.TheVariants.{Adapter, Scanner}
-use Rattle.cip_tables.specs.Step.{DeviceNext, step, opening_table}
+use Rattle.cip_tables.specs.Step.{DeviceNext, step, opening_table, config_fault}
 use Rattle.cip_tables.specs.Run.{Runs}
-use Rattle.cip_tables.specs.Whole.{IsWholeDevice, next_id_of}
+use Rattle.cip_tables.specs.Whole.{IsWholeDevice, ids_of, next_id_of}
 
 -- the table of an adapter is sound; that of a scanner is whole, which includes its laws
 abbrev pub IsSoundDevice : DeviceTable → Type 0
 IsSoundDevice (Adapter t) = IsSound t
 IsSoundDevice (Scanner t) = IsWholeScanner t
 
--- the property holds of every adapter's table that a run from a whole table or from a fresh device reaches
+-- the property holds of every adapter's table that a run from a whole table or from a fresh device without a fault reaches
 pub record OverEveryRun (Holds : AdapterTable → Type 0) : Type 0 where
   pub whole :
       (old : DeviceTable) (events : List Event) (outcomes : List Outcome) (t : AdapterTable) →
       IsWholeDevice old → Runs old events outcomes (Adapter t) → Holds t
   pub fresh :
       (made : Config) (events : List Event) (outcomes : List Outcome) (t : AdapterTable) →
-      Runs (opening_table made) events outcomes (Adapter t) → Holds t
+      config_fault made ≡ None → Runs (opening_table made) events outcomes (Adapter t) → Holds t
 
 -- the counter of the next connection id does not fall in a step
 abbrev pub StepsCountOn : Type 0
@@ -32,7 +33,13 @@ StepsCountOn =
     (old : DeviceTable) (event : Event) (next : DeviceNext) →
     step old event ≡ Ok next → next_id_of old ≤ next_id_of next.1
 
--- nor in a run
+-- a step leaves the blocks of connection ids, or adds one: the ids of the numbers that they have stay
+abbrev pub StepsGrow : Type 0
+StepsGrow =
+    (old : DeviceTable) (event : Event) (next : DeviceNext) →
+    step old event ≡ Ok next → Extends (ids_of old) (ids_of next.1)
+
+-- nor does it fall in a run
 abbrev pub RunsCountOn : Type 0
 RunsCountOn =
     (old new : DeviceTable) (events : List Event) (outcomes : List Outcome) →

@@ -1,7 +1,8 @@
 -- What a device of either kind says of itself (Volume 1, chapter 3, connection object instance attributes; Volume 2,
 -- chapter 2, encapsulation sessions).
-use Rattle.std.specs.Prelude.{ℕ, ◌-◌, if◌then◌else◌, length, filter, slice_get, Option, Some, None}
+use Rattle.std.specs.Prelude.{ℕ, if◌then◌else◌, length, filter, slice_get, Option, Some, None}
 use Rattle.std.specs.Option.{option_map}
+use Rattle.cip_types.specs.Ids.{ids_left}
 use Rattle.cip_types.specs.declared.names.Triad.{Triad}
 use Rattle.adapter_table.specs.declared.report.AnyConnection.{AnyConnection}
 use Rattle.adapter_table.specs.declared.report.Class3Report.{Class3Report}
@@ -79,12 +80,12 @@ totals_of (Adapter t) = record {
   sessions = length (filter is_registered t.streams);
   connections = length t.rows;
   class3_connections = length t.messaging.class3_connections;
-  ids_left = 16777216 - t.next_id;
+  ids_left = ids_left t.ids t.next_id;
 }
 totals_of (Scanner t) = record {
   streams = length t.streams;
   sessions = length (filter is_up t.streams);
   connections = length (filter is_open t.slots);
   class3_connections = 0;
-  ids_left = 16777216 - t.next_id;
+  ids_left = ids_left t.ids t.next_id;
 }

@@ -1,5 +1,6 @@
 -- Whole tables of devices, and the counter of their ids.
 use Rattle.std.specs.Prelude.{ℕ, ◌≡◌, List, None}
+use Rattle.cip_types.specs.declared.ids.IdBlock.{IdBlock}
 use Rattle.cip_events.specs.declared.event.Event.{Event}
 use Rattle.adapter_table.specs.declared.table.AdapterTable.{AdapterTable}
 use Rattle.cip_tables.specs.declared.table.Config.{Config}
@@ -15,12 +16,17 @@ abbrev pub IsWholeDevice : DeviceTable → Type 0
 IsWholeDevice (Adapter t) = IsWhole t
 IsWholeDevice (Scanner t) = IsWholeScanner t
 
--- the counter of the next connection id
+-- the blocks of connection ids
+abbrev pub ids_of : DeviceTable → List IdBlock
+ids_of (Adapter t) = t.ids
+ids_of (Scanner t) = t.ids
+
+-- the number of the next connection id
 abbrev pub next_id_of : DeviceTable → ℕ
 next_id_of (Adapter t) = t.next_id
 next_id_of (Scanner t) = t.next_id
 
--- the table with another counter
+-- the table with another such number
 abbrev pub with_next_id : DeviceTable → ℕ → DeviceTable
 with_next_id (Adapter t) counter = Adapter (record t { next_id = counter })
 with_next_id (Scanner t) counter = Scanner (record t { next_id = counter })

@@ -3,9 +3,10 @@
 ghost use Rattle.std.specs.Prelude.{◌≡◌, ◌≤◌, ◌↔◌, IfOk, IsTrue};
 ghost use Rattle.cip_tables.specs.declared.table.DeviceTable.{DeviceTable};
 ghost use Rattle.cip_tables.specs.declared.table.DeviceTable.TheVariants.{Adapter, Scanner};
+ghost use Rattle.cip_types.specs.Ids.{end_number};
 ghost use Rattle.adapter_table.specs.Whole.{IsWhole};
 ghost use Rattle.scanner_table.specs.Whole.{IsWholeScanner};
-ghost use Rattle.cip_tables.specs.Whole.{IsWholeDevice, next_id_of, with_next_id};
+ghost use Rattle.cip_tables.specs.Whole.{IsWholeDevice, ids_of, next_id_of, with_next_id};
 
 use crate::table::{Config, DeviceTable};
 use adapter_table::AdapterTable;
@@ -71,12 +72,13 @@ impl TableCopy {
         }
     }
 
-    /// Moves the counter of the next connection id forward. Takes no memory.
+    /// Moves the number of the next connection id forward. Takes no memory.
     ///
-    /// The new counter is no less than the present one, and at most 16,777,216, at which no id is left.
+    /// The new number is no less than the present one, and at most that behind the last id of the table's blocks. Without a
+    /// stated block that is 16,777,216.
     pub fn with_next_id(self, counter: u32) -> TableCopy
         requires later { next_id_of self ≤ counter }
-        requires last { counter ≤ 16777216 }
+        requires last { counter ≤ end_number (ids_of self) }
         ensures { result ≡ with_next_id self counter }
     {
         match self.table {

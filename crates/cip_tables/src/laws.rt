@@ -13,7 +13,7 @@ ghost use Rattle.cip_tables.specs.Newest.{OverEveryConnection};
 ghost use Rattle.cip_tables.specs.Scratch.{OutputsAreFromScratch, FreshOutputsAreFromScratch};
 ghost use Rattle.cip_tables.specs.StatedLimits.{RunsStayWithin, FreshDevicesOpenWithin, FreshDevicesStayWithin, TypesHavePlaces};
 ghost use Rattle.cip_tables.specs.Whole.{TablesAreWhole, RunsKeepWhole, FreshDevicesAreWhole};
-ghost use Rattle.cip_tables.specs.Sound.{OverEveryRun, StepsCountOn, RunsCountOn};
+ghost use Rattle.cip_tables.specs.Sound.{OverEveryRun, StepsCountOn, StepsGrow, RunsCountOn};
 ghost use Rattle.adapter_table.specs.Newest.{HasNewerNumber, IsAppliedNew, IsNotAgain};
 ghost use Rattle.adapter_table.specs.Rows.{most_rows};
 ghost use Rattle.adapter_table.specs.Streams.{most_streams};
@@ -51,9 +51,9 @@ pub fn ids_are_distinct()
     tables_are_sound();
 }
 
-/// Each O->T id has the device's incarnation as its high byte, and a counter below the next one.
+/// Each O->T id is of the device's blocks, and its number, which is the opening number, is below the next one.
 pub fn ids_are_below_the_next()
-    ensures { OverEveryRun (λ t. IdsAreDrawn t.profile t.next_id t.rows) }
+    ensures { OverEveryRun (λ t. IdsAreDrawn t.ids t.next_id t.rows) }
 {
     tables_are_sound();
 }
@@ -88,7 +88,7 @@ pub fn openings_rise()
     tables_are_sound();
 }
 
-/// The number of an established connection's producer is at most its opening number, and below the counter of the
+/// The number of an established connection's producer is at most its opening number, and below the number of the
 /// next id.
 pub fn producers_are_drawn()
     ensures { OverEveryRun (λ t. ProducersAreDrawn t.next_id t.rows) }
@@ -111,10 +111,10 @@ pub fn groups_alone_share_a_producer()
     tables_are_sound();
 }
 
-/// The counter of an established multicast connection's T->O id is its producer's number plus one, and below the
-/// counter of the next id.
+/// The number of an established multicast connection's T->O id is its producer's number plus one, and below the
+/// number of the next id.
 pub fn multicast_ids_are_their_producers()
-    ensures { OverEveryRun (λ t. MulticastIdsAreDrawn t.profile t.next_id t.rows) }
+    ensures { OverEveryRun (λ t. MulticastIdsAreDrawn t.ids t.next_id t.rows) }
 {
     tables_are_sound();
 }
@@ -126,6 +126,17 @@ pub fn next_id_never_falls()
     ensures run { RunsCountOn }
 {
     laws::counters_never_fall();
+    scanner_table::counters_never_fall();
+}
+
+/// The blocks of connection ids grow in each step, at a device of either kind and from any table: the ids of the numbers that they
+/// have stay.
+///
+/// Volume 1, chapter 3, network connection ids.
+pub fn blocks_grow()
+    ensures { StepsGrow }
+{
+    laws::blocks_grow();
     scanner_table::counters_never_fall();
 }
 

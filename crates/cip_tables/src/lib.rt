@@ -6,6 +6,7 @@
 mod any_device;
 mod copy;
 mod device;
+mod ids;
 pub mod laws;
 mod streams;
 mod table;
