@@ -149,6 +149,7 @@ impl<T: ConnectionTable> Adapter<T> {
                 bytes,
             } => self.respond(*number, *status, bytes.as_slice()),
             Event::Counters { bytes } => self.state.say_counters(bytes.as_slice()),
+            Event::Ids { block } => self.state.take_ids(*block),
         }
     }
 }

@@ -4,6 +4,7 @@ mod class3_connections;
 mod closings;
 mod counting;
 mod datagrams;
+mod ids;
 mod messages;
 mod openings;
 mod own;
@@ -23,7 +24,7 @@ use adapter_table::{
     has_opened_enough,
 };
 use assembly_set::AssemblySet;
-use cip_types::{Items, Ms, Node, OutOfMemory, copied_streams};
+use cip_types::{IdBlock, Items, Ms, Node, OutOfMemory, copied_streams, one_block};
 use indexed_connections::ConnectionTable;
 use messaging::MessagingState;
 use std::alloc::Global;
@@ -39,6 +40,7 @@ pub struct AdapterState<T: ConnectionTable> {
     assemblies: AssemblySet,
     table: T,
     clock: Ms,
+    ids: Vec<IdBlock>,
     next_id: u32,
     streams: Vec<Stream>,
     messaging: MessagingState,
@@ -52,9 +54,9 @@ impl<T: ConnectionTable> Model for AdapterState<T> {
 
     ghost Value = { AdapterTable };
 
-    ghost view = { λ a. record { profile = a.assemblies.profile; rows = T.rows a.table; values = a.assemblies.values; clock = a.clock; next_id = a.next_id; streams = a.streams.items; messaging = a.messaging; openings = a.openings.items; counters = a.counters } };
+    ghost view = { λ a. record { profile = a.assemblies.profile; rows = T.rows a.table; values = a.assemblies.values; clock = a.clock; ids = a.ids.items; next_id = a.next_id; streams = a.streams.items; messaging = a.messaging; openings = a.openings.items; counters = a.counters } };
 
-    ghost invariant = { λ a. IsWhole (record { profile = a.assemblies.profile; rows = T.rows a.table; values = a.assemblies.values; clock = a.clock; next_id = a.next_id; streams = a.streams.items; messaging = a.messaging; openings = a.openings.items; counters = a.counters }) };
+    ghost invariant = { λ a. IsWhole (record { profile = a.assemblies.profile; rows = T.rows a.table; values = a.assemblies.values; clock = a.clock; ids = a.ids.items; next_id = a.next_id; streams = a.streams.items; messaging = a.messaging; openings = a.openings.items; counters = a.counters }) };
 }
 
 impl<T: ConnectionTable> AdapterState<T> {
@@ -69,9 +71,10 @@ impl<T: ConnectionTable> AdapterState<T> {
             assemblies,
             table: T::new(alloc)?,
             clock: Ms(0),
+            ids: one_block(alloc, profile.first_ids())?,
             next_id: 1,
             streams: Vec::new(alloc),
-            messaging: MessagingState::new(alloc),
+            messaging: MessagingState::new(alloc, profile.first_request()),
             openings: Vec::new(alloc),
             counters: DeviceCounters::new(alloc),
         })
@@ -88,6 +91,7 @@ impl<T: ConnectionTable> AdapterState<T> {
             assemblies,
             table: T::holding(alloc, table.rows.as_slice())?,
             clock: table.clock,
+            ids: Vec::from_slice(alloc, table.ids.as_slice())?,
             next_id: table.next_id,
             streams: copied_streams(alloc, table.streams.as_slice())?,
             messaging: MessagingState::holding(alloc, &table.messaging)?,
@@ -105,6 +109,7 @@ impl<T: ConnectionTable> AdapterState<T> {
             rows: Items::from_vec(self.table.to_vec(self.alloc)?),
             values: self.assemblies.copy_values(self.alloc)?,
             clock: self.clock,
+            ids: Items::copy_of(self.alloc, &self.ids)?,
             next_id: self.next_id,
             streams: Items::copy_of(self.alloc, &self.streams)?,
             messaging: self.messaging.copy(self.alloc)?,
@@ -195,6 +200,13 @@ impl<T: ConnectionTable> AdapterState<T> {
         ensures fits { result.0 ≤ 2 ^ 48 }
     {
         self.clock
+    }
+
+    /// The blocks of connection ids.
+    pub fn ids(&self) -> &[IdBlock]
+        ensures { result.now ≡ self.now.ids }
+    {
+        &self.ids
     }
 
     /// The number of the next connection id.

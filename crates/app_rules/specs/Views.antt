@@ -12,7 +12,7 @@ use Rattle.app_rules.specs.declared.questions.NamedPoints.{NamedPoints}
 
 -- the state that the checks of a request of the triad read, from the list of the connections
 abbrev pub seen : {C : Type 0} → (C → List Row) → View C → Triad → checks.View
-seen rows view triad = checks.view_at view.profile.now (option_map (λ lent. lent.now) view.config) (rows view.connections.now) view.next_id view.talks triad
+seen rows view triad = checks.view_at view.profile.now (option_map (λ lent. lent.now) view.config) (rows view.connections.now) view.ids_left view.talks triad
 
 abbrev pub view_named_points : NamedPoints → checks.Points
 view_named_points points = record { path = view_path points.path; consumer = points.consumer; input = points.input; group = points.group }
@@ -22,7 +22,7 @@ abbrev pub seen_class3_connections : Class3View → opening.Class3View
 seen_class3_connections view = record {
   profile = view.profile.now;
   in_use = view.in_use;
-  next_id = view.next_id;
+  ids_left = view.ids_left;
   count = view.count;
   node_count = view.node_count;
   opened_enough = view.opened_enough;

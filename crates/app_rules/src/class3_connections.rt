@@ -1,7 +1,7 @@
 //! The checks of a request to open a class 3 connection, from the top: 2 to 5, 7 to 9, 11, 15, 16. `admit_class3` lists
 //! them.
 
-ghost use Rattle.std.specs.Prelude.{◌≡◌, ◌+◌, IfOk, nat_le, nat_lt};
+ghost use Rattle.std.specs.Prelude.{◌≡◌, IfOk, nat_le, nat_lt};
 ghost use Rattle.std.specs.Option.{option_map};
 ghost use Rattle.cip_epath.specs.ElectronicKey.{view_key};
 ghost use Rattle.cip_epath.specs.Reading.{seen};
@@ -21,7 +21,6 @@ use cip_fwdopen::OpenRequest;
 use cip_netparams::{ConnectionType, api_of, timeout_of};
 use cip_router::Refusal;
 use cip_types::Ms;
-use cip_types::limits::IDS_PER_INCARNATION;
 
 /// The most class 3 connections of an adapter.
 const MOST_CLASS3_CONNECTIONS: usize = 64;
@@ -72,9 +71,9 @@ fn is_point_to_point(kind: ConnectionType) -> bool
 
 /// Whether no id is left.
 fn has_no_id(view: &Class3View<'_>) -> bool
-    ensures { result ≡ nat_lt 16777216 (view.now.next_id + 1) }
+    ensures { result ≡ nat_lt view.now.ids_left 1 }
 {
-    view.next_id >= IDS_PER_INCARNATION
+    view.ids_left == 0
 }
 
 /// Whether there are 64 class 3 connections.

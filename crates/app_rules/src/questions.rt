@@ -1,6 +1,6 @@
 //! What the checks of a request find, and the questions that they ask.
 
-ghost use Rattle.std.specs.Prelude.{◌≡◌, ◌+◌, ◌==◌, ◌&&◌, length, nat_lt, nat_le, not};
+ghost use Rattle.std.specs.Prelude.{◌≡◌, ◌==◌, ◌&&◌, length, nat_lt, nat_le, not};
 ghost use Rattle.std.specs.List.{list_any};
 ghost use Rattle.std.specs.Option.{option_map};
 ghost use Rattle.cip_epath.specs.Path.{view_path};
@@ -23,7 +23,6 @@ use cip_fwdopen::OpenRequest;
 use cip_netparams::Trigger;
 use cip_productions::Kind;
 use cip_router::Refusal;
-use cip_types::limits::IDS_PER_INCARNATION;
 use cip_types::{Ms, Node};
 
 /// The transport that a request asks for: whether its producer sends to a group, its trigger and production inhibit
@@ -291,9 +290,9 @@ pub fn joins_other_inhibit(admission: &Admission<'_>) -> bool
 /// Whether fewer ids are left than the opening draws.
 pub fn lacks_ids<C>(view: &View<'_, C>, admission: &Admission<'_>) -> bool
     requires { admission.now.drawn ≡ drawn_ids admission.now.multicast admission.now.group }
-    ensures { result ≡ nat_lt 16777216 (view.now.next_id + drawn_ids admission.now.multicast admission.now.group) }
+    ensures { result ≡ nat_lt view.now.ids_left (drawn_ids admission.now.multicast admission.now.group) }
 {
-    view.next_id > IDS_PER_INCARNATION - admission.drawn
+    view.ids_left < admission.drawn
 }
 
 /// Whether there are 64 connections, and none has timed out.

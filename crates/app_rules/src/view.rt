@@ -3,7 +3,7 @@
 use adapter_table::Profile;
 
 /// The state of an adapter that the checks of an open request read: its profile, the bytes of its configuration,
-/// its connections, the counter of the next connection id, whether a class 3 connection has the triad of the request,
+/// its connections, how many connection ids are left, whether a class 3 connection has the triad of the request,
 /// and whether the node that sent it has opened as many connections in its second as the maker states.
 ///
 /// Volume 1, chapter 3, Connection Manager object.
@@ -12,13 +12,13 @@ pub struct View<'a, C> {
     pub profile: &'a Profile,
     pub config: Option<&'a [u8]>,
     pub connections: &'a C,
-    pub next_id: u32,
+    pub ids_left: u32,
     pub talks: bool,
     pub opened_enough: bool,
 }
 
 /// The state of an adapter that the checks of a request to open a class 3 connection read: its profile, whether a
-/// connection of any class and state has the triad of the request, the counter of the next connection id, how many
+/// connection of any class and state has the triad of the request, how many connection ids are left, how many
 /// class 3 connections there are, how many of them the node has that sent the request, and whether it has opened as many
 /// connections in its second as the maker states.
 ///
@@ -27,7 +27,7 @@ pub struct View<'a, C> {
 pub struct Class3View<'a> {
     pub profile: &'a Profile,
     pub in_use: bool,
-    pub next_id: u32,
+    pub ids_left: u32,
     pub count: usize,
     pub node_count: usize,
     pub opened_enough: bool,

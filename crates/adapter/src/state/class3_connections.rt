@@ -1,6 +1,7 @@
 //! Class 3 connections are opened and closed.
 
 ghost use Rattle.std.specs.Prelude.{◌≡◌, ◌+◌, [], Ok, Some, None, ◌≤◌, ◌∷◌};
+ghost use Rattle.cip_types.specs.Ids.{end_number};
 ghost use Rattle.cip_fwdopen.specs.Open.{view_open};
 ghost use Rattle.cip_fwdopen.specs.Services.{is_large_open};
 ghost use Rattle.adapter_replies.specs.Routes.{routed};
@@ -27,7 +28,7 @@ use cip_events::Notice;
 use cip_fwdopen::{OpenRequest, OpenService};
 use cip_productions::first_deadline;
 use cip_tables::{Outcome, Reply, Stream};
-use cip_types::{Items, Node, Triad, connection_id};
+use cip_types::{Items, Node, Triad, id_at, ids_left};
 use indexed_connections::ConnectionTable;
 use messaging::Class3Connection;
 
@@ -42,14 +43,14 @@ impl<T: ConnectionTable> AdapterState<T> {
     ) -> Class3Connection
         requires times { times ≡ class3_times (view_open request.now) }
         requires waits { times.watchdog.0 ≤ 5120000 }
-        requires left { self.now.next_id + 1 ≤ 16777216 }
+        requires left { self.now.next_id + 1 ≤ end_number self.now.ids }
         ensures { result ≡ opened_class3 self.now stream.now (view_open request.now) }
     {
         Class3Connection {
             triad: request.triad,
             peer: stream.peer,
             stream: stream.number,
-            o_t_id: connection_id(self.assemblies.profile().incarnation, self.next_id),
+            o_t_id: id_at(&self.ids, self.next_id),
             t_o_id: request.t_o_id,
             o_t_api_ms: times.o_t_api_ms,
             t_o_api_ms: times.t_o_api_ms,
@@ -105,7 +106,7 @@ impl<T: ConnectionTable> AdapterState<T> {
         Class3View {
             profile: self.assemblies.profile(),
             in_use: self.table.find(triad).is_some() || self.messaging.has_triad(triad),
-            next_id: self.next_id,
+            ids_left: ids_left(&self.ids, self.next_id),
             count: self.messaging.class3_connections().len(),
             node_count: self.messaging.class3_count(peer),
             opened_enough: self.has_opened_enough(peer),

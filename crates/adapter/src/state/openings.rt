@@ -2,6 +2,7 @@
 
 ghost use Rattle.std.specs.Prelude.{◌≡◌, ◌+◌, Ok, Some, IfOk, ◌≤◌, length};
 ghost use Rattle.std.specs.Option.{option_map, ForSome};
+ghost use Rattle.cip_types.specs.Ids.{end_number};
 ghost use Rattle.cip_fwdopen.specs.Open.{view_open};
 ghost use Rattle.cip_fwdopen.specs.Services.{is_large_open};
 ghost use Rattle.adapter_table.specs.Checks.{Gives, config_bytes, view_admission, drawn_ids};
@@ -27,7 +28,7 @@ use cip_fwdopen::{OpenRequest, OpenService};
 use cip_netparams::is_message_trigger;
 use cip_productions::{first_deadline, first_production, pace_of};
 use cip_tables::{Admission, Outcome, Production, Refusal, Reply, Row, State, Stream};
-use cip_types::{ConnId, Node, connection_id};
+use cip_types::{ConnId, Node, id_at, ids_left};
 use indexed_connections::ConnectionTable;
 
 impl<T: ConnectionTable> AdapterState<T> {
@@ -54,7 +55,7 @@ impl<T: ConnectionTable> AdapterState<T> {
             profile: self.assemblies.profile(),
             config: self.config_bytes(),
             connections: &self.table,
-            next_id: self.next_id,
+            ids_left: ids_left(&self.ids, self.next_id),
             talks: self.messaging.has_triad(request.triad),
             opened_enough: self.has_opened_enough(peer),
         };
@@ -88,14 +89,13 @@ impl<T: ConnectionTable> AdapterState<T> {
 
     /// The T->O id of a connection that is opened.
     fn opened_t_o_id(&self, request: &OpenRequest<&[u8]>, admission: &Admission<'_>) -> ConnId
-        requires { self.now.next_id + drawn_ids admission.now.multicast admission.now.group ≤ 16777216 }
+        requires { self.now.next_id + drawn_ids admission.now.multicast admission.now.group ≤ end_number self.now.ids }
         ensures { result
             ≡ opened_t_o_id self.now (view_open request.now) admission.now.multicast admission.now.group }
     {
-        let incarnation = self.assemblies.profile().incarnation;
         match admission.group {
             Some(member) => member.t_o_id,
-            None if admission.multicast => connection_id(incarnation, self.next_id + 1),
+            None if admission.multicast => id_at(&self.ids, self.next_id + 1),
             None => request.t_o_id,
         }
     }
@@ -104,7 +104,7 @@ impl<T: ConnectionTable> AdapterState<T> {
     #[tactic(auto, unfolding(adapter_table::specs::Opening::opened_row))]
     fn opened_row(&self, peer: Node, request: &OpenRequest<&[u8]>, admission: &Admission<'_>) -> Row
         requires waits { admission.now.watchdog.0 ≤ 5120000 }
-        requires left { self.now.next_id + drawn_ids admission.now.multicast admission.now.group ≤ 16777216 }
+        requires left { self.now.next_id + drawn_ids admission.now.multicast admission.now.group ≤ end_number self.now.ids }
         requires draws { 1 ≤ drawn_ids admission.now.multicast admission.now.group }
         ensures { result ≡ opened_row self.now peer (view_open request.now) (view_admission admission.now) }
     {
@@ -114,7 +114,7 @@ impl<T: ConnectionTable> AdapterState<T> {
             kind: admission.kind,
             consumed: admission.consumed,
             produced: admission.produced,
-            o_t_id: connection_id(self.assemblies.profile().incarnation, self.next_id),
+            o_t_id: id_at(&self.ids, self.next_id),
             t_o_id: self.opened_t_o_id(request, admission),
             o_t_api_ms: admission.o_t_api_ms,
             t_o_api_ms: admission.t_o_api_ms,

@@ -13,8 +13,8 @@ use adapter_table::{
     session_of,
 };
 use cip_tables::{DeviceTotals, Kind, Stream, StreamReport};
-use cip_types::limits::{IDS_PER_INCARNATION, LONGEST_TICK_MS};
-use cip_types::{Ms, Triad};
+use cip_types::limits::LONGEST_TICK_MS;
+use cip_types::{Ms, Triad, ids_left};
 use indexed_connections::ConnectionTable;
 
 impl<T: ConnectionTable> AdapterState<T> {
@@ -80,7 +80,7 @@ impl<T: ConnectionTable> AdapterState<T> {
             sessions: sessions(&self.streams),
             connections: self.table.len(),
             class3_connections: self.messaging.class3_connections().len(),
-            ids_left: IDS_PER_INCARNATION - self.next_id,
+            ids_left: ids_left(&self.ids, self.next_id),
         }
     }
 

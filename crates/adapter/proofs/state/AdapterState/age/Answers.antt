@@ -12,7 +12,7 @@ pub advance-requires-clause-next : goal.advance-requires-clause-next
 unfolding clocked_table expired_table produced_table
 advance-requires-clause-next g c =
     let own = c.self.inside in
-    let t : AdapterTable = record { profile = own.assemblies.profile; rows = g.T.ConnectionsView.rows own.table; values = own.assemblies.values; clock = own.clock; next_id = own.next_id; streams = own.streams.items; messaging = own.messaging; openings = own.openings.items; counters = own.counters } in
+    let t : AdapterTable = record { profile = own.assemblies.profile; rows = g.T.ConnectionsView.rows own.table; values = own.assemblies.values; clock = own.clock; ids = own.ids.items; next_id = own.next_id; streams = own.streams.items; messaging = own.messaging; openings = own.openings.items; counters = own.counters } in
     let time = rw (← c.self.view_is) at c.requires in
     rw c.from.ensures (are_whole (produced_table (expired_table (clocked_table t c.args.ms))) (c.tables_are_whole.ensures.effects.advanced t c.args.ms time c.self.invariant))
 
@@ -20,7 +20,7 @@ pub invariant_of-self-2 : goal.invariant_of-self-2
 unfolding clocked_table expired_table produced_table messages_table
 invariant_of-self-2 g c =
     let own = c.self.inside in
-    let t : AdapterTable = record { profile = own.assemblies.profile; rows = g.T.ConnectionsView.rows own.table; values = own.assemblies.values; clock = own.clock; next_id = own.next_id; streams = own.streams.items; messaging = own.messaging; openings = own.openings.items; counters = own.counters } in
+    let t : AdapterTable = record { profile = own.assemblies.profile; rows = g.T.ConnectionsView.rows own.table; values = own.assemblies.values; clock = own.clock; ids = own.ids.items; next_id = own.next_id; streams = own.streams.items; messaging = own.messaging; openings = own.openings.items; counters = own.counters } in
     let time = rw (← c.self.view_is) at c.requires in
     let later : AdapterTable = produced_table (expired_table (clocked_table t c.args.ms)) in
     let whole = c.tables_are_whole.ensures.effects.advanced t c.args.ms time c.self.invariant in

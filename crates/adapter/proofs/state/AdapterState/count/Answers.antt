@@ -6,7 +6,7 @@ use Rattle.adapter.proofs.state.AdapterState.count.Goals as goal
 pub invariant_of-self : goal.invariant_of-self
 invariant_of-self g c =
     let own = c.self.inside in
-    let t : AdapterTable = record { profile = own.assemblies.profile; rows = g.T.ConnectionsView.rows own.table; values = own.assemblies.values; clock = own.clock; next_id = own.next_id; streams = own.streams.items; messaging = own.messaging; openings = own.openings.items; counters = own.counters } in
+    let t : AdapterTable = record { profile = own.assemblies.profile; rows = g.T.ConnectionsView.rows own.table; values = own.assemblies.values; clock = own.clock; ids = own.ids.items; next_id = own.next_id; streams = own.streams.items; messaging = own.messaging; openings = own.openings.items; counters = own.counters } in
     rw c.counted_if-manager.ensures (c.tables_are_whole.ensures.effects.tallied t (record own.counters { manager = counted_if c.args.tally own.counters.manager }) c.self.invariant)
 
 pub returns : goal.returns

@@ -6,5 +6,5 @@ pub invariant_of-self : goal.invariant_of-self
 unfolding without_stream
 invariant_of-self g c =
     let own = c.self.inside in
-    let t : AdapterTable = record { profile = own.assemblies.profile; rows = g.T.ConnectionsView.rows own.table; values = own.assemblies.values; clock = own.clock; next_id = own.next_id; streams = own.streams.items; messaging = own.messaging; openings = own.openings.items; counters = own.counters } in
+    let t : AdapterTable = record { profile = own.assemblies.profile; rows = g.T.ConnectionsView.rows own.table; values = own.assemblies.values; clock = own.clock; ids = own.ids.items; next_id = own.next_id; streams = own.streams.items; messaging = own.messaging; openings = own.openings.items; counters = own.counters } in
     rw (c.drop_stream.ensures, c.end_stream.ensures) (c.tables_are_whole.ensures.effects.unstreamed t c.args.number c.self.invariant)

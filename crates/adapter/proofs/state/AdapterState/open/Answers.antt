@@ -1,4 +1,5 @@
-use Rattle.std.proofs.Common.{rules, ◌+◌, ◌≤◌, ap}
+use Rattle.std.proofs.Common.{rules, ◌+◌, ◌≤◌, ap, arith}
+use Rattle.cip_types.specs.Ids.{end_number}
 use Rattle.adapter_table.specs.Connections.{Row}
 use Rattle.adapter_table.specs.declared.table.AdapterTable.{AdapterTable}
 use Rattle.cip_fwdopen.specs.Open.{view_open}
@@ -30,7 +31,7 @@ pub open-requires-clause-next : goal.open-requires-clause-next
 unfolding opened_table
 open-requires-clause-next g c =
     let own = c.self.inside in
-    let t : AdapterTable = record { profile = own.assemblies.profile; rows = g.T.ConnectionsView.rows own.table; values = own.assemblies.values; clock = own.clock; next_id = own.next_id; streams = own.streams.items; messaging = own.messaging; openings = own.openings.items; counters = own.counters } in
+    let t : AdapterTable = record { profile = own.assemblies.profile; rows = g.T.ConnectionsView.rows own.table; values = own.assemblies.values; clock = own.clock; ids = own.ids.items; next_id = own.next_id; streams = own.streams.items; messaging = own.messaging; openings = own.openings.items; counters = own.counters } in
     let admitted = (limited_is t (peer_of c.args.route) (view_open c.args.request.now) (view_admission c.args.admitted.now) (rw (← c.self.view_is) at c.requires.admitted)).admitted in
     let opened = c.tables_are_whole.ensures.effects.opened t (peer_of c.args.route) (view_open c.args.request.now) (view_admission c.args.admitted.now) admitted c.self.invariant in
     rw (c.opened_row-row.ensures, c.peer.ensures, ← c.self.view_is) (are_whole (opened_table t (opened_row t (peer_of c.args.route) (view_open c.args.request.now) (view_admission c.args.admitted.now)) (view_admission c.args.admitted.now)) opened)
@@ -38,23 +39,24 @@ open-requires-clause-next g c =
 pub configure-requires : goal.configure-requires
 configure-requires g c =
     let own = c.self.inside in
-    let t : AdapterTable = record { profile = own.assemblies.profile; rows = g.T.ConnectionsView.rows own.table; values = own.assemblies.values; clock = own.clock; next_id = own.next_id; streams = own.streams.items; messaging = own.messaging; openings = own.openings.items; counters = own.counters } in
+    let t : AdapterTable = record { profile = own.assemblies.profile; rows = g.T.ConnectionsView.rows own.table; values = own.assemblies.values; clock = own.clock; ids = own.ids.items; next_id = own.next_id; streams = own.streams.items; messaging = own.messaging; openings = own.openings.items; counters = own.counters } in
     let admitted = (limited_is t (peer_of c.args.route) (view_open c.args.request.now) (view_admission c.args.admitted.now) (rw (← c.self.view_is) at c.requires.admitted)).admitted in
     c.admitted_requests_fit.ensures.segments t (view_open c.args.request.now) (view_admission c.args.admitted.now) admitted
 
 pub overflow_add-self : goal.overflow_add-self
 overflow_add-self g c =
     let own = c.self.inside in
-    let t : AdapterTable = record { profile = own.assemblies.profile; rows = g.T.ConnectionsView.rows own.table; values = own.assemblies.values; clock = own.clock; next_id = own.next_id; streams = own.streams.items; messaging = own.messaging; openings = own.openings.items; counters = own.counters } in
+    let t : AdapterTable = record { profile = own.assemblies.profile; rows = g.T.ConnectionsView.rows own.table; values = own.assemblies.values; clock = own.clock; ids = own.ids.items; next_id = own.next_id; streams = own.streams.items; messaging = own.messaging; openings = own.openings.items; counters = own.counters } in
     let admitted = (limited_is t (peer_of c.args.route) (view_open c.args.request.now) (view_admission c.args.admitted.now) (rw (← c.self.view_is) at c.requires.admitted)).admitted in
-    let sum : c.self.inside.next_id + c.args.admitted.now.drawn ≤ 16777216 = rw c.requires.drawn (c.admitted_requests_fit.ensures.times t _ _ admitted).left in
+    let left : c.self.inside.next_id + c.args.admitted.now.drawn ≤ end_number own.ids.items = rw c.requires.drawn (c.admitted_requests_fit.ensures.times t _ _ admitted).left in
+    let sum : c.self.inside.next_id + c.args.admitted.now.drawn ≤ 4294967295 = omega (arith, left) in
     search rules
 
 pub invariant_of-self-2 : goal.invariant_of-self-2
 unfolding opened_table
 invariant_of-self-2 g c =
     let own = c.self.inside in
-    let t : AdapterTable = record { profile = own.assemblies.profile; rows = g.T.ConnectionsView.rows own.table; values = own.assemblies.values; clock = own.clock; next_id = own.next_id; streams = own.streams.items; messaging = own.messaging; openings = own.openings.items; counters = own.counters } in
+    let t : AdapterTable = record { profile = own.assemblies.profile; rows = g.T.ConnectionsView.rows own.table; values = own.assemblies.values; clock = own.clock; ids = own.ids.items; next_id = own.next_id; streams = own.streams.items; messaging = own.messaging; openings = own.openings.items; counters = own.counters } in
     let admitted = (limited_is t (peer_of c.args.route) (view_open c.args.request.now) (view_admission c.args.admitted.now) (rw (← c.self.view_is) at c.requires.admitted)).admitted in
     let opened = c.tables_are_whole.ensures.effects.opened t (peer_of c.args.route) (view_open c.args.request.now) (view_admission c.args.admitted.now) admitted c.self.invariant in
     rw (c.configure.ensures, c.in_ok-open.ensures.ok, c.in_ok-openings.ensures, c.opened_row-row.ensures, c.peer.ensures, ← c.self.view_is, c.requires.drawn) opened

@@ -1,4 +1,5 @@
 use Rattle.std.proofs.Common.{rules, ◌+◌, ◌≤◌, ap, arith}
+use Rattle.cip_types.specs.Ids.{end_number}
 use Rattle.cip_fwdopen.specs.Open.{view_open}
 use Rattle.cip_netparams.specs.Rate.{interval_ms}
 use Rattle.cip_netparams.specs.Timeouts.{timeout_fits}
@@ -33,16 +34,17 @@ class3_opened-requires-clause-t_o g c =
 pub overflow_add-self : goal.overflow_add-self
 overflow_add-self g c =
     let own = c.self.inside in
-    let t : AdapterTable = record { profile = own.assemblies.profile; rows = g.T.ConnectionsView.rows own.table; values = own.assemblies.values; clock = own.clock; next_id = own.next_id; streams = own.streams.items; messaging = own.messaging; openings = own.openings.items; counters = own.counters } in
+    let t : AdapterTable = record { profile = own.assemblies.profile; rows = g.T.ConnectionsView.rows own.table; values = own.assemblies.values; clock = own.clock; ids = own.ids.items; next_id = own.next_id; streams = own.streams.items; messaging = own.messaging; openings = own.openings.items; counters = own.counters } in
     let admitted = rw (← c.self.view_is) at c.requires.admitted in
-    let sum : c.self.inside.next_id + 1 ≤ 16777216 = (admitted_class3_is t c.args.stream.now.peer (view_open c.args.request.now) admitted).ids in
+    let left : c.self.inside.next_id + 1 ≤ end_number own.ids.items = (admitted_class3_is t c.args.stream.now.peer (view_open c.args.request.now) admitted).ids in
+    let sum : c.self.inside.next_id + 1 ≤ 4294967295 = omega (arith, left) in
     search rules
 
 pub invariant_of-self-2 : goal.invariant_of-self-2
 unfolding messages_table
 invariant_of-self-2 g c =
     let own = c.self.inside in
-    let t : AdapterTable = record { profile = own.assemblies.profile; rows = g.T.ConnectionsView.rows own.table; values = own.assemblies.values; clock = own.clock; next_id = own.next_id; streams = own.streams.items; messaging = own.messaging; openings = own.openings.items; counters = own.counters } in
+    let t : AdapterTable = record { profile = own.assemblies.profile; rows = g.T.ConnectionsView.rows own.table; values = own.assemblies.values; clock = own.clock; ids = own.ids.items; next_id = own.next_id; streams = own.streams.items; messaging = own.messaging; openings = own.openings.items; counters = own.counters } in
     let admitted = rw (← c.self.view_is) at c.requires.admitted in
     let carried = rw (← c.self.view_is) at c.requires.carried in
     let messaged = c.tables_are_whole.ensures.effects.messaged t (t.next_id + 1) _ (goes_opened t c.args.stream.now (view_open c.args.request.now) admitted carried) c.self.invariant in

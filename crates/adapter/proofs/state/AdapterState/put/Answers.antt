@@ -8,7 +8,7 @@ pub invariant_of-self : goal.invariant_of-self
 unfolding written_table changed_table
 invariant_of-self g c =
     let own = c.self.inside in
-    let t : AdapterTable = record { profile = own.assemblies.profile; rows = g.T.ConnectionsView.rows own.table; values = own.assemblies.values; clock = own.clock; next_id = own.next_id; streams = own.streams.items; messaging = own.messaging; openings = own.openings.items; counters = own.counters } in
+    let t : AdapterTable = record { profile = own.assemblies.profile; rows = g.T.ConnectionsView.rows own.table; values = own.assemblies.values; clock = own.clock; ids = own.ids.items; next_id = own.next_id; streams = own.streams.items; messaging = own.messaging; openings = own.openings.items; counters = own.counters } in
     let stated = rw (← c.self.view_is) at c.requires in
     let input = is_input t.profile c.args.point _ stated in
     let written = c.tables_are_whole.ensures.effects.written t c.args.point c.args.bytes.now input.input input.found input.long c.self.invariant in

@@ -7,6 +7,6 @@ pub invariant_of-self-2 : goal.invariant_of-self-2
 unfolding messages_table
 invariant_of-self-2 g c =
     let own = c.self.inside in
-    let t : AdapterTable = record { profile = own.assemblies.profile; rows = g.T.ConnectionsView.rows own.table; values = own.assemblies.values; clock = own.clock; next_id = own.next_id; streams = own.streams.items; messaging = own.messaging; openings = own.openings.items; counters = own.counters } in
+    let t : AdapterTable = record { profile = own.assemblies.profile; rows = g.T.ConnectionsView.rows own.table; values = own.assemblies.values; clock = own.clock; ids = own.ids.items; next_id = own.next_id; streams = own.streams.items; messaging = own.messaging; openings = own.openings.items; counters = own.counters } in
     let stated = rw (← c.self.view_is) at c.requires in
     rw c.in_ok-ask.ensures.ok (c.tables_are_whole.ensures.effects.messaged t t.next_id _ (goes_referred t c.args.peer c.args.asker c.args.own.now.service stated.room stated.answerable stated.open) c.self.invariant)

@@ -12,6 +12,6 @@ pub invariant_of-self : goal.invariant_of-self
 unfolding messages_table
 invariant_of-self g c =
     let inside = c.self.inside in
-    let t : AdapterTable = record { profile = inside.assemblies.profile; rows = g.T.ConnectionsView.rows inside.table; values = inside.assemblies.values; clock = inside.clock; next_id = inside.next_id; streams = inside.streams.items; messaging = inside.messaging; openings = inside.openings.items; counters = inside.counters } in
+    let t : AdapterTable = record { profile = inside.assemblies.profile; rows = g.T.ConnectionsView.rows inside.table; values = inside.assemblies.values; clock = inside.clock; ids = inside.ids.items; next_id = inside.next_id; streams = inside.streams.items; messaging = inside.messaging; openings = inside.openings.items; counters = inside.counters } in
     let w : Waiting = record { number = c.args.number; peer = record { 0 = 0 }; asker = asker.Peer (record { 0 = 0 }); service = 0; deadline = record { 0 = 0 } } in
     rw c.answer.ensures (c.tables_are_whole.ensures.effects.messaged t t.next_id _ (goes_answered t w (own 0 0 [])) c.self.invariant)
