@@ -5,14 +5,14 @@ ghost use Rattle.cip_events.specs.Outcomes.{Follows};
 ghost use Rattle.cip_tables.specs.Step.{image_of, is_datagram};
 ghost use Rattle.scanner_table.specs.Points.{read, write, mode};
 ghost use Rattle.scanner_table.specs.Slots.{slot_at};
-ghost use Rattle.scanner_table.specs.Step.{scanner_step};
+ghost use Rattle.scanner_table.specs.Step.{scanner_step, take_ids};
 ghost use Rattle.scanner_table.specs.WellFormed.{IsWellFormed};
 ghost use Rattle.scanner_slots.specs.Bounding.{IsHinted};
 ghost use Rattle.scanner.specs.Tables.{table_in};
 
 use crate::slots::ScannerSlots;
 use cip_events::{Answer, Event, Outcome, StepFault, Verdict};
-use cip_types::Items;
+use cip_types::{IdBlock, Items, add_block, may_take};
 use scanner_data::{receive, set_mode, write};
 use scanner_slots::{
     Hints, bounds_are_kept_by_earlier_ones, narrowed_at, slot_at, writes_narrow_bounds,
@@ -73,6 +73,21 @@ impl ScannerSlots {
         Ok(Answer::plain(self.alloc, Verdict::Done))
     }
 
+    /// Takes a further block of connection ids, if it has none of those that the scanner holds.
+    ///
+    /// Volume 1, chapter 3, network connection ids.
+    #[tactic(auto, unfolding(scanner_table::specs::Step::take_ids))]
+    fn take_ids(&mut self, block: IdBlock) -> Outcome
+        requires { IsWellFormed (table_in self.old) }
+        ensures { Follows (take_ids (table_in self.old) block) (table_in self.old) result (table_in self.new) }
+    {
+        if !may_take(&self.state.ids, block) {
+            return Err(StepFault::NotAllowedNow);
+        }
+        add_block(&mut self.state.ids, block)?;
+        Ok(Answer::plain(self.alloc, Verdict::Done))
+    }
+
     /// Performs one event. It is not inlined, so that `step` is, and an idle tick stays cheap.
     #[inline(never)]
     pub fn take_event<H: Hints>(&mut self, hints: &mut H, event: &Event) -> Outcome
@@ -116,6 +131,7 @@ impl ScannerSlots {
                 number,
                 bytes,
             } => self.request_explicit(*target, *number, bytes.as_slice()),
+            Event::Ids { block } => self.take_ids(*block),
         }
     }
 }

@@ -5,7 +5,7 @@ ghost use Rattle.scanner_table.specs.Step.{fresh_slot, first_serial, scanner_tab
 ghost use Rattle.scanner.specs.Tables.{table_in};
 
 use crate::slots::ScannerSlots;
-use cip_types::{Items, Ms, OutOfMemory};
+use cip_types::{Items, Ms, OutOfMemory, one_block};
 use scanner_slots::ScannerState;
 use scanner_table::{ScannerProfile, ScannerTable, Slot, SlotConfig, SlotState, copy_of_slots};
 use std::alloc::Global;
@@ -52,6 +52,7 @@ impl ScannerSlots {
             slots,
             run: false,
             clock: Ms(0),
+            ids: one_block(alloc, profile.first_ids())?,
             next_id: 1,
             next_serial: first_serial(profile.serials),
             next_request: 1,
@@ -74,6 +75,7 @@ impl ScannerSlots {
             slots: copy_of_slots(alloc, table.slots.as_slice())?,
             run: table.run,
             clock: table.clock,
+            ids: Vec::from_slice(alloc, table.ids.as_slice())?,
             next_id: table.next_id,
             next_serial: table.next_serial,
             next_request: table.next_request,
@@ -96,6 +98,7 @@ impl ScannerSlots {
             slots: Items::from_vec(copy_of_slots(self.alloc, &self.state.slots)?),
             run: self.state.run,
             clock: self.state.clock,
+            ids: Items::copy_of(self.alloc, &self.state.ids)?,
             next_id: self.state.next_id,
             next_serial: self.state.next_serial,
             next_request: self.state.next_request,

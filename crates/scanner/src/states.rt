@@ -9,7 +9,7 @@ ghost use Rattle.scanner.specs.Tables.{table_in};
 
 use crate::slots::ScannerSlots;
 use cip_tables::{DeviceTotals, StreamReport};
-use cip_types::limits::IDS_PER_INCARNATION;
+use cip_types::ids_left;
 use scanner_table::{Slot, SlotState, Stage, TargetStream};
 
 /// Returns whether a slot's connection is open.
@@ -86,7 +86,7 @@ impl ScannerSlots {
             sessions: up_count(self.state.streams.as_slice()),
             connections: open_count(self.state.slots.as_slice()),
             class3_connections: 0,
-            ids_left: IDS_PER_INCARNATION - self.state.next_id,
+            ids_left: ids_left(&self.state.ids, self.state.next_id),
         }
     }
 }

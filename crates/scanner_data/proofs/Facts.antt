@@ -2,6 +2,7 @@
 use Rattle.std.proofs.Common.{◌≡◌, ◌<◌, ◌≤◌, ℕ, zero, suc, ◌+◌, ◌==◌, ◌&&◌, not, Bool, true, false, cond, nat_le, List, [], ◌∷◌, find, filter, map, length, get_or, Option, Some, None, refl, sym, ◌∙◌, subst, arith}
 use Rattle.std.specs.List.{list_all}
 use Rattle.std.proofs.lemmas.Bool.Decides.{nat_tests}
+use Rattle.cip_types.specs.Ids.{are_ids}
 use Rattle.cip_types.specs.Cases.{Case, first_case}
 use Rattle.cip_types.specs.declared.names.Ms.{Ms}
 use Rattle.cip_netparams.specs.Rate.{timeout}
@@ -61,7 +62,7 @@ five_cases a b c d e v w x y z rest is =
 pub faultless : (profile : ScannerProfile) → profile_fault profile ≡ None → Faultless profile
 unfolding profile_fault
 faultless profile is =
-    let none = five_cases (profile.incarnation == 0) (not (are_served profile)) (not (are_apart profile.slots)) (not (list_all has_lengths profile.slots)) (not (keeps_time profile)) fault.Incarnation fault.Points fault.SameInstance fault.Length fault.Timing ((not (are_paced profile.newer profile.slots), fault.Limits) ∷ (not (are_openings profile.openings), fault.Limits) ∷ (not (are_serials profile.serials), fault.Limits) ∷ []) is in
+    let none = five_cases (not (are_ids profile.incarnation profile.ids)) (not (are_served profile)) (not (are_apart profile.slots)) (not (list_all has_lengths profile.slots)) (not (keeps_time profile)) fault.Incarnation fault.Points fault.SameInstance fault.Length fault.Timing ((not (are_paced profile.newer profile.slots), fault.Limits) ∷ (not (are_openings profile.openings), fault.Limits) ∷ (not (are_serials profile.serials), fault.Limits) ∷ []) is in
     let are = and_parts (are_few profile.slots) (list_all listens_to_group profile.slots) (not_false (are_served profile) none.0) in
     let counts = and_parts (nat_le 1 (length profile.slots)) (nat_le (length profile.slots) 64) are.0 in
     record {

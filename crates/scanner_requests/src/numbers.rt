@@ -1,13 +1,12 @@
 //! The numbers of a scanner's next request: its request number, and the triad and the id of an opening.
 
-ghost use Rattle.std.specs.Prelude.{◌≡◌, ◌+◌, ◌^◌, ◌&&◌, ◌||◌, nat_le, None, Some, IsTrue, if◌then◌else◌};
-ghost use Rattle.cip_types.specs.Ids.{connection_id};
+ghost use Rattle.std.specs.Prelude.{◌≡◌, ◌≤◌, ◌+◌, ◌-◌, ◌^◌, ◌&&◌, ◌||◌, nat_le, nat_lt, true, None, Some, IsTrue, if◌then◌else◌};
+ghost use Rattle.cip_types.specs.Ids.{are_blocks, end_number, id_at};
 ghost use Rattle.scanner_table.specs.Requests.{next_requested};
 ghost use Rattle.scanner_table.specs.Opening.{serial_after};
 ghost use Rattle.scanner_slots.specs.Views.{table_of};
 
-use cip_types::limits::IDS_PER_INCARNATION;
-use cip_types::{ConnId, Triad, connection_id};
+use cip_types::{ConnId, IdBlock, Triad, end_number, id_at};
 use conn_state::Requested;
 use scanner_slots::ScannerState;
 use scanner_table::{ScannerProfile, SlotConfig};
@@ -21,9 +20,10 @@ pub const LAST_REQUEST: u64 = 1 << 48;
 /// Returns whether a request number is left and, for a point to point slot, a connection id.
 pub fn can_open(scanner: &ScannerState, multicast: bool) -> bool
     ensures { result ≡ (nat_le scanner.now.next_request (2 ^ 48) &&
-        (multicast || nat_le scanner.now.next_id 16777215)) }
+        (multicast || nat_lt scanner.now.next_id (end_number scanner.now.ids.items))) }
 {
-    scanner.next_request <= LAST_REQUEST && (multicast || scanner.next_id < IDS_PER_INCARNATION)
+    scanner.next_request <= LAST_REQUEST
+        && (multicast || scanner.next_id < end_number(&scanner.ids))
 }
 
 /// Returns the next serial number, which is never 0.
@@ -33,23 +33,24 @@ pub fn serial_after(serial: u16) -> u16
     if serial == LAST_SERIAL { 1 } else { serial + 1 }
 }
 
-/// Returns the id counter after an opening. A multicast opening uses no id.
-pub fn id_after(multicast: bool, counter: u32) -> u32
-    requires { IsTrue (multicast || nat_le counter 16777215) }
-    ensures { result ≡ (if multicast then counter else counter + 1) }
+/// Returns the number of the next id after an opening. A multicast opening uses no id.
+pub fn id_after(multicast: bool, number: u32) -> u32
+    requires { IsTrue (multicast || nat_lt number (2 ^ 32 - 1)) }
+    ensures { result ≡ (if multicast then number else number + 1) }
 {
-    if multicast { counter } else { counter + 1 }
+    if multicast { number } else { number + 1 }
 }
 
 /// Returns the T->O id that an opening requests: none for a multicast connection, whose target chooses it.
-fn next_t_o_id(profile: &ScannerProfile, counter: u32, multicast: bool) -> Option<ConnId>
-    requires { IsTrue (multicast || nat_le counter 16777215) }
-    ensures { result ≡ (if multicast then None else Some (connection_id profile.now.incarnation counter)) }
+fn next_t_o_id(ids: &[IdBlock], number: u32, multicast: bool) -> Option<ConnId>
+    requires blocks { are_blocks ids.now ≡ true }
+    requires begins { 1 ≤ number }
+    ensures { result ≡ (if multicast then None else Some (id_at ids.now number)) }
 {
     if multicast {
         None
     } else {
-        Some(connection_id(profile.incarnation, counter))
+        Some(id_at(ids, number))
     }
 }
 
@@ -59,7 +60,8 @@ pub fn next_requested(
     scanner: &ScannerState,
     config: &SlotConfig,
 ) -> Requested
-    requires { IsTrue (config.now.multicast || nat_le scanner.now.next_id 16777215) }
+    requires blocks { are_blocks scanner.now.ids.items ≡ true }
+    requires begins { 1 ≤ scanner.now.next_id }
     ensures { result ≡ next_requested (table_of profile.now scanner.now) config.now }
 {
     Requested {
@@ -68,6 +70,6 @@ pub fn next_requested(
             vendor: profile.vendor,
             originator: profile.serial,
         },
-        t_o_id: next_t_o_id(profile, scanner.next_id, config.multicast),
+        t_o_id: next_t_o_id(&scanner.ids, scanner.next_id, config.multicast),
     }
 }

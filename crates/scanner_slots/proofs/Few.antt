@@ -1,6 +1,7 @@
 -- A faultless profile has few slots.
-use Rattle.std.proofs.Common.{◌≡◌, ◌≤◌, ◌==◌, not, Bool, true, false, List, [], ◌∷◌, length, None, refl, arith}
+use Rattle.std.proofs.Common.{◌≡◌, ◌≤◌, not, Bool, true, false, List, [], ◌∷◌, length, None, refl, arith}
 use Rattle.std.proofs.lemmas.Bool.Decides.{nat_tests}
+use Rattle.cip_types.specs.Ids.{are_ids}
 use Rattle.cip_types.specs.Cases.{Case, first_case}
 use Rattle.std.specs.List.{list_all}
 use Rattle.cip_events.specs.declared.profile_fault.ProfileFault.{ProfileFault}
@@ -20,5 +21,5 @@ not_false false is = absurd (let e : true ≡ false = is in cc)
 pub few_slots : (p : ScannerProfile) → profile_fault p ≡ None → length p.slots ≤ 64
 unfolding profile_fault
 few_slots p is =
-    let served : are_served p ≡ true = not_false (are_served p) (served_of (p.incarnation == 0) (not (are_served p)) Incarnation Points ((not (are_apart p.slots), SameInstance) ∷ (not (list_all has_lengths p.slots), Length) ∷ (not (keeps_time p), Timing) ∷ (not (are_paced p.newer p.slots), Limits) ∷ (not (are_openings p.openings), Limits) ∷ (not (are_serials p.serials), Limits) ∷ []) is) in
+    let served : are_served p ≡ true = not_false (are_served p) (served_of (not (are_ids p.incarnation p.ids)) (not (are_served p)) Incarnation Points ((not (are_apart p.slots), SameInstance) ∷ (not (list_all has_lengths p.slots), Length) ∷ (not (keeps_time p), Timing) ∷ (not (are_paced p.newer p.slots), Limits) ∷ (not (are_openings p.openings), Limits) ∷ (not (are_serials p.serials), Limits) ∷ []) is) in
     grind (arith, nat_tests)

@@ -26,6 +26,7 @@ table_of profile scanner = record {
   slots = scanner.slots.items;
   run = scanner.run;
   clock = scanner.clock;
+  ids = scanner.ids.items;
   next_id = scanner.next_id;
   next_serial = scanner.next_serial;
   next_request = scanner.next_request;

@@ -3,11 +3,11 @@
 ghost use Rattle.std.specs.Prelude.{◌≡◌, find, map, option_and_then};
 ghost use Rattle.scanner_table.specs.Sessions.{is_to, session_on, staged_stream};
 
-use cip_types::{Ms, Node};
+use cip_types::{IdBlock, Ms, Node};
 use scanner_table::{PendingExplicit, Session, Slot, Stage, TargetStream};
 
 /// A scanner's table without its profile: its slots in the profile's order, whether its application runs, its
-/// clock, the counter part of the next connection id, the serial number of the next opening, the number of the
+/// clock, the blocks of its connection ids, the number of the next one, the serial number of the next opening, the number of the
 /// next request, the streams that are open, in the order in which they were opened, and the explicit requests without a
 /// reply yet, in the order in which they were sent.
 #[derive(Drop)]
@@ -15,6 +15,7 @@ pub struct ScannerState {
     pub slots: Vec<Slot>,
     pub run: bool,
     pub clock: Ms,
+    pub ids: Vec<IdBlock>,
     pub next_id: u32,
     pub next_serial: u16,
     pub next_request: u64,

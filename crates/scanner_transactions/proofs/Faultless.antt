@@ -1,7 +1,8 @@
 -- Lengths and times of a profile without a fault.
-use Rattle.std.proofs.Common.{◌≡◌, ◌≤◌, ◌^◌, ◌∙◌, ap, nat_le, length, Err, ℕ, zero, suc, Bool, true, false, not, ◌&&◌, ◌==◌, List, [], ◌∷◌, slice_get, Option, Some, None, refl, arith}
+use Rattle.std.proofs.Common.{◌≡◌, ◌≤◌, ◌^◌, ◌∙◌, ap, nat_le, length, Err, ℕ, zero, suc, Bool, true, false, not, ◌&&◌, List, [], ◌∷◌, slice_get, Option, Some, None, refl, arith}
 use Rattle.std.specs.List.{list_all}
 use Rattle.std.proofs.lemmas.Bool.Decides.{nat_tests}
+use Rattle.cip_types.specs.Ids.{are_ids}
 use Rattle.cip_types.specs.Cases.{Case, first_case}
 use Rattle.cip_events.specs.declared.profile_fault.ProfileFault.TheVariants.{Incarnation, Points, SameInstance, Length, Timing, Limits}
 use Rattle.scanner_table.specs.declared.profile.ScannerProfile.{ScannerProfile}
@@ -31,7 +32,7 @@ few_of n is = grind (arith, nat_tests)
 pub few_slots : (profile : ScannerProfile) → profile_fault profile ≡ None → length profile.slots ≤ 64
 unfolding profile_fault
 few_slots profile is =
-    let second = few_by (profile.incarnation == 0) (not (are_served profile)) Incarnation Points ((not (are_apart profile.slots), SameInstance) ∷ (not (list_all has_lengths profile.slots), Length) ∷ (not (keeps_time profile), Timing) ∷ (not (are_paced profile.newer profile.slots), Limits) ∷ (not (are_openings profile.openings), Limits) ∷ (not (are_serials profile.serials), Limits) ∷ []) is in
+    let second = few_by (not (are_ids profile.incarnation profile.ids)) (not (are_served profile)) Incarnation Points ((not (are_apart profile.slots), SameInstance) ∷ (not (list_all has_lengths profile.slots), Length) ∷ (not (keeps_time profile), Timing) ∷ (not (are_paced profile.newer profile.slots), Limits) ∷ (not (are_openings profile.openings), Limits) ∷ (not (are_serials profile.serials), Limits) ∷ []) is in
     few_of (length profile.slots) (both_so (are_few profile.slots) (list_all listens_to_group profile.slots) (is_so (are_served profile) second)).0
 
 pub few : (profile : ScannerProfile) → profile_fault profile ≡ None → length profile.slots ≤ 2 ^ 32

@@ -2,6 +2,7 @@
 -- table as they were at the beginning.
 use Rattle.std.specs.Prelude.{◌≡◌, ℕ, Bool, List, [], ◌∷◌, Option, Some, None, Result, slice_get, slice_set, unwrap_or}
 use Rattle.std.specs.Result.{IfOk}
+use Rattle.cip_types.specs.declared.ids.IdBlock.{IdBlock}
 use Rattle.cip_types.specs.declared.names.Ms.{Ms}
 use Rattle.cip_types.specs.declared.memory.OutOfMemory as memory
 use Rattle.scanner_table.specs.declared.explicit.PendingExplicit.{PendingExplicit}
@@ -41,6 +42,7 @@ pub record State : Type 0 where
   pub slots : List Slot
   pub run : Bool
   pub clock : Ms
+  pub ids : List IdBlock
   pub next_id : ℕ
   pub next_serial : ℕ
   pub next_request : ℕ
@@ -52,6 +54,7 @@ state_of scanner = record {
   slots = scanner.slots.items;
   run = scanner.run;
   clock = scanner.clock;
+  ids = scanner.ids.items;
   next_id = scanner.next_id;
   next_serial = scanner.next_serial;
   next_request = scanner.next_request;
@@ -66,6 +69,7 @@ table_with profile state = record {
   slots = state.slots;
   run = state.run;
   clock = state.clock;
+  ids = state.ids;
   next_id = state.next_id;
   next_serial = state.next_serial;
   next_request = state.next_request;
@@ -79,6 +83,7 @@ state_before transaction = record {
   slots = undone_slots transaction.undo.slots.items transaction.scanner.slots.items;
   run = transaction.scanner.run;
   clock = transaction.undo.clock;
+  ids = transaction.scanner.ids.items;
   next_id = transaction.undo.next_id;
   next_serial = transaction.undo.next_serial;
   next_request = transaction.undo.next_request;

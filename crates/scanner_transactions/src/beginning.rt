@@ -20,6 +20,7 @@ fn empty(alloc: Global) -> ScannerState {
         slots: Vec::new(alloc),
         run: false,
         clock: Ms(0),
+        ids: Vec::new(alloc),
         next_id: 0,
         next_serial: 0,
         next_request: 0,

@@ -36,7 +36,7 @@ pub(crate) struct Undo {
     pub explicit: Option<Items<PendingExplicit>>,
     /// The clock.
     pub clock: Ms,
-    /// The counter of the next connection id.
+    /// The number of the next connection id.
     pub next_id: u32,
     /// The next serial number.
     pub next_serial: u16,
@@ -108,6 +108,7 @@ impl Transaction<'_> {
             slots,
             run: scanner.run,
             clock: undo.clock,
+            ids: scanner.ids,
             next_id: undo.next_id,
             next_serial: undo.next_serial,
             next_request: undo.next_request,

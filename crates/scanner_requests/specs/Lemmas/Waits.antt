@@ -1,7 +1,8 @@
 -- A profile without a fault waits at most a minute, for a reply and after a failure.
-use Rattle.std.proofs.Common.{◌≡◌, ◌≤◌, ℕ, Bool, true, false, not, ◌&&◌, ◌==◌, List, [], ◌∷◌, None, refl, arith}
+use Rattle.std.proofs.Common.{◌≡◌, ◌≤◌, ℕ, Bool, true, false, not, ◌&&◌, List, [], ◌∷◌, None, refl, arith}
 use Rattle.std.specs.List.{list_all}
 use Rattle.std.proofs.lemmas.Bool.Decides.{nat_tests}
+use Rattle.cip_types.specs.Ids.{are_ids}
 use Rattle.cip_types.specs.Cases.{Case, first_case}
 use Rattle.cip_events.specs.declared.profile_fault.ProfileFault.TheVariants.{Incarnation, Points, SameInstance, Length, Timing, Limits}
 use Rattle.scanner_table.specs.declared.profile.ScannerProfile.{ScannerProfile}
@@ -40,7 +41,7 @@ wait_fits ms is = grind (arith, nat_tests)
 pub faultless : (profile : ScannerProfile) → profile_fault profile ≡ None → Faultless profile
 unfolding profile_fault
 faultless profile is =
-    let passed = fourth_and_fifth (profile.incarnation == 0) (not (are_served profile)) (not (are_apart profile.slots)) (not (list_all has_lengths profile.slots)) (not (keeps_time profile)) Incarnation Points SameInstance Length Timing ((not (are_paced profile.newer profile.slots), Limits) ∷ (not (are_openings profile.openings), Limits) ∷ (not (are_serials profile.serials), Limits) ∷ []) is in
+    let passed = fourth_and_fifth (not (are_ids profile.incarnation profile.ids)) (not (are_served profile)) (not (are_apart profile.slots)) (not (list_all has_lengths profile.slots)) (not (keeps_time profile)) Incarnation Points SameInstance Length Timing ((not (are_paced profile.newer profile.slots), Limits) ∷ (not (are_openings profile.openings), Limits) ∷ (not (are_serials profile.serials), Limits) ∷ []) is in
     let timely = both_so (list_all has_times profile.slots) (is_wait profile.open_timeout && is_wait profile.retry) (is_so (keeps_time profile) passed.1) in
     let waits = both_so (is_wait profile.open_timeout) (is_wait profile.retry) timely.1 in
     record {
