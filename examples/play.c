@@ -304,6 +304,8 @@ static void plain_event(const char *word, const char *one, const char *two)
         status = passed(n);
     else if (!strcmp(word, "mode"))
         status = eip_mode(&device, !strcmp(one, "run"), answer, room, &size);
+    else if (!strcmp(word, "ids"))
+        status = eip_ids(&device, n, (uint32_t)strtoul(two, NULL, 10), answer, room, &size);
     else if (!strcmp(word, "start"))
         status = eip_start(&device, n, answer, room, &size);
     else

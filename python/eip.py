@@ -640,6 +640,7 @@ _FUNCTIONS: dict[str, list[Any]] = {
     "explicit": [_AT, _U32, _U32, *_BYTES, *_OUT],
     "respond": [_AT, ctypes.c_uint64, ctypes.c_uint8, *_BYTES, *_OUT],
     "counters": [_AT, *_BYTES, *_OUT],
+    "ids": [_AT, _U32, _U32, *_OUT],
     "write": [_AT, _U32, *_BYTES, *_OUT],
     "read": [_AT, _U32, *_OUT],
     "tick": [_AT, _U32, *_OUT],
@@ -824,6 +825,16 @@ class Device:
         twelve of its medium. Attributes 4 and 5 of its Ethernet Link object read them; before the first call they are zeros.
         """
         return self._event(self._calls.eip_c_counters, data, len(data))
+
+    # Connection ids
+
+    def ids(self, first: int, count: int) -> Answer:
+        """Gives the device a further block of connection ids, for when those that it has are used up.
+
+        Refused if the device has one of them already, if the first is 0, and if the last is above 2**32 - 1.
+        """
+        first, count = _number(first, 0xFFFFFFFF, "first id"), _number(count, 0xFFFFFFFF, "number of ids")
+        return self._event(self._calls.eip_c_ids, first, count)
 
     # Points
 

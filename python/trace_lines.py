@@ -126,6 +126,7 @@ CALLS: dict[str, Callable[[Device, list[str]], Union[Answer, Delivery, bytes]]] 
     "explicit": lambda device, words: device.explicit(words[0], int(words[1]), bytes_of(words[2])),
     "answer": lambda device, words: device.respond(int(words[0]), int(words[1], 16), bytes_of(words[2])),
     "counters": lambda device, words: device.counters(bytes_of(words[0])),
+    "ids": lambda device, words: device.ids(int(words[0]), int(words[1])),
     "write": lambda device, words: device.write(int(words[0]), bytes_of(words[1])),
     "read": lambda device, words: device.read(int(words[0])),
     "tick": lambda device, words: device.tick(int(words[0])),
@@ -218,6 +219,9 @@ class RecordedDevice(Device):
 
     def counters(self, data: bytes) -> Answer:
         return self._recorded(f"counters {hex_of(data)}", lambda: super(RecordedDevice, self).counters(data))
+
+    def ids(self, first: int, count: int) -> Answer:
+        return self._recorded(f"ids {first} {count}", lambda: super(RecordedDevice, self).ids(first, count))
 
     def write(self, point: int, data: bytes) -> Answer:
         return self._recorded(f"write {point} {hex_of(data)}", lambda: super(RecordedDevice, self).write(point, data))

@@ -5,7 +5,7 @@
 #![tactic(auto)]
 
 ghost use Rattle.std.specs.Prelude.{◌≡◌, ◌<◌, ◌≤◌, Ok};
-ghost use Rattle.cip_events.specs.declared.event.Event.TheVariants.{Request, StreamOpened, Frame, StreamCut, Datagram, Inquiry, Write, Tick, Mode, Start, Stop, Explicit, Respond, Counters};
+ghost use Rattle.cip_events.specs.declared.event.Event.TheVariants.{Request, StreamOpened, Frame, StreamCut, Datagram, Inquiry, Write, Tick, Mode, Start, Stop, Explicit, Respond, Counters, Ids};
 ghost use Rattle.cip_events.specs.declared.event.Verdict.TheVariants.{Delivered};
 ghost use Rattle.cip_events.specs.Answers.{plain_answer};
 ghost use Rattle.cip_events.specs.Clock.{longest_tick};
@@ -29,7 +29,7 @@ mod status;
 
 use cip_events::Event;
 use cip_tables::Device;
-use cip_types::{Items, Node};
+use cip_types::{IdBlock, Items, Node};
 use flat_answers::delivery_number;
 use handle::{Handle, HandleCell};
 use inquiry::{IdentityNumbers, report_inquiry};
@@ -257,6 +257,25 @@ pub extern "C" fn eip_c_explicit(
         number,
         bytes,
     };
+    device.perform(&event, out, size)
+}
+
+// CONNECTION IDS
+
+/// The device gets a further block of connection ids: the first, and how many they are.
+#[unsafe(no_mangle)]
+pub extern "C" fn eip_c_ids(
+    device: &mut Handle,
+    first: u32,
+    count: u32,
+    out: &mut [u8],
+    size: &mut usize,
+) -> u32
+    ensures { Answers (Ids (record { first = first; count = count }))
+        device.old.value result device.new.value (out.old, size.old) (out.new, size.new) }
+{
+    let block = IdBlock { first, count };
+    let event = Event::Ids { block };
     device.perform(&event, out, size)
 }
 

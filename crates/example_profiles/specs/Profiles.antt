@@ -24,6 +24,7 @@ adapter_profile incarnation node mask = record {
   description = None;
   limits = no_limits;
   objects = [];
+  ids = None;
 }
 
 -- a slot that owns output 150 of its target and gathers input 100, each every 10 ms
@@ -59,5 +60,6 @@ scanner_profile incarnation node target = record {
   tidy = false;
   openings = None;
   serials = None;
+  ids = None;
   slots = slot_config target ∷ [];
 }

@@ -89,6 +89,7 @@ pub fn adapter(
         description: None,
         limits: MakerLimits::NONE,
         objects: Items::new(alloc),
+        ids: None,
     })
 }
 
@@ -135,6 +136,7 @@ pub fn scanner(
         tidy: false,
         openings: None,
         serials: None,
+        ids: None,
         slots: Items::one(alloc, slot(alloc, target))?,
     })
 }

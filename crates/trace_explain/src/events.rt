@@ -5,7 +5,7 @@ use crate::frames::push_message;
 use crate::router::{push_data, push_request};
 use cip_events::Event;
 use cip_tables::Config;
-use cip_types::{Node, OutOfMemory};
+use cip_types::{IdBlock, Node, OutOfMemory};
 use std::alloc::Global;
 use trace_words::{Named, Names, push_general, push_node, push_text};
 
@@ -109,6 +109,13 @@ fn push_call(
         Event::Counters { bytes } => {
             push_text(out, "the host has counted of its interface ")?;
             push_data(alloc, out, bytes.as_slice())
+        }
+        Event::Ids { block } => {
+            let IdBlock { first, count } = *block;
+            Ok(write!(
+                out,
+                "the device gets {count} further connection ids, from {first:08x} on"
+            )?)
         }
         Event::Tick { ms } => Ok(write!(out, "{ms} ms pass")?),
         Event::Mode { run: true } => push_text(out, "the application runs"),

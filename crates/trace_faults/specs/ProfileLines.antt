@@ -21,6 +21,7 @@ word_of name.Scanner = codes "scanner"
 word_of name.Tidy = codes "tidy"
 word_of name.Openings = codes "openings"
 word_of name.Serials = codes "serials"
+word_of name.Ids = codes "ids"
 word_of name.Slot = codes "slot"
 
 abbrev pub begins_with : LineName → (words : List (List ℕ)) → Bool

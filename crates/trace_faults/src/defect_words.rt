@@ -37,6 +37,7 @@ pub fn push_defect(
             out,
             "the incarnation is 0, and an incarnation is 1 to 255",
         ),
+        Defect::NoFirstId | Defect::LateIds(_, _) => push_ids(out, defect),
         Defect::Mask(mask) => {
             push_text(out, "mask ")?;
             push_node(out, mask)?;
@@ -70,6 +71,19 @@ pub fn push_defect(
         }
         _ => push_count(out, defect),
     }
+}
+
+/// What is said of connection ids that are none.
+fn push_ids(out: &mut String, defect: Defect) -> Result<(), OutOfMemory> {
+    if let Defect::LateIds(first, count) = defect {
+        write!(
+            out,
+            "{count} connection ids from {first} on end behind 4,294,967,295, and"
+        )?;
+    } else {
+        push_text(out, "the first connection id is 0, and")?;
+    }
+    push_text(out, " a connection id is 1 to 4,294,967,295")
 }
 
 /// What is said of a scanner's openings that is none.

@@ -70,6 +70,7 @@ fn is_word_of(word: &str, name: LineName) -> bool
         LineName::Tidy => word == "tidy",
         LineName::Openings => word == "openings",
         LineName::Serials => word == "serials",
+        LineName::Ids => word == "ids",
         LineName::Slot => word == "slot",
     }
 }

@@ -3,6 +3,7 @@ use Rattle.std.proofs.Common.{◌≡◌, ℕ, ◌<◌, ◌^◌, true, List, [], 
 use Rattle.std.specs.Prelude.{decimal, codes, drop, flat_map, option_map, option_to_list, IfSome}
 use Rattle.std.specs.List.{All}
 use Rattle.std.proofs.lemmas.List.{append-nil}
+use Rattle.cip_types.specs.declared.ids.IdBlock.{IdBlock}
 use Rattle.adapter_table.specs.declared.profile.Action.{Action}
 use Rattle.adapter_table.specs.declared.profile.Action.TheVariants.{Zero, Hold}
 use Rattle.adapter_table.specs.declared.maker_limits.MakerLimits.{MakerLimits}
@@ -23,14 +24,14 @@ use Rattle.trace_lines.specs.declared.limit_lines.TheConstants.{LIMITS}
 use Rattle.trace_lines.specs.LimitLemmas.{Steps, limit_steps}
 use Rattle.trace_lines.specs.Limits.{LimitFits, stated_line, lines_of, limit_lines, limit_words, limit_text, limits_text}
 use Rattle.trace_lines.specs.Profiles.{profile_with}
-use Rattle.trace_lines.specs.WrittenProfiles.{adapter_words, output_words, point_words, description_words, object_words, objects_text, heartbeat_words, config_text, description_text, profile_text}
+use Rattle.trace_lines.specs.WrittenProfiles.{adapter_words, output_words, point_words, description_words, object_words, objects_text, ids_words, ids_text, heartbeat_words, config_text, description_text, profile_text}
 use Rattle.trace_text.specs.declared.builder.ProfileFront.{ProfileFront}
 use Rattle.trace_text.specs.declared.builder.TraceBuilder.{TraceBuilder}
-use Rattle.trace_text.specs.declared.builder.TraceBuilder.TheVariants.{Empty, Points, Configured, Stated, Objects, Events}
+use Rattle.trace_text.specs.declared.builder.TraceBuilder.TheVariants.{Empty, Points, Configured, Stated, Objects, Counted, Events}
 use Rattle.trace_text.specs.declared.forms.TraceLine.TheVariants as line
 use Rattle.trace_text.specs.Forms.{line_reader}
 use Rattle.trace_text.specs.Reading.{front_of, with_stated, with_object, with_profile, builder_with}
-use Rattle.trace_laws.specs.TraceBack.{OutputFits, InputFits, DescriptionFits, ClassFits, ProfileFits}
+use Rattle.trace_laws.specs.TraceBack.{OutputFits, InputFits, DescriptionFits, ClassFits, IdsFit, ProfileFits}
 use Rattle.trace_laws.proofs.WordLaws.{number_back, node_back, bytes_back, action_back}
 use Rattle.trace_laws.proofs.CleanWords.{decimal_clean, node_clean, bytes_clean}
 use Rattle.trace_laws.proofs.LineLaws.{is_clean, are_clean}
@@ -74,6 +75,9 @@ heartbeat_line profile = record { input_only = profile.input_only; listen_only =
 heartbeat_read : (profile : Profile) → ProfileFits profile → line_reader (heartbeat_words profile) ≡ Some (line.Heartbeat (heartbeat_line profile), [])
 heartbeat_read profile fits = rw (n32 profile.input_only fits.input_only_fits, n32 profile.listen_only fits.listen_only_fits) refl
 
+pub ids_read : (block : IdBlock) → IdsFit block → line_reader (ids_words block) ≡ Some (line.Ids block, [])
+ids_read block fits = rw (n32 block.first fits.0, n32 block.count fits.1) refl
+
 object_read : (class : ℕ) → ClassFits class → line_reader (object_words class) ≡ Some (line.Object class, [])
 object_read class fits = rw (n32 class fits) refl
 
@@ -87,6 +91,9 @@ c16 n fits = decimal_clean n (omega (arith, fits))
 
 pub c32 : (n : ℕ) → n < 2 ^ 32 → is_clean (decimal n) ≡ true
 c32 n fits = decimal_clean n (omega (arith, fits))
+
+pub ids_clean : (block : IdBlock) → IdsFit block → are_clean (decimal block.first ∷ decimal block.count ∷ []) ≡ true
+ids_clean block fits = rw (c32 block.first fits.0, c32 block.count fits.1) refl
 
 action_clean : (action : Action) → is_clean (action_word action) ≡ true
 action_clean Zero = refl
@@ -137,12 +144,39 @@ settings_read profile (Some point) fit =
 abbrev front_with : Profile → Option InputPoint → Option Description → MakerLimits → ProfileFront
 front_with profile settings described limits = record (front_of (adapter_line profile) profile.outputs profile.inputs settings described) { limits = limits }
 
-abbrev with_ends : Profile → Option InputPoint → Option Description → MakerLimits → List ℕ → TraceBuilder
-with_ends profile settings described limits objects = Events (config.Adapter (profile_with (adapter_line profile) profile.outputs profile.inputs settings described limits objects (heartbeat_line profile))) [] None
+abbrev with_counted : Profile → Option InputPoint → Option Description → MakerLimits → List ℕ → Option IdBlock → TraceBuilder
+with_counted profile settings described limits objects ids = Events (config.Adapter (profile_with (adapter_line profile) profile.outputs profile.inputs settings described limits objects ids (heartbeat_line profile))) [] None
 
-heartbeats_read : (profile : Profile) → ProfileFits profile → (builder : TraceBuilder) (settings : Option InputPoint) (described : Option Description) (limits : MakerLimits) (objects : List ℕ) → builder_with builder (line.Heartbeat (heartbeat_line profile)) ≡ Some (with_ends profile settings described limits objects) → Reads builder (line_text (heartbeat_words profile)) (with_ends profile settings described limits objects)
-heartbeats_read profile fits builder settings described limits objects built =
-    line_reads builder (with_ends profile settings described limits objects) (codes "heartbeat") (decimal profile.input_only ∷ decimal profile.listen_only ∷ []) (line.Heartbeat (heartbeat_line profile)) refl refl (heartbeat_clean profile fits) (heartbeat_read profile fits) built
+abbrev with_ends : Profile → Option InputPoint → Option Description → MakerLimits → List ℕ → TraceBuilder
+with_ends profile settings described limits objects = with_counted profile settings described limits objects profile.ids
+
+heartbeats_read : (profile : Profile) → ProfileFits profile → (builder : TraceBuilder) (settings : Option InputPoint) (described : Option Description) (limits : MakerLimits) (objects : List ℕ) (ids : Option IdBlock) → builder_with builder (line.Heartbeat (heartbeat_line profile)) ≡ Some (with_counted profile settings described limits objects ids) → Reads builder (line_text (heartbeat_words profile)) (with_counted profile settings described limits objects ids)
+heartbeats_read profile fits builder settings described limits objects ids built =
+    line_reads builder (with_counted profile settings described limits objects ids) (codes "heartbeat") (decimal profile.input_only ∷ decimal profile.listen_only ∷ []) (line.Heartbeat (heartbeat_line profile)) refl refl (heartbeat_clean profile fits) (heartbeat_read profile fits) built
+
+-- BLOCKS OF CONNECTION IDS
+
+pub ids_reads : (builder builder' : TraceBuilder) (block : IdBlock) → IdsFit block → builder_with builder (line.Ids block) ≡ Some builder' → Reads builder (line_text (ids_words block)) builder'
+ids_reads builder builder' block fits built = line_reads builder builder' (codes "ids") (decimal block.first ∷ decimal block.count ∷ []) (line.Ids block) refl refl (ids_clean block fits) (ids_read block fits) built
+
+-- the block of connection ids, if it is stated, and the points without data
+abbrev last_text : Profile → List ℕ
+last_text profile = ids_text profile.ids ++ line_text (heartbeat_words profile)
+
+-- what was read goes on behind these classes of own objects
+record Ends (profile : Profile) (settings : Option InputPoint) (described : Option Description) (limits : MakerLimits) (objects : List ℕ) (builder : TraceBuilder) : Type 0 where
+  points : (points : HeartbeatLine) → builder_with builder (line.Heartbeat points) ≡ with_profile (front_with profile settings described limits) objects None points
+  ids : (block : IdBlock) → builder_with builder (line.Ids block) ≡ Some (Counted (front_with profile settings described limits) objects block)
+
+ids_end : (profile : Profile) → ProfileFits profile → (builder : TraceBuilder) (settings : Option InputPoint) (described : Option Description) (limits : MakerLimits) (objects : List ℕ) (ids : Option IdBlock) → IfSome ids IdsFit → Ends profile settings described limits objects builder → Reads builder (ids_text ids ++ line_text (heartbeat_words profile)) (with_counted profile settings described limits objects ids)
+ids_end profile fits builder settings described limits objects None fit end = heartbeats_read profile fits builder settings described limits objects None (end.points (heartbeat_line profile))
+ids_end profile fits builder settings described limits objects (Some block) fit end =
+    reads_both builder (Counted (front_with profile settings described limits) objects block) (with_counted profile settings described limits objects (Some block)) (line_text (ids_words block)) (line_text (heartbeat_words profile))
+    (ids_reads builder (Counted (front_with profile settings described limits) objects block) block fit (end.ids block))
+    (heartbeats_read profile fits (Counted (front_with profile settings described limits) objects block) settings described limits objects (Some block) refl)
+
+last_read : (profile : Profile) → ProfileFits profile → (builder : TraceBuilder) (settings : Option InputPoint) (described : Option Description) (limits : MakerLimits) (objects : List ℕ) → Ends profile settings described limits objects builder → Reads builder (last_text profile) (with_ends profile settings described limits objects)
+last_read profile fits builder settings described limits objects end = ids_end profile fits builder settings described limits objects profile.ids fits.ids_fit end
 
 -- CLASSES OF OWN OBJECTS
 
@@ -157,16 +191,16 @@ module _ (profile : Profile) (fits : ProfileFits profile) (settings : Option Inp
   ended_with objects = with_ends profile settings described limits objects
 
   -- the line of one class, and what is behind it
-  one_class : (builder next ended : TraceBuilder) (class : ℕ) (more : List ℕ) → ClassFits class → builder_with builder (line.Object class) ≡ Some next → Reads next (objects_text more ++ line_text (heartbeat_words profile)) ended → Reads builder (objects_text (class ∷ more) ++ line_text (heartbeat_words profile)) ended
+  one_class : (builder next ended : TraceBuilder) (class : ℕ) (more : List ℕ) → ClassFits class → builder_with builder (line.Object class) ≡ Some next → Reads next (objects_text more ++ last_text profile) ended → Reads builder (objects_text (class ∷ more) ++ last_text profile) ended
   one_class builder next ended class more fit built rest =
-      reads_as builder ended (objects_text (class ∷ more) ++ line_text (heartbeat_words profile)) (line_text (object_words class) ++ (objects_text more ++ line_text (heartbeat_words profile))) (append_assoc (line_text (object_words class)) (objects_text more) (line_text (heartbeat_words profile)))
-      (reads_both builder next ended (line_text (object_words class)) (objects_text more ++ line_text (heartbeat_words profile)) (object_reads builder next class fit built) rest)
+      reads_as builder ended (objects_text (class ∷ more) ++ last_text profile) (line_text (object_words class) ++ (objects_text more ++ last_text profile)) (append_assoc (line_text (object_words class)) (objects_text more) (last_text profile))
+      (reads_both builder next ended (line_text (object_words class)) (objects_text more ++ last_text profile) (object_reads builder next class fit built) rest)
 
-  objects_read : (before more : List ℕ) → All ClassFits more → Reads (classed before) (objects_text more ++ line_text (heartbeat_words profile)) (ended_with (before ++ more))
+  objects_read : (before more : List ℕ) → All ClassFits more → Reads (classed before) (objects_text more ++ last_text profile) (ended_with (before ++ more))
   objects_read before [] fit =
-      subst (λ all. Reads (classed before) (line_text (heartbeat_words profile)) (ended_with all)) (sym (append-nil before)) (heartbeats_read profile fits (classed before) settings described limits before refl)
+      subst (λ all. Reads (classed before) (last_text profile) (ended_with all)) (sym (append-nil before)) (last_read profile fits (classed before) settings described limits before (record { points = λ points. refl; ids = λ block. refl }))
   objects_read before (class ∷ more) fit =
-      subst (λ all. Reads (classed before) (objects_text (class ∷ more) ++ line_text (heartbeat_words profile)) (ended_with all)) (append_assoc before (class ∷ []) more)
+      subst (λ all. Reads (classed before) (objects_text (class ∷ more) ++ last_text profile) (ended_with all)) (append_assoc before (class ∷ []) more)
       (one_class (classed before) (classed (before ++ class ∷ [])) (ended_with ((before ++ class ∷ []) ++ more)) class more (first_of ClassFits class more fit) refl (objects_read (before ++ class ∷ []) more (rest_of ClassFits class more fit)))
 
 -- LIMITS
@@ -202,12 +236,13 @@ limit_reads builder builder' (limit.Newer within) fits built = line_reads builde
 abbrev GoesOn : Profile → Option InputPoint → Option Description → MakerLimits → TraceBuilder → Type 0
 GoesOn profile settings described limits builder =
     ((given : LimitLine) → builder_with builder (line.Limit given) ≡ with_stated (front_with profile settings described limits) given)
-    × ((points : HeartbeatLine) → builder_with builder (line.Heartbeat points) ≡ with_profile (front_with profile settings described limits) [] points)
+    × ((points : HeartbeatLine) → builder_with builder (line.Heartbeat points) ≡ with_profile (front_with profile settings described limits) [] None points)
     × ((class : ℕ) → builder_with builder (line.Object class) ≡ with_object (front_with profile settings described limits) [] class)
+    × ((block : IdBlock) → builder_with builder (line.Ids block) ≡ Some (Counted (front_with profile settings described limits) [] block))
 
 -- the classes of own objects and the points without data, behind limits
-behind_limits : (profile : Profile) → ProfileFits profile → (builder : TraceBuilder) (settings : Option InputPoint) (described : Option Description) (limits : MakerLimits) (objects : List ℕ) → GoesOn profile settings described limits builder → All ClassFits objects → Reads builder (objects_text objects ++ line_text (heartbeat_words profile)) (with_ends profile settings described limits objects)
-behind_limits profile fits builder settings described limits [] on fit = heartbeats_read profile fits builder settings described limits [] (on.1 (heartbeat_line profile))
+behind_limits : (profile : Profile) → ProfileFits profile → (builder : TraceBuilder) (settings : Option InputPoint) (described : Option Description) (limits : MakerLimits) (objects : List ℕ) → GoesOn profile settings described limits builder → All ClassFits objects → Reads builder (objects_text objects ++ last_text profile) (with_ends profile settings described limits objects)
+behind_limits profile fits builder settings described limits [] on fit = last_read profile fits builder settings described limits [] (record { points = on.1; ids = on.3 })
 behind_limits profile fits builder settings described limits (class ∷ more) on fit =
     one_class profile fits settings described limits builder (Objects (front_with profile settings described limits) (class ∷ [])) (with_ends profile settings described limits (class ∷ more)) class more (first_of ClassFits class more fit) (on.2 class)
     (objects_read profile fits settings described limits (class ∷ []) more (rest_of ClassFits class more fit))
@@ -226,7 +261,7 @@ texts_are limits (row ∷ rows) = one_text (stated_line limits row) _ (lines_of 
 
 module _ (profile : Profile) (fits : ProfileFits profile) (settings : Option InputPoint) (described : Option Description) (objects : List ℕ) (objects_fit : All ClassFits objects) where
   abbrev last_lines : List ℕ
-  last_lines = objects_text objects ++ line_text (heartbeat_words profile)
+  last_lines = objects_text objects ++ last_text profile
 
   -- the lines of limits that lead to these limits, the own classes and the points without data
   limits_read : (builder : TraceBuilder) (limits end : MakerLimits) (lines : List LimitLine) → GoesOn profile settings described limits builder → Steps limits lines end → All LimitFits lines → Reads builder (lines_text lines ++ last_lines) (with_ends profile settings described end objects)
@@ -237,7 +272,7 @@ module _ (profile : Profile) (fits : ProfileFits profile) (settings : Option Inp
       let built : builder_with builder (line.Limit given) ≡ Some next_builder = on.0 given ∙ ap (option_map (λ to. Stated (front_with profile settings described to))) is in
       reads_as builder (with_ends profile settings described end objects) (lines_text (given ∷ lines) ++ last_lines) (line_text (limit_words given) ++ (lines_text lines ++ last_lines)) (append_assoc (line_text (limit_words given)) (lines_text lines) last_lines)
       (reads_both builder next_builder (with_ends profile settings described end objects) (line_text (limit_words given)) (lines_text lines ++ last_lines) (limit_reads builder next_builder given (first_of LimitFits given lines fit) built)
-      (limits_read next_builder next end lines (λ next_line. refl, λ points. refl, λ class. refl) more (rest_of LimitFits given lines fit)))
+      (limits_read next_builder next end lines (λ next_line. refl, λ points. refl, λ class. refl, λ block. refl) more (rest_of LimitFits given lines fit)))
 
   limits_end : (builder : TraceBuilder) (limits : MakerLimits) → GoesOn profile settings described no_limits builder → All LimitFits (limit_lines limits) → Reads builder (limits_text limits ++ last_lines) (with_ends profile settings described limits objects)
   limits_end builder limits on fit =
@@ -253,15 +288,15 @@ abbrev up_to : Profile → Option InputPoint → Description → TraceBuilder
 up_to profile settings described = Stated (front_of (adapter_line profile) profile.outputs profile.inputs settings (Some described))
 
 -- the description, where there is one, the limits, the own classes and the heartbeats
-ends_read : (profile : Profile) (settings : Option InputPoint) (described : Option Description) (limits : MakerLimits) (objects : List ℕ) → ProfileFits profile → IfSome described DescriptionFits → All LimitFits (limit_lines limits) → All ClassFits objects → Reads (beside profile settings) (description_text described ++ (limits_text limits ++ (objects_text objects ++ line_text (heartbeat_words profile)))) (with_ends profile settings described limits objects)
-ends_read profile None None limits objects fits fit limits_fit objects_fit = limits_end profile fits None None objects objects_fit (beside profile None) limits (λ given. refl, λ points. refl, λ class. refl) limits_fit
-ends_read profile (Some point) None limits objects fits fit limits_fit objects_fit = limits_end profile fits (Some point) None objects objects_fit (beside profile (Some point)) limits (λ given. refl, λ points. refl, λ class. refl) limits_fit
+ends_read : (profile : Profile) (settings : Option InputPoint) (described : Option Description) (limits : MakerLimits) (objects : List ℕ) → ProfileFits profile → IfSome described DescriptionFits → All LimitFits (limit_lines limits) → All ClassFits objects → Reads (beside profile settings) (description_text described ++ (limits_text limits ++ (objects_text objects ++ last_text profile))) (with_ends profile settings described limits objects)
+ends_read profile None None limits objects fits fit limits_fit objects_fit = limits_end profile fits None None objects objects_fit (beside profile None) limits (λ given. refl, λ points. refl, λ class. refl, λ block. refl) limits_fit
+ends_read profile (Some point) None limits objects fits fit limits_fit objects_fit = limits_end profile fits (Some point) None objects objects_fit (beside profile (Some point)) limits (λ given. refl, λ points. refl, λ class. refl, λ block. refl) limits_fit
 ends_read profile None (Some described) limits objects fits fit limits_fit objects_fit =
     reads_both _ _ _ _ _ (described_lines (beside profile None) (up_to profile None described) described fit refl)
-    (limits_end profile fits None (Some described) objects objects_fit (up_to profile None described) limits (λ given. refl, λ points. refl, λ class. refl) limits_fit)
+    (limits_end profile fits None (Some described) objects objects_fit (up_to profile None described) limits (λ given. refl, λ points. refl, λ class. refl, λ block. refl) limits_fit)
 ends_read profile (Some point) (Some described) limits objects fits fit limits_fit objects_fit =
     reads_both _ _ _ _ _ (described_lines (beside profile (Some point)) (up_to profile (Some point) described) described fit refl)
-    (limits_end profile fits (Some point) (Some described) objects objects_fit (up_to profile (Some point) described) limits (λ given. refl, λ points. refl, λ class. refl) limits_fit)
+    (limits_end profile fits (Some point) (Some described) objects objects_fit (up_to profile (Some point) described) limits (λ given. refl, λ points. refl, λ class. refl, λ block. refl) limits_fit)
 
 -- the words of an adapter behind its keyword
 abbrev behind_adapter : Profile → List (List ℕ)

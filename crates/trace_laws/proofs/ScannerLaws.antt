@@ -23,6 +23,7 @@ use Rattle.scanner_table.specs.declared.profile.ScannerProfile.{ScannerProfile}
 use Rattle.scanner_table.specs.declared.profile.SlotConfig.{SlotConfig}
 use Rattle.trace_words.specs.Words.{number_of, node_of, bytes_of, instance_of, is_dash, bytes_word, line_text}
 use Rattle.trace_words.specs.Reader.{Reader, ◌>>=◌, next_word, gives}
+use Rattle.cip_types.specs.declared.ids.IdBlock.{IdBlock}
 use Rattle.trace_lines.specs.declared.forms.Rate.{Rate}
 use Rattle.trace_lines.specs.declared.forms.ScannerLine.{ScannerLine}
 use Rattle.trace_lines.specs.declared.forms.ScannerTerms.{ScannerTerms}
@@ -30,16 +31,17 @@ use Rattle.trace_lines.specs.declared.forms.TermLine.TheVariants as term
 use Rattle.trace_lines.specs.Kinds.{kind_of, multicast_of, trigger_of, key_of_bytes, key_of, key_with, kind_word, multicast_word, instance_word, key_word}
 use Rattle.trace_lines.specs.declared.limit_lines.LimitLine.TheVariants as limit
 use Rattle.trace_lines.specs.Limits.{limit_text}
+use Rattle.trace_lines.specs.WrittenProfiles.{ids_text}
 use Rattle.trace_lines.specs.Slots.{rate_reader, slot_reader, rate_words, slot_words, scanner_words, tidy_text, openings_text, serials_text, terms_of, terms_text, scanner_text}
 use Rattle.trace_text.specs.declared.builder.TraceBuilder.TheVariants.{Empty, Slots}
 use Rattle.trace_text.specs.declared.forms.TraceLine.TheVariants as line
 use Rattle.trace_text.specs.Forms.{line_reader}
 use Rattle.trace_text.specs.Reading.{no_terms}
-use Rattle.trace_laws.specs.TraceBack.{KeyFits, SlotFits, ScannerFits}
+use Rattle.trace_laws.specs.TraceBack.{IdsFit, KeyFits, SlotFits, ScannerFits}
 use Rattle.trace_laws.proofs.WordLaws.{node_back, bytes_back}
 use Rattle.trace_laws.proofs.CleanWords.{decimal_clean, node_clean, bytes_clean}
 use Rattle.trace_laws.proofs.LineLaws.{is_clean, are_clean, both, and_both}
-use Rattle.trace_laws.proofs.ProfileLaws.{n8, n16, n32, n64, c8, c16, c32, limit_reads}
+use Rattle.trace_laws.proofs.ProfileLaws.{n8, n16, n32, n64, c8, c16, c32, ids_reads, limit_reads}
 use Rattle.trace_laws.proofs.TextLaws.{first_of, rest_of, Reads, reads_none, reads_both, line_reads, next_reads, then_reads}
 
 -- WORDS
@@ -274,26 +276,33 @@ newer_read scanner None fit = reads_none (Slots scanner None no_terms [])
 newer_read scanner (Some within) fit = limit_reads (Slots scanner None no_terms []) (Slots scanner (Some within) no_terms []) (limit.Newer within) fit refl
 
 -- the line of a tidy scanner
-tidy_read : (scanner : ScannerLine) (newer : Option ℕ) (tidy : Bool) → Reads (Slots scanner newer no_terms []) (tidy_text tidy) (Slots scanner newer (record { tidy = tidy; openings = None; serials = None }) [])
-tidy_read scanner newer true = line_reads (Slots scanner newer no_terms []) (Slots scanner newer (record { tidy = true; openings = None; serials = None }) []) (codes "tidy") [] (line.Term term.Tidy) refl refl refl refl refl
+tidy_read : (scanner : ScannerLine) (newer : Option ℕ) (tidy : Bool) → Reads (Slots scanner newer no_terms []) (tidy_text tidy) (Slots scanner newer (record { tidy = tidy; openings = None; serials = None; ids = None }) [])
+tidy_read scanner newer true = line_reads (Slots scanner newer no_terms []) (Slots scanner newer (record { tidy = true; openings = None; serials = None; ids = None }) []) (codes "tidy") [] (line.Term term.Tidy) refl refl refl refl refl
 tidy_read scanner newer false = reads_none (Slots scanner newer no_terms [])
 
 -- the lines of the most openings and of the first serial number, if they are stated
-openings_read : (scanner : ScannerLine) (newer : Option ℕ) (tidy : Bool) (openings : Option ℕ) → IfSome openings (λ most. most < 2 ^ 8) → Reads (Slots scanner newer (record { tidy = tidy; openings = None; serials = None }) []) (openings_text openings) (Slots scanner newer (record { tidy = tidy; openings = openings; serials = None }) [])
-openings_read scanner newer tidy None fit = reads_none (Slots scanner newer (record { tidy = tidy; openings = None; serials = None }) [])
+openings_read : (scanner : ScannerLine) (newer : Option ℕ) (tidy : Bool) (openings : Option ℕ) → IfSome openings (λ most. most < 2 ^ 8) → Reads (Slots scanner newer (record { tidy = tidy; openings = None; serials = None; ids = None }) []) (openings_text openings) (Slots scanner newer (record { tidy = tidy; openings = openings; serials = None; ids = None }) [])
+openings_read scanner newer tidy None fit = reads_none (Slots scanner newer (record { tidy = tidy; openings = None; serials = None; ids = None }) [])
 openings_read scanner newer tidy (Some most) fit =
-    line_reads (Slots scanner newer (record { tidy = tidy; openings = None; serials = None }) []) (Slots scanner newer (record { tidy = tidy; openings = Some most; serials = None }) []) (codes "openings") (decimal most ∷ []) (line.Term (term.Openings most)) refl refl (and_both _ _ (c8 most fit) refl) (rw (n8 most fit) refl) refl
+    line_reads (Slots scanner newer (record { tidy = tidy; openings = None; serials = None; ids = None }) []) (Slots scanner newer (record { tidy = tidy; openings = Some most; serials = None; ids = None }) []) (codes "openings") (decimal most ∷ []) (line.Term (term.Openings most)) refl refl (and_both _ _ (c8 most fit) refl) (rw (n8 most fit) refl) refl
 
-serials_read : (scanner : ScannerLine) (newer : Option ℕ) (tidy : Bool) (openings serials : Option ℕ) → IfSome serials (λ first. first < 2 ^ 16) → Reads (Slots scanner newer (record { tidy = tidy; openings = openings; serials = None }) []) (serials_text serials) (Slots scanner newer (record { tidy = tidy; openings = openings; serials = serials }) [])
-serials_read scanner newer tidy openings None fit = reads_none (Slots scanner newer (record { tidy = tidy; openings = openings; serials = None }) [])
+serials_read : (scanner : ScannerLine) (newer : Option ℕ) (tidy : Bool) (openings serials : Option ℕ) → IfSome serials (λ first. first < 2 ^ 16) → Reads (Slots scanner newer (record { tidy = tidy; openings = openings; serials = None; ids = None }) []) (serials_text serials) (Slots scanner newer (record { tidy = tidy; openings = openings; serials = serials; ids = None }) [])
+serials_read scanner newer tidy openings None fit = reads_none (Slots scanner newer (record { tidy = tidy; openings = openings; serials = None; ids = None }) [])
 serials_read scanner newer tidy openings (Some first) fit =
-    line_reads (Slots scanner newer (record { tidy = tidy; openings = openings; serials = None }) []) (Slots scanner newer (record { tidy = tidy; openings = openings; serials = Some first }) []) (codes "serials") (decimal first ∷ []) (line.Term (term.Serials first)) refl refl (and_both _ _ (c16 first fit) refl) (rw (n16 first fit) refl) refl
+    line_reads (Slots scanner newer (record { tidy = tidy; openings = openings; serials = None; ids = None }) []) (Slots scanner newer (record { tidy = tidy; openings = openings; serials = Some first; ids = None }) []) (codes "serials") (decimal first ∷ []) (line.Term (term.Serials first)) refl refl (and_both _ _ (c16 first fit) refl) (rw (n16 first fit) refl) refl
 
-terms_read : (scanner : ScannerLine) (newer : Option ℕ) (tidy : Bool) (openings serials : Option ℕ) → IfSome openings (λ most. most < 2 ^ 8) → IfSome serials (λ first. first < 2 ^ 16) → Reads (Slots scanner newer no_terms []) (terms_text (record { tidy = tidy; openings = openings; serials = serials })) (Slots scanner newer (record { tidy = tidy; openings = openings; serials = serials }) [])
-terms_read scanner newer tidy openings serials few short =
-    reads_both _ _ _ _ _ (tidy_read scanner newer tidy) (reads_both _ _ _ _ _ (openings_read scanner newer tidy openings few) (serials_read scanner newer tidy openings serials short))
+counted_read : (scanner : ScannerLine) (newer : Option ℕ) (tidy : Bool) (openings serials : Option ℕ) (ids : Option IdBlock) → IfSome ids IdsFit → Reads (Slots scanner newer (record { tidy = tidy; openings = openings; serials = serials; ids = None }) []) (ids_text ids) (Slots scanner newer (record { tidy = tidy; openings = openings; serials = serials; ids = ids }) [])
+counted_read scanner newer tidy openings serials None fit = reads_none (Slots scanner newer (record { tidy = tidy; openings = openings; serials = serials; ids = None }) [])
+counted_read scanner newer tidy openings serials (Some block) fit =
+    ids_reads (Slots scanner newer (record { tidy = tidy; openings = openings; serials = serials; ids = None }) []) (Slots scanner newer (record { tidy = tidy; openings = openings; serials = serials; ids = Some block }) []) block fit refl
+
+terms_read : (scanner : ScannerLine) (newer : Option ℕ) (tidy : Bool) (openings serials : Option ℕ) (ids : Option IdBlock) → IfSome openings (λ most. most < 2 ^ 8) → IfSome serials (λ first. first < 2 ^ 16) → IfSome ids IdsFit → Reads (Slots scanner newer no_terms []) (terms_text (record { tidy = tidy; openings = openings; serials = serials; ids = ids })) (Slots scanner newer (record { tidy = tidy; openings = openings; serials = serials; ids = ids }) [])
+terms_read scanner newer tidy openings serials ids few short fit =
+    reads_both _ _ _ _ _ (tidy_read scanner newer tidy)
+    (reads_both _ _ _ _ _ (openings_read scanner newer tidy openings few)
+    (reads_both _ _ _ _ _ (serials_read scanner newer tidy openings serials short) (counted_read scanner newer tidy openings serials ids fit)))
 
 pub scanner_read : (profile : ScannerProfile) → ScannerFits profile → Reads Empty (scanner_text profile) (Slots (scanner_line profile) profile.newer (terms_of profile) profile.slots)
 scanner_read profile fits =
     let one : Reads Empty (line_text (scanner_words profile)) (Slots (scanner_line profile) None no_terms []) = line_reads _ _ (codes "scanner") (drop 1 (scanner_words profile)) (line.Scanner (scanner_line profile)) refl refl (scanner_clean profile fits) (scanner_line_read profile fits) refl in
-    reads_both _ _ _ _ _ one (reads_both _ _ _ _ _ (newer_read (scanner_line profile) profile.newer fits.newer_fits) (reads_both _ _ _ _ _ (terms_read (scanner_line profile) profile.newer profile.tidy profile.openings profile.serials fits.openings_fit fits.serials_fit) (slots_read (scanner_line profile) profile.newer (terms_of profile) [] profile.slots fits.slots_fit)))
+    reads_both _ _ _ _ _ one (reads_both _ _ _ _ _ (newer_read (scanner_line profile) profile.newer fits.newer_fits) (reads_both _ _ _ _ _ (terms_read (scanner_line profile) profile.newer profile.tidy profile.openings profile.serials profile.ids fits.openings_fit fits.serials_fit fits.ids_fit) (slots_read (scanner_line profile) profile.newer (terms_of profile) [] profile.slots fits.slots_fit)))

@@ -1,10 +1,13 @@
 -- A trace that is written is read as itself.
-use Rattle.std.proofs.Common.{◌≡◌, ℕ, ◌<◌, ◌^◌, ◌+◌, ◌-◌, List, [], ◌∷◌, ◌++◌, length, Option, Some, None, Ok, refl, sym, ap, ◌∙◌, arith, append_assoc}
+use Rattle.std.proofs.Common.{◌≡◌, ℕ, ◌<◌, ◌^◌, ◌+◌, ◌-◌, ◌==◌, nat_le, true, false, List, [], ◌∷◌, ◌++◌, length, Option, Some, None, Ok, refl, sym, ap, ◌∙◌, arith, append_assoc}
 use Rattle.std.specs.Prelude.{IfSome, option_to_list}
-use Rattle.std.specs.List.{All}
+use Rattle.std.specs.List.{All, list_all}
+use Rattle.std.proofs.lemmas.Bool.{and_parts, not-false}
+use Rattle.std.proofs.lemmas.Bool.Decides.{nat_tests}
 use Rattle.std.proofs.lemmas.List.{append-nil, length-append}
 use Rattle.adapter_table.specs.declared.profile.Profile.{Profile}
 use Rattle.adapter_table.specs.Profiles.{profile_fault}
+use Rattle.adapter_table.specs.Shaping.{all_pass}
 use Rattle.cip_events.specs.declared.event.Event.{Event}
 use Rattle.cip_events.specs.Outcomes.{Outcome}
 use Rattle.cip_tables.specs.declared.table.Config.{Config}
@@ -21,7 +24,7 @@ use Rattle.scanner_table.specs.Profiles as scanner
 use Rattle.trace_lines.specs.Slots.{terms_of, scanner_text}
 use Rattle.trace_laws.specs.TraceBack.{ProfileFits, ScannerFits, OutcomeFits, EntryFits}
 use Rattle.trace_laws.proofs.ProfileLaws.{profile_read}
-use Rattle.trace_laws.proofs.EventLaws.{event_read, event_reads}
+use Rattle.trace_laws.proofs.EventLaws.{event_read, event_reads, taken_first}
 use Rattle.trace_laws.proofs.OutcomeLaws.{outcome_read}
 use Rattle.trace_laws.proofs.ScannerLaws.{scanner_line, scanner_read}
 use Rattle.trace_laws.proofs.TextLaws.{first_of, rest_of, Reads, reads_none, reads_both}
@@ -99,11 +102,19 @@ no_events profile front reads is =
     step.1 ∙ slots_parsed profile step.0 is
 
 -- the first event of a scanner ends its profile
-first_entry : (profile : ScannerProfile) (event : Event) (recorded : Option Outcome) (events : List Entry) → 1 + length ((event, recorded) ∷ events) < 2 ^ 64 → All EntryFits ((event, recorded) ∷ events)
+some_slots : (profile : ScannerProfile) → scanner.profile_fault profile ≡ None → (length profile.slots == 0) ≡ false
+unfolding scanner.profile_fault
+some_slots profile none =
+    let served : scanner.are_served profile ≡ true = not-false (scanner.are_served profile) (all_pass (scanner.profile_tests profile) none).1.0 in
+    let few : scanner.are_few profile.slots ≡ true = (and_parts (scanner.are_few profile.slots) (list_all scanner.listens_to_group profile.slots) served).0 in
+    let one = (and_parts (nat_le 1 (length profile.slots)) (nat_le (length profile.slots) 64) few).0 in
+    grind (arith, nat_tests, one)
+
+first_entry : (profile : ScannerProfile) (event : Event) (recorded : Option Outcome) (events : List Entry) → (length profile.slots == 0) ≡ false → 1 + length ((event, recorded) ∷ events) < 2 ^ 64 → All EntryFits ((event, recorded) ∷ events)
     → (entries : List Entry) × ((last : Option Entry) × (Reads (Slots (scanner_line profile) profile.newer (terms_of profile) profile.slots) (entries_text 1 ((event, recorded) ∷ events)) (Events (config.Scanner profile) entries last) × (so_far entries last ≡ (event, recorded) ∷ events)))
-first_entry profile event recorded events few fit =
+first_entry profile event recorded events some few fit =
     let fits : EntryFits (event, recorded) = first_of EntryFits (event, recorded) events fit in
-    let one : Reads (Slots (scanner_line profile) profile.newer (terms_of profile) profile.slots) (line_text (event_words event)) (Events (config.Scanner profile) [] (Some (event, None))) = event_reads (Slots (scanner_line profile) profile.newer (terms_of profile) profile.slots) (Events (config.Scanner profile) [] (Some (event, None))) event fits.0 refl in
+    let one : Reads (Slots (scanner_line profile) profile.newer (terms_of profile) profile.slots) (line_text (event_words event)) (Events (config.Scanner profile) [] (Some (event, None))) = event_reads (Slots (scanner_line profile) profile.newer (terms_of profile) profile.slots) (Events (config.Scanner profile) [] (Some (event, None))) event fits.0 (taken_first (scanner_line profile) profile.newer (terms_of profile) profile.slots event some) in
     let two : Reads (Events (config.Scanner profile) [] (Some (event, None))) (recorded_text 1 recorded) (Events (config.Scanner profile) [] (Some (event, recorded))) = recorded_read (config.Scanner profile) [] event 1 recorded (omega arith) refl fits.1 in
     let fewer : 2 + length events < 2 ^ 64 = omega (arith, few) in
     let (entries, (last, (reads, all))) = entries_read (config.Scanner profile) [] (Some (event, recorded)) 2 events refl fewer (rest_of EntryFits (event, recorded) events fit) in
@@ -112,7 +123,7 @@ first_entry profile event recorded events few fit =
 scanner_events : (profile : ScannerProfile) (front : List ℕ) (events : List Entry) → Reads Empty front (Slots (scanner_line profile) profile.newer (terms_of profile) profile.slots) → scanner.profile_fault profile ≡ None → 1 + length events < 2 ^ 64 → All EntryFits events → parsed_from 1 (Ok Empty) (parts_of (front ++ entries_text 1 events)) ≡ Ok (record { config = config.Scanner profile; events = events })
 scanner_events profile front [] reads is few fit = no_events profile front reads is
 scanner_events profile front ((event, recorded) ∷ events) reads is few fit =
-    let (entries, (last, (more, all))) = first_entry profile event recorded events few fit in
+    let (entries, (last, (more, all))) = first_entry profile event recorded events (some_slots profile is) few fit in
     led (config.Scanner profile) (front ++ entries_text 1 ((event, recorded) ∷ events)) entries ((event, recorded) ∷ events) last (reads_both Empty (Slots (scanner_line profile) profile.newer (terms_of profile) profile.slots) (Events (config.Scanner profile) entries last) front (entries_text 1 ((event, recorded) ∷ events)) reads more) is all
 
 pub scanner_trace_back : (profile : ScannerProfile) (events : List Entry) → ScannerFits profile → scanner.profile_fault profile ≡ None → All EntryFits events → length events < 2 ^ 64 - 1 → trace_reading (trace_text (record { config = config.Scanner profile; events = events })) ≡ Ok (record { config = config.Scanner profile; events = events })

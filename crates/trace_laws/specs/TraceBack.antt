@@ -5,6 +5,7 @@ use Rattle.std.specs.Prelude.{ℕ, ◌≡◌, ◌<◌, ◌^◌, ◌-◌, List, l
 use Rattle.std.specs.List.{All}
 use Rattle.hex.specs.Hex.{IsBytes}
 use Rattle.cip_epath.specs.declared.key.ElectronicKey.{ElectronicKey}
+use Rattle.cip_types.specs.declared.ids.IdBlock.{IdBlock}
 use Rattle.cip_types.specs.declared.names.Fault.{Fault}
 use Rattle.cip_types.specs.declared.names.Identity.{Identity}
 use Rattle.cip_types.specs.declared.names.Mismatch.{Mismatch}
@@ -63,6 +64,10 @@ pub record DescriptionFits (described : Description) : Type 0 where
 abbrev pub ClassFits : ℕ → Type 0
 ClassFits class = class < 2 ^ 32
 
+-- a block of connection ids
+abbrev pub IdsFit : IdBlock → Type 0
+IdsFit block = (block.first < 2 ^ 32) × (block.count < 2 ^ 32)
+
 pub record ProfileFits (profile : Profile) : Type 0 where
   pub incarnation_fits : profile.incarnation < 2 ^ 8
   pub node_fits : profile.node.0 < 2 ^ 32
@@ -76,6 +81,7 @@ pub record ProfileFits (profile : Profile) : Type 0 where
   pub description_fits : IfSome profile.description DescriptionFits
   pub limits_fit : All LimitFits (limit_lines profile.limits)
   pub objects_fit : All ClassFits profile.objects
+  pub ids_fit : IfSome profile.ids IdsFit
 
 -- PROFILES OF SCANNERS
 
@@ -107,6 +113,7 @@ pub record ScannerFits (profile : ScannerProfile) : Type 0 where
   pub newer_fits : IfSome profile.newer (λ within. within < 2 ^ 32)
   pub openings_fit : IfSome profile.openings (λ most. most < 2 ^ 8)
   pub serials_fit : IfSome profile.serials (λ first. first < 2 ^ 16)
+  pub ids_fit : IfSome profile.ids IdsFit
   pub slots_fit : All SlotFits profile.slots
 
 -- EVENTS
@@ -127,6 +134,7 @@ EventFits (event.Stop slot) = slot < 2 ^ 32
 EventFits (event.Explicit target number bytes) = (target.0 < 2 ^ 32) × (number < 2 ^ 32) × IsBytes bytes
 EventFits (event.Respond number status bytes) = (number < 2 ^ 64) × (status < 2 ^ 8) × IsBytes bytes
 EventFits (event.Counters bytes) = IsBytes bytes
+EventFits (event.Ids block) = IdsFit block
 
 -- OUTCOMES
 

@@ -109,14 +109,14 @@ unfolding number_of node_of read_ipv4 read_octet read_number
 scanners_are_read = refl
 
 scanners_are_written :
-    scanner_text (scanner_with scanner None (record { tidy = false; openings = None; serials = None }) (owner ∷ listener ∷ []))
+    scanner_text (scanner_with scanner None (record { tidy = false; openings = None; serials = None; ids = None }) (owner ∷ listener ∷ []))
     ≡ codes "scanner 32 192.168.1.20 1 305419896 2000 70000\nslot 192.168.1.10 exclusive 151 150 100 4 6 10000 20000 2 p2p - -\nslot 192.168.1.10 listen - 153 100 0 6 10000 20000 2 multicast - -\n"
 unfolding digits
 scanners_are_written = refl
 
 -- the limit on numbers and what is said of openings go before the slots
 limits_are_written :
-    scanner_text (scanner_with scanner (Some 8) (record { tidy = true; openings = Some 1; serials = Some 65535 }) (listener ∷ []))
+    scanner_text (scanner_with scanner (Some 8) (record { tidy = true; openings = Some 1; serials = Some 65535; ids = None }) (listener ∷ []))
     ≡ codes "scanner 32 192.168.1.20 1 305419896 2000 70000\nnewer 8\ntidy\nopenings 1\nserials 65535\nslot 192.168.1.10 listen - 153 100 0 6 10000 20000 2 multicast - -\n"
 unfolding digits
 limits_are_written = refl

@@ -2,7 +2,7 @@
 -- of an outcome.
 use Rattle.std.specs.Prelude.{ℕ, List, [], ◌∷◌, codes, option_map, Option, Some, None}
 use Rattle.trace_lines.specs.declared.shapes.WordKind.{WordKind}
-use Rattle.trace_lines.specs.declared.shapes.TheConstants.{ADAPTER, OUTPUT, POINT, DESCRIBE, HEARTBEAT, SCANNER, SLOT, RATE, FROM_NODE, EXPLICIT, ANSWER, COUNTERS, STREAM, FRAME, CUT, WRITE, NUMBER, OPENINGS, SERIALS, MODE, SEND, VALUE, REPLIED, OWN_REQUEST}
+use Rattle.trace_lines.specs.declared.shapes.TheConstants.{ADAPTER, OUTPUT, POINT, DESCRIBE, HEARTBEAT, SCANNER, SLOT, RATE, FROM_NODE, EXPLICIT, ANSWER, COUNTERS, STREAM, FRAME, CUT, WRITE, NUMBER, OPENINGS, SERIALS, IDS, MODE, SEND, VALUE, REPLIED, OWN_REQUEST}
 use Rattle.trace_words.specs.Reader.{Meanings, meaning}
 use Rattle.trace_lines.specs.Limits.{limit_named, limit_shape}
 use Rattle.trace_lines.specs.Shapes.{Shape}
@@ -23,6 +23,7 @@ line_shapes =
     ∷ (codes "tidy", alone [])
     ∷ (codes "openings", alone OPENINGS)
     ∷ (codes "serials", alone SERIALS)
+    ∷ (codes "ids", alone IDS)
     ∷ (codes "slot", Some (SLOT, RATE))
     ∷ (codes "request", alone FROM_NODE)
     ∷ (codes "inquiry", alone FROM_NODE)

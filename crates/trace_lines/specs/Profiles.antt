@@ -1,5 +1,6 @@
 -- Readers of the lines of a profile, behind their keywords; those of limits are in Limits.
 use Rattle.std.specs.Prelude.{ℕ, List, Option}
+use Rattle.cip_types.specs.declared.ids.IdBlock.{IdBlock}
 use Rattle.adapter_table.specs.declared.profile.OutputPoint.{OutputPoint}
 use Rattle.adapter_table.specs.declared.profile.InputPoint.{InputPoint}
 use Rattle.adapter_table.specs.declared.profile.Description.{Description}
@@ -7,7 +8,7 @@ use Rattle.adapter_table.specs.declared.maker_limits.MakerLimits.{MakerLimits}
 use Rattle.adapter_table.specs.declared.profile.Profile.{Profile}
 use Rattle.trace_lines.specs.declared.forms.AdapterLine.{AdapterLine}
 use Rattle.trace_lines.specs.declared.forms.HeartbeatLine.{HeartbeatLine}
-use Rattle.trace_lines.specs.declared.shapes.TheConstants.{ADAPTER, OUTPUT, POINT, DESCRIBE, NUMBER, HEARTBEAT}
+use Rattle.trace_lines.specs.declared.shapes.TheConstants.{ADAPTER, OUTPUT, POINT, DESCRIBE, NUMBER, IDS, HEARTBEAT}
 use Rattle.trace_words.specs.Reader.{Reader, ends}
 use Rattle.trace_lines.specs.Shapes.{shaped}
 
@@ -45,13 +46,17 @@ description_reader = shaped DESCRIBE (λ serial name port speed flags mac inacti
 abbrev pub object_reader : Reader ℕ
 object_reader = shaped NUMBER (λ class. ends class)
 
+-- the first of a block of connection ids, and how many they are
+abbrev pub ids_reader : Reader IdBlock
+ids_reader = shaped IDS (λ first count. ends (record { first = first; count = count }))
+
 -- the points of input-only and of listen-only connections
 abbrev pub heartbeat_reader : Reader HeartbeatLine
 heartbeat_reader = shaped HEARTBEAT (λ input_only listen_only. ends (record { input_only = input_only; listen_only = listen_only }))
 
 -- the profile with the values of its lines
-abbrev pub profile_with : AdapterLine → List OutputPoint → List InputPoint → Option InputPoint → Option Description → MakerLimits → List ℕ → HeartbeatLine → Profile
-profile_with adapter outputs inputs config description limits objects heartbeat = record {
+abbrev pub profile_with : AdapterLine → List OutputPoint → List InputPoint → Option InputPoint → Option Description → MakerLimits → List ℕ → Option IdBlock → HeartbeatLine → Profile
+profile_with adapter outputs inputs config description limits objects ids heartbeat = record {
   incarnation = adapter.incarnation;
   node = adapter.node;
   mask = adapter.mask;
@@ -64,4 +69,5 @@ profile_with adapter outputs inputs config description limits objects heartbeat 
   description = description;
   limits = limits;
   objects = objects;
+  ids = ids;
 }

@@ -13,6 +13,7 @@ use Rattle.trace_lines.specs.declared.forms.TermLine.TheVariants.{Openings, Seri
 use Rattle.trace_lines.specs.declared.limit_lines.LimitLine.TheVariants.{Newer}
 use Rattle.trace_lines.specs.declared.shapes.TheConstants.{SCANNER, OPENINGS, SERIALS, SLOT, RATE}
 use Rattle.trace_lines.specs.Limits.{limit_text}
+use Rattle.trace_lines.specs.WrittenProfiles.{ids_text}
 use Rattle.trace_words.specs.Words.{line_text}
 use Rattle.trace_words.specs.Reader.{Reader, gives, ends, ◌>>=◌}
 use Rattle.trace_lines.specs.Shapes.{shaped, spelled}
@@ -73,6 +74,7 @@ scanner_with scanner newer terms slots = record {
   tidy = terms.tidy;
   openings = terms.openings;
   serials = terms.serials;
+  ids = terms.ids;
   slots = slots;
 }
 
@@ -113,13 +115,13 @@ abbrev pub serials_text : Option ℕ → List ℕ
 serials_text None = []
 serials_text (Some first) = line_text (serials_words first)
 
--- what the profile says of openings
+-- what the profile says of openings and of connection ids
 abbrev pub terms_of : ScannerProfile → ScannerTerms
-terms_of profile = record { tidy = profile.tidy; openings = profile.openings; serials = profile.serials }
+terms_of profile = record { tidy = profile.tidy; openings = profile.openings; serials = profile.serials; ids = profile.ids }
 
 abbrev pub terms_text : ScannerTerms → List ℕ
-terms_text terms = tidy_text terms.tidy ++ (openings_text terms.openings ++ serials_text terms.serials)
+terms_text terms = tidy_text terms.tidy ++ (openings_text terms.openings ++ (serials_text terms.serials ++ ids_text terms.ids))
 
--- the lines of the limit on numbers and of openings, if there are such, go before the slots
+-- the lines of the limit on numbers, of openings and of connection ids, if there are such, go before the slots
 abbrev pub scanner_text : ScannerProfile → List ℕ
 scanner_text profile = line_text (scanner_words profile) ++ (limit_text (option_map Newer profile.newer) ++ (terms_text (terms_of profile) ++ slots_text profile))

@@ -1,12 +1,13 @@
 -- How a profile is written: a line for the device, a line for each of its points, its description if it has one, a line
--- for each limit that its maker states, and one for each class of the maker's own objects. One space separates the words
--- of a line, and LF ends it.
+-- for each limit that its maker states, one for each class of the maker's own objects, and one for the block of its connection
+-- ids, if that is stated. One space separates the words of a line, and LF ends it.
 use Rattle.std.specs.Prelude.{ℕ, List, [], ◌∷◌, ◌++◌, codes, flat_map, Option, Some, None}
+use Rattle.cip_types.specs.declared.ids.IdBlock.{IdBlock}
 use Rattle.adapter_table.specs.declared.profile.OutputPoint.{OutputPoint}
 use Rattle.adapter_table.specs.declared.profile.InputPoint.{InputPoint}
 use Rattle.adapter_table.specs.declared.profile.Description.{Description}
 use Rattle.adapter_table.specs.declared.profile.Profile.{Profile}
-use Rattle.trace_lines.specs.declared.shapes.TheConstants.{ADAPTER, OUTPUT, POINT, DESCRIBE, NUMBER, HEARTBEAT}
+use Rattle.trace_lines.specs.declared.shapes.TheConstants.{ADAPTER, OUTPUT, POINT, DESCRIBE, NUMBER, IDS, HEARTBEAT}
 use Rattle.trace_words.specs.Words.{line_text}
 use Rattle.trace_lines.specs.Limits.{limits_text}
 use Rattle.trace_lines.specs.Shapes.{spelled}
@@ -28,6 +29,10 @@ description_words described = spelled (codes "describe" ∷ []) DESCRIBE describ
 abbrev pub object_words : ℕ → List (List ℕ)
 object_words class = spelled (codes "object" ∷ []) NUMBER class
 
+-- the words of a block of connection ids
+abbrev pub ids_words : IdBlock → List (List ℕ)
+ids_words block = spelled (codes "ids" ∷ []) IDS block.first block.count
+
 abbrev pub heartbeat_words : Profile → List (List ℕ)
 heartbeat_words profile = spelled (codes "heartbeat" ∷ []) HEARTBEAT profile.input_only profile.listen_only
 
@@ -42,6 +47,10 @@ description_text (Some described) = line_text (description_words described)
 abbrev pub objects_text : List ℕ → List ℕ
 objects_text classes = flat_map (λ class. line_text (object_words class)) classes
 
+abbrev pub ids_text : Option IdBlock → List ℕ
+ids_text None = []
+ids_text (Some block) = line_text (ids_words block)
+
 abbrev pub profile_text : Profile → List ℕ
 profile_text profile =
     line_text (adapter_words profile)
@@ -50,4 +59,5 @@ profile_text profile =
     ++ (config_text profile.config
     ++ (description_text profile.description
     ++ (limits_text profile.limits
-    ++ (objects_text profile.objects ++ line_text (heartbeat_words profile)))))))
+    ++ (objects_text profile.objects
+    ++ (ids_text profile.ids ++ line_text (heartbeat_words profile))))))))

@@ -6,7 +6,7 @@ ghost use Rattle.trace_lines.specs.Slots.{scanner_with};
 
 use adapter_table::{Description, InputPoint, MakerLimits, OutputPoint, Profile};
 use cip_netparams::Trigger;
-use cip_types::{Identity, Items, Node};
+use cip_types::{IdBlock, Identity, Items, Node};
 use scanner_table::{ScannerProfile, SlotConfig};
 
 /// The values of the first line of an adapter's profile.
@@ -36,7 +36,7 @@ pub struct ScannerLine {
     pub retry: u64,
 }
 
-/// What the lines of a scanner's profile say of its openings.
+/// What the lines of a scanner's profile say of its openings and of its connection ids.
 #[derive(Clone, Copy)]
 pub struct ScannerTerms {
     /// Whether the scanner closes each connection that its targets may have and no slot has.
@@ -45,6 +45,8 @@ pub struct ScannerTerms {
     pub openings: Option<u8>,
     /// The connection serial number of the first opening, if it is stated.
     pub serials: Option<u16>,
+    /// The block of the first connection ids, if it is stated.
+    pub ids: Option<IdBlock>,
 }
 
 /// One of these lines.
@@ -53,6 +55,7 @@ pub enum TermLine {
     Tidy,
     Openings(u8),
     Serials(u16),
+    Ids(IdBlock),
 }
 
 /// The trigger of a target's productions, and the least number of milliseconds between two of them at a change.
@@ -71,9 +74,10 @@ pub fn profile_with(
     description: Option<Description>,
     limits: MakerLimits,
     objects: Items<u32>,
+    ids: Option<IdBlock>,
     heartbeat: HeartbeatLine,
 ) -> Profile
-    ensures { result ≡ profile_with adapter outputs inputs config description limits objects heartbeat }
+    ensures { result ≡ profile_with adapter outputs inputs config description limits objects ids heartbeat }
 {
     Profile {
         incarnation: adapter.incarnation,
@@ -88,6 +92,7 @@ pub fn profile_with(
         description,
         limits,
         objects,
+        ids,
     }
 }
 
@@ -111,6 +116,7 @@ pub fn scanner_with(
         tidy: terms.tidy,
         openings: terms.openings,
         serials: terms.serials,
+        ids: terms.ids,
         slots,
     }
 }

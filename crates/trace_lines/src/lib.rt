@@ -20,14 +20,14 @@ pub use limit_lines::{
 };
 pub use names::{kind_name, read_mode};
 pub use profile_lines::{
-    read_adapter, read_description, read_heartbeat, read_object, read_output, read_point,
+    read_adapter, read_description, read_heartbeat, read_ids, read_object, read_output, read_point,
 };
 pub use shapes::{
     ADAPTER, ANSWER, CLASS3_PLACES, CLOSERS, COUNTERS, CUT, DESCRIBE, EXPLICIT, FRAME, FROM_NODE,
-    HEARTBEAT, MODE, NODE_CONNECTIONS, NODE_OPENINGS, NUMBER, OUTPUT, OWN_REQUEST, PLACES, POINT,
-    RATE, REPLIED, SCANNER, SEND, SLOT, STREAM, Shape, VALUE, WRITE, WordKind, part_shape_of,
-    shape_of, skip_word,
+    HEARTBEAT, IDS, MODE, NODE_CONNECTIONS, NODE_OPENINGS, NUMBER, OUTPUT, OWN_REQUEST, PLACES,
+    POINT, RATE, REPLIED, SCANNER, SEND, SLOT, STREAM, Shape, VALUE, WRITE, WordKind,
+    part_shape_of, shape_of, skip_word,
 };
 pub use slot_lines::{read_openings, read_scanner, read_serials, read_slot};
-pub use written_profiles::push_profile;
+pub use written_profiles::{push_ids, push_profile};
 pub use written_slots::push_scanner;

@@ -159,6 +159,9 @@ pub const OPENINGS: [WordKind; 1] = [WordKind::U8];
 /// The connection serial number of a scanner's first opening.
 pub const SERIALS: [WordKind; 1] = [WordKind::U16];
 
+/// The first of a block of connection ids, and how many they are.
+pub const IDS: [WordKind; 2] = [WordKind::U32, WordKind::U32];
+
 /// Whether an application runs.
 pub const MODE: [WordKind; 1] = [WordKind::Mode];
 
@@ -205,6 +208,7 @@ pub fn shape_of(first: &str) -> Option<Shape>
         "tidy" => Some((&[], &[])),
         "openings" => Some((&OPENINGS, &[])),
         "serials" => Some((&SERIALS, &[])),
+        "ids" => Some((&IDS, &[])),
         "slot" => Some((&SLOT, &RATE)),
         "request" | "datagram" | "inquiry" => Some((&FROM_NODE, &[])),
         "explicit" => Some((&EXPLICIT, &[])),

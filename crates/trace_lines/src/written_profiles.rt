@@ -2,12 +2,12 @@
 
 ghost use Rattle.std.specs.Prelude.{◌≡◌, ◌++◌, OnOk, string_bytes, flat_map, codes, drop};
 ghost use Rattle.trace_words.specs.Words.{line_text};
-ghost use Rattle.trace_lines.specs.WrittenProfiles.{adapter_words, output_words, point_words, description_words, heartbeat_words, config_text, description_text, objects_text, profile_text};
+ghost use Rattle.trace_lines.specs.WrittenProfiles.{adapter_words, output_words, point_words, description_words, heartbeat_words, ids_text, ids_words, config_text, description_text, objects_text, profile_text};
 
 use crate::limit_lines::push_limits;
 use crate::names::action_name;
 use adapter_table::{Description, InputPoint, OutputPoint, Profile};
-use cip_types::{Node, OutOfMemory};
+use cip_types::{IdBlock, Node, OutOfMemory};
 use trace_words::{push_bytes, push_node};
 
 /// Appends the lines of an adapter's profile. If an allocation is refused, a part of them may be appended.
@@ -21,6 +21,7 @@ pub fn push_profile(out: &mut String, profile: &Profile) -> Result<(), OutOfMemo
     push_description(out, &profile.description)?;
     push_limits(out, &profile.limits)?;
     push_objects(out, profile.objects.as_slice())?;
+    push_stated_ids(out, profile.ids)?;
     push_heartbeat(out, profile)?;
     Ok(())
 }
@@ -124,6 +125,24 @@ fn push_objects(out: &mut String, classes: &[u32]) -> Result<(), OutOfMemory>
         let class = *class;
         write!(out, "object {class}\n")?;
     }
+    Ok(())
+}
+
+/// Appends the line of the block of a device's connection ids, if it is stated.
+pub(crate) fn push_stated_ids(out: &mut String, ids: Option<IdBlock>) -> Result<(), OutOfMemory>
+    ensures { OnOk result (string_bytes out.new ≡ string_bytes out.old ++ ids_text ids) }
+{
+    match ids {
+        Some(block) => push_ids(out, block),
+        None => Ok(()),
+    }
+}
+
+/// Appends the line of a block of connection ids.
+pub fn push_ids(out: &mut String, block: IdBlock) -> Result<(), OutOfMemory>
+    ensures { OnOk result (string_bytes out.new ≡ string_bytes out.old ++ line_text (ids_words block)) }
+{
+    write!(out, "ids {} {}\n", block.first, block.count)?;
     Ok(())
 }
 

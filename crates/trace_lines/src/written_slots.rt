@@ -8,6 +8,7 @@ ghost use Rattle.trace_lines.specs.Slots.{slot_words, scanner_words, tidy_text, 
 
 use crate::limit_lines::push_newer;
 use crate::names::kind_name;
+use crate::written_profiles::push_stated_ids;
 use cip_epath::ElectronicKey;
 use cip_netparams::Trigger;
 use cip_types::OutOfMemory;
@@ -38,13 +39,14 @@ fn push_first(out: &mut String, profile: &ScannerProfile) -> Result<(), OutOfMem
     Ok(())
 }
 
-/// Appends the lines of what the profile says of openings.
+/// Appends the lines of what the profile says of openings and of connection ids.
 fn push_terms(out: &mut String, profile: &ScannerProfile) -> Result<(), OutOfMemory>
     ensures { OnOk result (string_bytes out.new ≡ string_bytes out.old ++ terms_text (terms_of profile.now)) }
 {
     push_tidy(out, profile.tidy)?;
     push_openings(out, profile.openings)?;
     push_serials(out, profile.serials)?;
+    push_stated_ids(out, profile.ids)?;
     Ok(())
 }
 

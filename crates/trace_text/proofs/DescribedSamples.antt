@@ -33,6 +33,7 @@ profile = record {
   description = Some rack;
   limits = no_limits;
   objects = [];
+  ids = None;
 }
 
 abbrev front : List ℕ

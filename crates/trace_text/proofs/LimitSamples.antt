@@ -36,6 +36,7 @@ profile = record {
   description = None;
   limits = limits;
   objects = [];
+  ids = None;
 }
 
 abbrev front : List ℕ

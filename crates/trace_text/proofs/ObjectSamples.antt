@@ -29,6 +29,7 @@ profile = record {
   description = None;
   limits = no_limits;
   objects = 100 ∷ 768 ∷ [];
+  ids = None;
 }
 
 abbrev front : List ℕ

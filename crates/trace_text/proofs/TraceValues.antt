@@ -206,7 +206,7 @@ behind_stated front last = stated_last front.adapter (map line.Output front.outp
 behind_objects : (front : ProfileFront) (objects : List ℕ) (last : TraceLine) → line.Adapter front.adapter ∷ (map line.Output front.outputs ++ (map line.Input front.inputs ++ (map line.Config (option_to_list front.config) ++ (map line.Description (option_to_list front.description) ++ (map line.Limit (limit_lines front.limits) ++ (map line.Object objects ++ last ∷ [])))))) ≡ so_far (Objects front objects) ++ last ∷ []
 behind_objects front objects last = objects_last front.adapter (map line.Output front.outputs) (map line.Input front.inputs) (map line.Config (option_to_list front.config)) (map line.Description (option_to_list front.description)) (map line.Limit (limit_lines front.limits)) (map line.Object objects) last
 
-newer_here : (scanner : ScannerLine) (newer : Option ℕ) (tidy : Bool) (openings serials : Option ℕ) (slots : List SlotConfig) (within : ℕ) → (is_none newer && (not tidy && ((is_none openings && is_none serials) && eqb (length slots) 0))) ≡ true → so_far (Slots scanner (Some within) (record { tidy = tidy; openings = openings; serials = serials }) slots) ≡ so_far (Slots scanner newer (record { tidy = tidy; openings = openings; serials = serials }) slots) ++ line.Limit (limit.Newer within) ∷ []
+newer_here : (scanner : ScannerLine) (newer : Option ℕ) (tidy : Bool) (openings serials : Option ℕ) (slots : List SlotConfig) (within : ℕ) → (is_none newer && (not tidy && ((is_none openings && is_none serials) && eqb (length slots) 0))) ≡ true → so_far (Slots scanner (Some within) (record { tidy = tidy; openings = openings; serials = serials; ids = None }) slots) ≡ so_far (Slots scanner newer (record { tidy = tidy; openings = openings; serials = serials; ids = None }) slots) ++ line.Limit (limit.Newer within) ∷ []
 newer_here scanner (Some other) tidy openings serials slots within first = absurd (cc)
 newer_here scanner None true openings serials slots within first = absurd (cc)
 newer_here scanner None false (Some most) serials slots within first = absurd (cc)
@@ -224,7 +224,7 @@ newer_added scanner newer terms slots other next is = absurd (cc)
 line_is : (one other : ScannerTerms) → Some one ≡ Some other → term_lines other ≡ term_lines one
 line_is one other is = ap term_lines (sym (some_is one other is))
 
-line_added : (tidy : Bool) (openings serials : Option ℕ) (said : TermLine) (more : ScannerTerms) → with_line (record { tidy = tidy; openings = openings; serials = serials }) said ≡ Some more → term_lines more ≡ term_lines (record { tidy = tidy; openings = openings; serials = serials }) ++ said ∷ []
+line_added : (tidy : Bool) (openings serials : Option ℕ) (said : TermLine) (more : ScannerTerms) → with_line (record { tidy = tidy; openings = openings; serials = serials; ids = None }) said ≡ Some more → term_lines more ≡ term_lines (record { tidy = tidy; openings = openings; serials = serials; ids = None }) ++ said ∷ []
 line_added false None None term.Tidy more is = line_is _ more is
 line_added true None None (term.Openings most) more is = line_is _ more is
 line_added false None None (term.Openings most) more is = line_is _ more is
@@ -444,7 +444,7 @@ slot_limit_run : (scanner : ScannerLine) (newer : Option ℕ) → run (Slots sca
 slot_limit_run scanner None = refl
 slot_limit_run scanner (Some within) = refl
 
-terms_run : (scanner : ScannerLine) (newer : Option ℕ) (tidy : Bool) (openings serials : Option ℕ) → run (Slots scanner newer no_terms []) (map Some (map line.Term (term_lines (record { tidy = tidy; openings = openings; serials = serials })))) ≡ Some (Slots scanner newer (record { tidy = tidy; openings = openings; serials = serials }) [])
+terms_run : (scanner : ScannerLine) (newer : Option ℕ) (tidy : Bool) (openings serials : Option ℕ) → run (Slots scanner newer no_terms []) (map Some (map line.Term (term_lines (record { tidy = tidy; openings = openings; serials = serials; ids = None })))) ≡ Some (Slots scanner newer (record { tidy = tidy; openings = openings; serials = serials; ids = None }) [])
 terms_run scanner newer true None None = refl
 terms_run scanner newer true None (Some first) = refl
 terms_run scanner newer true (Some most) None = refl

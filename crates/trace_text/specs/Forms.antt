@@ -8,7 +8,7 @@ use Rattle.trace_text.specs.declared.forms.TraceLine.{TraceLine}
 use Rattle.trace_text.specs.declared.forms.TraceLine.TheVariants as line
 use Rattle.trace_words.specs.Words.{words_of, number_of}
 use Rattle.trace_words.specs.Reader.{Reader, next_word, ends, refuses, Meanings, meaning, mapped, ◌>>=◌}
-use Rattle.trace_lines.specs.Profiles.{adapter_reader, output_reader, point_reader, description_reader, object_reader, heartbeat_reader}
+use Rattle.trace_lines.specs.Profiles.{adapter_reader, output_reader, point_reader, description_reader, object_reader, ids_reader, heartbeat_reader}
 use Rattle.trace_lines.specs.declared.forms.TermLine.TheVariants as term
 use Rattle.trace_lines.specs.declared.limit_lines.LimitName.{LimitName}
 use Rattle.trace_lines.specs.Limits.{limit_named, limit_reader}
@@ -49,6 +49,7 @@ profile_meanings =
     ∷ (codes "tidy", ends (line.Term term.Tidy))
     ∷ (codes "openings", mapped line.Term openings_reader)
     ∷ (codes "serials", mapped line.Term serials_reader)
+    ∷ (codes "ids", mapped line.Ids ids_reader)
     ∷ (codes "slot", mapped line.Slot slot_reader)
     ∷ []
 
@@ -110,6 +111,7 @@ line_of line = if is_ascii line then option_map (λ got. got.0) (line_reader (wo
 -- the event of a line, if it is the line of one
 abbrev pub event_only : TraceLine → Option Event
 event_only (line.Event given) = Some given
+event_only (line.Ids block) = Some (event.Ids block)
 event_only other = None
 
 -- the event that a line writes

@@ -9,7 +9,9 @@ use Rattle.adapter_table.specs.Profiles.{no_limits}
 use Rattle.cip_events.specs.declared.profile_fault.ProfileFault.{ProfileFault}
 use Rattle.cip_tables.specs.declared.table.Config.{Config}
 use Rattle.cip_tables.specs.declared.table.Config.TheVariants as config
+use Rattle.cip_types.specs.declared.ids.IdBlock.{IdBlock}
 use Rattle.cip_events.specs.declared.event.Event.{Event}
+use Rattle.cip_events.specs.declared.event.Event.TheVariants as event
 use Rattle.cip_tables.specs.Step.{config_fault}
 use Rattle.cip_events.specs.Faults.{fault_number}
 use Rattle.cip_events.specs.Outcomes.{Outcome}
@@ -28,7 +30,7 @@ use Rattle.trace_text.specs.declared.forms.TraceLine.TheVariants as line
 use Rattle.trace_outcomes.specs.declared.part.Part.{Part}
 use Rattle.trace_text.specs.declared.builder.ProfileFront.{ProfileFront}
 use Rattle.trace_text.specs.declared.builder.TraceBuilder.{TraceBuilder}
-use Rattle.trace_text.specs.declared.builder.TraceBuilder.TheVariants.{Empty, Points, Configured, Stated, Objects, Slots, Events}
+use Rattle.trace_text.specs.declared.builder.TraceBuilder.TheVariants.{Empty, Points, Configured, Stated, Objects, Counted, Slots, Events}
 use Rattle.trace_text.specs.declared.trace.Trace.{Trace}
 use Rattle.trace_text.specs.declared.trace.TraceFault.{TraceFault}
 use Rattle.trace_text.specs.declared.trace.TraceFault.TheVariants as fault
@@ -69,16 +71,20 @@ abbrev pub with_object : ProfileFront → List ℕ → ℕ → Option TraceBuild
 with_object front objects class = Some (Objects front (objects ++ class ∷ []))
 
 -- the whole profile of an adapter
-abbrev pub with_profile : ProfileFront → List ℕ → HeartbeatLine → Option TraceBuilder
-with_profile front objects heartbeat = Some (Events (config.Adapter (profile_with front.adapter front.outputs front.inputs front.config front.description front.limits objects heartbeat)) [] None)
+abbrev pub with_profile : ProfileFront → List ℕ → Option IdBlock → HeartbeatLine → Option TraceBuilder
+with_profile front objects ids heartbeat = Some (Events (config.Adapter (profile_with front.adapter front.outputs front.inputs front.config front.description front.limits objects ids heartbeat)) [] None)
 
 -- nothing is said of openings
 abbrev pub no_terms : ScannerTerms
-no_terms = record { tidy = false; openings = None; serials = None }
+no_terms = record { tidy = false; openings = None; serials = None; ids = None }
 
--- neither the most openings nor the first serial number is stated
+-- neither the first serial number nor the ids are stated
+abbrev pub are_uncounted : ScannerTerms → Bool
+are_uncounted terms = is_none terms.serials && is_none terms.ids
+
+-- nor the most openings
 abbrev pub none_stated : ScannerTerms → Bool
-none_stated terms = is_none terms.openings && is_none terms.serials
+none_stated terms = is_none terms.openings && are_uncounted terms
 
 -- a scanner's limit on numbers, which comes once, before what is said of openings and before all slots
 abbrev pub with_newer : ScannerLine → Option ℕ → ScannerTerms → List SlotConfig → LimitLine → Option TraceBuilder
@@ -90,11 +96,17 @@ with_newer scanner newer terms slots other = None
 abbrev pub with_line : ScannerTerms → TermLine → Option ScannerTerms
 with_line terms term.Tidy = if not terms.tidy && none_stated terms then Some (record terms { tidy = true }) else None
 with_line terms (term.Openings most) = if none_stated terms then Some (record terms { openings = Some most }) else None
-with_line terms (term.Serials first) = if is_none terms.serials then Some (record terms { serials = Some first }) else None
+with_line terms (term.Serials first) = if are_uncounted terms then Some (record terms { serials = Some first }) else None
+with_line terms (term.Ids block) = if is_none terms.ids then Some (record terms { ids = Some block }) else None
 
 -- these lines come before all slots
 abbrev pub with_term : ScannerLine → Option ℕ → ScannerTerms → List SlotConfig → TermLine → Option TraceBuilder
 with_term scanner newer terms slots said = if length slots == 0 then option_map (λ more. Slots scanner newer more slots) (with_line terms said) else None
+
+-- a block of ids before all slots, or the first event behind them
+abbrev pub with_ids : ScannerLine → Option ℕ → ScannerTerms → List SlotConfig → IdBlock → Option TraceBuilder
+with_ids scanner newer terms slots block =
+    if length slots == 0 then with_term scanner newer terms slots (term.Ids block) else Some (Events (config.Scanner (scanner_with scanner newer terms slots)) [] (Some (event.Ids block, None)))
 
 -- a part of the outcome of the event that came last, whose number it has
 abbrev pub with_part : Config → List Entry → Entry → ℕ → Part → Option TraceBuilder
@@ -110,21 +122,28 @@ builder_with (Points adapter outputs inputs) (line.Config point) = Some (Configu
 builder_with (Points adapter outputs inputs) (line.Description described) = Some (Stated (front_of adapter outputs inputs None (Some described)))
 builder_with (Points adapter outputs inputs) (line.Limit limit) = with_stated (front_of adapter outputs inputs None None) limit
 builder_with (Points adapter outputs inputs) (line.Object class) = with_object (front_of adapter outputs inputs None None) [] class
-builder_with (Points adapter outputs inputs) (line.Heartbeat heartbeat) = with_profile (front_of adapter outputs inputs None None) [] heartbeat
+builder_with (Points adapter outputs inputs) (line.Ids block) = Some (Counted (front_of adapter outputs inputs None None) [] block)
+builder_with (Points adapter outputs inputs) (line.Heartbeat heartbeat) = with_profile (front_of adapter outputs inputs None None) [] None heartbeat
 builder_with (Configured adapter outputs inputs point) (line.Description described) = Some (Stated (front_of adapter outputs inputs (Some point) (Some described)))
 builder_with (Configured adapter outputs inputs point) (line.Limit limit) = with_stated (front_of adapter outputs inputs (Some point) None) limit
 builder_with (Configured adapter outputs inputs point) (line.Object class) = with_object (front_of adapter outputs inputs (Some point) None) [] class
-builder_with (Configured adapter outputs inputs point) (line.Heartbeat heartbeat) = with_profile (front_of adapter outputs inputs (Some point) None) [] heartbeat
+builder_with (Configured adapter outputs inputs point) (line.Ids block) = Some (Counted (front_of adapter outputs inputs (Some point) None) [] block)
+builder_with (Configured adapter outputs inputs point) (line.Heartbeat heartbeat) = with_profile (front_of adapter outputs inputs (Some point) None) [] None heartbeat
 builder_with (Stated front) (line.Limit limit) = with_stated front limit
 builder_with (Stated front) (line.Object class) = with_object front [] class
-builder_with (Stated front) (line.Heartbeat heartbeat) = with_profile front [] heartbeat
+builder_with (Stated front) (line.Ids block) = Some (Counted front [] block)
+builder_with (Stated front) (line.Heartbeat heartbeat) = with_profile front [] None heartbeat
 builder_with (Objects front objects) (line.Object class) = with_object front objects class
-builder_with (Objects front objects) (line.Heartbeat heartbeat) = with_profile front objects heartbeat
+builder_with (Objects front objects) (line.Ids block) = Some (Counted front objects block)
+builder_with (Objects front objects) (line.Heartbeat heartbeat) = with_profile front objects None heartbeat
+builder_with (Counted front objects block) (line.Heartbeat heartbeat) = with_profile front objects (Some block) heartbeat
 builder_with (Slots scanner newer terms slots) (line.Limit limit) = with_newer scanner newer terms slots limit
 builder_with (Slots scanner newer terms slots) (line.Term said) = with_term scanner newer terms slots said
+builder_with (Slots scanner newer terms slots) (line.Ids block) = with_ids scanner newer terms slots block
 builder_with (Slots scanner newer terms slots) (line.Slot slot) = Some (Slots scanner newer terms (slots ++ slot ∷ []))
 builder_with (Slots scanner newer terms slots) (line.Event event) = Some (Events (config.Scanner (scanner_with scanner newer terms slots)) [] (Some (event, None)))
 builder_with (Events made_of entries last) (line.Event event) = Some (Events made_of (entries ++ option_to_list last) (Some (event, None)))
+builder_with (Events made_of entries last) (line.Ids block) = Some (Events made_of (entries ++ option_to_list last) (Some (event.Ids block, None)))
 builder_with (Events made_of entries (Some last)) (line.Recorded number parsed) = with_part made_of entries last number parsed
 builder_with builder parsed = None
 

@@ -4,7 +4,7 @@ use Rattle.std.specs.Prelude.{ℕ, ◌+◌, List, [], ◌∷◌, ◌++◌, codes
 use Rattle.cip_tables.specs.declared.table.Config.{Config}
 use Rattle.cip_tables.specs.declared.table.Config.TheVariants.{Adapter, Scanner}
 use Rattle.cip_events.specs.declared.event.Event.{Event}
-use Rattle.cip_events.specs.declared.event.Event.TheVariants.{Request, StreamOpened, Frame, StreamCut, Datagram, Inquiry, Write, Read, Tick, Mode, Start, Stop, Explicit, Respond, Counters}
+use Rattle.cip_events.specs.declared.event.Event.TheVariants.{Request, StreamOpened, Frame, StreamCut, Datagram, Inquiry, Write, Read, Tick, Mode, Start, Stop, Explicit, Respond, Counters, Ids}
 use Rattle.cip_events.specs.Outcomes.{Outcome}
 use Rattle.trace_text.specs.declared.trace.Trace.{Trace}
 use Rattle.trace_words.specs.Words.{line_text}
@@ -12,7 +12,7 @@ use Rattle.trace_lines.specs.declared.shapes.TheConstants.{FROM_NODE, EXPLICIT, 
 use Rattle.trace_lines.specs.Shapes.{spelled}
 use Rattle.trace_text.specs.Reading.{Entry}
 use Rattle.trace_outcomes.specs.WrittenOutcomes.{outcome_text}
-use Rattle.trace_lines.specs.WrittenProfiles.{profile_text}
+use Rattle.trace_lines.specs.WrittenProfiles.{ids_words, profile_text}
 use Rattle.trace_lines.specs.Slots.{scanner_text}
 
 -- EVENTS
@@ -33,6 +33,7 @@ event_words (Stop slot) = spelled (codes "stop" ∷ []) NUMBER slot
 event_words (Explicit target number bytes) = spelled (codes "explicit" ∷ []) EXPLICIT target number bytes
 event_words (Respond number status bytes) = spelled (codes "answer" ∷ []) ANSWER number status bytes
 event_words (Counters bytes) = spelled (codes "counters" ∷ []) COUNTERS bytes
+event_words (Ids block) = ids_words block
 
 abbrev pub recorded_text : ℕ → Option Outcome → List ℕ
 recorded_text number None = []

@@ -3,14 +3,14 @@
 ghost use Rattle.std.specs.Prelude.{◌≡◌, ◌==◌, ◌+◌, [], length, ◌++◌, OnOk, option_to_list, Some};
 ghost use Rattle.trace_words.specs.Reader.{Finds};
 ghost use Rattle.cip_tables.specs.declared.table.Config.{Config};
-ghost use Rattle.trace_text.specs.Reading.{front_of, with_stated, with_object, with_profile, none_stated, with_newer, with_line, with_term, builder_with, Leaves};
+ghost use Rattle.trace_text.specs.Reading.{front_of, with_stated, with_object, with_profile, are_uncounted, none_stated, with_newer, with_line, with_term, builder_with, Leaves};
 
 use crate::forms::TraceLine;
 use crate::kept::Recorded;
 use crate::recorded::{recorded_with, with_item};
 use adapter_table::{Description, MakerLimits};
 use cip_tables::{Config, Event, InputPoint, Outcome, OutputPoint};
-use cip_types::{Items, OutOfMemory};
+use cip_types::{IdBlock, Items, OutOfMemory};
 use scanner_table::SlotConfig;
 use std::alloc::Global;
 use std::mem;
@@ -37,6 +37,7 @@ const NO_TERMS: ScannerTerms = ScannerTerms {
     tidy: false,
     openings: None,
     serials: None,
+    ids: None,
 };
 
 /// The part of a trace in the lines so far.
@@ -61,6 +62,8 @@ pub enum TraceBuilder {
     Stated(ProfileFront),
     /// A profile up to the classes of its maker's own objects.
     Objects(ProfileFront, Items<u32>),
+    /// A profile up to the block of its connection ids.
+    Counted(ProfileFront, Items<u32>, IdBlock),
     /// A scanner's profile up to its slots, with the limit on numbers, if it has one, and what it says of openings.
     Slots {
         scanner: ScannerLine,
@@ -120,6 +123,9 @@ fn builder_with(
         } => after_config(alloc, adapter, outputs, inputs, config, parsed),
         TraceBuilder::Stated(front) => after_stated(alloc, front, parsed),
         TraceBuilder::Objects(front, objects) => after_objects(alloc, front, objects, parsed),
+        TraceBuilder::Counted(front, objects, block) => {
+            after_ids(alloc, front, objects, block, parsed)
+        }
         TraceBuilder::Slots {
             scanner,
             newer,
@@ -190,9 +196,13 @@ fn after_points(
             let front = front_of(adapter, outputs, inputs, None, None);
             with_object(front, Items::new(alloc), class)
         }
+        TraceLine::Ids(block) => {
+            let front = front_of(adapter, outputs, inputs, None, None);
+            Ok(TraceBuilder::Counted(front, Items::new(alloc), block))
+        }
         TraceLine::Heartbeat(heartbeat) => {
             let front = front_of(adapter, outputs, inputs, None, None);
-            Ok(with_profile(alloc, front, Items::new(alloc), heartbeat))
+            Ok(with_profile(alloc, front, Items::new(alloc), None, heartbeat))
         }
         _ => Err(TextFault::Bad),
     }
@@ -223,9 +233,13 @@ fn after_config(
             let front = front_of(adapter, outputs, inputs, Some(config), None);
             with_object(front, Items::new(alloc), class)
         }
+        TraceLine::Ids(block) => {
+            let front = front_of(adapter, outputs, inputs, Some(config), None);
+            Ok(TraceBuilder::Counted(front, Items::new(alloc), block))
+        }
         TraceLine::Heartbeat(heartbeat) => {
             let front = front_of(adapter, outputs, inputs, Some(config), None);
-            Ok(with_profile(alloc, front, Items::new(alloc), heartbeat))
+            Ok(with_profile(alloc, front, Items::new(alloc), None, heartbeat))
         }
         _ => Err(TextFault::Bad),
     }
@@ -275,9 +289,10 @@ fn with_profile(
     alloc: Global,
     front: ProfileFront,
     objects: Items<u32>,
+    ids: Option<IdBlock>,
     heartbeat: HeartbeatLine,
 ) -> TraceBuilder
-    ensures { Some result ≡ with_profile front objects heartbeat }
+    ensures { Some result ≡ with_profile front objects ids heartbeat }
 {
     let ProfileFront {
         adapter,
@@ -295,6 +310,7 @@ fn with_profile(
         description,
         limits,
         objects,
+        ids,
         heartbeat,
     );
     after_profile(alloc, Config::Adapter(profile), None)
@@ -310,8 +326,9 @@ fn after_stated(
     match parsed {
         TraceLine::Limit(limit) => with_stated(front, limit),
         TraceLine::Object(class) => with_object(front, Items::new(alloc), class),
+        TraceLine::Ids(block) => Ok(TraceBuilder::Counted(front, Items::new(alloc), block)),
         TraceLine::Heartbeat(heartbeat) => {
-            Ok(with_profile(alloc, front, Items::new(alloc), heartbeat))
+            Ok(with_profile(alloc, front, Items::new(alloc), None, heartbeat))
         }
         _ => Err(TextFault::Bad),
     }
@@ -327,7 +344,25 @@ fn after_objects(
 {
     match parsed {
         TraceLine::Object(class) => with_object(front, objects, class),
-        TraceLine::Heartbeat(heartbeat) => Ok(with_profile(alloc, front, objects, heartbeat)),
+        TraceLine::Ids(block) => Ok(TraceBuilder::Counted(front, objects, block)),
+        TraceLine::Heartbeat(heartbeat) => Ok(with_profile(alloc, front, objects, None, heartbeat)),
+        _ => Err(TextFault::Bad),
+    }
+}
+
+fn after_ids(
+    alloc: Global,
+    front: ProfileFront,
+    objects: Items<u32>,
+    block: IdBlock,
+    parsed: TraceLine,
+) -> Result<TraceBuilder, TextFault>
+    ensures { Finds (builder_with (TraceBuilder.Counted front objects block) parsed) result }
+{
+    match parsed {
+        TraceLine::Heartbeat(heartbeat) => {
+            Ok(with_profile(alloc, front, objects, Some(block), heartbeat))
+        }
         _ => Err(TextFault::Bad),
     }
 }
@@ -345,6 +380,13 @@ fn after_slots(
     match parsed {
         TraceLine::Limit(limit) => with_newer(scanner, newer, terms, slots, limit),
         TraceLine::Term(said) => with_term(scanner, newer, terms, slots, said),
+        TraceLine::Ids(block) if slots.as_slice().is_empty() => {
+            with_term(scanner, newer, terms, slots, TermLine::Ids(block))
+        }
+        TraceLine::Ids(block) => {
+            let config = Config::Scanner(scanner_with(scanner, newer, terms, slots));
+            Ok(after_profile(alloc, config, Some((Event::Ids { block }, None))))
+        }
         TraceLine::Slot(slot) => Ok(TraceBuilder::Slots {
             scanner,
             newer,
@@ -359,11 +401,18 @@ fn after_slots(
     }
 }
 
-/// Whether neither the most openings nor the first serial number is stated.
+/// Whether neither the most openings, nor the first serial number, nor the ids are stated.
 fn none_stated(terms: ScannerTerms) -> bool
     ensures { result ≡ none_stated terms }
 {
-    terms.openings.is_none() && terms.serials.is_none()
+    terms.openings.is_none() && are_uncounted(terms)
+}
+
+/// Whether neither the first serial number nor the ids are stated.
+fn are_uncounted(terms: ScannerTerms) -> bool
+    ensures { result ≡ are_uncounted terms }
+{
+    terms.serials.is_none() && terms.ids.is_none()
 }
 
 /// The limit on numbers, before what is said of openings and all slots, and once.
@@ -404,11 +453,15 @@ fn with_line(terms: ScannerTerms, said: TermLine) -> Option<ScannerTerms>
             openings: Some(most),
             ..terms
         }),
-        TermLine::Serials(first) if terms.serials.is_none() => Some(ScannerTerms {
+        TermLine::Serials(first) if are_uncounted(terms) => Some(ScannerTerms {
             serials: Some(first),
             ..terms
         }),
-        TermLine::Tidy | TermLine::Openings(_) | TermLine::Serials(_) => None,
+        TermLine::Ids(block) if terms.ids.is_none() => Some(ScannerTerms {
+            ids: Some(block),
+            ..terms
+        }),
+        TermLine::Tidy | TermLine::Openings(_) | TermLine::Serials(_) | TermLine::Ids(_) => None,
     }
 }
 
@@ -482,16 +535,29 @@ fn add_to_events(
         (TraceBuilder.Events made_of entries.new last.new) }
 {
     match parsed {
-        TraceLine::Event(event) => {
-            let before = mem::replace(last, Some((event, None)));
-            add_last(alloc, entries, before)?;
-            Ok(())
-        }
+        TraceLine::Event(event) => add_event(alloc, entries, last, event),
+        TraceLine::Ids(block) => add_event(alloc, entries, last, Event::Ids { block }),
         TraceLine::Recorded(number, part) => {
             add_part(alloc, entries.as_slice(), last, number, part)
         }
         _ => Err(TextFault::Bad),
     }
+}
+
+/// Adds an event behind those before it.
+fn add_event(
+    alloc: Global,
+    entries: &mut Items<(Event, Recorded)>,
+    last: &mut Option<(Event, Option<Outcome>)>,
+    event: Event,
+) -> Result<(), TextFault>
+    ensures { (made_of : Config)
+        → Leaves (builder_with (TraceBuilder.Events made_of entries.old last.old) (TraceLine.Event event)) result
+        (TraceBuilder.Events made_of entries.new last.new) }
+{
+    let before = mem::replace(last, Some((event, None)));
+    add_last(alloc, entries, before)?;
+    Ok(())
 }
 
 /// Adds a part to the outcome of the event that came last, whose number it has.

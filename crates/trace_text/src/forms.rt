@@ -2,6 +2,7 @@
 
 use adapter_table::Description;
 use cip_tables::{Event, InputPoint, OutputPoint};
+use cip_types::IdBlock;
 use scanner_table::SlotConfig;
 use trace_lines::{AdapterLine, HeartbeatLine, LimitLine, ScannerLine, TermLine};
 use trace_outcomes::Part;
@@ -21,6 +22,8 @@ pub enum TraceLine {
     Scanner(ScannerLine),
     /// What a scanner's profile says of its openings.
     Term(TermLine),
+    /// A block of connection ids: of a profile, or an event behind one.
+    Ids(IdBlock),
     Slot(SlotConfig),
     Event(Event),
     /// A part of the outcome of the event of this number, from 1.

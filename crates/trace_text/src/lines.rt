@@ -10,8 +10,9 @@ use cip_tables::Event;
 use std::alloc::Global;
 use std::str;
 use trace_lines::{
-    TermLine, limit_named, read_adapter, read_description, read_heartbeat, read_limit, read_mode,
-    read_object, read_openings, read_output, read_point, read_scanner, read_serials, read_slot,
+    TermLine, limit_named, read_adapter, read_description, read_heartbeat, read_ids, read_limit,
+    read_mode, read_object, read_openings, read_output, read_point, read_scanner, read_serials,
+    read_slot,
 };
 use trace_outcomes::read_part;
 use trace_words::{TextFault, Words, read_u64};
@@ -46,6 +47,7 @@ pub fn read_event_line(alloc: Global, line: &[u8]) -> Result<Event, TextFault>
 {
     match read_line(alloc, line)? {
         TraceLine::Event(event) => Ok(event),
+        TraceLine::Ids(block) => Ok(Event::Ids { block }),
         _ => Err(TextFault::Bad),
     }
 }
@@ -208,6 +210,7 @@ fn read_profile_line(
         "tidy" => words.last(TraceLine::Term(TermLine::Tidy)),
         "openings" => read_openings(words).map(TraceLine::Term),
         "serials" => read_serials(words).map(TraceLine::Term),
+        "ids" => read_ids(words).map(TraceLine::Ids),
         "slot" => read_slot(alloc, words).map(TraceLine::Slot),
         _ => read_limit_or_part(alloc, words, word),
     }

@@ -10,7 +10,7 @@ use crate::trace::Trace;
 use cip_tables::{Config, Event};
 use cip_types::{Node, OutOfMemory};
 use std::alloc::Global;
-use trace_lines::{push_profile, push_scanner};
+use trace_lines::{push_ids, push_profile, push_scanner};
 use trace_outcomes::push_outcome;
 use trace_words::{push_digits, push_last_bytes, push_node};
 
@@ -81,6 +81,7 @@ pub fn push_event(out: &mut String, event: &Event) -> Result<(), OutOfMemory>
             bytes,
         } => push_answer(out, *number, *status, bytes.as_slice()),
         Event::Counters { bytes } => push_counters(out, bytes.as_slice()),
+        Event::Ids { block } => push_ids(out, *block),
         Event::Write { point, bytes } => { push_of_number(out, "write", *point, bytes.as_slice()) }
         Event::Read { point } => push_number(out, "read", *point),
         Event::Tick { ms } => push_number(out, "tick", *ms),

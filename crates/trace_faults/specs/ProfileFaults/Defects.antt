@@ -10,6 +10,8 @@ use Rattle.trace_faults.specs.declared.profile_faults.defects.ProfileReason.{Pro
 
 abbrev pub defect_fault : Defect → ProfileFault
 defect_fault defect.Incarnation = fault.Incarnation
+defect_fault defect.NoFirstId = fault.Incarnation
+defect_fault (defect.LateIds first count) = fault.Incarnation
 defect_fault (defect.Mask mask) = fault.Address
 defect_fault (defect.NetworkAddress node mask) = fault.Address
 defect_fault defect.NoInput = fault.Points

@@ -1,6 +1,7 @@
 -- The word that a reason names: that word of the line, as a trace writes it, has the value that the reason has.
 use Rattle.std.specs.Prelude.{ℕ, ◌≡◌, ◌-◌, List, [], length, get_or, codes, decimal, option_map, Option, Some, None}
 use Rattle.std.specs.List.{slice_get}
+use Rattle.cip_types.specs.declared.ids.IdBlock.{IdBlock}
 use Rattle.adapter_table.specs.declared.profile.Description.{Description}
 use Rattle.adapter_table.specs.declared.profile.InputPoint.{InputPoint}
 use Rattle.scanner_table.specs.declared.profile.SlotConfig.{SlotConfig}
@@ -9,7 +10,7 @@ use Rattle.scanner_table.specs.declared.profile.ScannerProfile.{ScannerProfile}
 use Rattle.cip_tables.specs.declared.table.Config.{Config}
 use Rattle.cip_tables.specs.declared.table.Config.TheVariants as config
 use Rattle.trace_words.specs.Words.{node_word, bytes_word}
-use Rattle.trace_lines.specs.WrittenProfiles.{adapter_words, output_words, point_words, description_words, object_words, heartbeat_words}
+use Rattle.trace_lines.specs.WrittenProfiles.{adapter_words, output_words, point_words, description_words, object_words, ids_words, heartbeat_words}
 use Rattle.trace_lines.specs.declared.limit_lines.LimitName.{LimitName}
 use Rattle.trace_lines.specs.declared.limit_lines.LimitName.TheVariants as limit_name
 use Rattle.trace_lines.specs.declared.limit_lines.LimitLine.{LimitLine}
@@ -43,6 +44,7 @@ adapter_line profile name.Scanner index = []
 adapter_line profile name.Tidy index = []
 adapter_line profile name.Openings index = []
 adapter_line profile name.Serials index = []
+adapter_line profile name.Ids index = line_of ids_words profile.ids
 adapter_line profile name.Slot index = []
 
 abbrev pub scanner_line : ScannerProfile → LineName → ℕ → List (List ℕ)
@@ -50,6 +52,7 @@ scanner_line profile name.Scanner index = scanner_words profile
 scanner_line profile (name.Limit limit_name.Newer) index = line_of limit_words (option_map limit.Newer profile.newer)
 scanner_line profile name.Openings index = line_of openings_words profile.openings
 scanner_line profile name.Serials index = line_of serials_words profile.serials
+scanner_line profile name.Ids index = line_of ids_words profile.ids
 scanner_line profile name.Slot index = line_of slot_words (slice_get profile.slots index)
 scanner_line profile other index = []
 
@@ -68,6 +71,8 @@ pub record AreBytes (word : List ℕ) (len : ℕ) : Type 0 where
 -- the word has the value of the defect
 abbrev pub IsWordOf : Defect → List ℕ → Type 0
 IsWordOf defect.Incarnation word = word ≡ decimal 0
+IsWordOf defect.NoFirstId word = word ≡ decimal 0
+IsWordOf (defect.LateIds first count) word = word ≡ decimal count
 IsWordOf (defect.Mask mask) word = word ≡ node_word mask
 IsWordOf (defect.NetworkAddress node mask) word = word ≡ node_word node
 IsWordOf defect.NoInput word = word ≡ codes "adapter"
@@ -152,6 +157,11 @@ abbrev pub NamesOpenings : Option ℕ → ProfileReason → Type 0
 NamesOpenings openings reason =
     (reason.place.line ≡ name.Openings) × (IsWordOf reason.defect (word_at (line_of openings_words openings) reason.place.word)
     × IsOfSlot reason.place.index reason.defect)
+
+-- the word that a reason names is of the line of the connection ids, and has the reason's value
+abbrev pub NamesIds : Option IdBlock → ProfileReason → Type 0
+NamesIds ids reason =
+    (reason.place.line ≡ name.Ids) × (IsWordOf reason.defect (word_at (line_of ids_words ids) reason.place.word))
 
 abbrev pub NamesSerials : Option ℕ → ProfileReason → Type 0
 NamesSerials serials reason =

@@ -1,11 +1,12 @@
 //! The first defect of an adapter's profile: that of its first fault, and of the lines that have it the first.
 
-ghost use Rattle.std.specs.Prelude.{◌≡◌, ◌||◌, not, is_some, IfOk, IfSome, codes};
+ghost use Rattle.std.specs.Prelude.{◌≡◌, ◌≤◌, ◌||◌, not, is_some, IfOk, IfSome, codes};
 ghost use Rattle.std.specs.List.{list_all};
 ghost use Rattle.cip_events.specs.declared.profile_fault.ProfileFault.TheVariants as fault;
+ghost use Rattle.cip_types.specs.Ids.{are_ids};
 ghost use Rattle.adapter_table.specs.Profiles.{profile_fault, is_address, are_few, has_output_len, has_input_len, has_config_len, are_long_enough, is_revision, is_described, leaves_class, fits_description, is_point_len};
 ghost use Rattle.trace_faults.specs.ProfileFaults.Defects.{Explains, reason_at, reason_fault};
-ghost use Rattle.trace_faults.specs.ProfileFaults.Named.{NamesWord, NamesItemWord, NamesConfigWord, NamesDescribedWord};
+ghost use Rattle.trace_faults.specs.ProfileFaults.Named.{NamesWord, NamesItemWord, NamesConfigWord, NamesDescribedWord, NamesIds};
 ghost use Rattle.trace_lines.specs.WrittenProfiles.{output_words, point_words};
 
 use crate::profile_faults::defects::{Defect, LineName, ProfileReason};
@@ -16,7 +17,7 @@ use adapter_table::{
     Description, InputPoint, LONGEST_INACTIVITY, OutputPoint, PHYSICAL_ADDRESS, Profile,
 };
 use cip_types::limits::{LONGEST_CONFIG, LONGEST_POINT, MOST_POINTS};
-use cip_types::{Node, OutOfMemory};
+use cip_types::{IdBlock, Node, OutOfMemory};
 use list_identity::LONGEST_NAME;
 use std::alloc::Global;
 
@@ -31,8 +32,8 @@ pub fn adapter_reason(
     // The word that it names has the value that it has.
     ensures named { IfOk result (λ found. IfSome found (NamesWord profile.now)) }
 {
-    if profile.incarnation == 0 {
-        return Ok(Some(at_adapter(2, Defect::Incarnation)));
+    if let Some(reason) = names_reason(profile) {
+        return Ok(Some(reason));
     }
     if let Some(reason) = address_reason(profile) {
         return Ok(Some(reason));
@@ -63,6 +64,34 @@ fn at_adapter(word: usize, defect: Defect) -> ProfileReason
     ensures { result ≡ reason_at LineName.Adapter 0 word defect }
 {
     ProfileReason::at(LineName::Adapter, 0, word, defect)
+}
+
+/// What is wrong with the incarnation, or with the block of connection ids that the profile states.
+fn names_reason(profile: &Profile) -> Option<ProfileReason>
+    ensures fault { Explains result (are_ids profile.now.incarnation profile.now.ids) fault.Incarnation }
+    ensures named { IfSome result (NamesWord profile.now) }
+{
+    if profile.incarnation == 0 {
+        return Some(at_adapter(2, Defect::Incarnation));
+    }
+    ids_reason(profile.incarnation, profile.ids)
+}
+
+/// What is wrong with the block of connection ids that a profile states, of an incarnation that is not 0.
+pub(crate) fn ids_reason(incarnation: u8, ids: Option<IdBlock>) -> Option<ProfileReason>
+    requires { 1 ≤ incarnation }
+    ensures fault { Explains result (are_ids incarnation ids) fault.Incarnation }
+    ensures named { IfSome result (NamesIds ids) }
+{
+    let block = ids?;
+    if block.first == 0 {
+        return Some(ProfileReason::at(LineName::Ids, 0, 2, Defect::NoFirstId));
+    }
+    if block.is_block() {
+        return None;
+    }
+    let defect = Defect::LateIds(block.first, block.count);
+    Some(ProfileReason::at(LineName::Ids, 0, 3, defect))
 }
 
 /// What is wrong with an address and its mask.

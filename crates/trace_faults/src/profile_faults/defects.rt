@@ -24,6 +24,7 @@ pub enum LineName {
     Tidy,
     Openings,
     Serials,
+    Ids,
     Slot,
 }
 
@@ -57,6 +58,10 @@ pub enum WaitingTime {
 pub enum Defect {
     /// The incarnation is 0.
     Incarnation,
+    /// The first connection id is 0.
+    NoFirstId,
+    /// So many connection ids from this one on end behind 2^32 - 1.
+    LateIds(u32, u32),
     /// The mask is not ones and then zeros.
     Mask(Node),
     /// The address is that of the network itself, under this mask.
@@ -161,7 +166,9 @@ impl Defect {
         ensures { result ≡ defect_fault self }
     {
         match self {
-            Defect::Incarnation => ProfileFault::Incarnation,
+            Defect::Incarnation | Defect::NoFirstId | Defect::LateIds(_, _) => {
+                ProfileFault::Incarnation
+            }
             Defect::Mask(_) | Defect::NetworkAddress(_, _) => ProfileFault::Address,
             Defect::NoInput
             | Defect::ExtraOutput(_)

@@ -3,13 +3,14 @@
 ghost use Rattle.std.specs.Prelude.{◌≡◌, ◌&&◌, [], decimal, get_or, IfSome};
 ghost use Rattle.std.specs.List.{list_all};
 ghost use Rattle.cip_events.specs.declared.profile_fault.ProfileFault.TheVariants as fault;
+ghost use Rattle.cip_types.specs.Ids.{are_ids};
 ghost use Rattle.scanner_table.specs.Profiles.{profile_fault, are_served, listens_to_group, shares_group, are_apart, is_out_len, is_config, has_lengths, is_inhibit, has_times, is_wait, keeps_time, is_paced, has_pace, are_paced, are_openings, are_serials};
 ghost use Rattle.trace_faults.specs.ProfileFaults.Defects.{Explains, IsDefectOf, IsPassing, IsFailing, reason_at, reason_fault};
 ghost use Rattle.trace_faults.specs.ProfileFaults.Named.{IsWordOf, IsOfSlot, NamesOpenings, NamesSerials, NamesSlotWord, NamesWordOfSlots, NamesWordOfScanner};
 ghost use Rattle.trace_words.specs.Words.{bytes_word};
 ghost use Rattle.trace_lines.specs.Slots.{rate_words};
 
-use crate::profile_faults::adapter_defects::is_point_len;
+use crate::profile_faults::adapter_defects::{ids_reason, is_point_len};
 use crate::profile_faults::defects::{
     Defect, LineName, PacketDirection, ProfileReason, WaitingTime,
 };
@@ -27,8 +28,8 @@ pub fn scanner_reason(profile: &ScannerProfile) -> Option<ProfileReason>
     // The word that it names has the value that it has, and a slot's defect is that of the line's slot.
     ensures named { IfSome result (NamesWordOfScanner profile.now) }
 {
-    if profile.incarnation == 0 {
-        return Some(at_scanner(2, Defect::Incarnation));
+    if let Some(reason) = names_reason(profile) {
+        return Some(reason);
     }
     let slots = profile.slots.as_slice();
     if let Some(reason) = count_reason(profile) {
@@ -54,6 +55,17 @@ fn at_scanner(word: usize, defect: Defect) -> ProfileReason
     ensures { result ≡ reason_at LineName.Scanner 0 word defect }
 {
     ProfileReason::at(LineName::Scanner, 0, word, defect)
+}
+
+/// What is wrong with the incarnation, or with the block of connection ids that the profile states.
+fn names_reason(profile: &ScannerProfile) -> Option<ProfileReason>
+    ensures fault { Explains result (are_ids profile.now.incarnation profile.now.ids) fault.Incarnation }
+    ensures named { IfSome result (NamesWordOfScanner profile.now) }
+{
+    if profile.incarnation == 0 {
+        return Some(at_scanner(2, Defect::Incarnation));
+    }
+    ids_reason(profile.incarnation, profile.ids)
 }
 
 /// No slot, or the first that is listen-only and not multicast or one too many.
