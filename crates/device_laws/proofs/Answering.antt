@@ -95,7 +95,7 @@ wrong_length_replies t stream bytes (Some h) =
     either (NextReplies t stream.number bytes) (is_silent (command_of (request_header_in h.0).command)) (plain_answer BadFrame, t) (framed stream.number (request_header_in h.0) (refusal t encap.InvalidLength)) (λ small. tt)
     (λ small. let said = refused_says (IsSuccessOf t t bytes) (request_header_in h.0) encap.InvalidLength in (record { to = refl; successes = said.0; opens_nothing = said.1; context = context_fits (reply_message (request_header_in h.0) (frames.refused encap.InvalidLength)) }, tt))
 
-message_answer : ItemsReadBack → (t : AdapterTable) (stream : Stream) (bytes : List ℕ) (header : Option Tailed) (reading : Result MessageFields EncapFault) → message_reading bytes ≡ reading → IdsAreDrawn t.profile t.next_id t.rows → NextReplies t stream.number bytes (frame_answer t stream (frame_fields header reading))
+message_answer : ItemsReadBack → (t : AdapterTable) (stream : Stream) (bytes : List ℕ) (header : Option Tailed) (reading : Result MessageFields EncapFault) → message_reading bytes ≡ reading → IdsAreDrawn t.ids t.next_id t.rows → NextReplies t stream.number bytes (frame_answer t stream (frame_fields header reading))
 message_answer back t stream bytes header (Err why) reads drawn = wrong_length_replies t stream bytes header
 message_answer back t stream bytes header (Ok m) reads drawn = λ small.
     replies_say back t (handled t stream (request_header_of m) m.payload (command_of m.command)).table stream.number bytes m (handled t stream (request_header_of m) m.payload (command_of m.command)).reply reads
@@ -111,23 +111,23 @@ found_number number (x ∷ streams) s is = step (is_stream number x) refl is (fo
   step true passes found more = ap (λ (y : Stream). y.number) (sym (same_stream x s found)) ∙ eqb-true x.number number passes
   step false passes found more = more found
 
-read_replies : ItemsReadBack → (t : AdapterTable) (stream : Stream) (bytes : List ℕ) → IdsAreDrawn t.profile t.next_id t.rows → NextReplies t stream.number bytes (frame_answer t stream (frame_reading bytes))
+read_replies : ItemsReadBack → (t : AdapterTable) (stream : Stream) (bytes : List ℕ) → IdsAreDrawn t.ids t.next_id t.rows → NextReplies t stream.number bytes (frame_answer t stream (frame_reading bytes))
 unfolding frame_reading
 read_replies back t stream bytes drawn = message_answer back t stream bytes _ (message_reading bytes) refl drawn
 
-stream_replies : ItemsReadBack → (t : AdapterTable) (stream : Stream) (bytes : List ℕ) (reply : Option (List ℕ)) → IfSome reply IsPlainText → IdsAreDrawn t.profile t.next_id t.rows → NextReplies t stream.number bytes (stream_answer t stream bytes reply)
+stream_replies : ItemsReadBack → (t : AdapterTable) (stream : Stream) (bytes : List ℕ) (reply : Option (List ℕ)) → IfSome reply IsPlainText → IdsAreDrawn t.ids t.next_id t.rows → NextReplies t stream.number bytes (stream_answer t stream bytes reply)
 stream_replies back t stream bytes None plain drawn =
     answer_has (NextReplies t stream.number bytes) t stream bytes (read_replies back t stream bytes drawn) (wrong_length_replies t stream bytes (fields_at header_widths bytes)) (λ small. tt)
 stream_replies back t stream bytes (Some text) plain drawn = λ small.
     let says = plain_says (IsSuccessOf t t bytes) text plain in
     (record { to = refl; successes = says.0; opens_nothing = says.1; context = plain_context text plain }, tt)
 
-frame_of_replies : ItemsReadBack → (t : AdapterTable) (number : ℕ) (bytes : List ℕ) (found : Option Stream) → find (is_stream number) t.streams ≡ found → IdsAreDrawn t.profile t.next_id t.rows → IfOk (frame_of t bytes found) (NextReplies t number bytes)
+frame_of_replies : ItemsReadBack → (t : AdapterTable) (number : ℕ) (bytes : List ℕ) (found : Option Stream) → find (is_stream number) t.streams ≡ found → IdsAreDrawn t.ids t.next_id t.rows → IfOk (frame_of t bytes found) (NextReplies t number bytes)
 frame_of_replies back t number bytes None is drawn = tt
 frame_of_replies back t number bytes (Some stream) is drawn =
     subst (λ (n : ℕ). NextReplies t n bytes (stream_answer t stream bytes (inquiry_reply t bytes))) (found_number number t.streams stream is) (stream_replies back t stream bytes (inquiry_reply t bytes) (inquiry_plain t bytes) drawn)
 
-frame_replies : ItemsReadBack → (t : AdapterTable) (number : ℕ) (bytes : List ℕ) → IdsAreDrawn t.profile t.next_id t.rows → IfOk (adapter_step t (event.Frame number bytes)) (NextReplies t number bytes)
+frame_replies : ItemsReadBack → (t : AdapterTable) (number : ℕ) (bytes : List ℕ) → IdsAreDrawn t.ids t.next_id t.rows → IfOk (adapter_step t (event.Frame number bytes)) (NextReplies t number bytes)
 unfolding frame
 frame_replies back t number bytes drawn = frame_of_replies back t number bytes (find (is_stream number) t.streams) refl drawn
 

@@ -75,10 +75,11 @@ use Rattle.adapter_table.specs.StatedLimits.{limited_admission, is_wrong_closer,
 use Rattle.adapter_table.specs.Step.{written_table, changed_table, written, write_of, write, adapter_step}
 use Rattle.adapter_table.specs.Streams.{is_stream, is_taken, with_stream, without_stream, has_session, registered_table, stream_opened, cut_of, stream_cut}
 use Rattle.adapter_table.specs.Ticks.{clocked_table, expired_table, produced_table, advanced, aged_next, tick}
+use Rattle.adapter_table.specs.Lemmas.MessageLemmas.{admitted_class3_is}
 use Rattle.adapter_table.specs.Lemmas.CountLemmas.{counted_keeps}
 use Rattle.adapter_table.specs.Lemmas.ItemLemmas.{items_hold}
 use Rattle.adapter_table.specs.Lemmas.PassiveLemmas.{passive_holds}
-use Rattle.adapter_table.specs.Lemmas.PlainLemmas.{counters_hold}
+use Rattle.adapter_table.specs.Lemmas.PlainLemmas.{counters_hold, ids_hold}
 use Rattle.adapter_table.specs.Lemmas.FrameLemmas.{answer_has}
 use Rattle.cip_tables.specs.declared.table.DeviceTable.{DeviceTable}
 use Rattle.cip_tables.specs.declared.table.DeviceTable.TheVariants.{Adapter, Scanner}
@@ -87,7 +88,7 @@ use Rattle.cip_tables.specs.Whole.{next_id_of}
 use Rattle.scanner_table.specs.Effects as scanners
 use Rattle.scanner_table.specs.Step.{scanner_step}
 use Rattle.device_laws.specs.Carrying.{Passes, HasClass3Ids, StepsCarryClass3Ids}
-use Rattle.device_laws.specs.Ids.{Class3Ids, RequestIds, PacketIds, MessageIds, FrameIds, EventIds, IdsFromTo}
+use Rattle.device_laws.specs.Ids.{Class3Ids, RequestIds, PacketIds, MessageIds, FrameIds, EventIds, IdsWithin}
 use Rattle.device_laws.specs.Lemmas.MessageSteps.{respond_holds}
 use Rattle.device_laws.specs.Lemmas.Texts.{either}
 
@@ -225,18 +226,19 @@ served_has P to t peer (opening large request) have =
 
 -- the ids that the step draws have the property
 abbrev Draws : (ℕ → Type 0) → ℕ → AdapterTable → Type 0
-Draws P to t = IdsFromTo P t.profile.incarnation t.next_id to
+Draws P to t = IdsWithin P t.ids t.next_id to
 
-class3_judged_has : (P : ℕ → Type 0) (to : ℕ) (t : AdapterTable) (stream : Stream) (large : Bool) (request : OpenFields) (judged : Check) → Draws P to t → P request.t_o_id.0 → Have P t.messaging → ServedHas P to (judged_class3 t stream large request judged)
+class3_judged_has : (P : ℕ → Type 0) (to : ℕ) (t : AdapterTable) (stream : Stream) (large : Bool) (request : OpenFields) (judged : Check) → class3_refusal (class3_view t stream.peer request.triad) request ≡ judged → Draws P to t → P request.t_o_id.0 → Have P t.messaging → ServedHas P to (judged_class3 t stream large request judged)
 unfolding messages_table opened_class3
-class3_judged_has P to t stream large request (Some why) drawn requested have = λ below. have
-class3_judged_has P to t stream large request None drawn requested have =
-    λ below. opened_have P t.messaging (opened_class3 t stream request) have (drawn t.next_id (omega arith) (omega (arith, below)), requested)
+class3_judged_has P to t stream large request (Some why) is drawn requested have = λ below. have
+class3_judged_has P to t stream large request None is drawn requested have =
+    let left = (admitted_class3_is t stream.peer request is).ids in
+    λ below. opened_have P t.messaging (opened_class3 t stream request) have (drawn t.next_id (omega arith) (omega (arith, below)) (omega (arith, left)), requested)
 
 class3_has : (P : ℕ → Type 0) (to : ℕ) (t : AdapterTable) (stream : Stream) (large : Bool) (request : OpenFields) → Draws P to t → P request.t_o_id.0 → Have P t.messaging → ServedHas P to (served_class3 t stream large request)
 unfolding served_class3
 class3_has P to t stream large request drawn requested have =
-    class3_judged_has P to t stream large (whole_request t.profile.description request) (class3_refusal (class3_view t stream.peer request.triad) (whole_request t.profile.description request)) drawn requested have
+    class3_judged_has P to t stream large (whole_request t.profile.description request) (class3_refusal (class3_view t stream.peer request.triad) (whole_request t.profile.description request)) refl drawn requested have
 
 over_has : (P : ℕ → Type 0) (to : ℕ) (t : AdapterTable) (stream : Stream) (request : RouterRequestFields) → Draws P to t → RequestIds P request → Have P t.messaging → AnyHas P to (stream_served t stream request)
 over_has P to t stream (opening large request) drawn ids have =
@@ -417,6 +419,7 @@ adapter_has P to t (event.Write point bytes) drawn ids have = write_has P to t p
 adapter_has P to t (event.Tick ms) drawn ids have = tick_has P to t ms have
 adapter_has P to t (event.Respond number general bytes) drawn ids have = respond_has P to t number general bytes have
 adapter_has P to t (event.Counters bytes) drawn ids have = counters_hold (OkHas P to) t bytes (λ why. tt) (λ below. have)
+adapter_has P to t (event.Ids block) drawn ids have = ids_hold (OkHas P to) t block (λ why. tt) (λ may below. have)
 adapter_has P to t other drawn ids have = passive_holds (OkHas P to) t (λ why. tt) (λ verdict below. have) other refl
 
 -- ---- the law

@@ -34,7 +34,7 @@ time_kept : Kept SameTime
 time_kept = record {
   same = λ t. record { profile = refl; clock = refl };
   after = λ t u v first next. record { profile = next.profile ∙ first.profile; clock = next.clock ∙ first.clock };
-  opening = λ t place stands closed_before in_turn. record { profile = refl; clock = refl };
+  opening = λ t place stands closed_before in_turn left. record { profile = refl; clock = refl };
   idling = λ t place slot stands idle. record { profile = refl; clock = refl };
   timing_out = λ t place link slot stands is becomes. record { profile = refl; clock = refl };
   closing = λ t place link desired_up stands is. record { profile = refl; clock = refl };

@@ -44,7 +44,7 @@ clock_kept : Kept ClockStays
 clock_kept = record {
   same = λ t. refl;
   after = λ t u v first next. next ∙ first;
-  opening = λ t indexed stands closed_before in_turn. refl;
+  opening = λ t indexed stands closed_before in_turn left. refl;
   idling = λ t indexed slot stands idle. refl;
   timing_out = λ t indexed link slot stands is becomes. refl;
   closing = λ t indexed link desired_up stands is. refl;
@@ -263,7 +263,7 @@ clear_widely : (k : Ms) (test : SlotState → Bool) → Calms k test → Slotwis
 clear_widely k test calms = record {
   stays = λ t u number config slot later from wait is. is;
   after = λ t u v number config a b c first next before behind from wait is. behind (omega (arith, from, first.clock)) (subst (λ (p : ScannerProfile). 1 ≤ p.open_timeout) (sym first.profile) wait) (before from wait is);
-  opening = λ t indexed closed_before from wait is. calms.opening _ (not_yet k.0 t.clock.0 t.profile.open_timeout from wait);
+  opening = λ t indexed closed_before left from wait is. calms.opening _ (not_yet k.0 t.clock.0 t.profile.open_timeout from wait);
   idling = λ t indexed slot idle from wait is. rw idle.state calms.idle;
   timing_out = λ t indexed link slot was becomes from wait is. rw becomes.state (calms.timed_out link);
   closing = λ t indexed link desired_up was from wait is. calms.closing _ (not_yet k.0 t.clock.0 t.profile.open_timeout from wait);

@@ -1,17 +1,19 @@
 -- The numbers of an opening are allocated when it begins, and stay.
-use Rattle.std.proofs.Common.{◌≡◌, ◌≤◌, ◌⊎◌, inl, inr, ℕ, ◌+◌, Bool, true, false, cond, Option, Some, None, refl, sym, ◌∙◌, ap, subst, arith}
+use Rattle.std.proofs.Common.{◌≡◌, ◌≤◌, ◌⊎◌, inl, inr, ◌<◌, ℕ, ◌+◌, ◌||◌, nat_lt, Bool, true, false, cond, List, Option, Some, None, refl, sym, ◌∙◌, subst, arith}
+use Rattle.std.proofs.lemmas.Bool.Decides.{nat_tests}
+use Rattle.cip_types.specs.IdLaws.{extends_itself}
+use Rattle.cip_types.specs.Ids.{Extends, end_number, id_at}
+use Rattle.cip_types.specs.declared.ids.IdBlock.{IdBlock}
 use Rattle.cip_types.specs.declared.names.ConnId.{ConnId}
 use Rattle.cip_types.specs.declared.names.Ms.{Ms}
 use Rattle.cip_productions.specs.Kinds.{is_owner}
 use Rattle.conn_state.specs.declared.names.Link.{Link}
-use Rattle.scanner_table.specs.declared.profile.ScannerProfile.{ScannerProfile}
 use Rattle.scanner_table.specs.declared.profile.SlotConfig.{SlotConfig}
 use Rattle.scanner_table.specs.declared.slot.PendingOpen as pending
 use Rattle.scanner_table.specs.declared.slot.Slot.{Slot}
 use Rattle.scanner_table.specs.declared.slot.SlotState.{SlotState}
 use Rattle.scanner_table.specs.declared.slot.SlotState.TheVariants.{Idle, Opening, Established, TimedOut, Closing}
 use Rattle.scanner_table.specs.declared.table.ScannerTable.{ScannerTable}
-use Rattle.cip_types.specs.Ids.{connection_id}
 use Rattle.scanner_table.specs.Opening.{opening_slot}
 use Rattle.scanner_table.specs.Productions.{written_state, state_is_due, produced_state}
 use Rattle.scanner_table.specs.Runs.{StepsLead, EventsLead}
@@ -25,12 +27,22 @@ use Rattle.scanner_table.specs.Lemmas.Slotwise.{Later, Relation, SlotwiseAlways,
 opens_is : (a b : pending.PendingOpen) → Opening a ≡ Opening b → a ≡ b
 opens_is a b is = cc
 
-wants_later : (profile other : ScannerProfile) (f g n m : ℕ) (multicast : Bool) (requested : Option ConnId) → other ≡ profile → g ≤ f → n ≤ m → WantsDrawn profile f n multicast requested → WantsDrawn other g m multicast requested
-wants_later profile other f g n m true None same down up wants = tt
-wants_later profile other f g n m true (Some id) same down up wants = absurd wants
-wants_later profile other f g n m false None same down up wants = absurd wants
-wants_later profile other f g n m false (Some id) same down up wants =
-    record { counter = wants.counter; is = wants.is ∙ ap (λ (p : ScannerProfile). connection_id p.incarnation wants.counter) (sym same); begins = omega (arith, wants.begins); ends = omega (arith, wants.ends) }
+wants_later : (old new : List IdBlock) (f g n m : ℕ) (multicast : Bool) (requested : Option ConnId) → Extends old new → 1 ≤ f → g ≤ f → n ≤ m → WantsDrawn old f n multicast requested → WantsDrawn new g m multicast requested
+wants_later old new f g n m true None more one down up wants = tt
+wants_later old new f g n m true (Some id) more one down up wants = absurd wants
+wants_later old new f g n m false None more one down up wants = absurd wants
+wants_later old new f g n m false (Some id) more one down up wants =
+    let begins = wants.begins in
+    let ends = wants.ends in
+    let within = wants.within in
+    let grows = more.more in
+    record {
+      number = wants.number;
+      is = wants.is ∙ sym (more.same wants.number (omega (arith, one, begins)) within);
+      within = omega (arith, within, grows);
+      begins = omega (arith, down, begins);
+      ends = omega (arith, up, ends);
+    }
 
 -- a slot that is opening has the opening that it had before, or one that began since
 abbrev Opens : Relation
@@ -40,14 +52,16 @@ began_after : (t u v : ScannerTable) (config : SlotConfig) (opening : pending.Pe
 began_after t u v config opening later began = record {
   begins = omega (arith, later.requests, began.begins);
   ends = began.ends;
-  id = wants_later u.profile t.profile u.next_id t.next_id v.next_id v.next_id config.multicast opening.requested.t_o_id (sym later.profile) later.ids (omega arith) began.id;
+  id = λ one.
+      let up = later.ids in
+      wants_later v.ids v.ids u.next_id t.next_id v.next_id v.next_id config.multicast opening.requested.t_o_id (extends_itself v.ids) (omega (arith, one, up)) later.ids (omega arith) (began.id (omega (arith, one, up)));
 }
 
 began_before : (t u v : ScannerTable) (config : SlotConfig) (opening : pending.PendingOpen) → Later u v → Began t u config opening → Began t v config opening
 began_before t u v config opening later began = record {
   begins = began.begins;
   ends = omega (arith, later.requests, began.ends);
-  id = wants_later t.profile t.profile t.next_id t.next_id u.next_id v.next_id config.multicast opening.requested.t_o_id refl (omega arith) later.ids began.id;
+  id = λ one. wants_later u.ids v.ids t.next_id t.next_id u.next_id v.next_id config.multicast opening.requested.t_o_id later.blocks one (omega arith) later.ids (began.id one);
 }
 
 before_step : (t u v : ScannerTable) (config : SlotConfig) (was : SlotState) (opening : pending.PendingOpen) → Later u v → (was ≡ Opening opening) ⊎ Began t u config opening → (was ≡ Opening opening) ⊎ Began t v config opening
@@ -60,9 +74,11 @@ opens_after t u v number config a b c first next before behind = λ opening is. 
   after_step opening (inl same) = before_step t u v config a.state opening next (before opening same)
   after_step opening (inr began) = inr (began_after t u v config opening first began)
 
-next_drawn : (profile : ScannerProfile) (n : ℕ) (multicast : Bool) → WantsDrawn profile n (cond multicast n (n + 1)) multicast (cond multicast None (Some (connection_id profile.incarnation n)))
-next_drawn profile n true = tt
-next_drawn profile n false = record { counter = n; is = refl; begins = omega arith; ends = omega arith }
+next_drawn : (ids : List IdBlock) (n : ℕ) (multicast : Bool) → (multicast || nat_lt n (end_number ids)) ≡ true → WantsDrawn ids n (cond multicast n (n + 1)) multicast (cond multicast None (Some (id_at ids n)))
+next_drawn ids n true left = tt
+next_drawn ids n false left =
+    let under : n < end_number ids = grind (arith, nat_tests, left) in
+    record { number = n; is = refl; within = omega (arith, under); begins = omega arith; ends = omega arith }
 
 -- the same state, if it is opening
 written_opening : (state : SlotState) (opening : pending.PendingOpen) → written_state state ≡ Opening opening → state ≡ Opening opening
@@ -98,9 +114,9 @@ opens_always = record {
   widely = record {
     stays = λ t u number config slot later opening is. inl is;
     after = opens_after;
-    opening = λ t indexed closed_before opening is.
+    opening = λ t indexed closed_before left opening is.
         let same : (opening_slot t indexed).state ≡ Opening opening = is in
-        inr (subst (Began t _ indexed.config) (opens_is _ opening is) (record { begins = omega arith; ends = omega arith; id = next_drawn t.profile t.next_id indexed.config.multicast }));
+        inr (subst (Began t _ indexed.config) (opens_is _ opening is) (record { begins = omega arith; ends = omega arith; id = λ one. next_drawn t.ids t.next_id indexed.config.multicast left }));
     idling = λ t indexed slot idle opening is. absurd (idle_opens_none slot.state opening idle.state is);
     timing_out = λ t indexed link slot was becomes opening is. absurd (timed_out_opens_none slot.state link opening becomes.state is);
     closing = λ t indexed link desired_up was opening is. absurd cc;
@@ -120,3 +136,7 @@ steps_begin t event next is = openings_begin t next.1 (steps_lead (Goes Opens) (
 
 pub events_begin : EventsLead OpeningsBegin
 events_begin t events = openings_begin t _ (events_lead (Goes Opens) (goes_always Opens opens_always) t events)
+
+-- the numbers never fall, and the blocks grow
+pub events_later : EventsLead Later
+events_later t events = (events_lead (Goes Opens) (goes_always Opens opens_always) t events).later

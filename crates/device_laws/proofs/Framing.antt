@@ -125,13 +125,13 @@ class3_has t stream body large requested request None is = λ read ids. inr (rec
   t_o_api = ids.t_o_api_is;
 })
 
-open_step : (b : Bool) (t : AdapterTable) (stream : Stream) (body : List ℕ) (packet : PacketFields) (large : Bool) (request : OpenFields) → any_packet_reading body ≡ Ok packet → router_request_reading packet.payload ≡ opening large request → is_message_trigger request.trigger ≡ b → IdsAreDrawn t.profile t.next_id t.rows → IfSome (cond b (Some (served_class3 t stream large request)) (served t stream.peer (opening large request))) (NewHas t body)
+open_step : (b : Bool) (t : AdapterTable) (stream : Stream) (body : List ℕ) (packet : PacketFields) (large : Bool) (request : OpenFields) → any_packet_reading body ≡ Ok packet → router_request_reading packet.payload ≡ opening large request → is_message_trigger request.trigger ≡ b → IdsAreDrawn t.ids t.next_id t.rows → IfSome (cond b (Some (served_class3 t stream large request)) (served t stream.peer (opening large request))) (NewHas t body)
 unfolding served_class3
 open_step true t stream body packet large request reads opens trigger drawn =
     class3_has t stream body large request (whole_request t.profile.description request) (class3_refusal (class3_view t stream.peer request.triad) (whole_request t.profile.description request)) (record { packet = packet; packet_is = reads; opens = opens; trigger = trigger })
 open_step false t stream body packet large request reads opens trigger drawn = of_rows t body (served t stream.peer (opening large request)) (served_has t stream.peer (opening large request) drawn)
 
-over_stream_has : (t : AdapterTable) (stream : Stream) (body : List ℕ) (packet : PacketFields) (requested : RouterRequestFields) → any_packet_reading body ≡ Ok packet → router_request_reading packet.payload ≡ requested → IdsAreDrawn t.profile t.next_id t.rows → IfSome (stream_served t stream requested) (NewHas t body)
+over_stream_has : (t : AdapterTable) (stream : Stream) (body : List ℕ) (packet : PacketFields) (requested : RouterRequestFields) → any_packet_reading body ≡ Ok packet → router_request_reading packet.payload ≡ requested → IdsAreDrawn t.ids t.next_id t.rows → IfSome (stream_served t stream requested) (NewHas t body)
 over_stream_has t stream body packet (opening large request) reads opens drawn = open_step (is_message_trigger request.trigger) t stream body packet large request reads opens refl drawn
 over_stream_has t stream body packet nothing reads opens drawn = of_rows t body (served t stream.peer nothing) (served_has t stream.peer nothing drawn)
 over_stream_has t stream body packet (refused service why) reads opens drawn = of_rows t body (served t stream.peer (refused service why)) (served_has t stream.peer (refused service why) drawn)
@@ -157,7 +157,7 @@ recounted_new t next counters body o (inr is) = inr (record {
   t_o_api = is.t_o_api;
 })
 
-request_has : (t : AdapterTable) (stream : Stream) (context : ℕ) (body : List ℕ) (packet : PacketFields) (asks : Option OwnRequest) → any_packet_reading body ≡ Ok packet → IdsAreDrawn t.profile t.next_id t.rows → HandledHas t body (request_handled t stream context (router_request_reading packet.payload) asks)
+request_has : (t : AdapterTable) (stream : Stream) (context : ℕ) (body : List ℕ) (packet : PacketFields) (asks : Option OwnRequest) → any_packet_reading body ≡ Ok packet → IdsAreDrawn t.ids t.next_id t.rows → HandledHas t body (request_handled t stream context (router_request_reading packet.payload) asks)
 request_has t stream context body packet None reads drawn =
     replied_has t body (counted_once (router_request_reading packet.payload) (stream_served t stream (router_request_reading packet.payload)))
     (counted_keeps (NewHas t body) (λ s counters says. reply_weaker (IsOfNew t s.table body) (IsOfNew t (with_counters s.table counters) body) (recounted_new t s.table counters body) s.reply says)
@@ -165,7 +165,7 @@ request_has t stream context body packet None reads drawn =
 request_has t stream context body packet (Some own) reads drawn =
     either (HandledHas t body) (cannot_ask t stream.peer) (request_replied t (Some (router_refusal t own.service status.ResourceUnavailable))) _ refl tt
 
-packet_has : (t : AdapterTable) (stream : Stream) (context : ℕ) (body : List ℕ) (reading : Result PacketFields ItemFault) → items_for t.profile.description body ≡ reading → IdsAreDrawn t.profile t.next_id t.rows → HandledHas t body (packet_replied t stream context reading)
+packet_has : (t : AdapterTable) (stream : Stream) (context : ℕ) (body : List ℕ) (reading : Result PacketFields ItemFault) → items_for t.profile.description body ≡ reading → IdsAreDrawn t.ids t.next_id t.rows → HandledHas t body (packet_replied t stream context reading)
 packet_has t stream context body (Err fault) reads drawn = tt
 packet_has t stream context body (Ok packet) reads drawn =
     request_has t stream context body packet (own_of t.profile.objects (router_request_reading packet.payload)) (items_any t.profile.description body packet reads) drawn
@@ -182,7 +182,7 @@ itemless_has t next body (Some (connected connection count text)) none = tt
 unit_has : (t : AdapterTable) (stream : Stream) (body : List ℕ) (done : Handled) → IsOfMessages t done → HandledHas t body done
 unit_has t stream body done is = itemless_has t done.table body done.reply is.reply
 
-pub handled_has : (t : AdapterTable) (stream : Stream) (echo : RequestHeader) (body : List ℕ) (requested : Command) → IdsAreDrawn t.profile t.next_id t.rows → HandledHas t body (handled t stream echo body requested)
+pub handled_has : (t : AdapterTable) (stream : Stream) (echo : RequestHeader) (body : List ℕ) (requested : Command) → IdsAreDrawn t.ids t.next_id t.rows → HandledHas t body (handled t stream echo body requested)
 unfolding handled
 handled_has t stream echo body command.Nop drawn = tt
 handled_has t stream echo body command.ListServices drawn = tt

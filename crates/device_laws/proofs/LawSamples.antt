@@ -1,5 +1,6 @@
 -- Samples of the definitions at a small scanner's tables, worked out by hand.
-use Rattle.std.proofs.Common.{◌≡◌, ◌⊎◌, inl, inr, ℕ, ◌+◌, true, false, List, [], ◌∷◌, Some, None, refl, ap, arith}
+use Rattle.std.proofs.Common.{◌≡◌, ◌≤◌, ◌⊎◌, inl, inr, ℕ, ◌+◌, ◌*◌, ◌^◌, true, false, List, [], ◌∷◌, Some, None, refl, ◌∙◌, ap, arith}
+use Rattle.cip_types.specs.IdLaws.{extends_itself, incarnation_ids}
 use Rattle.cip_types.specs.declared.names.ConnId.{ConnId}
 use Rattle.cip_events.specs.declared.event.Event.TheVariants.{Request, Write, Tick, Start, Stop}
 use Rattle.cip_datagram.specs.Reading as datagrams
@@ -21,7 +22,7 @@ use Rattle.scanner_table.specs.Waiting.{SlotWaits}
 use Rattle.device_laws.specs.ScannerDeadlines.{SlotIsAhead}
 use Rattle.device_laws.specs.Scratch.{data_left, zeros_left, output_left, last_image, last_output}
 use Rattle.device_laws.specs.Newest.{Acceptance, accepted_at, acceptances, last_accepted, HasNewerNumber, HasOtherCount, StateRemembers, last_in, StateIsNumbered}
-use Rattle.device_laws.proofs.SmallTables.{target, owner, gatherer, profile, triad, own_id, opening, link, connection, first_slot, indexed, table, open_table, arrives}
+use Rattle.device_laws.proofs.SmallTables.{target, owner, gatherer, profile, triad, blocks, own_id, opening, link, connection, first_slot, indexed, table, open_table, arrives}
 
 -- ---- events
 
@@ -35,29 +36,32 @@ two_ticks = refl
 
 -- ---- allocated numbers
 
-sixth_is_drawn : IsDrawn profile 6 7 own_id
-sixth_is_drawn = record { counter = 6; is = refl; begins = omega arith; ends = omega arith }
+sixth_is_drawn : IsDrawn blocks 6 7 own_id
+sixth_is_drawn = record { number = 6; is = refl; within = omega arith; begins = omega arith; ends = omega arith }
 
--- a counter has to be below the next one, and one of another incarnation is not the scanner's
-not_below : IsDrawn profile 0 6 own_id → ⊥
-not_below drawn = let same : 0x20000006 ≡ 0x20000000 + drawn.counter = ap (λ (id : ConnId). id.0) drawn.is in absurd (omega (arith, same, drawn.ends))
+drawn_number : (next : ℕ) (id : ConnId) → next ≤ 7 → (drawn : IsDrawn blocks 1 next id) → id.0 ≡ 0x20 * 2 ^ 24 + drawn.number
+drawn_number next id few drawn = let ends = drawn.ends in ap (λ (id : ConnId). id.0) (drawn.is ∙ incarnation_ids 0x20 drawn.number drawn.begins (omega (arith, ends, few)))
 
-not_its_own : IsDrawn profile 0 7 (record { 0 = 0x10000006 }) → ⊥
-not_its_own drawn = let same : 0x10000006 ≡ 0x20000000 + drawn.counter = ap (λ (id : ConnId). id.0) drawn.is in absurd (omega (arith, same))
+-- a number has to be below the next one, and an id of another incarnation is none of the scanner's
+not_below : IsDrawn blocks 1 6 own_id → ⊥
+not_below drawn = let same : 0x20000006 ≡ 0x20 * 2 ^ 24 + drawn.number = drawn_number 6 own_id (omega arith) drawn in absurd (omega (arith, same, drawn.ends))
 
-group_wants_none : WantsDrawn profile 0 7 true None
+not_its_own : IsDrawn blocks 1 7 (record { 0 = 0x10000006 }) → ⊥
+not_its_own drawn = let same : 0x10000006 ≡ 0x20 * 2 ^ 24 + drawn.number = drawn_number 7 (record { 0 = 0x10000006 }) (omega arith) drawn in absurd (omega (arith, same))
+
+group_wants_none : WantsDrawn blocks 1 7 true None
 group_wants_none = tt
 
-group_wants_no_id : WantsDrawn profile 0 7 true (Some own_id) → ⊥
+group_wants_no_id : WantsDrawn blocks 1 7 true (Some own_id) → ⊥
 group_wants_no_id wants = wants
 
-owner_wants_one : WantsDrawn profile 0 7 false None → ⊥
+owner_wants_one : WantsDrawn blocks 1 7 false None → ⊥
 owner_wants_one wants = wants
 
-opening_is_drawn : StateIsDrawn profile 7 8 false (Opening opening)
-opening_is_drawn = (omega arith, record { counter = 6; is = refl; begins = omega arith; ends = omega arith })
+opening_is_drawn : StateIsDrawn blocks 7 8 false (Opening opening)
+opening_is_drawn = (omega arith, record { number = 6; is = refl; within = omega arith; begins = omega arith; ends = omega arith })
 
-opening_is_next : StateIsDrawn profile 7 7 false (Opening opening) → ⊥
+opening_is_next : StateIsDrawn blocks 7 7 false (Opening opening) → ⊥
 opening_is_next drawn = absurd (omega (arith, drawn.0))
 
 ids : id_of (indexed (Opening opening)) ∷ id_of (indexed (Established connection)) ∷ id_of (indexed (TimedOut link)) ∷ id_of (indexed Idle) ∷ [] ≡ Some own_id ∷ Some own_id ∷ Some own_id ∷ None ∷ []
@@ -72,11 +76,11 @@ ticked = table_after (table Idle) (Tick 400 ∷ [])
 
 tick_begins : Began (table Idle) ticked owner (record { request = 8; requested = record { triad = record triad { serial = 6 }; t_o_id = Some (record { 0 = 0x20000007 }) }; deadline = record { 0 = 3000 } })
 unfolding tick all_expired all_given_up explicit_timed_out ready_opened produced_table opened
-tick_begins = record { begins = omega arith; ends = omega arith; id = record { counter = 7; is = refl; begins = omega arith; ends = omega arith } }
+tick_begins = record { begins = omega arith; ends = omega arith; id = λ one. record { number = 7; is = refl; within = omega arith; begins = omega arith; ends = omega arith } }
 
 tick_counts : CountsOn (table Idle) ticked
 unfolding tick all_expired all_given_up explicit_timed_out ready_opened produced_table opened
-tick_counts = record { profile = refl; slots = λ full. refl; ids = omega arith; requests = omega arith }
+tick_counts = record { profile = refl; slots = λ full. refl; blocks = extends_itself blocks; ids = omega arith; requests = omega arith }
 
 -- ---- producers and deadlines
 

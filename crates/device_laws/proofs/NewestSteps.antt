@@ -97,7 +97,7 @@ numbered_always = record {
   widely = record {
     stays = λ t u number config slot later numbered. numbered_on t.next_request u.next_request slot.state later.requests numbered;
     after = λ t u v number config a b c first next before behind numbered. behind (before numbered);
-    opening = λ t indexed closed_before numbered. omega arith;
+    opening = λ t indexed closed_before left numbered. omega arith;
     idling = λ t indexed slot idle numbered. idle_numbered t.next_request slot.state idle.state;
     timing_out = λ t indexed link slot is becomes numbered. timed_out_numbered t.next_request link slot.state becomes.state;
     closing = λ t indexed link desired_up is numbered. tt;
@@ -188,7 +188,7 @@ remembers_widely : (opening : ℕ) (last : Option Accepted) → Slotwise (Stays 
 remembers_widely opening last = record {
   stays = λ t u number config slot later knows. record { numbered = numbered_on t.next_request u.next_request slot.state later.requests knows.numbered; unopened = λ more. knows.unopened (omega (arith, more, later.requests)); remembers = knows.remembers };
   after = λ t u v number config a b c first next before behind knows. behind (before knows);
-  opening = λ t indexed closed_before knows. record { numbered = omega arith; unopened = λ more. knows.unopened (omega (arith, more)); remembers = λ is. knows.unopened (omega (arith, is)) };
+  opening = λ t indexed closed_before left knows. record { numbered = omega arith; unopened = λ more. knows.unopened (omega (arith, more)); remembers = λ is. knows.unopened (omega (arith, is)) };
   idling = λ t indexed slot idle knows. record { numbered = idle_numbered t.next_request slot.state idle.state; unopened = knows.unopened; remembers = idle_remembers opening last slot.state idle.state };
   timing_out = λ t indexed link slot is becomes knows. record { numbered = timed_out_numbered t.next_request link slot.state becomes.state; unopened = knows.unopened; remembers = timed_out_remembers opening last link slot.state becomes.state };
   closing = λ t indexed link desired_up is knows. record { numbered = tt; unopened = λ more. knows.unopened (omega (arith, more)); remembers = tt };

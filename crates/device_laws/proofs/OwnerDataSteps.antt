@@ -1,5 +1,5 @@
 -- After each event the owner of an output was there before it in its mode, or the event brought its newest data.
-use Rattle.std.proofs.Common.{◌≡◌, ◌⊎◌, inl, inr, ℕ, ◌+◌, ◌*◌, ◌^◌, ◌==◌, Bool, true, false, cond, not, ◌||◌, ◌&&◌, List, [], ◌∷◌, length, map, filter, find, Option, Some, None, Result, Ok, Err, refl, sym, ◌∙◌, ap, subst, eq-eqb, arith}
+use Rattle.std.proofs.Common.{◌≡◌, ◌⊎◌, inl, inr, ℕ, ◌+◌, ◌==◌, Bool, true, false, cond, not, ◌||◌, ◌&&◌, List, [], ◌∷◌, length, map, filter, find, Option, Some, None, Result, Ok, Err, refl, sym, ◌∙◌, ap, subst, eq-eqb, arith}
 use Rattle.std.specs.List.{AllByRecursion, list_any}
 use Rattle.std.proofs.lemmas.Bool.{eqb-true, and_parts, or_parts, or_right}
 use Rattle.std.proofs.lemmas.Bool.Decides.{nat_tests}
@@ -10,7 +10,7 @@ use Rattle.base_lemmas.specs.Lists.{found_passes}
 use Rattle.cip_types.specs.declared.names.ConnId.{ConnId}
 use Rattle.cip_types.specs.declared.names.Ms.{Ms}
 use Rattle.cip_types.specs.declared.names.Node.{Node}
-use Rattle.cip_types.specs.Ids.{connection_id}
+use Rattle.cip_types.specs.IdLaws.{ids_differ}
 use Rattle.cip_datagram.specs.declared.datagram.DatagramFault.{DatagramFault}
 use Rattle.cip_datagram.specs.Datagram.{DatagramFields}
 use Rattle.cip_datagram.specs.Header.{header_at}
@@ -42,9 +42,9 @@ use Rattle.adapter_table.specs.Opening.{opened_row, opened_table, is_replaced}
 use Rattle.adapter_table.specs.Productions.{produced_state, produced_row, changed_state, changed_row}
 use Rattle.adapter_table.specs.Profiles.{is_output_at}
 use Rattle.adapter_table.specs.Requests.{Next}
-use Rattle.adapter_table.specs.Rows.{lives, is_established, has_triad, drives, drivers, Each, written_state, written_row}
+use Rattle.adapter_table.specs.Rows.{lives, is_established, has_triad, drives, drivers, written_state, written_row}
 use Rattle.adapter_table.specs.Scratch.{or_else, left_accepted, accepted_by, read_accepted, lost, left_at}
-use Rattle.adapter_table.specs.Sound.{IdsAreDrawn, IsSound, OpensBefore}
+use Rattle.adapter_table.specs.Sound.{IsDrawn, IsSound, OpensBefore}
 use Rattle.adapter_table.specs.Step.{adapter_step, written_table, changed_table}
 use Rattle.adapter_table.specs.Streams.{with_stream, without_stream, registered_table}
 use Rattle.adapter_table.specs.Ticks.{has_expired, expired_row, expired_rows, clocked_table, expired_table, produced_table, advanced}
@@ -191,6 +191,7 @@ requests_leave_none o = record {
   messaged = λ t next_id m goes none. unowned_messaged o t next_id m none;
   counted = λ t next openings keeps. keeps;
   tallied = λ t next counters keeps. keeps;
+  taken = λ t block may none. none;
 }
 
 found_step : (b : Bool) (p q : Row → Bool) (first row : Row) (rows : List Row) → cond b (Some first) (find p rows) ≡ Some row → q row ≡ true → (find p rows ≡ Some row → list_any q rows ≡ true) → (q first || list_any q rows) ≡ true
@@ -305,26 +306,19 @@ one_opened t p q row other sound found there =
     (two_found AloneOpened alone_back p t.rows row found (λ _. refl)
     (two_weak OpensBefore AloneOpened (λ a b before same. absurd (omega arith)) t.rows sound.producers.openings_rise))
 
--- the O->T id is that of the opening number
-abbrev HasOwnId : Profile → Row → Type 0
-HasOwnId profile row = row.o_t_id ≡ connection_id profile.incarnation row.opening
-
-own_ids : (profile : Profile) (next : ℕ) (rows : List Row) → IdsAreDrawn profile next rows → Each (HasOwnId profile) rows
-own_ids profile next [] drawn = tt
-own_ids profile next (row ∷ rows) drawn = (drawn.0, own_ids profile next rows drawn.2)
-
 id_of : (peer : Node) (id : ℕ) (row : Row) → is_for peer id row ≡ true → row.o_t_id.0 ≡ id
 id_of peer id row is = eqb-true _ _ (and_parts (row.peer.0 == peer.0) _ (and_parts (is_established row) _ is).1).1
 
 -- two connections that one datagram is for have one opening number
 for_one : (t : AdapterTable) (peer : Node) (id : ℕ) (q : Row → Bool) (row other : Row) → IsSound t → find (is_for peer id) t.rows ≡ Some row → find q t.rows ≡ Some other → is_for peer id other ≡ true → other.opening ≡ row.opening
 for_one t peer id q row other sound found there for_it =
-    let own = own_ids t.profile t.next_id t.rows sound.ids_are_drawn in
-    let first = each_found (HasOwnId t.profile) (is_for peer id) t.rows row found own in
-    let second = each_found (HasOwnId t.profile) q t.rows other there own in
-    let x : t.profile.incarnation * 2 ^ 24 + row.opening ≡ id = sym (ap (λ (i : ConnId). i.0) first) ∙ id_of peer id row (found_passes (is_for peer id) t.rows row found) in
-    let y : t.profile.incarnation * 2 ^ 24 + other.opening ≡ id = sym (ap (λ (i : ConnId). i.0) second) ∙ id_of peer id other for_it in
-    omega arith
+    let left = sound.ids_are_left in
+    let first = each_found (IsDrawn t.ids t.next_id) (is_for peer id) t.rows row found sound.ids_are_drawn in
+    let second = each_found (IsDrawn t.ids t.next_id) q t.rows other there sound.ids_are_drawn in
+    let first_below = first.below in
+    let second_below = second.below in
+    ids_differ t.ids other.opening row.opening sound.blocks second.begins (omega (arith, left, second_below)) first.begins (omega (arith, left, first_below))
+    (ap (λ (i : ConnId). i.0) (sym second.id) ∙ id_of peer id other for_it ∙ sym (id_of peer id row (found_passes (is_for peer id) t.rows row found)) ∙ ap (λ (i : ConnId). i.0) first.id)
 
 -- ---- what a datagram does
 

@@ -29,5 +29,5 @@ said_by t one = λ point. mapped_some (report_of t.clock) (find (drives point) t
 pub owners_said : OverEveryRun (λ t. HasOneOwner t.rows) → OverEveryRun OwnersAreSaid
 owners_said every = record {
   whole = λ old events outcomes t whole ran. said_by t (every.whole old events outcomes t whole ran);
-  fresh = λ made events outcomes t ran. said_by t (every.fresh made events outcomes t ran);
+  fresh = λ made events outcomes t none ran. said_by t (every.fresh made events outcomes t none ran);
 }

@@ -13,7 +13,7 @@ use Rattle.cip_encap.specs.Packet.{PacketFields}
 use Rattle.adapter_table.specs.Intervals.{whole_request}
 use Rattle.adapter_table.specs.Paths.{opening_path}
 use Rattle.cip_events.specs.declared.event.Event.{Event}
-use Rattle.cip_events.specs.declared.event.Event.TheVariants.{Request, StreamOpened, Frame, StreamCut, Datagram, Inquiry, Write, Tick, Respond, Counters}
+use Rattle.cip_events.specs.declared.event.Event.TheVariants.{Request, StreamOpened, Frame, StreamCut, Datagram, Inquiry, Write, Tick, Respond, Counters, Ids}
 use Rattle.cip_events.specs.declared.event.Notice.{Notice}
 use Rattle.cip_events.specs.declared.event.Notice.TheVariants.{Opened, Closed, StreamClosed, Reset}
 use Rattle.cip_events.specs.declared.event.StepFault.{StepFault}
@@ -67,7 +67,7 @@ use Rattle.adapter_table.specs.Counting.{with_counters}
 use Rattle.adapter_table.specs.Lemmas.CountLemmas.{counted_by_keeps}
 use Rattle.adapter_table.specs.Lemmas.LimitLemmas.{limited_is}
 use Rattle.adapter_table.specs.Lemmas.PassiveLemmas.{passive_holds}
-use Rattle.adapter_table.specs.Lemmas.PlainLemmas.{counters_hold}
+use Rattle.adapter_table.specs.Lemmas.PlainLemmas.{counters_hold, ids_hold}
 use Rattle.base_lemmas.specs.Booleans.{either}
 
 -- ---- an opening that is admitted
@@ -303,6 +303,7 @@ ok_step point t opens (Write input bytes) = ok_written point t input bytes (find
 ok_step point t opens (Tick ms) = ok_ticked point t ms
 ok_step point t opens (Respond number general bytes) = respond_holds (OkKeeps point t) t number general bytes (λ why. tt) (λ w found few. keeps_messages point t t.next_id _ [])
 ok_step point t opens (Counters bytes) = counters_hold (OkKeeps point t) t bytes (λ why. tt) (unchanged point t [])
+ok_step point t opens (Ids block) = ids_hold (OkKeeps point t) t block (λ why. tt) (λ may. unchanged point t [])
 ok_step point t opens other = passive_holds (OkKeeps point t) t (λ why. tt) (λ verdict. unchanged point t []) other refl
 
 -- each step from a whole table that gives an answer keeps the owner, unless the answer reports its end

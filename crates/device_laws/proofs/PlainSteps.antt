@@ -82,7 +82,7 @@ use Rattle.adapter_table.specs.Ticks.{clocked_table, expired_table, produced_tab
 use Rattle.adapter_table.specs.Lemmas.CountLemmas.{counted_keeps}
 use Rattle.adapter_table.specs.Lemmas.ItemLemmas.{items_hold}
 use Rattle.adapter_table.specs.Lemmas.PassiveLemmas.{passive_holds}
-use Rattle.adapter_table.specs.Lemmas.PlainLemmas.{counters_hold}
+use Rattle.adapter_table.specs.Lemmas.PlainLemmas.{counters_hold, ids_hold}
 use Rattle.adapter_table.specs.Lemmas.FrameLemmas.{answer_has}
 use Rattle.answer_sizes.specs.Sizes.{IsShortFrame, IsSmall, AnswersAreSmall}
 use Rattle.cip_tables.specs.declared.table.DeviceTable.{DeviceTable}
@@ -496,6 +496,7 @@ adapter_plain ours back t (event.Write point bytes) is plain = write_goes ours t
 adapter_plain ours back t (event.Tick ms) is plain = tick_goes ours back t ms plain
 adapter_plain ours back t (event.Respond number general bytes) is plain = respond_goes ours back t number general bytes plain
 adapter_plain ours back t (event.Counters bytes) is plain = counters_hold (OkPlainly ours) t bytes (λ why. tt) (record { table = plain; frames = λ small. tt })
+adapter_plain ours back t (event.Ids block) is plain = ids_hold (OkPlainly ours) t block (λ why. tt) (λ may. record { table = plain; frames = λ small. tt })
 adapter_plain ours back t other is plain = passive_holds (OkPlainly ours) t (λ why. tt) (λ verdict. record { table = plain; frames = λ small. tt }) other refl
 
 -- ---- the law

@@ -88,7 +88,7 @@ plain_effects : EffectsDo (λ t effect. AllByRecursion SentPlain effect.sent)
 plain_effects = record {
   stays = λ t u notices like. tt;
   next = λ t first second one other. all_both SentPlain first.sent second.sent one other;
-  opens = λ t place session is. (trigger_plain place.config.trigger, tt);
+  opens = λ t place session can is. (trigger_plain place.config.trigger, tt);
   closes = λ t place link desired_up session is. (tt, tt);
   disowns = λ t config triad session is. (tt, tt);
   registers = λ t stream is_open. (tt, tt);

@@ -87,7 +87,7 @@ calm_slotwise : Slotwise Calm
 calm_slotwise = record {
   stays = λ t u number config slot later. record { image = refl; begun = λ is. is };
   after = λ t u v number config a b c first next before behind. record { image = behind.image ∙ before.image; begun = λ is. before.begun (behind.begun is) };
-  opening = λ t indexed closed_before. record { image = refl; begun = λ is. absurd cc };
+  opening = λ t indexed closed_before left. record { image = refl; begun = λ is. absurd cc };
   idling = λ t indexed slot idle. record { image = idle.image; begun = λ is. absurd (not_established slot.state idle.state is) };
   timing_out = λ t indexed link slot was becomes. record { image = becomes.image; begun = λ is. absurd (not_begun slot.state link becomes.state is) };
   closing = λ t indexed link desired_up was. record { image = refl; begun = λ is. absurd cc };
@@ -250,7 +250,7 @@ same_slotwise : Slotwise Same
 same_slotwise = record {
   stays = λ t u number config slot later. refl;
   after = λ t u v number config a b c first next before behind. behind ∙ before;
-  opening = λ t indexed closed_before. refl;
+  opening = λ t indexed closed_before left. refl;
   idling = λ t indexed slot idle. idle.output;
   timing_out = λ t indexed link slot was becomes. becomes.output;
   closing = λ t indexed link desired_up was. refl;
@@ -416,7 +416,7 @@ anything_always = record {
   widely = record {
     stays = λ t u number config slot later. tt;
     after = λ t u v number config a b c first next before behind. tt;
-    opening = λ t indexed closed_before. tt;
+    opening = λ t indexed closed_before left. tt;
     idling = λ t indexed slot idle. tt;
     timing_out = λ t indexed link slot is becomes. tt;
     closing = λ t indexed link desired_up is. tt;

@@ -80,7 +80,7 @@ effects_send : EffectsDo Sends
 effects_send = record {
   stays = λ t u notices like. record { streams = like.streams; sent = tt };
   next = then_sends;
-  opens = λ t place session is. record { streams = λ n. refl; sent = (session_over t place.config.target session is, tt) };
+  opens = λ t place session can is. record { streams = λ n. refl; sent = (session_over t place.config.target session is, tt) };
   closes = λ t place link desired_up session is. record { streams = λ n. refl; sent = (session_over t place.config.target session is, tt) };
   disowns = λ t config triad session is. record { streams = λ n. refl; sent = (session_over t config.target session is, tt) };
   registers = λ t stream is_open. record { streams = λ n. staged_same stream.number Waiting n t.streams; sent = (is_open, tt) };

@@ -1,5 +1,7 @@
 -- Tables of a small scanner, at each state of its slots: one slot is point to point, and one is multicast.
-use Rattle.std.proofs.Common.{ℕ, true, false, [], ◌∷◌, Some, None}
+use Rattle.std.proofs.Common.{ℕ, true, false, List, [], ◌∷◌, Some, None}
+use Rattle.cip_types.specs.Ids.{ids_of_incarnation}
+use Rattle.cip_types.specs.declared.ids.IdBlock.{IdBlock}
 use Rattle.cip_types.specs.declared.names.ConnId.{ConnId}
 use Rattle.cip_types.specs.declared.names.Node.{Node}
 use Rattle.cip_types.specs.declared.names.Triad.{Triad}
@@ -59,6 +61,7 @@ profile = record {
   tidy = false;
   openings = None;
   serials = None;
+  ids = None;
   slots = owner ∷ gatherer ∷ [];
 }
 
@@ -114,6 +117,10 @@ second_slot = record { state = Idle; desired_up = false; retry_at = record { 0 =
 abbrev pub indexed : SlotState → IndexedSlot
 indexed state = record { number = 0; config = owner; slot = first_slot state }
 
+-- the ids that begin with the scanner's incarnation
+abbrev pub blocks : List IdBlock
+blocks = ids_of_incarnation 0x20 ∷ []
+
 -- at 600 milliseconds, with a session over stream 0
 abbrev pub table : SlotState → ScannerTable
 table state = record {
@@ -121,6 +128,7 @@ table state = record {
   slots = first_slot state ∷ second_slot ∷ [];
   run = false;
   clock = record { 0 = 600 };
+  ids = blocks;
   next_id = 7;
   next_serial = 6;
   next_request = 8;

@@ -64,12 +64,12 @@ use Rattle.scanner_table.specs.Replies.{reply_answer, packet_answer, command_ans
 use Rattle.scanner_table.specs.Requests.{Sent, is_large, closing, close_fields, numbered, registration, sent_frame}
 use Rattle.scanner_table.specs.Sessions.{is_stream, is_to, is_taken, without_stream, with_stage, session_at, session_on, session_with}
 use Rattle.scanner_table.specs.Slots.{IndexedSlot, indexed_slots, is_numbered, is_with, slot_at, with_slot}
-use Rattle.scanner_table.specs.Step.{scanner_step}
+use Rattle.scanner_table.specs.Step.{scanner_step, taken_table}
 use Rattle.scanner_table.specs.Ticks.{advanced, clocked_table, moved_on, ticked, tick}
 use Rattle.scanner_table.specs.WellFormed.{StreamsDiffer}
 use Rattle.scanner_table.specs.Lemmas.Moves.{link_in, IsAccepted, stands_with, received_leads, write_leads}
 use Rattle.scanner_table.specs.Lemmas.PassiveLemmas.{is_passive, passive_holds}
-use Rattle.scanner_table.specs.Lemmas.SlotEventLemmas.{changes_more, slots_hold}
+use Rattle.scanner_table.specs.Lemmas.SlotEventLemmas.{changes_more, ids_hold, slots_hold}
 use Rattle.scanner_table.specs.Lemmas.SlotLookups.{Stands, each_found, each_stands, slot_stands, get_same, get_other}
 use Rattle.scanner_table.specs.Lemmas.Slotwise.{get_map, Relation, moded_goes}
 use Rattle.device_laws.specs.Lemmas.ExplicitRequests.{IsExplicit, explicit_holds, message_ends}
@@ -665,4 +665,7 @@ step_cares t (event.Datagram peer bytes) differ =
 step_cares t (event.Write number bytes) differ =
     both_quiet t (scanner_step t (event.Write number bytes)) (slots_quiet t (event.Write number bytes) refl) (write_leads KeepsAll t (writing_keeps t) number bytes)
 step_cares t (event.Mode run) differ = both_quiet t (scanner_step t (event.Mode run)) (slots_quiet t (event.Mode run) refl) (mode_keeps t run)
+step_cares t (event.Ids block) differ =
+    both_quiet t (scanner_step t (event.Ids block)) (slots_quiet t (event.Ids block) refl)
+    (ids_hold (λ said. IfOk said (λ next. KeepsAll t next.1)) t block (λ why. tt) (λ may. keeps_itself t (taken_table t block) refl))
 step_cares t other differ = both_quiet t (scanner_step t other) (slots_quiet t other refl) (passive_keeps t other refl)

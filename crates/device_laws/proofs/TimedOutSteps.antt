@@ -163,7 +163,7 @@ clock_stays : Kept ClockStays
 clock_stays = record {
   same = λ t. refl;
   after = λ t u v first next. next ∙ first;
-  opening = λ t place stands closed_before in_turn. refl;
+  opening = λ t place stands closed_before in_turn left. refl;
   idling = λ t place slot stands idle. refl;
   timing_out = λ t place link slot stands is becomes. refl;
   closing = λ t place link desired_up stands is. refl;
@@ -247,7 +247,7 @@ profile_stays : Kept ProfileStays
 profile_stays = record {
   same = λ t. refl;
   after = λ t u v first next. next ∙ first;
-  opening = λ t place stands closed_before in_turn. refl;
+  opening = λ t place stands closed_before in_turn left. refl;
   idling = λ t place slot stands idle. refl;
   timing_out = λ t place link slot stands is becomes. refl;
   closing = λ t place link desired_up stands is. refl;

@@ -83,7 +83,7 @@ outputs_slotwise : Slotwise Outputs
 outputs_slotwise = record {
   stays = λ t u number config slot later. record { output = refl; opening = λ c is. own_opening slot.state c is };
   after = λ t u v number config a b c one two first next. out_after a b c first next;
-  opening = λ t place resting. not_open place.slot (opening_slot t place) (opening_slot t place).state refl (λ c is. let e = is in cc) refl;
+  opening = λ t place resting left. not_open place.slot (opening_slot t place) (opening_slot t place).state refl (λ c is. let e = is in cc) refl;
   idling = λ t place slot idle. not_open place.slot slot Idle idle.state (λ c is. let e = is in cc) idle.output;
   timing_out = λ t place link slot is becomes. not_open place.slot slot (TimedOut link) becomes.state (λ d now. let e = now in cc) becomes.output;
   closing = λ t place link desired_up is. not_open place.slot (closing_slot t link desired_up place.slot) (closing_slot t link desired_up place.slot).state refl (λ d now. let e = now in cc) refl;
@@ -99,7 +99,7 @@ runs_kept : Kept SameRun
 runs_kept = record {
   same = λ t. refl;
   after = λ t u v first next. next ∙ first;
-  opening = λ t place stands resting in_turn. refl;
+  opening = λ t place stands resting in_turn left. refl;
   idling = λ t place slot stands idle. refl;
   timing_out = λ t place link slot stands is becomes. refl;
   closing = λ t place link desired_up stands is. refl;

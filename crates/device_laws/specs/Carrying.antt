@@ -1,27 +1,27 @@
--- Where the connection ids after a step come from: the table before it, the event, or the counter of the device; and which
+-- Where the connection ids after a step come from: the table before it, the event, or the device's next numbers; and which
 -- reply establishes a slot of a scanner (Volume 1, chapter 3, network connection ids and Forward_Open service).
-use Rattle.std.specs.Prelude.{◌≡◌, ◌⊎◌, ℕ, ◌^◌, ◌<◌, ◌≤◌, Bool, true, false, Option, Some, None, Ok}
+use Rattle.std.specs.Prelude.{◌≡◌, ◌⊎◌, ℕ, ◌^◌, ◌<◌, ◌≤◌, Bool, true, false, List, Option, Some, None, Ok}
 use Rattle.std.specs.List.{AllByRecursion, Contains}
+use Rattle.cip_types.specs.Ids.{end_number, id_at}
+use Rattle.cip_types.specs.declared.ids.IdBlock.{IdBlock}
 use Rattle.cip_types.specs.declared.names.ConnId.{ConnId}
 use Rattle.cip_events.specs.declared.event.Answer.{Answer}
 use Rattle.cip_events.specs.declared.event.Event.{Event}
 use Rattle.cip_fwdopen.specs.declared.reply.Opened.{Opened}
 use Rattle.messaging.specs.Sound.{EachOf}
-use Rattle.scanner_table.specs.declared.profile.ScannerProfile.{ScannerProfile}
 use Rattle.scanner_table.specs.declared.profile.SlotConfig.{SlotConfig}
 use Rattle.scanner_table.specs.declared.slot.PendingOpen as pending
 use Rattle.scanner_table.specs.declared.slot.SlotState.{SlotState}
 use Rattle.scanner_table.specs.declared.slot.SlotState.TheVariants.{Idle, Opening, Established, TimedOut, Closing}
 use Rattle.scanner_table.specs.declared.table.ScannerTable.{ScannerTable}
-use Rattle.cip_types.specs.Ids.{connection_id}
 use Rattle.scanner_table.specs.Slots.{IndexedSlot, indexed_slots}
 use Rattle.scanner_table.specs.Step.{scanner_step}
 use Rattle.device_laws.specs.Newest.{came_from}
 use Rattle.cip_tables.specs.declared.table.DeviceTable.{DeviceTable}
 use Rattle.cip_tables.specs.declared.table.DeviceTable.TheVariants.{Adapter, Scanner}
-use Rattle.cip_tables.specs.Step.{step, incarnation_of}
-use Rattle.cip_tables.specs.Whole.{IsWholeDevice, next_id_of}
-use Rattle.device_laws.specs.Ids.{RowIds, Class3Ids, FromTo, IdsFromTo, EventIds, AnsweredIds, AnswerIds, StateIds, Replied}
+use Rattle.cip_tables.specs.Step.{step}
+use Rattle.cip_tables.specs.Whole.{IsWholeDevice, ids_of, next_id_of}
+use Rattle.device_laws.specs.Ids.{RowIds, Class3Ids, FromTo, IdsFromTo, IdsWithin, EventIds, AnsweredIds, AnswerIds, StateIds, Replied}
 
 -- IDS
 
@@ -42,15 +42,15 @@ abbrev pub AnswerPasses : (ids : ℕ → Bool) → DeviceTable → Event → Typ
 AnswerPasses ids (Adapter t) event = AnsweredIds (Passes ids) t event
 AnswerPasses ids (Scanner t) event = Unit {0}
 
--- If the ids of a whole table, of the event, and those between the old counter and the new pass a test, then the ids of the
--- next table and of the answer pass it; likewise for opening numbers. Only ids of 32 bits pass the test, and 0, the id for
+-- If the ids of a whole table, of the event, and those of the numbers between the old one and the new pass a test, then the ids
+-- of the next table and of the answer pass it; likewise for opening numbers. Only ids of 32 bits pass the test, and 0, the id for
 -- none, passes it. An answer of the application (`Respond` alone) is sent as it is, so its ids count as ids of the event.
 abbrev pub StepsCarryIds : Type 0
 StepsCarryIds =
     (ids openings : ℕ → Bool) (t : DeviceTable) (event : Event) (answer : Answer) (next : DeviceTable) →
     step t event ≡ Ok (answer, next) → IsWholeDevice t →
     ((id : ℕ) → Passes ids id → id < 2 ^ 32) → Passes ids 0 →
-    IdsFromTo (Passes ids) (incarnation_of t) (next_id_of t) (next_id_of next) → FromTo (Passes openings) (next_id_of t) (next_id_of next) →
+    IdsFromTo (Passes ids) (ids_of next) (next_id_of t) (next_id_of next) → FromTo (Passes openings) (next_id_of t) (next_id_of next) →
     EventIds (Passes ids) event → AnswerPasses ids t event → TableIds ids openings t →
     TableIds ids openings next × AnswerIds (Passes ids) answer
 
@@ -63,43 +63,44 @@ HasClass3Ids ids (Scanner t) = Unit {0}
 abbrev pub StepsCarryClass3Ids : Type 0
 StepsCarryClass3Ids =
     (ids : ℕ → Bool) (t : DeviceTable) (event : Event) (answer : Answer) (next : DeviceTable) →
-    step t event ≡ Ok (answer, next) → IdsFromTo (Passes ids) (incarnation_of t) (next_id_of t) (next_id_of next) →
+    step t event ≡ Ok (answer, next) → IdsWithin (Passes ids) (ids_of t) (next_id_of t) (next_id_of next) →
     EventIds (Passes ids) event → HasClass3Ids ids t → HasClass3Ids ids next
 
 -- OPENINGS OF A SCANNER
 
--- the id has the scanner's incarnation, and a counter of 24 bits from this one on
-pub record IsFrom (profile : ScannerProfile) (first : ℕ) (id : ConnId) : Type 0 where
-  pub counter : ℕ
-  pub is : id ≡ connection_id profile.incarnation counter
-  pub begins : first ≤ counter
-  pub ends : counter < 2 ^ 24
+-- the id is one of the blocks, and its number is this one or a later one
+pub record IsFrom (ids : List IdBlock) (first : ℕ) (id : ConnId) : Type 0 where
+  pub number : ℕ
+  pub is : id ≡ id_at ids number
+  pub one : 1 ≤ number
+  pub begins : first ≤ number
+  pub ends : number < end_number ids
 
-abbrev pub WantsFrom : ScannerProfile → ℕ → Option ConnId → Type 0
-WantsFrom profile first None = ⊥
-WantsFrom profile first (Some id) = IsFrom profile first id
+abbrev pub WantsFrom : List IdBlock → ℕ → Option ConnId → Type 0
+WantsFrom ids first None = ⊥
+WantsFrom ids first (Some id) = IsFrom ids first id
 
--- a pending or established connection that was opened by a request from this number on has a T->O id from this counter on
-abbrev pub StateFrom : ScannerProfile → ℕ → ℕ → SlotState → Type 0
-StateFrom profile request first Idle = Unit {0}
-StateFrom profile request first (Opening o) = request ≤ o.request → WantsFrom profile first o.requested.t_o_id
-StateFrom profile request first (Established c) = request ≤ c.opening → IsFrom profile first c.link.t_o_id
-StateFrom profile request first (TimedOut link) = Unit {0}
-StateFrom profile request first (Closing c) = Unit {0}
+-- a pending or established connection that was opened by a request from this number on has a T->O id from this number on
+abbrev pub StateFrom : List IdBlock → (request first : ℕ) → SlotState → Type 0
+StateFrom ids request first Idle = Unit {0}
+StateFrom ids request first (Opening o) = request ≤ o.request → WantsFrom ids first o.requested.t_o_id
+StateFrom ids request first (Established c) = request ≤ c.opening → IsFrom ids first c.link.t_o_id
+StateFrom ids request first (TimedOut link) = Unit {0}
+StateFrom ids request first (Closing c) = Unit {0}
 
-abbrev pub SlotFrom : ScannerProfile → ℕ → ℕ → IndexedSlot → Type 0
-SlotFrom profile request first indexed = indexed.config.multicast ≡ false → StateFrom profile request first indexed.slot.state
+abbrev pub SlotFrom : List IdBlock → (request first : ℕ) → IndexedSlot → Type 0
+SlotFrom ids request first indexed = indexed.config.multicast ≡ false → StateFrom ids request first indexed.slot.state
 
 -- it holds of each point to point slot
-abbrev pub SlotsFrom : ScannerProfile → ℕ → ℕ → ScannerTable → Type 0
-SlotsFrom profile request first t = AllByRecursion (SlotFrom profile request first) (indexed_slots t)
+abbrev pub SlotsFrom : (request first : ℕ) → ScannerTable → Type 0
+SlotsFrom request first t = AllByRecursion (SlotFrom t.ids request first) (indexed_slots t)
 
--- A step keeps it, if the table's next counter is not below this counter.
+-- A step keeps it, if the table's next number is not below this number.
 abbrev pub StepsKeepFrom : Type 0
 StepsKeepFrom =
     (request first : ℕ) (t : ScannerTable) (event : Event) (answer : Answer) (next : ScannerTable) →
-    scanner_step t event ≡ Ok (answer, next) → IsWholeDevice (Scanner t) → first ≤ t.next_id → next.next_id ≤ 2 ^ 24 →
-    SlotsFrom t.profile request first t → SlotsFrom t.profile request first next
+    scanner_step t event ≡ Ok (answer, next) → IsWholeDevice (Scanner t) → first ≤ t.next_id →
+    SlotsFrom request first t → SlotsFrom request first next
 
 -- WHAT ESTABLISHES A SLOT
 

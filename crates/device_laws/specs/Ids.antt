@@ -1,6 +1,6 @@
 -- The connection ids in a request, a reply, a frame, a datagram, an answer, an event, and the table of a device. Each
 -- definition says that a property holds of every such id (Volume 1, chapter 3, network connection ids).
-use Rattle.std.specs.Prelude.{◌≡◌, ℕ, find, ◌+◌, ◌*◌, ◌^◌, ◌<◌, ◌≤◌, Bool, List, Option, Some, None, Result, Ok, Err}
+use Rattle.std.specs.Prelude.{◌≡◌, ℕ, find, ◌<◌, ◌≤◌, Bool, List, Option, Some, None, Result, Ok, Err}
 use Rattle.std.specs.List.{AllByRecursion}
 use Rattle.std.specs.Option.{IfSome}
 use Rattle.cip_datagram.specs.declared.datagram.DatagramFault.{DatagramFault}
@@ -30,6 +30,8 @@ use Rattle.messaging.specs.declared.requests.Requester.TheVariants as asker
 use Rattle.messaging.specs.Changes.{has_request_number}
 use Rattle.adapter_table.specs.Connections.{Row}
 use Rattle.adapter_table.specs.declared.table.AdapterTable.{AdapterTable}
+use Rattle.cip_types.specs.Ids.{end_number, id_at}
+use Rattle.cip_types.specs.declared.ids.IdBlock.{IdBlock}
 use Rattle.cip_types.specs.declared.names.ConnId.{ConnId}
 use Rattle.cip_types.specs.declared.names.Node.{Node}
 use Rattle.cip_fwdopen.specs.declared.reply.Opened.{Opened}
@@ -113,9 +115,13 @@ pub record RowIds (P Q : ℕ → Type 0) (row : Row) : Type 0 where
 abbrev pub FromTo : (ℕ → Type 0) → ℕ → ℕ → Type 0
 FromTo P from to = (n : ℕ) → from ≤ n → n < to → P n
 
--- the property holds of each id of an incarnation whose counter is from the first on and below the second
-abbrev pub IdsFromTo : (ℕ → Type 0) → ℕ → ℕ → ℕ → Type 0
-IdsFromTo P incarnation from to = FromTo (λ counter. P (incarnation * 2 ^ 24 + counter)) from to
+-- the property holds of each id of these blocks whose number is from the first on and below the second
+abbrev pub IdsFromTo : (ℕ → Type 0) → List IdBlock → ℕ → ℕ → Type 0
+IdsFromTo P ids from to = FromTo (λ number. P (id_at ids number).0) from to
+
+-- of each of them that these blocks have
+abbrev pub IdsWithin : (ℕ → Type 0) → List IdBlock → (from to : ℕ) → Type 0
+IdsWithin P ids from to = (n : ℕ) → from ≤ n → n < to → n < end_number ids → P (id_at ids n).0
 
 -- The property holds of each id of an event. A `Request` is excluded, since it comes without a stream; the id of a datagram
 -- does not matter, since no table keeps it.

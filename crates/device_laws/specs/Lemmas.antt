@@ -19,6 +19,7 @@ pub mod RowIds
 pub mod OpenedRows
 pub mod Admissions
 pub mod RequestTexts
+pub mod Numbered
 pub mod RequestedIds
 pub mod ScannerEffects
 pub mod ListCounts

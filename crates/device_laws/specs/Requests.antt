@@ -1,8 +1,10 @@
 -- The T->O id for which a request to open asks. At each event a scanner asks at most once for each id that it allocates, and
 -- for no other id; a new connection of an adapter has the id for which its request asked, or, if it is multicast, one of the
 -- adapter's own (Volume 1, chapter 3, network connection ids and Forward_Open service).
-use Rattle.std.specs.Prelude.{ℕ, ◌≡◌, ◌≢◌, ◌⊎◌, ◌^◌, ◌<◌, ◌≤◌, ◌==◌, ◌&&◌, nat_le, nat_lt, Bool, true, false, if◌then◌else◌, List, Result, Ok, Err}
+use Rattle.std.specs.Prelude.{ℕ, zero, suc, ◌≡◌, ◌≢◌, ◌⊎◌, ◌+◌, ◌-◌, ◌<◌, ◌≤◌, ◌==◌, ◌||◌, Bool, true, false, if◌then◌else◌, min, List, Result, Ok, Err}
 use Rattle.std.specs.List.{AllByRecursion, count_by}
+use Rattle.cip_types.specs.Ids.{end_number, id_at}
+use Rattle.cip_types.specs.declared.ids.IdBlock.{IdBlock}
 use Rattle.cip_types.specs.declared.names.ConnId.{ConnId}
 use Rattle.cip_encap.specs.declared.message.EncapFault.{EncapFault}
 use Rattle.cip_encap.specs.declared.packet.ItemFault.{ItemFault}
@@ -15,14 +17,11 @@ use Rattle.cip_events.specs.declared.event.Event.{Event}
 use Rattle.cip_events.specs.declared.event.Event.TheVariants as event
 use Rattle.cip_events.specs.declared.event.Frame.{Frame}
 use Rattle.cip_router.specs.Requests.{RouterRequestFields, nothing, refused, closing, object, opening, router_request_reading}
-use Rattle.adapter_table.specs.declared.profile.Profile.{Profile}
 use Rattle.adapter_table.specs.Connections.{Row}
 use Rattle.adapter_table.specs.declared.table.AdapterTable.{AdapterTable}
 use Rattle.adapter_table.specs.Step.{adapter_step}
 use Rattle.adapter_table.specs.Whole.{IsWhole}
-use Rattle.scanner_table.specs.declared.profile.ScannerProfile.{ScannerProfile}
 use Rattle.scanner_table.specs.declared.table.ScannerTable.{ScannerTable}
-use Rattle.cip_types.specs.Ids.{connection_id}
 use Rattle.scanner_table.specs.Step.{scanner_step}
 use Rattle.cip_tables.specs.declared.table.DeviceTable.TheVariants.{Scanner}
 use Rattle.cip_tables.specs.Whole.{IsWholeDevice}
@@ -54,29 +53,35 @@ frame_asks id frame = asks_id id frame.bytes
 
 -- A SCANNER
 
--- the id has the scanner's incarnation, and a counter from the first number on and below the second
-unfoldable pub is_between : ScannerProfile → ℕ → ℕ → ℕ → Bool
-is_between profile from to id = nat_le (connection_id profile.incarnation from).0 id && nat_lt id (connection_id profile.incarnation to).0
+-- one of so many numbers from this one on has the id
+abbrev pub has_number : List IdBlock → (from count id : ℕ) → Bool
+has_number ids from zero id = false
+has_number ids from (suc count) id = (id_at ids from).0 == id || has_number ids (from + 1) count id
 
--- Of the frames of an answer at most one asks for an id that was allocated at the event, and none asks for another id, but 0,
--- the id for none. The scanner's incarnation is a byte, and its counter stays within 24 bits.
+-- a number from the first one on and below the second has the id
+unfoldable pub is_between : List IdBlock → (from to id : ℕ) → Bool
+is_between ids from to id = has_number ids from (to - from) id
+
+-- Of the frames of an answer at most one asks for an id that was allocated at the event, of the blocks that the scanner had, and
+-- none asks for another id, but 0, the id for none.
 abbrev pub ScannersAskOnce : Type 0
 ScannersAskOnce =
     (t : ScannerTable) (happens : Event) (answer : Answer) (next : ScannerTable) (id : ℕ) →
-    scanner_step t happens ≡ Ok (answer, next) → IsWholeDevice (Scanner t) → t.profile.incarnation ≤ 255 → next.next_id ≤ 2 ^ 24 → id ≢ 0 →
-    count_by (frame_asks id) answer.frames ≤ (if is_between t.profile t.next_id next.next_id id then 1 else 0)
+    scanner_step t happens ≡ Ok (answer, next) → IsWholeDevice (Scanner t) → id ≢ 0 →
+    count_by (frame_asks id) answer.frames ≤ (if is_between t.ids t.next_id (min next.next_id (end_number t.ids)) id then 1 else 0)
 
 -- AN ADAPTER
 
--- the id has the adapter's incarnation, and a counter of 24 bits
-pub record IsOwnId (profile : Profile) (id : ConnId) : Type 0 where
-  pub counter : ℕ
-  pub below : counter < 2 ^ 24
-  pub is : id ≡ connection_id profile.incarnation counter
+-- the id is one of the adapter's blocks
+pub record IsOwnId (ids : List IdBlock) (id : ConnId) : Type 0 where
+  pub number : ℕ
+  pub begins : 1 ≤ number
+  pub below : number < end_number ids
+  pub is : id ≡ id_at ids number
 
 -- the connection was there; or the frame asks for its T->O id, or the id is one of the adapter's own
 abbrev pub IsOldOrRequested : AdapterTable → List ℕ → Row → Type 0
-IsOldOrRequested t bytes row = (row.opening < t.next_id) ⊎ ((asks_id row.t_o_id.0 bytes ≡ true) ⊎ IsOwnId t.profile row.t_o_id)
+IsOldOrRequested t bytes row = (row.opening < t.next_id) ⊎ ((asks_id row.t_o_id.0 bytes ≡ true) ⊎ IsOwnId t.ids row.t_o_id)
 
 -- so it is of each connection after a frame
 abbrev pub NewConnectionsAreRequested : Type 0

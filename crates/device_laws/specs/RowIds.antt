@@ -14,7 +14,7 @@ use Rattle.adapter_table.specs.declared.table.AdapterTable.{AdapterTable}
 use Rattle.adapter_table.specs.declared.table.Stream.{Stream}
 use Rattle.adapter_table.specs.Checks.{is_multicast}
 use Rattle.adapter_table.specs.Newest.{was_opened_as}
-use Rattle.cip_types.specs.Ids.{connection_id}
+use Rattle.cip_types.specs.Ids.{id_at}
 use Rattle.adapter_table.specs.Productions.{producer_of}
 use Rattle.adapter_table.specs.Rows.{is_established}
 use Rattle.adapter_table.specs.Step.{adapter_step}
@@ -55,7 +55,7 @@ pub record Joins (t : AdapterTable) (row : Row) : Type 0 where
 
 -- it starts a group: its T->O id is the second that the opening draws
 pub record StartsGroup (t next : AdapterTable) (row : Row) : Type 0 where
-  pub t_o : row.t_o_id ≡ connection_id t.profile.incarnation (t.next_id + 1)
+  pub t_o : row.t_o_id ≡ id_at next.ids (t.next_id + 1)
   pub producer : producer_of row.state ≡ t.next_id
   pub drawn : t.next_id + 1 < next.next_id
 

@@ -1,6 +1,7 @@
 -- Openings that begin: each request number and each T->O id of a point to point connection is allocated once
 -- (Volume 1, chapter 3, Forward_Open service, network connection ids).
-use Rattle.std.specs.Prelude.{ℕ, ◌≡◌, ◌≢◌, ◌≤◌, ◌<◌, ◌⊎◌, List, Some}
+use Rattle.std.specs.Prelude.{ℕ, ◌≡◌, ◌≢◌, ◌≤◌, ◌<◌, ◌⊎◌, true, List, Some}
+use Rattle.cip_types.specs.Ids.{are_blocks}
 use Rattle.cip_types.specs.declared.names.ConnId.{ConnId}
 use Rattle.cip_events.specs.declared.event.Event.{Event}
 use Rattle.scanner_table.specs.declared.profile.SlotConfig.{SlotConfig}
@@ -13,11 +14,11 @@ use Rattle.scanner_table.specs.Drawn.{IsDrawn, WantsDrawn}
 
 -- OPENINGS THAT BEGIN
 
--- an opening that began between two tables: its request number and its id were allocated between them
+-- an opening that began between two tables: its request number and its id were allocated between them; ids are numbered from 1
 pub record Began (old new : ScannerTable) (config : SlotConfig) (opening : pending.PendingOpen) : Type 0 where
   pub begins : old.next_request ≤ opening.request
   pub ends : opening.request < new.next_request
-  pub id : WantsDrawn old.profile old.next_id new.next_id config.multicast opening.requested.t_o_id
+  pub id : 1 ≤ old.next_id → WantsDrawn new.ids old.next_id new.next_id config.multicast opening.requested.t_o_id
 
 -- a slot that is opening now waited for the same reply before, or the opening began since
 abbrev pub OpensAnew : ScannerTable → ScannerTable → IndexedSlot → IndexedSlot → Type 0
@@ -38,10 +39,11 @@ RequestsRise =
     slot_at t was.number ≡ Some was → slot_at (table_after t events) was.number ≡ Some now →
     now.slot.state ≡ Opening opening → (was.slot.state ≡ Opening opening) ⊎ (request < opening.request)
 
--- a slot that is opening after events waited for the same reply before them, or requests no id that was allocated by then
+-- a slot that is opening after events waited for the same reply before them, or requests no id that was allocated by then, where no
+-- two blocks of the scanner have an id in common
 abbrev pub IdsAreGivenOnce : Type 0
 IdsAreGivenOnce =
-    (t : ScannerTable) (events : List Event) (id : ConnId) → IsDrawn t.profile 0 t.next_id id →
+    (t : ScannerTable) (events : List Event) (id : ConnId) → are_blocks t.ids ≡ true → IsDrawn t.ids 1 t.next_id id →
     (was now : IndexedSlot) (opening : pending.PendingOpen) →
     slot_at t was.number ≡ Some was → slot_at (table_after t events) was.number ≡ Some now →
     now.slot.state ≡ Opening opening → (was.slot.state ≡ Opening opening) ⊎ (opening.requested.t_o_id ≢ Some id)

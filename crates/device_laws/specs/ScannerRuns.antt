@@ -95,7 +95,7 @@ OpensAbove old events new =
 -- a slot that is opening after the events waited for the same reply before them, or requests no id that was allocated by then
 abbrev pub OpensWithNewId : ScannerTable → List Event → ScannerTable → Type 0
 OpensWithNewId old events new =
-    (id : ConnId) → IsDrawn old.profile 0 old.next_id id →
+    (id : ConnId) → IsDrawn old.ids 1 old.next_id id →
     (was now : IndexedSlot) (opening : pending.PendingOpen) →
     slot_at old was.number ≡ Some was → slot_at new was.number ≡ Some now →
     now.slot.state ≡ Opening opening → (was.slot.state ≡ Opening opening) ⊎ (opening.requested.t_o_id ≢ Some id)

@@ -4,13 +4,15 @@ ghost use Rattle.device_laws.specs.Carrying.{StepsCarryIds, StepsCarryClass3Ids,
 
 use answer_sizes::answers_are_small;
 use cip_encap::reads_back;
+use cip_tables::laws::blocks_grow;
+use scanner_table::counters_never_fall;
 
-/// A step brings up no connection id of its own, except the next ids of its counter: each id of the next table and
+/// A step brings up no connection id of its own, except the next ids of the device's blocks: each id of the next table and
 /// of the answer is one of the table, one that came with the event (in a frame or in an answer of the application), or one
 /// that the step allocated.
 ///
 /// The law says so of each property of ids of 32 bits that 0, the id for none, has. If the ids of a whole table
-/// have the property, and so do those of the event and those between the old counter and the new, then the ids of
+/// have the property, and so do those of the event and those of the numbers between the old one and the new, then the ids of
 /// the next table and of the answer have it. The same holds of opening numbers. It speaks of steps that give an
 /// answer, and of every event but `Request`, which comes without a stream.
 ///
@@ -18,12 +20,13 @@ use cip_encap::reads_back;
 pub fn ids_are_carried()
     ensures { StepsCarryIds }
 {
-    // Items that are written are read back as they were; that needs short answers.
+    // Items that are written are read back as they were; that needs short answers. No event changes an id that was drawn.
     reads_back();
     answers_are_small();
+    blocks_grow();
 }
 
-/// A step brings up no id of a class 3 connection of its own, except the next ids of its counter: each id of the class 3 connections of
+/// A step brings up no id of a class 3 connection of its own, except the next ids of the device's blocks: each id of the class 3 connections of
 /// the next table is one of such a connection of the table, one that came with the event's frame, or one that the step allocated.
 ///
 /// The law says so of each property of ids, as `ids_are_carried` does of the other ids, and leaves out the event `Request` likewise.
@@ -33,19 +36,20 @@ pub fn class3_ids_are_carried()
     ensures { StepsCarryClass3Ids }
 {}
 
-/// Later openings of a scanner have later ids. Take any request number, and an id counter that is at most the
-/// table's next one. If each point to point slot that was opened by a request from that number on has a T->O id
-/// with a counter from that counter on, then the same holds after a step.
+/// Later openings of a scanner have later ids. Take any request number, and a number of an id that is at most the
+/// table's next one. If each point to point slot that was opened by a request from that number on has a T->O id of the
+/// table's blocks with a number from that number on, then the same holds after a step.
 ///
-/// The law speaks of steps from a whole table that give an answer, and whose next counter is at most 2^24.
+/// The law speaks of steps from a whole table that give an answer.
 ///
 /// Volume 1, chapter 3, network connection ids.
 pub fn ids_are_drawn_with_openings()
     ensures { StepsKeepFrom }
 {
-    // Items that are written are read back as they were; that needs short answers.
+    // Items that are written are read back as they were; that needs short answers. No event changes an id that was drawn.
     reads_back();
     answers_are_small();
+    counters_never_fall();
 }
 
 /// A slot of a scanner becomes established only by the reply to its own request: a successful reply that comes over

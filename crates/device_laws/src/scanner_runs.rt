@@ -5,6 +5,7 @@
 //! before the run, the events that found memory, and the table after the run.
 
 ghost use Rattle.std.specs.Prelude.{◌≡◌, ◌≤◌, length};
+ghost use Rattle.cip_types.specs.Ids.{end_number};
 ghost use Rattle.device_laws.specs.ScannerRuns.{RunsFoldEvents, OverWholeRuns, OverFreshRuns, OverScannerRuns, HoldsLastImages, HoldsLastImagesOrZeros, HoldsLastOutputs, HoldsLastOutputsOrZeros, AcceptsAfter, OpensAbove, OpensWithNewId};
 ghost use Rattle.device_laws.specs.Scanners.{OverEveryScanner, EachSlot, HasLengths, IsOpenAsDesired, ClosesAsDesired, IsNumberedBelow};
 ghost use Rattle.scanner_table.specs.Slots.{indexed_slots};
@@ -84,9 +85,9 @@ pub fn requests_are_below_the_next()
     tables_are_whole();
 }
 
-/// The counter of the next connection id is at most 16,777,216, at which no id is left.
+/// The number of the next connection id is at most that behind the last id of the scanner's blocks, at which no id is left.
 pub fn ids_end()
-    ensures { OverEveryScanner (λ t. t.next_id ≤ 16777216) }
+    ensures { OverEveryScanner (λ t. t.next_id ≤ end_number t.ids) }
 {
     tables_are_whole();
 }
@@ -106,8 +107,8 @@ pub fn streams_are_distinct()
 }
 
 /// The number of a pending request, and that of the request that opened an established connection, are below the next
-/// request number. The T->O id of a point to point slot that is opening, established, timed out or closing has the
-/// scanner's incarnation and a counter below the next one, and no two such slots have the same id.
+/// request number. The T->O id of a point to point slot that is opening, established, timed out or closing is of the
+/// scanner's blocks and has a number below the next one, and no two such slots have the same id.
 pub fn numbers_are_drawn_once()
     ensures { OverEveryScanner NumbersAreOwn }
 {

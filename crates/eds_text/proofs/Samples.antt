@@ -33,6 +33,7 @@ island = record {
   description = None;
   limits = no_limits;
   objects = [];
+  ids = None;
 }
 
 owner : SheetConnection

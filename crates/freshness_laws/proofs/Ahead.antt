@@ -116,6 +116,7 @@ effects_keep_ahead = record {
   messaged = λ t next_id m goes ahead. ahead_messaged t next_id m ahead;
   counted = λ t openings ahead. ahead;
   tallied = λ t counters ahead. ahead;
+  taken = λ t block may ahead. ahead;
 }
 
 pub steps_keep_ahead : StepsKeep AreAhead

@@ -43,6 +43,7 @@ requests_stay = record {
   messaged = λ t next_id m goes. refl;
   counted = λ t next openings stays. stays;
   tallied = λ t next counters stays. stays;
+  taken = λ t block may. refl;
 }
 
 streams_stay : (t : AdapterTable) (number : ℕ) (peer : Node) → ClockStays t (with_stream t number peer)

@@ -113,7 +113,7 @@ calm_slotwise : Slotwise Calm
 calm_slotwise = record {
   stays = λ t u number config slot later c is. kept_same slot c is;
   after = λ t u v number config a b d first next before behind c is. kept_after a b d c (behind c is) (before (behind c is).old (behind c is).is);
-  opening = λ t indexed closed_before c is. absurd (let e = is in cc);
+  opening = λ t indexed closed_before left c is. absurd (let e = is in cc);
   idling = λ t indexed slot idle c is. absurd (not_established slot.state c idle.state is);
   timing_out = λ t indexed link slot was becomes c is. absurd (let e : TimedOut link ≡ Established c = sym becomes.state ∙ is in cc);
   closing = λ t indexed link desired_up was c is. absurd (let e = is in cc);

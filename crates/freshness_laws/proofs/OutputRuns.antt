@@ -196,7 +196,7 @@ run_fresh hold in_time one made events outcomes t output none ran found running 
     let runner = any_found (runs point) t.rows running in
     let runner_is = and_parts (drives point runner.0) _ (found_passes (runs point) t.rows runner.0 runner.1) in
     let driver = any_found (drives point) t.rows (any_weak (runs point) (drives point) (λ row is. (and_parts (drives point row) _ is).0) t.rows running) in
-    let same : runner.0 ≡ driver.0 = same_found (runs point) (drives point) t.rows runner.0 driver.0 (one.fresh made events outcomes t ran point) runner.1 runner_is.0 driver.1 in
+    let same : runner.0 ≡ driver.0 = same_found (runs point) (drives point) t.rows runner.0 driver.0 (one.fresh made events outcomes t none ran point) runner.1 runner_is.0 driver.1 in
     let moded : driver.0.mode ≡ Some mode.Run = run_mode driver.0.mode (subst (λ (r : Row). is_run r.mode ≡ true) same runner_is.1) in
     let held = hold made events outcomes t output (report_of t.clock driver.0) none ran found (ap (option_map (report_of t.clock)) driver.1) moded in
     held_fresh point (opening_table made) (performed events outcomes) t held

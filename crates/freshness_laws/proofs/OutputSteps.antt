@@ -193,6 +193,7 @@ requests_keep point = record {
   messaged = λ t next_id m goes. keeps_messaged point t next_id m;
   counted = λ t next openings keeps. keeps;
   tallied = λ t next counters keeps. keeps;
+  taken = λ t block may sound is lost_none. is;
 }
 
 -- ---- what an event does

@@ -2,6 +2,7 @@
 use Rattle.std.proofs.Common.{◌≡◌, ℕ, true, false, [], ◌∷◌, Some, None, refl}
 use Rattle.std.specs.List.{AllByRecursion}
 use Rattle.std.specs.Option.{option_map}
+use Rattle.cip_types.specs.Ids.{ids_of_incarnation}
 use Rattle.cip_netparams.specs.declared.Trigger.TheVariants.{Cyclic}
 use Rattle.cip_datagram.specs.Datagram.{DatagramFields}
 use Rattle.cip_datagram.specs.Reading as datagrams
@@ -58,6 +59,7 @@ profile = record {
   tidy = false;
   openings = None;
   serials = None;
+  ids = None;
   slots = owner ∷ [];
 }
 
@@ -91,6 +93,7 @@ open_table = record {
   slots = record { state = Established connection; desired_up = true; retry_at = record { 0 = 0 }; output = 1 ∷ 2 ∷ []; image = 3 ∷ 4 ∷ [] } ∷ [];
   run = false;
   clock = record { 0 = 600 };
+  ids = ids_of_incarnation 0x20 ∷ [];
   next_id = 7;
   next_serial = 6;
   next_request = 8;

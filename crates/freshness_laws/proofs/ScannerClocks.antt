@@ -32,7 +32,7 @@ later_slots : Kept Later
 later_slots = record {
   same = λ t. omega arith;
   after = λ t u v first next. omega (arith, first, next);
-  opening = λ t indexed stands closed_before in_turn. omega arith;
+  opening = λ t indexed stands closed_before in_turn left. omega arith;
   idling = λ t indexed slot stands idle. omega arith;
   timing_out = λ t indexed link slot stands is becomes. omega arith;
   closing = λ t indexed link desired_up stands is. omega arith;
@@ -46,6 +46,7 @@ later_widely = record {
   producing = produced_later;
   moding = λ t run. omega arith;
   explicit = λ t pending request later. omega arith;
+  taken = λ t block may. omega arith;
 }
 
 later_always : KeptAlways Later

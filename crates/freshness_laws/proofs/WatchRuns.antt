@@ -104,7 +104,7 @@ is_adapter (Scanner t) whole = absurd whole
 -- ---- openings to come
 
 device_unopened : (opening : ℕ) (old : DeviceTable) → WholeInTime old → next_id_of old ≤ opening → has_opened opening old ≡ false
-device_unopened opening (Adapter t) whole more = below_next t.profile t.next_id opening t.rows whole.0.sound.ids_are_drawn more
+device_unopened opening (Adapter t) whole more = below_next t.ids t.next_id opening t.rows whole.0.sound.ids_are_drawn more
 device_unopened opening (Scanner t) whole more = refl
 
 device_silent : (opening : ℕ) (old : DeviceTable) (event : Event) → has_opened opening old ≡ false → accepted_in opening old event ≡ []

@@ -1,5 +1,5 @@
 -- After each event an established connection was there before it with its deadline, or the event set its deadline.
-use Rattle.std.proofs.Common.{◌≡◌, ◌⊎◌, inl, inr, ℕ, ◌+◌, ◌*◌, ◌^◌, ◌==◌, ◌≤◌, ◌<◌, max, Bool, true, false, cond, not, ◌||◌, ◌&&◌, List, [], ◌∷◌, map, filter, find, Option, Some, None, Result, Ok, Err, refl, sym, ◌∙◌, ap, subst, eq-eqb, arith}
+use Rattle.std.proofs.Common.{◌≡◌, ◌⊎◌, inl, inr, ℕ, ◌+◌, ◌==◌, ◌≤◌, ◌<◌, max, Bool, true, false, cond, not, ◌||◌, ◌&&◌, List, [], ◌∷◌, map, filter, find, Option, Some, None, Result, Ok, Err, refl, sym, ◌∙◌, ap, subst, eq-eqb, arith}
 use Rattle.std.specs.List.{list_any}
 use Rattle.std.proofs.lemmas.Bool.{eqb-true, and_parts}
 use Rattle.std.proofs.lemmas.Bool.Decides.{nat_tests}
@@ -8,7 +8,8 @@ use Rattle.base_lemmas.specs.Lists.{found_passes}
 use Rattle.cip_types.specs.declared.names.ConnId.{ConnId}
 use Rattle.cip_types.specs.declared.names.Ms.{Ms}
 use Rattle.cip_types.specs.declared.names.Node.{Node}
-use Rattle.cip_types.specs.Ids.{connection_id}
+use Rattle.cip_types.specs.IdLaws.{ids_differ}
+use Rattle.cip_types.specs.declared.ids.IdBlock.{IdBlock}
 use Rattle.cip_datagram.specs.declared.datagram.DatagramFault.{DatagramFault}
 use Rattle.cip_datagram.specs.Datagram.{DatagramFields}
 use Rattle.cip_datagram.specs.Reading.{datagram_reading}
@@ -19,7 +20,6 @@ use Rattle.cip_events.specs.declared.event.StepFault.{StepFault}
 use Rattle.cip_events.specs.Answers.{is_accepted}
 use Rattle.cip_fwdopen.specs.Open.{OpenFields}
 use Rattle.messaging.specs.declared.table.Messaging.{Messaging}
-use Rattle.adapter_table.specs.declared.profile.Profile.{Profile}
 use Rattle.adapter_table.specs.declared.row.State.{State}
 use Rattle.adapter_table.specs.declared.row.State.TheVariants.{TimedOut}
 use Rattle.adapter_table.specs.declared.table.AdapterTable.{AdapterTable}
@@ -32,8 +32,8 @@ use Rattle.adapter_table.specs.Newest.{Acceptance, acceptance_of, accepted_found
 use Rattle.adapter_table.specs.Opening.{opened_row, opened_table, is_replaced}
 use Rattle.adapter_table.specs.Productions.{produced_state, produced_row, changed_state, changed_row}
 use Rattle.adapter_table.specs.Requests.{Next}
-use Rattle.adapter_table.specs.Rows.{lives, is_established, has_triad, Each, written_state, written_row}
-use Rattle.adapter_table.specs.Sound.{IdsAreDrawn, IsSound, OpensBefore}
+use Rattle.adapter_table.specs.Rows.{lives, is_established, has_triad, written_state, written_row}
+use Rattle.adapter_table.specs.Sound.{IdsAreDrawn, IsDrawn, IsSound, OpensBefore}
 use Rattle.adapter_table.specs.Step.{adapter_step, written_table, changed_table}
 use Rattle.adapter_table.specs.Streams.{with_stream, without_stream, registered_table}
 use Rattle.adapter_table.specs.Ticks.{has_expired, expired_row, expired_rows, clocked_table, expired_table, produced_table, advanced}
@@ -196,6 +196,7 @@ requests_control w = record {
   messaged = λ t next_id m goes. stayed w t (messages_table t next_id m) (unkept_messaged w t next_id m);
   counted = λ t next openings controls. controls;
   tallied = λ t next counters controls. controls;
+  taken = λ t block may is. inl (record { kept = is; silent = refl });
 }
 
 -- ---- connections of one opening number
@@ -212,23 +213,17 @@ opened_alone t sound p q row other found there =
     (two_found AloneOpened alone_back p t.rows row found (λ _. refl)
     (two_weak OpensBefore AloneOpened (λ a b before same. absurd (omega arith)) t.rows sound.producers.openings_rise))
 
--- the O->T id is that of the opening number, which is below the next one
-record IsOwn (profile : Profile) (next : ℕ) (row : Row) : Type 0 where
-  id : row.o_t_id ≡ connection_id profile.incarnation row.opening
-
-own_ids : (profile : Profile) (next : ℕ) (rows : List Row) → IdsAreDrawn profile next rows → Each (IsOwn profile next) rows
-own_ids profile next [] drawn = tt
-own_ids profile next (row ∷ rows) drawn = (record { id = drawn.0 }, own_ids profile next rows drawn.2)
-
 -- two connections that one datagram is for are one
 pub for_alone : (t : AdapterTable) → IsSound t → (peer : Node) (id : ℕ) (q : Row → Bool) (row other : Row) → find (is_for peer id) t.rows ≡ Some row → find q t.rows ≡ Some other → is_for peer id other ≡ true → other ≡ row
 for_alone t sound peer id q row other found there for_it =
-    let own = own_ids t.profile t.next_id t.rows sound.ids_are_drawn in
-    let first = (each_found (IsOwn t.profile t.next_id) (is_for peer id) t.rows row found own).id in
-    let second = (each_found (IsOwn t.profile t.next_id) q t.rows other there own).id in
-    let x : t.profile.incarnation * 2 ^ 24 + row.opening ≡ id = sym (ap (λ (i : ConnId). i.0) first) ∙ id_of peer id row (found_passes (is_for peer id) t.rows row found) in
-    let y : t.profile.incarnation * 2 ^ 24 + other.opening ≡ id = sym (ap (λ (i : ConnId). i.0) second) ∙ id_of peer id other for_it in
-    opened_alone t sound (is_for peer id) q row other found there (omega arith)
+    let left = sound.ids_are_left in
+    let first = each_found (IsDrawn t.ids t.next_id) (is_for peer id) t.rows row found sound.ids_are_drawn in
+    let second = each_found (IsDrawn t.ids t.next_id) q t.rows other there sound.ids_are_drawn in
+    let first_below = first.below in
+    let second_below = second.below in
+    opened_alone t sound (is_for peer id) q row other found there
+    (ids_differ t.ids other.opening row.opening sound.blocks second.begins (omega (arith, left, second_below)) first.begins (omega (arith, left, first_below))
+    (ap (λ (i : ConnId). i.0) (sym second.id) ∙ id_of peer id other for_it ∙ sym (id_of peer id row (found_passes (is_for peer id) t.rows row found)) ∙ ap (λ (i : ConnId). i.0) first.id))
   where
     id_of : (peer : Node) (id : ℕ) (row : Row) → is_for peer id row ≡ true → row.o_t_id.0 ≡ id
     id_of peer id row is = eqb-true _ _ (and_parts (row.peer.0 == peer.0) _ (and_parts (is_established row) _ is).1).1
@@ -307,12 +302,12 @@ step_goes w t other next is sound kept = control_does (Controls w) (requests_con
 -- ---- openings to come
 
 -- each opening number is below the next one
-pub below_next : (profile : Profile) (next opening : ℕ) (rows : List Row) → IdsAreDrawn profile next rows → next ≤ opening → list_any (was_opened_as opening) rows ≡ false
-below_next profile next opening [] drawn more = refl
-below_next profile next opening (row ∷ rows) drawn more =
-    let least : row.opening < next = drawn.1 in
+pub below_next : (ids : List IdBlock) (next opening : ℕ) (rows : List Row) → IdsAreDrawn ids next rows → next ≤ opening → list_any (was_opened_as opening) rows ≡ false
+below_next ids next opening [] drawn more = refl
+below_next ids next opening (row ∷ rows) drawn more =
+    let least : row.opening < next = drawn.0.below in
     let other : (row.opening == opening) ≡ false = grind (arith, nat_tests) in
-    rw other (below_next profile next opening rows drawn.2 more)
+    rw other (below_next ids next opening rows drawn.1 more)
 
 unopened_found : (opening : ℕ) (t : AdapterTable) (peer : Node) (d : DatagramFields) (found : Option Row) → find (is_for peer d.connection) t.rows ≡ found → list_any (was_opened_as opening) t.rows ≡ false → accepted_found opening t.profile t.clock d found ≡ []
 unopened_found opening t peer d None is none = refl

@@ -28,13 +28,13 @@ use Rattle.adapter_table.specs.Inquiries.{inquiry_reply, inquired_by, inquired}
 use Rattle.adapter_table.specs.Counting.{counted_link}
 use Rattle.adapter_table.specs.Lemmas.CountLemmas.{counted_keeps}
 use Rattle.adapter_table.specs.Lemmas.PassiveLemmas.{passive_holds}
-use Rattle.adapter_table.specs.Lemmas.PlainLemmas.{counters_hold}
+use Rattle.adapter_table.specs.Lemmas.PlainLemmas.{counters_hold, ids_hold}
 use Rattle.adapter_table.specs.MessagesSound.{IsCarried, IsInPlace}
 use Rattle.adapter_table.specs.Own.{OwnRequest, own_of, cannot_ask}
 use Rattle.adapter_table.specs.Profiles.{is_at}
 use Rattle.adapter_table.specs.Requests.{Next, Served, counted_once, router_refusal, served, requested_by, requested}
 use Rattle.adapter_table.specs.Requests as router
-use Rattle.adapter_table.specs.Step.{written_table, changed_table, written, write_of, write, adapter_step}
+use Rattle.adapter_table.specs.Step.{written_table, changed_table, taken_table, written, write_of, write, adapter_step}
 use Rattle.adapter_table.specs.Streams.{is_stream, is_taken, with_stream, stream_opened, cut_of, stream_cut}
 use Rattle.adapter_table.specs.Whole.{IsWhole}
 use Rattle.message_laws.specs.Repetitions.{asks_next, sent_at}
@@ -118,4 +118,6 @@ event_goes d count t (event.Tick ms) whole none = tick_goes d count t ms whole.m
 event_goes d count t (event.Respond number general bytes) whole none = respond_goes d count t number general bytes
 event_goes d count t (event.Counters bytes) whole none =
     counters_hold (Quietly d count t) t bytes (λ why. unchanged d count t) (quiet d count t (counted_link t bytes) (omega arith) refl (leaves_same d.o_t_id t.messaging.class3_connections))
+event_goes d count t (event.Ids block) whole none =
+    ids_hold (Quietly d count t) t block (λ why. unchanged d count t) (λ may. quiet d count t (taken_table t block) (omega arith) refl (leaves_same d.o_t_id t.messaging.class3_connections))
 event_goes d count t other whole none = passive_holds (Quietly d count t) t (λ why. unchanged d count t) (λ verdict. unchanged d count t) other refl

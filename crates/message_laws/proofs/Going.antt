@@ -1,8 +1,8 @@
 -- What a connection keeps of a message while other events come: its count, and the frame that was last sent for it.
-use Rattle.std.proofs.Common.{◌≡◌, ◌⊎◌, inl, ◌≤◌, ℕ, Bool, true, false, cond, List, [], Option, Some, None, option_to_list, Result, Ok, Err, refl, sym, subst, arith}
+use Rattle.std.proofs.Common.{◌≡◌, ◌⊎◌, inl, ◌≤◌, ◌<◌, ℕ, Bool, true, false, cond, List, [], Option, Some, None, option_to_list, Result, Ok, Err, refl, sym, subst, arith}
 use Rattle.std.specs.List.{last_or}
 use Rattle.cip_types.specs.declared.names.ConnId.{ConnId}
-use Rattle.cip_types.specs.Ids.{connection_id}
+use Rattle.cip_types.specs.Ids.{id_at}
 use Rattle.cip_events.specs.declared.event.Frame.{Frame}
 use Rattle.cip_events.specs.declared.event.StepFault.{StepFault}
 use Rattle.messaging.specs.declared.class3.Class3Connection.{Class3Connection}
@@ -37,7 +37,8 @@ pub record Before (d : Class3Connection) (count : ℕ) (ds : List Class3Connecti
 
 -- the step drew the id
 pub record IsNew (id : ConnId) (t u : AdapterTable) : Type 0 where
-  pub fresh : id.0 ≡ (connection_id t.profile.incarnation t.next_id).0
+  pub fresh : id.0 ≡ (id_at u.ids t.next_id).0
+  pub drawn : t.next_id < u.next_id
 
 pub record Goes (d : Class3Connection) (count : ℕ) (t : AdapterTable) (frames : List Frame) (u : AdapterTable) : Type 0 where
   pub later : t.next_id ≤ u.next_id

@@ -100,7 +100,7 @@ opened_goes d count t stream request = record {
   profile = refl;
   stands = λ e found. elim (appended d.o_t_id t.messaging.class3_connections (opened_class3 t stream request) e found) [
     | inl old ↦ inl (stays d count t.messaging.class3_connections e (record { old = e; found = old; is = refl }))
-    | inr new ↦ inr (record { fresh = id_is _ d.o_t_id.0 new })
+    | inr new ↦ inr (record { fresh = id_is _ d.o_t_id.0 new; drawn = omega arith })
   ];
 }
 
@@ -111,7 +111,7 @@ recounted d count t u counters goes = record {
   profile = goes.profile;
   stands = λ e found. elim (goes.stands e found) [
     | inl old ↦ inl old
-    | inr new ↦ inr (record { fresh = new.fresh })
+    | inr new ↦ inr (record { fresh = new.fresh; drawn = new.drawn })
   ];
 }
 

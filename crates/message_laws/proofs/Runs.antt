@@ -4,7 +4,8 @@ use Rattle.std.specs.List.{last_or}
 use Rattle.std.proofs.lemmas.Bool.{and_parts}
 use Rattle.base_lemmas.specs.Lists.{found_passes}
 use Rattle.cip_types.specs.declared.names.ConnId.{ConnId}
-use Rattle.cip_types.specs.Ids.{connection_id}
+use Rattle.cip_types.specs.IdLaws.{next_differs, extends_itself, extends_same}
+use Rattle.cip_types.specs.Ids.{Extends, id_at}
 use Rattle.cip_encap.specs.Connected.{ConnectedFields}
 use Rattle.cip_events.specs.declared.event.Delivery.TheVariants.{Duplicate}
 use Rattle.cip_events.specs.declared.event.Event.{Event}
@@ -26,7 +27,7 @@ use Rattle.adapter_table.specs.Requests.{Next}
 use Rattle.adapter_table.specs.Step.{adapter_step}
 use Rattle.adapter_table.specs.Whole.{IsWhole}
 use Rattle.adapter_table.specs.declared.profile.Description.{Description}
-use Rattle.adapter_table.specs.Lemmas.CounterSteps.{profile_stays}
+use Rattle.adapter_table.specs.Lemmas.CounterSteps.{profile_stays, blocks_go_on}
 use Rattle.cip_tables.specs.declared.table.DeviceTable.{DeviceTable}
 use Rattle.cip_tables.specs.declared.table.DeviceTable.TheVariants.{Adapter}
 use Rattle.cip_tables.specs.Run.{table_of, table_after}
@@ -44,28 +45,46 @@ use Rattle.message_laws.proofs.Serving.{bears, serving, IsIts, serves}
 
 -- the device drew the id
 pub record IsUsed (id : ConnId) (t : AdapterTable) : Type 0 where
-  pub counter : ℕ
-  pub below : counter < t.next_id
-  pub is : id.0 ≡ (connection_id t.profile.incarnation counter).0
+  pub number : ℕ
+  pub begins : 1 ≤ number
+  pub below : number < t.next_id
+  pub is : id.0 ≡ (id_at t.ids number).0
 
 -- the connection holds the message, if it is still open
 pub record Keeps (d : Class3Connection) (count : ℕ) (sent : Option Frame) (t : AdapterTable) : Type 0 where
   pub used : IsUsed d.o_t_id t
   pub stands : (e : Class3Connection) → Found d.o_t_id t.messaging.class3_connections e → Holds d count sent e
 
-pub still_used : (id : ConnId) (t u : AdapterTable) → t.next_id ≤ u.next_id → u.profile ≡ t.profile → IsUsed id t → IsUsed id u
-still_used id t u later alike used = record { counter = used.counter; below = omega (arith, used.below, later); is = used.is ∙ ap (λ (p : Profile). (connection_id p.incarnation used.counter).0) (sym alike) }
+pub still_used : (id : ConnId) (t u : AdapterTable) → t.next_id ≤ u.next_id → Extends t.ids u.ids → IsWhole t → IsUsed id t → IsUsed id u
+still_used id t u later grows whole used =
+    let begins = used.begins in
+    let below = used.below in
+    let left = whole.sound.ids_are_left in
+    record {
+      number = used.number;
+      begins = begins;
+      below = omega (arith, below, later);
+      is = used.is ∙ ap (λ (i : ConnId). i.0) (sym (grows.same used.number begins (omega (arith, below, left))));
+    }
 
 -- a new connection has another id
-pub not_new : (id : ConnId) (t u : AdapterTable) → IsUsed id t → IsNew id t u → ⊥
-not_new id t u used new = omega (arith, used.is, new.fresh, used.below)
+pub not_new : (id : ConnId) (t u : AdapterTable) → Extends t.ids u.ids → IsWhole t → IsWhole u → IsUsed id t → IsNew id t u → ⊥
+not_new id t u grows whole after used new =
+    let begins = used.begins in
+    let below = used.below in
+    let drawn = new.drawn in
+    let left = whole.sound.ids_are_left in
+    let left_after = after.sound.ids_are_left in
+    let same : (id_at u.ids used.number).0 ≡ (id_at u.ids t.next_id).0 =
+    ap (λ (i : ConnId). i.0) (grows.same used.number begins (omega (arith, below, left))) ∙ sym used.is ∙ new.fresh in
+    next_differs u.ids t.next_id used.number (record { are = after.sound.blocks; begins = omega (arith, begins, below); ends = omega (arith, drawn, left_after) }) begins below same
 
-pub keeps_on : (d : Class3Connection) (count : ℕ) (sent : Option Frame) (t u : AdapterTable) (frames : List Frame) → Keeps d count sent t → Goes d count t frames u → Keeps d count (last_or sent frames) u
-keeps_on d count sent t u frames keeps goes = record {
-  used = still_used d.o_t_id t u goes.later goes.profile keeps.used;
+pub keeps_on : (d : Class3Connection) (count : ℕ) (sent : Option Frame) (t u : AdapterTable) (frames : List Frame) → Extends t.ids u.ids → IsWhole t → IsWhole u → Keeps d count sent t → Goes d count t frames u → Keeps d count (last_or sent frames) u
+keeps_on d count sent t u frames grows whole after keeps goes = record {
+  used = still_used d.o_t_id t u goes.later grows whole keeps.used;
   stands = λ e found. elim (goes.stands e found) [
     | inl before ↦ before.on sent (keeps.stands before.old before.found)
-    | inr new ↦ absurd (not_new d.o_t_id t u keeps.used new)
+    | inr new ↦ absurd (not_new d.o_t_id t u grows whole after keeps.used new)
   ];
 }
 
@@ -86,8 +105,8 @@ kept_over number header d count (first ∷ rest) stream session = rw (stream, se
 
 drawn_used : (t : AdapterTable) (d : Class3Connection) → IsWhole t → Found d.o_t_id t.messaging.class3_connections d → IsUsed d.o_t_id t
 drawn_used t d whole found =
-    let drawn = each_found (IsDrawn t.profile.incarnation t.next_id) (has_class3_id d.o_t_id) t.messaging.class3_connections d found whole.messages.own.are_drawn in
-    record { counter = d.opening; below = drawn.below; is = ap (λ (i : ConnId). i.0) drawn.id }
+    let drawn = each_found (IsDrawn t.ids t.next_id) (has_class3_id d.o_t_id) t.messaging.class3_connections d found whole.messages.own.are_drawn in
+    record { number = d.opening; begins = drawn.begins; below = drawn.below; is = ap (λ (i : ConnId). i.0) drawn.id }
 
 counted_last : (last : Option ℕ) (count : ℕ) → is_count count last ≡ true → last ≡ Some count
 counted_last None count is = absurd (let x = is in cc)
@@ -103,7 +122,7 @@ repeated_keeps t number header unit d whole its session repeats =
       kept = sym (kept_over number header d unit.count d.reply its.stream session) ∙ sym (shown number header (kept_reply d unit.count d.reply));
     } in
     record {
-      used = still_used d.o_t_id t (repeated_table t d) (omega (arith, stay.0)) stay.1 (drawn_used t d whole its.found);
+      used = still_used d.o_t_id t (repeated_table t d) (omega (arith, stay.0)) (extends_same t.ids (repeated_table t d).ids stay.2) whole (drawn_used t d whole its.found);
       stands = λ e found.
           let was = repeated_leaves d.o_t_id t d e found in
           holds_deadline (has_class3_id d.o_t_id was.old) d unit.count _ (next_deadline t d) was.old e was.is
@@ -126,7 +145,7 @@ executed_keeps t number header unit d whole its session some =
       kept = frames ∙ sym (shown number header (new_message t d unit).reply);
     } in
     record {
-      used = still_used d.o_t_id t (new_message t d unit).table (omega (arith, stay.0)) stay.1 (drawn_used t d whole its.found);
+      used = still_used d.o_t_id t (new_message t d unit).table (omega (arith, stay.0)) (extends_same t.ids (new_message t d unit).table.ids stay.2) whole (drawn_used t d whole its.found);
       stands = λ e found.
           let was = executed_leaves d.o_t_id t d unit.count (new_message t d unit) how e found in
           let one = one_found d.o_t_id t.messaging.class3_connections was.old d was.found its.found in
@@ -200,6 +219,11 @@ pub left_whole : StepsKeep IsWhole → (t : AdapterTable) (happens : Event) (out
 left_whole steps t happens (Ok next) is whole = steps t happens next is whole
 left_whole steps t happens (Err fault) is whole = whole
 
+-- the blocks of ids grow
+pub left_grows : (t : AdapterTable) (happens : Event) (outcome : Result Next StepFault) → adapter_step t happens ≡ outcome → Extends t.ids (left_of t outcome).ids
+left_grows t happens (Ok next) is = blocks_go_on t.ids t happens next is (extends_itself t.ids)
+left_grows t happens (Err fault) is = extends_itself t.ids
+
 -- the first event leaves the profile
 first_profile : (t : AdapterTable) (first : Event) → IsWhole t → (left_of t (adapter_step t first)).profile.description ≡ t.profile.description
 first_profile t first whole = left_profile (adapter_step t first) refl where
@@ -222,7 +246,8 @@ run_stands steps described d count sent t (happens ∷ events) same whole keeps 
     (run_stands steps described d count (last_or sent (sent_at d count t happens)) (left_of t (adapter_step t happens)) events
     (ap (λ (p : Profile). p.description) goes.profile ∙ same)
     (left_whole steps t happens (adapter_step t happens) refl whole)
-    (keeps_on d count sent t (left_of t (adapter_step t happens)) (sent_at d count t happens) keeps goes) none.1)
+    (keeps_on d count sent t (left_of t (adapter_step t happens)) (sent_at d count t happens) (left_grows t happens (adapter_step t happens) refl) whole
+    (left_whole steps t happens (adapter_step t happens) refl whole) keeps goes) none.1)
 
 all_stands : StepsKeep IsWhole → (d : Class3Connection) (count : ℕ) (t : AdapterTable) (first : Event) (events : List Event) → IsWhole t → Found d.o_t_id t.messaging.class3_connections d → asks t.profile.description d count first ≡ true → EachOf (λ happens. asks_next t.profile.description d count happens ≡ false) events → Stands d count (last_sent d count None (Adapter t) (first ∷ events)) (table_after (Adapter t) (first ∷ events))
 all_stands steps d count t first events whole found requests none =

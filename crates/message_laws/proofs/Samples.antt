@@ -54,6 +54,7 @@ profile = record {
   description = None;
   limits = no_limits;
   objects = 0x64 ∷ [];
+  ids = None;
 }
 
 -- its peer, at 192.168.1.20

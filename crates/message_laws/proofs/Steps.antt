@@ -63,9 +63,9 @@ pub repeated_leaves : (id : ConnId) (t : AdapterTable) (x : Class3Connection) �
 unfolding messages_table repeated
 repeated_leaves id t x = change_leaves id x.o_t_id (has_class3_id x.o_t_id) (repeated_class3 (next_deadline t x)) (moves_deadline x (next_deadline t x)) t.messaging.class3_connections
 
-pub repeated_same : (t : AdapterTable) (x : Class3Connection) → ((repeated_table t x).next_id ≡ t.next_id) × ((repeated_table t x).profile ≡ t.profile)
+pub repeated_same : (t : AdapterTable) (x : Class3Connection) → ((repeated_table t x).next_id ≡ t.next_id) × ((repeated_table t x).profile ≡ t.profile) × ((repeated_table t x).ids ≡ t.ids)
 unfolding messages_table
-repeated_same t x = (refl, refl)
+repeated_same t x = (refl, refl, refl)
 
 -- ---- the connection's own message comes again
 
@@ -149,9 +149,9 @@ executed_leaves id t x count done how e found =
     change_leaves id x.o_t_id (has_class3_id x.o_t_id) (executed_class3 count how.reply (next_deadline t x)) (is_executing x count how.reply (next_deadline t x)) t.messaging.class3_connections e
     (subst (λ (ds : List Class3Connection). Found id ds e) how.connections (subst (λ (u : AdapterTable). Found id u.messaging.class3_connections e) how.table found))
 
-pub executed_same : (t : AdapterTable) (x : Class3Connection) (count : ℕ) (done : Handled) → IsExecuted t x count done → (done.table.next_id ≡ t.next_id) × (done.table.profile ≡ t.profile)
+pub executed_same : (t : AdapterTable) (x : Class3Connection) (count : ℕ) (done : Handled) → IsExecuted t x count done → (done.table.next_id ≡ t.next_id) × (done.table.profile ≡ t.profile) × (done.table.ids ≡ t.ids)
 unfolding messages_table
-executed_same t x count done how = (ap (λ (u : AdapterTable). u.next_id) how.table, ap (λ (u : AdapterTable). u.profile) how.table)
+executed_same t x count done how = (ap (λ (u : AdapterTable). u.next_id) how.table, ap (λ (u : AdapterTable). u.profile) how.table, ap (λ (u : AdapterTable). u.ids) how.table)
 
 abbrev pub new_message : AdapterTable → Class3Connection → ConnectedFields → Handled
 new_message t x unit = message_executed t x unit.count (service_in unit.message) (router_request_reading unit.message) (own_of t.profile.objects (router_request_reading unit.message))

@@ -33,7 +33,7 @@ use Rattle.message_laws.proofs.Going.{Holds, left_of}
 use Rattle.message_laws.proofs.Steps.{over, nothing_new, new_message}
 use Rattle.message_laws.proofs.Events.{event_goes}
 use Rattle.message_laws.proofs.Serving.{bears, serving, IsIts, unit_message, serves}
-use Rattle.message_laws.proofs.Runs.{Keeps, still_used, not_new, keeps_on, executed_keeps, its_own, first_keeps, step_left, left_whole}
+use Rattle.message_laws.proofs.Runs.{Keeps, still_used, not_new, keeps_on, executed_keeps, its_own, first_keeps, step_left, left_whole, left_grows}
 
 -- ---- a connection is found behind its change
 
@@ -153,31 +153,36 @@ none_executed : (d : Class3Connection) (t : AdapterTable) (outcome : Result Next
 none_executed d t outcome None = refl
 none_executed d t outcome (Some m) = refl
 
+-- the table is whole, and stays so
+record StaysWhole (t : AdapterTable) (happens : Event) : Type 0 where
+  whole : IsWhole t
+  after : IsWhole (left_by t happens)
+
 -- the connection has ended
-closed_turn : (d : Class3Connection) (count : ℕ) (sent : Option Frame) (t : AdapterTable) (happens : Event) → IsWhole t → Keeps d count sent t → find (has_class3_id d.o_t_id) t.messaging.class3_connections ≡ None → Turns d count t happens
+closed_turn : (d : Class3Connection) (count : ℕ) (sent : Option Frame) (t : AdapterTable) (happens : Event) → StaysWhole t happens → Keeps d count sent t → find (has_class3_id d.o_t_id) t.messaging.class3_connections ≡ None → Turns d count t happens
 closed_turn d count sent t happens kept keeps none =
     let other = own_count d (message_in t.profile.description happens) in
-    let goes = event_goes d other.0 t happens kept other.1 in
+    let goes = event_goes d other.0 t happens kept.whole other.1 in
     inl (
       ap (executed_by d t (adapter_step t happens) (message_in t.profile.description happens)) none ∙ none_executed d t (adapter_step t happens) (message_in t.profile.description happens),
       (
         sent,
         record {
-          used = still_used d.o_t_id t (left_by t happens) goes.later goes.profile keeps.used;
+          used = still_used d.o_t_id t (left_by t happens) goes.later (left_grows t happens (adapter_step t happens) refl) kept.whole keeps.used;
           stands = λ e found. elim (goes.stands e found) [
             | inl before ↦ absurd (let never = sym before.found ∙ none in cc)
-            | inr new ↦ absurd (not_new d.o_t_id t (left_by t happens) keeps.used new)
+            | inr new ↦ absurd (not_new d.o_t_id t (left_by t happens) (left_grows t happens (adapter_step t happens) refl) kept.whole kept.after keeps.used new)
           ];
         },
       ),
     )
 
 -- the event brings no message of the connection
-other_turn : (d : Class3Connection) (count : ℕ) (sent : Option Frame) (t : AdapterTable) (happens : Event) → IsWhole t → Keeps d count sent t → if_message (is_message_of d) (message_in t.profile.description happens) ≡ false → Turns d count t happens
+other_turn : (d : Class3Connection) (count : ℕ) (sent : Option Frame) (t : AdapterTable) (happens : Event) → StaysWhole t happens → Keeps d count sent t → if_message (is_message_of d) (message_in t.profile.description happens) ≡ false → Turns d count t happens
 other_turn d count sent t happens kept keeps none =
     inl (
       not_executed (message_in t.profile.description happens) (find (has_class3_id d.o_t_id) t.messaging.class3_connections) none,
-      (last_or sent (sent_at d count t happens), keeps_on d count sent t (left_by t happens) (sent_at d count t happens) keeps (event_goes d count t happens kept (not_next (message_in t.profile.description happens) none))),
+      (last_or sent (sent_at d count t happens), keeps_on d count sent t (left_by t happens) (sent_at d count t happens) (left_grows t happens (adapter_step t happens) refl) kept.whole kept.after keeps (event_goes d count t happens kept.whole (not_next (message_in t.profile.description happens) none))),
     )
   where
     not_executed : (m : Option Message) (found : Option Class3Connection) → if_message (is_message_of d) m ≡ false → executed_by d t (adapter_step t happens) m found ≡ []
@@ -192,7 +197,7 @@ other_turn d count sent t happens kept keeps none =
 -- what stays of an open connection
 keeps_as : (d e : Class3Connection) (n : ℕ) (sent : Option Frame) (u : AdapterTable) → e.o_t_id.0 ≡ d.o_t_id.0 → e.stream ≡ d.stream → e.o_t_size ≡ d.o_t_size → Keeps e n sent u → Keeps d n sent u
 keeps_as d e n sent u id stream size keeps = record {
-  used = record { counter = keeps.used.counter; below = keeps.used.below; is = sym id ∙ keeps.used.is };
+  used = record { number = keeps.used.number; begins = keeps.used.begins; below = keeps.used.below; is = sym id ∙ keeps.used.is };
   stands = λ x found.
       let h = keeps.stands x (subst (λ (k : ℕ). find (λ (c : Class3Connection). c.o_t_id.0 == k) u.messaging.class3_connections ≡ Some x) (sym id) found) in
       record { stream = h.stream ∙ stream; size = h.size ∙ size; last = h.last; kept = h.kept };
@@ -218,7 +223,7 @@ executed_is d count sent t number bytes e s b is =
     ∙ ap (λ (a : Bool). cond (a && acts d.o_t_id t (Ok (framed number s.header (serving t e s.unit)))) (s.unit.count ∷ []) []) s.own
     ∙ ap (λ (a : Bool). cond a (s.unit.count ∷ []) []) is
 
-quiet_turn : (d : Class3Connection) (count : ℕ) (sent : Option Frame) (t : AdapterTable) (number : ℕ) (bytes : List ℕ) (e : Class3Connection) (s : IsServed d count sent t number bytes e) → IsWhole t → Keeps d count sent t → acts d.o_t_id t (Ok (framed number s.header (serving t e s.unit))) ≡ false → (not (s.unit.count == count) && has_bytes s.unit.message) ≡ false → Turns d count t (event.Frame number bytes)
+quiet_turn : (d : Class3Connection) (count : ℕ) (sent : Option Frame) (t : AdapterTable) (number : ℕ) (bytes : List ℕ) (e : Class3Connection) (s : IsServed d count sent t number bytes e) → StaysWhole t (event.Frame number bytes) → Keeps d count sent t → acts d.o_t_id t (Ok (framed number s.header (serving t e s.unit))) ≡ false → (not (s.unit.count == count) && has_bytes s.unit.message) ≡ false → Turns d count t (event.Frame number bytes)
 quiet_turn d count sent t number bytes e s kept keeps not_acting none =
     let not_next : asks_next t.profile.description d count (event.Frame number bytes) ≡ false =
     ap (if_message (is_next d count)) s.message ∙ behind (is_message_of d (over number s.unit)) (not (s.unit.count == count) && has_bytes s.unit.message) none in
@@ -226,7 +231,7 @@ quiet_turn d count sent t number bytes e s kept keeps not_acting none =
       executed_is d count sent t number bytes e s false not_acting,
       (
         last_or sent (sent_at d count t (event.Frame number bytes)),
-        keeps_on d count sent t (left_by t (event.Frame number bytes)) (sent_at d count t (event.Frame number bytes)) keeps (event_goes d count t (event.Frame number bytes) kept not_next),
+        keeps_on d count sent t (left_by t (event.Frame number bytes)) (sent_at d count t (event.Frame number bytes)) (left_grows t (event.Frame number bytes) (adapter_step t (event.Frame number bytes)) refl) kept.whole kept.after keeps (event_goes d count t (event.Frame number bytes) kept.whole not_next),
       ),
     )
   where
@@ -234,7 +239,7 @@ quiet_turn d count sent t number bytes e s kept keeps not_acting none =
     behind true b is = is
     behind false b is = refl
 
-served_turn : (r b : Bool) (d : Class3Connection) (count : ℕ) (sent : Option Frame) (t : AdapterTable) (number : ℕ) (bytes : List ℕ) (e : Class3Connection) (s : IsServed d count sent t number bytes e) → repeats_last e s.unit.count ≡ r → has_bytes s.unit.message ≡ b → IsWhole t → Keeps d count sent t → Turns d count t (event.Frame number bytes)
+served_turn : (r b : Bool) (d : Class3Connection) (count : ℕ) (sent : Option Frame) (t : AdapterTable) (number : ℕ) (bytes : List ℕ) (e : Class3Connection) (s : IsServed d count sent t number bytes e) → repeats_last e s.unit.count ≡ r → has_bytes s.unit.message ≡ b → StaysWhole t (event.Frame number bytes) → Keeps d count sent t → Turns d count t (event.Frame number bytes)
 served_turn true b d count sent t number bytes e s repeats some kept keeps =
     let same_count : s.unit.count ≡ count = counted (ap (is_count s.unit.count) (sym s.holds.last) ∙ repeats) in
     quiet_turn d count sent t number bytes e s kept keeps
@@ -260,7 +265,7 @@ served_turn false true d count sent t number bytes e s new some kept keeps =
     ap (λ (x : Bool). acts d.o_t_id t (Ok (framed number s.header (cond x (message_repeated t e s.unit.count) (new_message t e s.unit))))) new
     ∙ execution_acts d.o_t_id t e number s.unit.count s.header (new_message t e s.unit) how s.found new in
     let after : Option Frame = last_or None (reply_frames number s.header (new_message t e s.unit).reply) in
-    let kept_now = executed_keeps t number s.header s.unit e kept s.its s.session some in
+    let kept_now = executed_keeps t number s.header s.unit e kept.whole s.its s.session some in
     let id : e.o_t_id.0 ≡ d.o_t_id.0 = eqb-true e.o_t_id.0 d.o_t_id.0 (found_passes (has_class3_id d.o_t_id) t.messaging.class3_connections e s.found) in
     inr (
       s.unit.count,
@@ -272,7 +277,7 @@ served_turn false true d count sent t number bytes e s new some kept keeps =
 counts_own : (d : Class3Connection) (m : Message) → is_message_of d m ≡ true → is_counted d m.unit.count m ≡ true
 counts_own d m is = rw is (same_number m.unit.count)
 
-frame_turn : (d : Class3Connection) (count : ℕ) (sent : Option Frame) (t : AdapterTable) (number : ℕ) (bytes : List ℕ) (e : Class3Connection) → IsWhole t → Keeps d count sent t → Found d.o_t_id t.messaging.class3_connections e → if_message (is_message_of d) (message_in t.profile.description (event.Frame number bytes)) ≡ true → Turns d count t (event.Frame number bytes)
+frame_turn : (d : Class3Connection) (count : ℕ) (sent : Option Frame) (t : AdapterTable) (number : ℕ) (bytes : List ℕ) (e : Class3Connection) → StaysWhole t (event.Frame number bytes) → Keeps d count sent t → Found d.o_t_id t.messaging.class3_connections e → if_message (is_message_of d) (message_in t.profile.description (event.Frame number bytes)) ≡ true → Turns d count t (event.Frame number bytes)
 frame_turn d count sent t number bytes e kept keeps found own =
     let bearing = bears t.profile.description number bytes (is_message_of d) own in
     let unit = bearing.unit in
@@ -287,16 +292,16 @@ frame_turn d count sent t number bytes e kept keeps found own =
       its = its;
       found = found;
       holds = h;
-      said = serves t number bytes unit e bearing.carries kept its;
+      said = serves t number bytes unit e bearing.carries kept.whole its;
     } in
     served_turn (repeats_last e unit.count) (has_bytes unit.message) d count sent t number bytes e s refl refl kept keeps
 
-event_turn : (b : Bool) (d : Class3Connection) (count : ℕ) (sent : Option Frame) (t : AdapterTable) (happens : Event) (e : Class3Connection) → IsWhole t → Keeps d count sent t → Found d.o_t_id t.messaging.class3_connections e → if_message (is_message_of d) (message_in t.profile.description happens) ≡ b → Turns d count t happens
+event_turn : (b : Bool) (d : Class3Connection) (count : ℕ) (sent : Option Frame) (t : AdapterTable) (happens : Event) (e : Class3Connection) → StaysWhole t happens → Keeps d count sent t → Found d.o_t_id t.messaging.class3_connections e → if_message (is_message_of d) (message_in t.profile.description happens) ≡ b → Turns d count t happens
 event_turn false d count sent t happens e kept keeps found own = other_turn d count sent t happens kept keeps own
 event_turn true d count sent t (event.Frame number bytes) e kept keeps found own = frame_turn d count sent t number bytes e kept keeps found own
 event_turn true d count sent t other e kept keeps found own = absurd (let x = own in cc)
 
-turn : (d : Class3Connection) (count : ℕ) (sent : Option Frame) (t : AdapterTable) (happens : Event) (found : Option Class3Connection) → find (has_class3_id d.o_t_id) t.messaging.class3_connections ≡ found → IsWhole t → Keeps d count sent t → Turns d count t happens
+turn : (d : Class3Connection) (count : ℕ) (sent : Option Frame) (t : AdapterTable) (happens : Event) (found : Option Class3Connection) → find (has_class3_id d.o_t_id) t.messaging.class3_connections ≡ found → StaysWhole t happens → Keeps d count sent t → Turns d count t happens
 turn d count sent t happens None is kept keeps = closed_turn d count sent t happens kept keeps is
 turn d count sent t happens (Some e) is kept keeps = event_turn (if_message (is_message_of d) (message_in t.profile.description happens)) d count sent t happens e kept keeps is refl
 
@@ -306,7 +311,7 @@ run_turns : StepsKeep IsWhole → (d : Class3Connection) (count : ℕ) (sent : O
 run_turns steps d count sent t [] kept keeps = tt
 run_turns steps d count sent t (happens ∷ events) kept keeps =
     subst (λ (next : DeviceTable). DifferInTurn count (executed_at d t happens ++ executions d next events)) (sym (step_left t happens))
-    (elim (turn d count sent t happens (find (has_class3_id d.o_t_id) t.messaging.class3_connections) refl kept keeps) [
+    (elim (turn d count sent t happens (find (has_class3_id d.o_t_id) t.messaging.class3_connections) refl (record { whole = kept; after = left_whole steps t happens (adapter_step t happens) refl kept }) keeps) [
       | inl stays ↦ subst (λ (counts : List ℕ). DifferInTurn count (counts ++ executions d (Adapter (left_by t happens)) events)) (sym stays.0)
           (run_turns steps d count stays.1.0 (left_by t happens) events (left_whole steps t happens (adapter_step t happens) refl kept) stays.1.1)
       | inr turns ↦ subst (λ (counts : List ℕ). DifferInTurn count (counts ++ executions d (Adapter (left_by t happens)) events)) (sym turns.1)

@@ -40,6 +40,7 @@ described = record {
   description = Some pump;
   limits = no_limits;
   objects = 0x64 ∷ [];
+  ids = None;
 }
 
 -- the same without a description

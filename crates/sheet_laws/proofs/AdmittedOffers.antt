@@ -5,6 +5,7 @@ use Rattle.std.specs.List.{list_any}
 use Rattle.std.specs.Option.{option_map}
 use Rattle.std.proofs.lemmas.Bool.{not-false, and_parts}
 use Rattle.std.proofs.lemmas.Bool.Decides.{nat_tests}
+use Rattle.cip_types.specs.Ids.{ids_left}
 use Rattle.cip_types.specs.declared.names.Ms.{Ms}
 use Rattle.cip_types.specs.declared.names.Node.{Node}
 use Rattle.cip_epath.specs.Path.{PathFields}
@@ -29,7 +30,7 @@ use Rattle.adapter_table.specs.declared.profile.InputPoint.{InputPoint}
 use Rattle.adapter_table.specs.declared.profile.OutputPoint.{OutputPoint}
 use Rattle.adapter_table.specs.declared.profile.Profile.{Profile}
 use Rattle.adapter_table.specs.Checks.{View, Points, Admitted, Check, check, first_of, is_point_to_point, is_change_of_state, checks, verdict, judged, judged_path, admitted_at, o_t_size, points_of, consumed_point_of, input_of, is_known_config, joined, is_multicast, is_produced_type, are_intervals, is_below_least, is_unserved, has_inhibit_fault, lacks_pace, drawn_ids, view_of}
-use Rattle.adapter_table.specs.Profiles.{is_at, is_output_at, as_point, heartbeat, points_beside, all_points, are_distinct, profile_fault, profile_tests, are_limits, is_from, are_node_limits, most_openings}
+use Rattle.adapter_table.specs.Profiles.{first_ids, is_at, is_output_at, as_point, heartbeat, points_beside, all_points, are_distinct, profile_fault, profile_tests, are_limits, is_from, are_node_limits, most_openings}
 use Rattle.adapter_table.specs.Shaping.{all_pass, distinct_back}
 use Rattle.adapter_table.specs.StatedLimits.{limited, paced, limited_admission, has_no_place, has_node_enough, places_of}
 use Rattle.adapter_table.specs.Step.{adapter_table}
@@ -41,7 +42,7 @@ use Rattle.eds_text.specs.declared.connections.SheetConnection.{SheetConnection}
 use Rattle.eds_text.specs.Connections.{connections_of, offered, owner_of, owners_of, reader_of}
 use Rattle.eds_text.specs.Manager.{sheet_path}
 use Rattle.eds_text.specs.Offer.{admitted_least, has_place, has_place_of, offered_intervals, offered_least, offers_changes}
-use Rattle.sheet_laws.specs.Offers.{IsInRange, sheet_o_t_size, IsSheetType, IsSheetTrigger, IsMadeOf, IsAdmittedAs, IsAnswered, IsTaken, SheetsAreAdmitted}
+use Rattle.sheet_laws.specs.Offers.{IsInRange, sheet_o_t_size, IsSheetType, IsSheetTrigger, IsMadeOf, IsAdmittedAs, IsAnswered, IsTaken, HasIds, SheetsAreAdmitted}
 use Rattle.sheet_laws.proofs.OfferedPoints.{each_append, each_map, each_flat, each_if, each_so, same, any_back, inputs_found, outputs_found, no_output}
 
 -- WHAT A CONNECTION OF THE SHEET NAMES
@@ -255,9 +256,13 @@ no_inhibit : (a : Bool) (api : ℕ) → (a && nat_lt api 0) ≡ false
 no_inhibit true api = grind (arith, nat_tests)
 no_inhibit false api = refl
 
-few_ids : (multicast : Bool) → nat_lt 16777216 (1 + drawn_ids multicast None) ≡ false
-few_ids true = refl
-few_ids false = refl
+few_ids : (multicast : Bool) (left : ℕ) → 2 ≤ left → nat_lt left (drawn_ids multicast None) ≡ false
+few_ids true left two = grind (arith, nat_tests)
+few_ids false left two = grind (arith, nat_tests)
+
+-- a fresh adapter has its ids
+ids_there : (profile : Profile) → HasIds profile → 2 ≤ ids_left (first_ids profile ∷ []) 1
+ids_there profile two = omega (arith, two)
 
 is_produced : (kind : Kind) (type : ConnectionType) → IsSheetType kind type → is_produced_type type ≡ true
 is_produced ListenOnly type is = rw is refl
@@ -358,22 +363,22 @@ IsAnsweredAt profile c =
     (peer : Node) (request : OpenFields) → PathFits (sheet_path profile.config c) → IsMadeOf profile c request →
     IsAnswered c.kind c (limited_admission (adapter_table profile) peer request)
 
-taken : (profile : Profile) (none : profile_fault profile ≡ None) (kind : Kind) (triggers : Bool) (consumed o_t_len produced t_o_len : ℕ) → IsServed profile (c profile none kind triggers consumed o_t_len produced t_o_len) → IsAnsweredAt profile (c profile none kind triggers consumed o_t_len produced t_o_len)
-taken profile none ExclusiveOwner triggers consumed o_t_len produced t_o_len served peer request fits made =
+taken : (profile : Profile) (none : profile_fault profile ≡ None) → HasIds profile → (kind : Kind) (triggers : Bool) (consumed o_t_len produced t_o_len : ℕ) → IsServed profile (c profile none kind triggers consumed o_t_len produced t_o_len) → IsAnsweredAt profile (c profile none kind triggers consumed o_t_len produced t_o_len)
+taken profile none has ExclusiveOwner triggers consumed o_t_len produced t_o_len served peer request fits made =
     is_admitted profile none ExclusiveOwner triggers consumed o_t_len produced t_o_len served peer request fits made
     (to_eight profile none ExclusiveOwner triggers consumed o_t_len produced t_o_len served peer request fits made _ None
     (of_sizes profile none ExclusiveOwner triggers consumed o_t_len produced t_o_len served peer request fits made (o_t_len + 6) _ None made.o_t_size
-    (next _ _ _ None (few_ids (is_multicast request.t_o_params.kind)) refl)))
-taken profile none InputOnly triggers consumed o_t_len produced t_o_len served peer request fits made =
+    (next _ _ _ None (few_ids (is_multicast request.t_o_params.kind) (ids_left (first_ids profile ∷ []) 1) (ids_there profile has)) refl)))
+taken profile none has InputOnly triggers consumed o_t_len produced t_o_len served peer request fits made =
     is_admitted profile none InputOnly triggers consumed o_t_len produced t_o_len served peer request fits made
     (to_eight profile none InputOnly triggers consumed o_t_len produced t_o_len served peer request fits made _ None
     (of_sizes profile none InputOnly triggers consumed o_t_len produced t_o_len served peer request fits made 2 _ None (made.o_t_size ∙ served.size)
-    (next _ _ _ None (few_ids (is_multicast request.t_o_params.kind)) refl)))
-taken profile none ListenOnly triggers consumed o_t_len produced t_o_len served peer request fits made =
+    (next _ _ _ None (few_ids (is_multicast request.t_o_params.kind) (ids_left (first_ids profile ∷ []) 1) (ids_there profile has)) refl)))
+taken profile none has ListenOnly triggers consumed o_t_len produced t_o_len served peer request fits made =
     is_refused profile none ListenOnly triggers consumed o_t_len produced t_o_len served peer request fits made refusal.NoSupport
     (to_eight profile none ListenOnly triggers consumed o_t_len produced t_o_len served peer request fits made _ (Some refusal.NoSupport)
     (of_sizes profile none ListenOnly triggers consumed o_t_len produced t_o_len served peer request fits made 2 _ (Some refusal.NoSupport) (made.o_t_size ∙ served.size)
     (next (not (is_multicast request.t_o_params.kind)) refusal.ProducedType _ (Some refusal.NoSupport) (rw made.t_o_kind refl) refl)))
 
 pub sheets_are_admitted : SheetsAreAdmitted
-sheets_are_admitted profile none = each_so (IsServed profile) (IsTaken profile) (connections_of profile) (λ c served peer request fits made. taken profile none c.kind c.changes c.consumed c.o_t_len c.produced c.t_o_len served peer (whole_request profile.description request) fits (whole_made profile c request made)) (all_served profile none)
+sheets_are_admitted profile none has = each_so (IsServed profile) (IsTaken profile) (connections_of profile) (λ c served peer request fits made. taken profile none has c.kind c.changes c.consumed c.o_t_len c.produced c.t_o_len served peer (whole_request profile.description request) fits (whole_made profile c request made)) (all_served profile none)

@@ -15,7 +15,7 @@ use Rattle.cip_productions.specs.declared.kind.Kind.TheVariants.{ExclusiveOwner,
 use Rattle.messaging.specs.Sound.{EachOf}
 use Rattle.adapter_table.specs.declared.profile.Profile.{Profile}
 use Rattle.adapter_table.specs.Checks.{Admitted}
-use Rattle.adapter_table.specs.Profiles.{profile_fault}
+use Rattle.adapter_table.specs.Profiles.{first_ids, profile_fault}
 use Rattle.adapter_table.specs.Intervals.{whole_request}
 use Rattle.adapter_table.specs.StatedLimits.{limited_admission}
 use Rattle.adapter_table.specs.Step.{adapter_table}
@@ -85,6 +85,10 @@ IsTaken profile c =
     (peer : Node) (request : OpenFields) → PathFits (sheet_path profile.config c) → IsMadeOf profile c request →
     IsAnswered c.kind c (limited_admission (adapter_table profile) peer (whole_request profile.description request))
 
--- so it is of each connection of the sheet of a faultless profile
+-- it begins with an id for a connection, and one for a group
+abbrev pub HasIds : Profile → Type 0
+HasIds profile = 2 ≤ (first_ids profile).count
+
+-- so it is of each connection of the sheet of a faultless profile that has the ids
 abbrev pub SheetsAreAdmitted : Type 0
-SheetsAreAdmitted = (profile : Profile) → profile_fault profile ≡ None → EachOf (IsTaken profile) (connections_of profile)
+SheetsAreAdmitted = (profile : Profile) → profile_fault profile ≡ None → HasIds profile → EachOf (IsTaken profile) (connections_of profile)

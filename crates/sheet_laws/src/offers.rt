@@ -6,7 +6,7 @@ ghost use Rattle.sheet_laws.specs.Offers.{SheetsAreAdmitted};
 /// connection of the sheet's kind, whatever limits the maker states: at each packet interval of the sheet, and so at the first
 /// one, by each trigger and T->O type of the sheet. One of a listen-only connection is refused for want of a supporter alone.
 ///
-/// The law speaks of profiles without a fault. A described device takes a request for one of whole milliseconds, rounded down, and its
+/// The law speaks of profiles without a fault that begin with two connection ids, as each does whose ids are those of its incarnation. A described device takes a request for one of whole milliseconds, rounded down, and its
 /// sheet offers none that this makes too short.
 ///
 /// Volume 1, chapter 3, Forward_Open service. Volume 1, chapter 7, electronic data sheets.

@@ -159,6 +159,7 @@ effects_produce = record {
   messaged = λ t next_id m goes ok. messages_produce t next_id m ok;
   counted = λ t openings ok. ok;
   tallied = λ t counters ok. ok;
+  taken = λ t block may ok. ok;
 }
 
 -- each step keeps that connections produce inputs
@@ -276,6 +277,7 @@ requests_keep sent device value = record {
   messaged = λ t next_id m goes. messages_keep sent device value t next_id m goes.later;
   counted = λ t next openings keeps ok. let kept = keeps ok in record { unproduced = kept.unproduced; rows = kept.rows };
   tallied = λ t next counters keeps ok. let kept = keeps ok in record { unproduced = kept.unproduced; rows = kept.rows };
+  taken = λ t block may ok. record { unproduced = ok.unproduced; rows = ok.rows };
 }
 
 accepted_books : (sent : List Production) (device next : ℕ) (value : ℕ → List ℕ) (clock : Ms) (peer : Node) (d : DatagramFields) (row : Row) → RowBooks sent device next value row → RowBooks sent device next value (accepted_if_for clock peer d row)

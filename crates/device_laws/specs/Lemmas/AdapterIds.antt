@@ -1,13 +1,14 @@
 -- A step of an adapter carries ids: those of its connections, and those that it sends, were in the table, came with the
 -- event, or were allocated.
-use Rattle.std.proofs.Common.{◌≡◌, ◌≤◌, ℕ, ◌+◌, ◌==◌, nat_lt, Bool, true, false, cond, not, List, [], ◌∷◌, ◌++◌, length, map, filter, find, Option, Some, None, Result, Ok, Err, refl, sym, ap, subst, arith, length-append}
+use Rattle.std.proofs.Common.{◌≡◌, ◌≤◌, ◌<◌, ℕ, ◌+◌, ◌==◌, nat_lt, Bool, true, false, cond, not, List, [], ◌∷◌, ◌++◌, length, map, filter, find, Option, Some, None, Result, Ok, Err, refl, sym, ap, subst, arith, length-append}
 use Rattle.std.specs.List.{AllByRecursion, filter_map, flat_map}
 use Rattle.std.specs.Option.{IfSome, option_map}
 use Rattle.std.specs.Result.{result_ok}
 use Rattle.std.specs.Str.{bytes_eq}
 use Rattle.adapter_table.specs.Intervals.{open_refusal, whole_request}
 use Rattle.adapter_table.specs.Lemmas.RefusalLemmas.{refusal_either}
-use Rattle.adapter_table.specs.Lemmas.CheckLemmas.{draws_some}
+use Rattle.adapter_table.specs.Lemmas.CheckLemmas.{admitted_is, draws_some}
+use Rattle.cip_types.specs.Ids.{end_number}
 use Rattle.cip_types.specs.declared.names.Ms.{Ms}
 use Rattle.cip_types.specs.declared.names.Node.{Node}
 use Rattle.cip_types.specs.Fields.{fields_text, fields_at}
@@ -98,7 +99,7 @@ use Rattle.adapter_table.specs.Encapsulation.{Handled, items_for, connected_item
 use Rattle.adapter_table.specs.Ticks.{has_expired, expired_row, expired_rows, clocked_table, expired_table, produced_table, advanced, late_frames, aged_next, tick}
 use Rattle.adapter_table.specs.Step.{written_table, changed_table, written, write_of, write, adapter_step}
 use Rattle.answer_sizes.specs.Sizes.{IsShortFrame, IsSmall}
-use Rattle.device_laws.specs.Ids.{RequestIds, PayloadIds, PacketIds, MessageIds, FrameIds, HasFrameIds, HasDatagramId, AnswerIds, RowIds, FromTo, IdsFromTo, EventIds, WayIds, AnsweredIds}
+use Rattle.device_laws.specs.Ids.{RequestIds, PayloadIds, PacketIds, MessageIds, FrameIds, HasFrameIds, HasDatagramId, AnswerIds, RowIds, FromTo, EventIds, WayIds, AnsweredIds, IdsWithin}
 use Rattle.device_laws.specs.Lemmas.Lists.{all_both, all_more, all_filtered, all_mapped, all_found, all_ordered, all_firsts, all_made}
 use Rattle.device_laws.specs.Lemmas.Texts.{either, Cuts, message_ids, packet_ids, datagram_id}
 use Rattle.device_laws.specs.Lemmas.Payloads.{opened_ids, closed_ids, object_ids, refused_ids, unacceptable_ids, own_refused_ids, own_object_ids, no_route_ids}
@@ -106,9 +107,11 @@ use Rattle.device_laws.specs.Lemmas.ConnectedTexts.{connected_bad}
 use Rattle.device_laws.specs.Lemmas.MessageSteps.{IsItemless, IsOfMessages, unit_of, respond_holds}
 use Rattle.device_laws.specs.Lemmas.InquiryTexts.{IsPlainText, plain_services, plain_ids, inquiry_plain}
 use Rattle.adapter_table.specs.Lemmas.CountLemmas.{counted_by_keeps}
+use Rattle.adapter_table.specs.Lemmas.LimitLemmas.{limited_is}
+use Rattle.adapter_table.specs.Lemmas.MessageLemmas.{admitted_class3_is}
 use Rattle.adapter_table.specs.Lemmas.ItemLemmas.{items_hold}
 use Rattle.adapter_table.specs.Lemmas.PassiveLemmas.{passive_holds}
-use Rattle.adapter_table.specs.Lemmas.PlainLemmas.{counters_hold}
+use Rattle.adapter_table.specs.Lemmas.PlainLemmas.{counters_hold, ids_hold}
 use Rattle.adapter_table.specs.Lemmas.FrameLemmas.{answer_has}
 use Rattle.adapter_table.specs.Describing.{is_variable, fixed}
 
@@ -200,10 +203,10 @@ paced_holds P enough (Err why) holds = tt
 paced_holds P enough (Ok admitted) holds = limited_step P enough admitted holds
 
 -- the ids of the new connection
-t_o_holds : (P : ℕ → Type 0) (t : AdapterTable) (request : OpenFields) (multicast : Bool) (group : Option Row) (to : ℕ) → GroupHolds P group → P request.t_o_id.0 → IdsFromTo P t.profile.incarnation t.next_id to → t.next_id + drawn_ids multicast group ≤ to → P (opened_t_o_id t request multicast group).0
-t_o_holds P t request true None to joins requested drawn in_range = drawn (t.next_id + 1) (omega arith) (omega (arith, in_range))
-t_o_holds P t request false None to joins requested drawn in_range = requested
-t_o_holds P t request multicast (Some member) to joins requested drawn in_range = joins
+t_o_holds : (P : ℕ → Type 0) (t : AdapterTable) (request : OpenFields) (multicast : Bool) (group : Option Row) (to : ℕ) → GroupHolds P group → P request.t_o_id.0 → IdsWithin P t.ids t.next_id to → t.next_id + drawn_ids multicast group ≤ to → t.next_id + drawn_ids multicast group ≤ end_number t.ids → P (opened_t_o_id t request multicast group).0
+t_o_holds P t request true None to joins requested drawn in_range left = drawn (t.next_id + 1) (omega arith) (omega (arith, in_range)) (omega (arith, left))
+t_o_holds P t request false None to joins requested drawn in_range left = requested
+t_o_holds P t request multicast (Some member) to joins requested drawn in_range left = joins
 
 -- ---- what is replied
 
@@ -230,20 +233,21 @@ refusal_holds P Q t service why rows = (refused_ids P service (status_fault why)
 
 -- the ids and opening numbers that a step allocates have the properties
 abbrev pub HasDrawn : (P Q : ℕ → Type 0) → AdapterTable → ℕ → Type 0
-HasDrawn P Q t to = IdsFromTo P t.profile.incarnation t.next_id to × FromTo Q t.next_id to
+HasDrawn P Q t to = IdsWithin P t.ids t.next_id to × FromTo Q t.next_id to
 
 -- a request to open that is refused has a reply with no id
 refusal_ids : (P : ℕ → Type 0) (profile : Profile) (rows : List Row) (service : ℕ) (request : OpenFields) (why : Refusal) → PayloadIds P (reply_text (open_refusal profile rows service request why))
 refusal_ids P profile rows service request why =
     refusal_either (λ reply. PayloadIds P (reply_text reply)) profile rows service request why (λ fault fails. refused_ids P service fault (Some request.triad) fails) (λ a. unacceptable_ids P service a request.triad)
 
-open_holds : (P Q : ℕ → Type 0) → Cuts P → (t : AdapterTable) (peer : Node) (large : Bool) (request : OpenFields) (said : Result Admitted Refusal) (to : ℕ) → (judged_open t peer large request said).table.next_id ≤ to → HasDrawn P Q t to → AdmittedHolds P said → P request.t_o_id.0 → RowsHold P Q t.rows → ServedHolds P Q (judged_open t peer large request said)
+open_holds : (P Q : ℕ → Type 0) → Cuts P → (t : AdapterTable) (peer : Node) (large : Bool) (request : OpenFields) (said : Result Admitted Refusal) (to : ℕ) → limited_admission t peer request ≡ said → (judged_open t peer large request said).table.next_id ≤ to → HasDrawn P Q t to → AdmittedHolds P said → P request.t_o_id.0 → RowsHold P Q t.rows → ServedHolds P Q (judged_open t peer large request said)
 unfolding admitted_open opened_table opened_row
-open_holds P Q cuts t peer large request (Err why) to below drawn joins requested rows = (refusal_ids P t.profile t.rows (open_service large) request why, rows)
-open_holds P Q cuts t peer large request (Ok admitted) to below drawn joins requested rows =
+open_holds P Q cuts t peer large request (Err why) to is below drawn joins requested rows = (refusal_ids P t.profile t.rows (open_service large) request why, rows)
+open_holds P Q cuts t peer large request (Ok admitted) to is below drawn joins requested rows =
     let one = draws_some admitted.multicast admitted.group in
-    let o_t = drawn.0 t.next_id (omega arith) (omega (arith, below, one)) in
-    let t_o = t_o_holds P t request admitted.multicast admitted.group to joins requested drawn.0 below in
+    let left = (admitted_is t request admitted (limited_is t peer request admitted is).admitted).ids_are_left in
+    let o_t = drawn.0 t.next_id (omega arith) (omega (arith, below, one)) (omega (arith, left, one)) in
+    let t_o = t_o_holds P t request admitted.multicast admitted.group to joins requested drawn.0 below left in
     let opening_holds = drawn.1 t.next_id (omega arith) (omega (arith, below, one)) in (
       opened_ids P large _ (cuts _ o_t) (cuts _ t_o),
       all_both (RowIds P Q) _ _ (all_filtered (RowIds P Q) _ t.rows rows) (record { o_t = o_t; t_o = t_o; opening = opening_holds }, tt),
@@ -287,22 +291,23 @@ served_holds P Q cuts t peer (closing request) to below drawn ids rows = end_hol
 served_holds P Q cuts t peer (object service class instance attribute body) to below drawn ids rows = object_holds P Q t service (object_answer t service class instance attribute body) rows
 served_holds P Q cuts t peer (opening large request) to below drawn ids rows =
     let whole : OpenFields = whole_request t.profile.description request in
-    open_holds P Q cuts t peer large whole (limited_admission t peer whole) to below drawn
+    open_holds P Q cuts t peer large whole (limited_admission t peer whole) to refl below drawn
     (paced_holds P (has_opened_enough_at t peer) _ (limited_holds P t.profile.limits t.rows peer _ (fixed_holds P t whole (admission t whole) (admission_holds P Q t whole rows)))) ids rows
 
 -- ---- what is replied over a stream
 
-class3_holds : (P Q : ℕ → Type 0) → Cuts P → (t : AdapterTable) (stream : Stream) (large : Bool) (request : OpenFields) (c : Check) (to : ℕ) → (judged_class3 t stream large request c).table.next_id ≤ to → HasDrawn P Q t to → P request.t_o_id.0 → RowsHold P Q t.rows → ServedHolds P Q (judged_class3 t stream large request c)
+class3_holds : (P Q : ℕ → Type 0) → Cuts P → (t : AdapterTable) (stream : Stream) (large : Bool) (request : OpenFields) (c : Check) (to : ℕ) → class3_refusal (class3_view t stream.peer request.triad) request ≡ c → (judged_class3 t stream large request c).table.next_id ≤ to → HasDrawn P Q t to → P request.t_o_id.0 → RowsHold P Q t.rows → ServedHolds P Q (judged_class3 t stream large request c)
 unfolding messages_table opened_class3
-class3_holds P Q cuts t stream large request (Some why) to below drawn requested rows = (refusal_ids P t.profile t.rows (open_service large) request why, rows)
-class3_holds P Q cuts t stream large request None to below drawn requested rows =
-    let o_t = drawn.0 t.next_id (omega arith) (omega (arith, below)) in
+class3_holds P Q cuts t stream large request (Some why) to is below drawn requested rows = (refusal_ids P t.profile t.rows (open_service large) request why, rows)
+class3_holds P Q cuts t stream large request None to is below drawn requested rows =
+    let left = (admitted_class3_is t stream.peer request is).ids in
+    let o_t = drawn.0 t.next_id (omega arith) (omega (arith, below)) (omega (arith, left)) in
     (opened_ids P large _ (cuts _ o_t) (cuts _ requested), rows)
 
 over_stream_step : (P Q : ℕ → Type 0) → Cuts P → (b : Bool) (t : AdapterTable) (stream : Stream) (large : Bool) (request : OpenFields) (to : ℕ) → next_of to (cond b (Some (served_class3 t stream large request)) (served t stream.peer (opening large request))) ≤ to → HasDrawn P Q t to → P request.t_o_id.0 → RowsHold P Q t.rows → AnyHolds P Q (cond b (Some (served_class3 t stream large request)) (served t stream.peer (opening large request)))
 unfolding served_class3
 over_stream_step P Q cuts true t stream large request to below drawn requested rows =
-    class3_holds P Q cuts t stream large (whole_request t.profile.description request) (class3_refusal (class3_view t stream.peer request.triad) (whole_request t.profile.description request)) to below drawn requested rows
+    class3_holds P Q cuts t stream large (whole_request t.profile.description request) (class3_refusal (class3_view t stream.peer request.triad) (whole_request t.profile.description request)) to refl below drawn requested rows
 over_stream_step P Q cuts false t stream large request to below drawn requested rows = served_holds P Q cuts t stream.peer (opening large request) to below drawn requested rows
 
 over_stream_holds : (P Q : ℕ → Type 0) → Cuts P → (t : AdapterTable) (stream : Stream) (request : RouterRequestFields) (to : ℕ) → next_of to (stream_served t stream request) ≤ to → HasDrawn P Q t to → RequestIds P request → RowsHold P Q t.rows → AnyHolds P Q (stream_served t stream request)
@@ -620,4 +625,5 @@ adapter_holds back P Q cuts to t (event.Write point bytes) drawn ids answered ro
 adapter_holds back P Q cuts to t (event.Tick ms) drawn ids answered rows = tick_holds back P Q cuts to t ms rows
 adapter_holds back P Q cuts to t (event.Respond number general bytes) drawn ids answered rows = respond_hold back P Q to t number general bytes answered rows
 adapter_holds back P Q cuts to t (event.Counters bytes) drawn ids answered rows = counters_hold (OkHolds P Q to) t bytes (λ why. tt) (λ below small. (record { frames = tt; datagrams = tt }, rows))
+adapter_holds back P Q cuts to t (event.Ids block) drawn ids answered rows = ids_hold (OkHolds P Q to) t block (λ why. tt) (λ may below small. (record { frames = tt; datagrams = tt }, rows))
 adapter_holds back P Q cuts to t other drawn ids answered rows = passive_holds (OkHolds P Q to) t (λ why. tt) (λ verdict below small. (record { frames = tt; datagrams = tt }, rows)) other refl

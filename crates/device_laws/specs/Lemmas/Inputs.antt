@@ -157,6 +157,7 @@ requests_keep = record {
   messaged = λ t next_id m goes whole. messages_keep t next_id m;
   counted = λ t next openings keeps. keeps;
   tallied = λ t next counters keeps. keeps;
+  taken = λ t block may whole point input kept is holds. holds;
 }
 
 fed_keeps : (t : AdapterTable) (peer : Node) (d : DatagramFields) (row : Row) (delivery : Delivery) → row_delivery t.profile t.clock row d ≡ delivery → find (is_for peer d.connection) t.rows ≡ Some row → IsWhole t → KeepsInputs t (accepted_table t peer d row delivery)

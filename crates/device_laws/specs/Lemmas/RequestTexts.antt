@@ -24,9 +24,10 @@ use Rattle.cip_encap.specs.ReadsBack.{ItemsReadBack}
 use Rattle.cip_router.specs.Requests.{RouterRequestFields, nothing, refused, object, request_to_open, request_to_manager, router_request_of, router_request_reading}
 use Rattle.cip_router.specs.Requests as router
 use Rattle.adapter_table.specs.Checks.{is_multicast}
-use Rattle.scanner_table.specs.declared.profile.ScannerProfile.{ScannerProfile}
 use Rattle.cip_fwdopen.specs.Services.{open_service}
-use Rattle.cip_types.specs.Ids.{connection_id}
+use Rattle.cip_types.specs.IdLaws.{ids_fit}
+use Rattle.cip_types.specs.Ids.{are_blocks, id_at}
+use Rattle.cip_types.specs.declared.ids.IdBlock.{IdBlock}
 use Rattle.scanner_table.specs.Requests.{Request, registering, opening, closing, requesting, Sent, manager_text, slot_params, sent_message, sent_frame}
 use Rattle.device_laws.specs.Frames.{OpeningsAre}
 use Rattle.device_laws.specs.Ids.{RequestIds}
@@ -140,41 +141,41 @@ multicast_back false size fits =
     let back : again w16 (word16 (slot_params size Multicast) 0) ≡ size + 2048 + 8192 * 1 = from_le_bytes-to_le_bytes_2 (word16 (slot_params size Multicast) 0) (omega (arith, fits)) ∙ is in
     ap (λ (n : ℕ). is_multicast (type_of (n / 8192 % 4))) back ∙ ap (λ (n : ℕ). is_multicast (type_of n)) (type_16 size 1 fits (omega arith))
 
--- the request is multicast, or asks for an id of the profile
+-- the request is multicast, or asks for an id of the blocks
 pub record IsMulticast (large : Bool) (request : OpenFields) : Type 0 where
   pub size : ℕ
   pub fits : SizeFits large size
   pub params : request.t_o_params ≡ slot_params size Multicast
 
-abbrev pub RequestAsks : ScannerProfile → Request → Type 0
-RequestAsks profile registering = Unit {0}
-RequestAsks profile (opening large request) = IsMulticast large request ⊎ IsDrawnId profile request.t_o_id.0
-RequestAsks profile (closing request) = Unit {0}
-RequestAsks profile (requesting bytes) = IsExplicit bytes
+abbrev pub RequestAsks : List IdBlock → Request → Type 0
+RequestAsks ids registering = Unit {0}
+RequestAsks ids (opening large request) = IsMulticast large request ⊎ IsDrawnId ids request.t_o_id.0
+RequestAsks ids (closing request) = Unit {0}
+RequestAsks ids (requesting bytes) = IsExplicit bytes
 
-abbrev pub SentAsks : ScannerProfile → Sent → Type 0
-SentAsks profile sent = RequestAsks profile sent.request
+abbrev pub SentAsks : List IdBlock → Sent → Type 0
+SentAsks ids sent = RequestAsks ids sent.request
 
-id_fits : (incarnation counter : ℕ) → incarnation ≤ 255 → counter < 16777216 → incarnation * 16777216 + counter < 4294967296
-id_fits incarnation counter byte ends = omega (arith, byte, ends)
+id_fits : (ids : List IdBlock) → are_blocks ids ≡ true → (id : ℕ) → (own : IsDrawnId ids id) → (id_at ids own.number).0 < 4294967296
+id_fits ids are id own = let ends = own.ends in (ids_fit ids own.number are own.begins (omega (arith, ends))).1
 
-asks_back : (profile : ScannerProfile) (large : Bool) (request : OpenFields) → profile.incarnation ≤ 255 → IsMulticast large request ⊎ IsDrawnId profile request.t_o_id.0 → AsksOwnId profile (read_back large request)
-asks_back profile true request byte (inl m) =
+asks_back : (ids : List IdBlock) (large : Bool) (request : OpenFields) → are_blocks ids ≡ true → IsMulticast large request ⊎ IsDrawnId ids request.t_o_id.0 → AsksOwnId ids (read_back large request)
+asks_back ids true request are (inl m) =
     inl (ap (λ (p : NetParams). is_multicast (params_of true (again (params_width true) (params_word true p))).kind) m.params ∙ multicast_back true m.size m.fits)
-asks_back profile false request byte (inl m) =
+asks_back ids false request are (inl m) =
     inl (ap (λ (p : NetParams). is_multicast (params_of false (again (params_width false) (params_word false p))).kind) m.params ∙ multicast_back false m.size m.fits)
-asks_back profile true request byte (inr own) =
-    inr (record { counter = own.counter; is = ap (again w32) own.is ∙ same_again (connection_id profile.incarnation own.counter).0 (id_fits profile.incarnation own.counter byte own.ends); ends = own.ends })
-asks_back profile false request byte (inr own) =
-    inr (record { counter = own.counter; is = ap (again w32) own.is ∙ same_again (connection_id profile.incarnation own.counter).0 (id_fits profile.incarnation own.counter byte own.ends); ends = own.ends })
+asks_back ids true request are (inr own) =
+    inr (record { number = own.number; is = ap (again w32) own.is ∙ same_again (id_at ids own.number).0 (id_fits ids are request.t_o_id.0 own); begins = own.begins; ends = own.ends })
+asks_back ids false request are (inr own) =
+    inr (record { number = own.number; is = ap (again w32) own.is ∙ same_again (id_at ids own.number).0 (id_fits ids are request.t_o_id.0 own); begins = own.begins; ends = own.ends })
 
 -- ---- a frame
 
-holds_requested : (profile : ScannerProfile) → profile.incarnation ≤ 255 → (request : Request) → RequestAsks profile request → HoldsAsRead (AsksOwnId profile) request
-holds_requested profile byte registering asks = tt
-holds_requested profile byte (opening large fields) asks = asks_back profile large fields byte asks
-holds_requested profile byte (closing fields) asks = tt
-holds_requested profile byte (requesting bytes) asks = asks
+holds_requested : (ids : List IdBlock) → are_blocks ids ≡ true → (request : Request) → RequestAsks ids request → HoldsAsRead (AsksOwnId ids) request
+holds_requested ids are registering asks = tt
+holds_requested ids are (opening large fields) asks = asks_back ids large fields are asks
+holds_requested ids are (closing fields) asks = tt
+holds_requested ids are (requesting bytes) asks = asks
 
 -- what holds of the request as it is read, holds of each opening that the frame can be read as
 pub frame_opens : ItemsReadBack → (Q : OpenFields → Type 0) (sent : Sent) → HoldsAsRead Q sent.request → length (message_text (sent_message sent)) ≤ 2048 → OpeningsAre Q (sent_frame sent).bytes
@@ -183,9 +184,9 @@ frame_opens back Q sent holds few request is =
     let packet : PacketOpens Q (Ok is.packet) = subst (PacketOpens Q) (ap any_packet_reading (sym same.payload) ∙ is.packet_is) (packet_opens back Q sent sent.request refl holds few) in
     subst (RequestOpens Q) is.opens packet
 
-frame_asks : ItemsReadBack → (profile : ScannerProfile) → profile.incarnation ≤ 255 → (sent : Sent) → SentAsks profile sent → length (message_text (sent_message sent)) ≤ 2048 → FrameAsks profile (sent_frame sent)
-frame_asks back profile byte sent asks few = frame_opens back (AsksOwnId profile) sent (holds_requested profile byte sent.request asks) few
+frame_asks : ItemsReadBack → (ids : List IdBlock) → are_blocks ids ≡ true → (sent : Sent) → SentAsks ids sent → length (message_text (sent_message sent)) ≤ 2048 → FrameAsks ids (sent_frame sent)
+frame_asks back ids are sent asks few = frame_opens back (AsksOwnId ids) sent (holds_requested ids are sent.request asks) few
 
-pub requests_ask : ItemsReadBack → (profile : ScannerProfile) → profile.incarnation ≤ 255 → (requests : List Sent) → AllByRecursion (SentAsks profile) requests → AllByRecursion IsShortFrame (map sent_frame requests) → AllByRecursion (FrameAsks profile) (map sent_frame requests)
-requests_ask back profile byte [] asks few = tt
-requests_ask back profile byte (request ∷ requests) asks few = (frame_asks back profile byte request asks.0 few.0, requests_ask back profile byte requests asks.1 few.1)
+pub requests_ask : ItemsReadBack → (ids : List IdBlock) → are_blocks ids ≡ true → (requests : List Sent) → AllByRecursion (SentAsks ids) requests → AllByRecursion IsShortFrame (map sent_frame requests) → AllByRecursion (FrameAsks ids) (map sent_frame requests)
+requests_ask back ids are [] asks few = tt
+requests_ask back ids are (request ∷ requests) asks few = (frame_asks back ids are request asks.0 few.0, requests_ask back ids are requests asks.1 few.1)

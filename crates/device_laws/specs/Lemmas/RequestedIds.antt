@@ -1,6 +1,8 @@
 -- The T->O id for which a text asks that a scanner wrote; and how often one answer asks for an id.
-use Rattle.std.proofs.Common.{◌≡◌, inl, inr, ◌≢◌, ◌≤◌, ◌<◌, ℕ, ◌+◌, ◌*◌, ◌^◌, ◌==◌, ◌&&◌, nat_le, nat_lt, Bool, true, false, cond, List, [], ◌∷◌, ◌++◌, length, map, Some, None, Result, Ok, Err, IfOk, refl, sym, ◌∙◌, ap, subst, arith, eqb-true}
+use Rattle.std.proofs.Common.{◌≡◌, inl, inr, ◌≢◌, ◌≤◌, ◌<◌, ℕ, ◌+◌, ◌^◌, ◌==◌, ◌||◌, nat_lt, Bool, true, false, cond, List, [], ◌∷◌, ◌++◌, length, map, Some, None, Result, Ok, Err, IfOk, refl, sym, ◌∙◌, ap, subst, arith, eqb-true}
+use Rattle.std.specs.Prelude.{min}
 use Rattle.std.specs.List.{AllByRecursion, count_by}
+use Rattle.std.proofs.lemmas.Bool.{and_parts}
 use Rattle.std.proofs.lemmas.Bool.Decides.{nat_tests}
 use Rattle.base_lemmas.specs.Lists.{count_cons, count_both}
 use Rattle.cip_types.specs.declared.names.Node.{Node}
@@ -20,21 +22,22 @@ use Rattle.cip_fwdopen.specs.Open.{open_text}
 use Rattle.cip_fwdopen.specs.Close.{close_text}
 use Rattle.cip_router.specs.Requests.{RouterRequestFields, nothing, refused, object, router_request_reading}
 use Rattle.cip_router.specs.Requests as router
-use Rattle.scanner_table.specs.declared.profile.ScannerProfile.{ScannerProfile}
 use Rattle.cip_types.specs.declared.names.Triad.{Triad}
 use Rattle.conn_state.specs.declared.names.Link.{Link}
 use Rattle.scanner_table.specs.declared.profile.SlotConfig.{SlotConfig}
 use Rattle.scanner_table.specs.declared.table.ScannerTable.{ScannerTable}
 use Rattle.scanner_table.specs.declared.table.Session.{Session}
 use Rattle.cip_fwdopen.specs.Services.{open_service}
-use Rattle.cip_types.specs.Ids.{connection_id}
+use Rattle.cip_types.specs.IdLaws.{ids_fit}
+use Rattle.cip_types.specs.Ids.{are_blocks, end_number, id_at}
+use Rattle.cip_types.specs.declared.ids.IdBlock.{IdBlock}
 use Rattle.scanner_table.specs.Requests.{Request, registering, opening, closing, requesting, Sent, manager_text, sent_message, sent_frame, id_or_zero}
 use Rattle.scanner_table.specs.Replies.{disowned}
 use Rattle.scanner_table.specs.Effects.{Next, Effect, after, done}
 use Rattle.scanner_table.specs.declared.table.TargetStream.{TargetStream}
 use Rattle.scanner_table.specs.Encapsulation.{registering_on, registering_again, stream_opened}
 use Rattle.scanner_table.specs.Explicit.{explicit_sent}
-use Rattle.scanner_table.specs.Opening.{open_requested, close_requested}
+use Rattle.scanner_table.specs.Opening.{can_open, close_requested, has_id, has_request, open_requested}
 use Rattle.scanner_table.specs.Sessions.{is_taken}
 use Rattle.scanner_table.specs.Slots.{IndexedSlot}
 use Rattle.scanner_table.specs.Step.{scanner_step}
@@ -43,6 +46,7 @@ use Rattle.cip_tables.specs.Step.{as_scanner, step}
 use Rattle.answer_sizes.specs.Sizes.{IsShortFrame, IsSmall, AnswersAreSmall}
 use Rattle.device_laws.specs.Ids.{RequestIds, PacketIds, MessageIds, FrameIds}
 use Rattle.device_laws.specs.Lemmas.Lists.{all_both}
+use Rattle.device_laws.specs.Lemmas.Numbered.{between_more, numbered_between}
 use Rattle.device_laws.specs.Lemmas.AdapterIds.{plain_protocol, few_bytes}
 use Rattle.device_laws.specs.Lemmas.ExplicitRequests.{IsExplicit, explicit_ids, explicit_some}
 use Rattle.device_laws.specs.Lemmas.Payloads.{request_ids, close_request_ids}
@@ -143,110 +147,129 @@ frames_count back id (sent ∷ requests) fits short =
     let b = count_cons (sent_asks id) sent requests in
     omega (arith, one, rest, a, b)
 
--- ---- ids from one counter on and below another
-
-between_add : (a b c id : ℕ) → a ≤ b → b ≤ c → cond (nat_le a id && nat_lt id b) 1 0 + cond (nat_le b id && nat_lt id c) 1 0 ≤ cond (nat_le a id && nat_lt id c) 1 0
-between_add a b c id first next = grind (arith, nat_tests)
-
-between_more : (profile : ScannerProfile) (a b c id : ℕ) → a ≤ b → b ≤ c → cond (is_between profile a b id) 1 0 + cond (is_between profile b c id) 1 0 ≤ cond (is_between profile a c id) 1 0
-unfolding is_between
-between_more profile a b c id first next =
-    between_add (connection_id profile.incarnation a).0 (connection_id profile.incarnation b).0 (connection_id profile.incarnation c).0 id (omega (arith, first)) (omega (arith, next))
-
 -- ---- effects
 
--- the requests ask at most once for an id that was allocated between two counters, and for no other
-record AreRequested (id : ℕ) (profile : ScannerProfile) (from to : ℕ) (sent : List Sent) : Type 0 where
+-- the requests ask at most once for an id that was allocated between two numbers, and for no other
+record AreRequested (id : ℕ) (ids : List IdBlock) (from to : ℕ) (sent : List Sent) : Type 0 where
   fits : AllByRecursion SentFits sent
-  count : count_by (sent_asks id) sent ≤ cond (is_between profile from to id) 1 0
+  count : count_by (sent_asks id) sent ≤ cond (is_between ids from to id) 1 0
+
+-- the table's ids are blocks, and its next number is one of theirs, or the one behind them
+record IsNext (t : ScannerTable) : Type 0 where
+  blocks : are_blocks t.ids ≡ true
+  begins : 1 ≤ t.next_id
+  ends : t.next_id ≤ end_number t.ids
 
 record Asks (id : ℕ) (t : ScannerTable) (effect : Effect) : Type 0 where
-  profile : effect.table.profile ≡ t.profile
+  blocks : effect.table.ids ≡ t.ids
   ids : t.next_id ≤ effect.table.next_id
-  requested : t.profile.incarnation ≤ 255 → effect.table.next_id ≤ 16777216 → AreRequested id t.profile t.next_id effect.table.next_id effect.sent
+  left : t.next_id ≤ end_number t.ids → effect.table.next_id ≤ end_number t.ids
+  requested : IsNext t → AreRequested id t.ids t.next_id effect.table.next_id effect.sent
 
-nothing_requested : (id : ℕ) (profile : ScannerProfile) (from to : ℕ) → AreRequested id profile from to []
-nothing_requested id profile from to = record { fits = tt; count = omega arith }
+nothing_requested : (id : ℕ) (ids : List IdBlock) (from to : ℕ) → AreRequested id ids from to []
+nothing_requested id ids from to = record { fits = tt; count = omega arith }
 
 all_fit : (first next : List Sent) → AllByRecursion SentFits first → AllByRecursion SentFits next → AllByRecursion SentFits (first ++ next)
 all_fit first next one other = all_both SentFits first next one other
 
+-- the table behind an effect goes on with the same blocks
+next_left : (id : ℕ) (t : ScannerTable) (effect : Effect) → Asks id t effect → IsNext t → IsNext effect.table
+next_left id t effect asks next =
+    let begins = next.begins in
+    let ids = asks.ids in
+    record {
+      blocks = ap are_blocks asks.blocks ∙ next.blocks;
+      begins = omega (arith, begins, ids);
+      ends = subst (λ (l : List IdBlock). effect.table.next_id ≤ end_number l) (sym asks.blocks) (asks.left next.ends);
+    }
+
+then_left : (id : ℕ) (t : ScannerTable) (first next : Effect) → Asks id t first → Asks id first.table next → t.next_id ≤ end_number t.ids → next.table.next_id ≤ end_number t.ids
+then_left id t first next one other ends =
+    subst (λ (l : List IdBlock). next.table.next_id ≤ end_number l) one.blocks
+    (other.left (subst (λ (l : List IdBlock). first.table.next_id ≤ end_number l) (sym one.blocks) (one.left ends)))
+
 then_asks : (id : ℕ) (t : ScannerTable) (first next : Effect) → Asks id t first → Asks id first.table next → Asks id t (after first next)
 then_asks id t first next one other = record {
-  profile = other.profile ∙ one.profile;
+  blocks = other.blocks ∙ one.blocks;
   ids = omega (arith, one.ids, other.ids);
-  requested = λ byte below.
-      let before = one.requested byte (omega (arith, below, other.ids)) in
-      let same = one.profile in
-      let behind : AreRequested id t.profile first.table.next_id next.table.next_id next.sent =
-      subst (λ (p : ScannerProfile). AreRequested id p first.table.next_id next.table.next_id next.sent) same (other.requested (subst (λ (p : ScannerProfile). p.incarnation ≤ 255) (sym same) byte) below) in
+  left = then_left id t first next one other;
+  requested = λ is.
+      let before = one.requested is in
+      let behind : AreRequested id t.ids first.table.next_id next.table.next_id next.sent =
+      subst (λ (l : List IdBlock). AreRequested id l first.table.next_id next.table.next_id next.sent) one.blocks (other.requested (next_left id t first one is)) in
       let both = count_both (sent_asks id) first.sent next.sent in
-      let more = between_more t.profile t.next_id first.table.next_id next.table.next_id id one.ids other.ids in
+      let more = between_more t.ids t.next_id first.table.next_id next.table.next_id id is.blocks is.begins (then_left id t first next one other is.ends) one.ids other.ids in
       record { fits = all_fit first.sent next.sent before.fits behind.fits; count = omega (arith, before.count, behind.count, both, more) };
 }
 
-silent_asks : (id : ℕ) (t : ScannerTable) (effect : Effect) → effect.table.profile ≡ t.profile → t.next_id ≤ effect.table.next_id → effect.sent ≡ [] → Asks id t effect
-silent_asks id t effect profile ids none = record {
-  profile = profile;
-  ids = ids;
-  requested = λ byte below. subst (AreRequested id t.profile t.next_id effect.table.next_id) (sym none) (nothing_requested id t.profile t.next_id effect.table.next_id);
+silent_asks : (id : ℕ) (t : ScannerTable) (effect : Effect) → effect.table.ids ≡ t.ids → effect.table.next_id ≡ t.next_id → effect.sent ≡ [] → Asks id t effect
+silent_asks id t effect blocks same none = record {
+  blocks = blocks;
+  ids = omega (arith, same);
+  left = λ ends. omega (arith, ends, same);
+  requested = λ is. subst (AreRequested id t.ids t.next_id effect.table.next_id) (sym none) (nothing_requested id t.ids t.next_id effect.table.next_id);
 }
 
 -- ---- openings
 
 -- an opening asks for the next id, or, where it is multicast, for none
-record AsksNext (id : ℕ) (profile : ScannerProfile) (from to x : ℕ) : Type 0 where
+record AsksNext (id : ℕ) (ids : List IdBlock) (from to x : ℕ) : Type 0 where
   fits : x < 4294967296
-  count : cond (x == id) 1 0 ≤ cond (is_between profile from to id) 1 0
+  count : cond (x == id) 1 0 ≤ cond (is_between ids from to id) 1 0
+  left : to ≤ end_number ids
 
-next_between : (profile : ScannerProfile) (n id : ℕ) → ((connection_id profile.incarnation n).0 == id) ≡ true → is_between profile n (n + 1) id ≡ true
-unfolding is_between
-next_between profile n id is =
-    let same : (connection_id profile.incarnation n).0 ≡ id = eqb-true (connection_id profile.incarnation n).0 id is in
-    in_order (profile.incarnation * 16777216) n id same
-  where
-    in_order : (front n id : ℕ) → front + n ≡ id → (nat_le (front + n) id && nat_lt id (front + (n + 1))) ≡ true
-    in_order front n id same = grind (arith, nat_tests)
-
-asks_next : (id : ℕ) (profile : ScannerProfile) (multicast : Bool) (n : ℕ) → id ≢ 0 → profile.incarnation ≤ 255 → cond multicast n (n + 1) ≤ 16777216 → AsksNext id profile n (cond multicast n (n + 1)) (id_or_zero (cond multicast None (Some (connection_id profile.incarnation n)))).0
-asks_next id profile true n some byte below = record { fits = omega arith; count = rw (differs id some) (omega arith) } where
+asks_next : (id : ℕ) (t : ScannerTable) (multicast : Bool) → id ≢ 0 → (multicast || nat_lt t.next_id (end_number t.ids)) ≡ true → IsNext t → AsksNext id t.ids t.next_id (cond multicast t.next_id (t.next_id + 1)) (id_or_zero (cond multicast None (Some (id_at t.ids t.next_id)))).0
+asks_next id t true some has is = record { fits = omega arith; count = rw (differs id some) (omega arith); left = is.ends } where
   differs : (id : ℕ) → id ≢ 0 → (0 == id) ≡ false
   differs id some = grind (arith, nat_tests)
-asks_next id profile false n some byte below = record {
-  fits = omega (arith, byte, below);
-  count = one_at_most ((connection_id profile.incarnation n).0 == id) (is_between profile n (n + 1) id) (next_between profile n id);
-}
+asks_next id t false some has is =
+    let under : t.next_id < end_number t.ids = grind (arith, nat_tests, has) in
+    record {
+      fits = (ids_fit t.ids t.next_id is.blocks is.begins (omega (arith, under))).1;
+      count =
+          one_at_most ((id_at t.ids t.next_id).0 == id) (is_between t.ids t.next_id (t.next_id + 1) id)
+          (λ same. numbered_between t.ids t.next_id (t.next_id + 1) id (record { number = t.next_id; begins = omega arith; ends = omega arith; is = eqb-true (id_at t.ids t.next_id).0 id same }));
+      left = omega (arith, under);
+    }
 
-requested_asks : (id : ℕ) → id ≢ 0 → (t : ScannerTable) (place : IndexedSlot) (session : Session) → Asks id t (open_requested t place session)
-requested_asks id some t place session = record {
-  profile = refl;
-  ids = ids_after place.config.multicast t.next_id;
-  requested = λ byte below.
-      let next = asks_next id t.profile place.config.multicast t.next_id some byte below in
-      record { fits = (next.fits, tt); count = omega (arith, next.count) };
-}
+-- what a slot needs to ask for an id leaves the number within those of the blocks
+left_after : (multicast : Bool) (n end : ℕ) → (multicast || nat_lt n end) ≡ true → n ≤ end → cond multicast n (n + 1) ≤ end
+left_after true n end has ends = ends
+left_after false n end has ends = grind (arith, nat_tests, has)
+
+requested_asks : (id : ℕ) → id ≢ 0 → (t : ScannerTable) (place : IndexedSlot) (session : Session) → can_open t place.config ≡ true → Asks id t (open_requested t place session)
+requested_asks id some t place session can =
+    let has = (and_parts (has_request t) (has_id t place.config) can).1 in
+    record {
+      blocks = refl;
+      ids = ids_after place.config.multicast t.next_id;
+      left = left_after place.config.multicast t.next_id (end_number t.ids) has;
+      requested = λ is.
+          let next = asks_next id t place.config.multicast some has is in
+          record { fits = (next.fits, tt); count = omega (arith, next.count) };
+    }
   where
     ids_after : (multicast : Bool) (n : ℕ) → n ≤ cond multicast n (n + 1)
     ids_after true n = omega arith
     ids_after false n = omega arith
 
 closed_asks : (id : ℕ) (t : ScannerTable) (place : IndexedSlot) (link : Link) (desired_up : Bool) (session : Session) → Asks id t (close_requested t place link desired_up session)
-closed_asks id t place link desired_up session = record { profile = refl; ids = omega arith; requested = λ byte below. record { fits = (tt, tt); count = omega arith } }
+closed_asks id t place link desired_up session = record { blocks = refl; ids = omega arith; left = λ ends. ends; requested = λ is. record { fits = (tt, tt); count = omega arith } }
 
 disowned_asks : (id : ℕ) (t : ScannerTable) (config : SlotConfig) (triad : Triad) (session : Session) → Asks id t (disowned t config triad session)
-disowned_asks id t config triad session = record { profile = refl; ids = omega arith; requested = λ byte below. record { fits = (tt, tt); count = omega arith } }
+disowned_asks id t config triad session = record { blocks = refl; ids = omega arith; left = λ ends. ends; requested = λ is. record { fits = (tt, tt); count = omega arith } }
 
 registering_again_asks : (id : ℕ) (t : ScannerTable) (stream : TargetStream) → Asks id t (registering_again t stream)
-registering_again_asks id t stream = record { profile = refl; ids = omega arith; requested = λ byte below. record { fits = (tt, tt); count = omega arith } }
+registering_again_asks id t stream = record { blocks = refl; ids = omega arith; left = λ ends. ends; requested = λ is. record { fits = (tt, tt); count = omega arith } }
 
 explicit_asks : (id : ℕ) (t : ScannerTable) (session : Session) (number : ℕ) (bytes : List ℕ) → IsExplicit bytes → Asks id t (explicit_sent t session number bytes)
-explicit_asks id t session number bytes explicit = record { profile = refl; ids = omega arith; requested = λ byte below. record { fits = (explicit, tt); count = omega arith } }
+explicit_asks id t session number bytes explicit = record { blocks = refl; ids = omega arith; left = λ ends. ends; requested = λ is. record { fits = (explicit, tt); count = omega arith } }
 
 effects_ask : (id : ℕ) → id ≢ 0 → EffectsDo (Asks id)
 effects_ask id some = record {
-  stays = λ t u notices like. silent_asks id t (silent notices u) like.profile (omega (arith, like.next_id)) refl;
+  stays = λ t u notices like. silent_asks id t (silent notices u) like.ids like.next_id refl;
   next = then_asks id;
-  opens = λ t place session is. requested_asks id some t place session;
+  opens = λ t place session can is. requested_asks id some t place session can;
   closes = λ t place link desired_up session is. closed_asks id t place link desired_up session;
   disowns = λ t config triad session is. disowned_asks id t config triad session;
   registers = λ t stream is_open. registering_again_asks id t stream;
@@ -255,31 +278,35 @@ effects_ask id some = record {
 
 -- ---- a step
 
--- what an answer asks for, where it is small and the counter stays within the limit
+-- what an answer asks for, where it is small
 abbrev NextAsks : ℕ → ScannerTable → Next → Type 0
 NextAsks id t next =
-    IsSmall next.0 → t.profile.incarnation ≤ 255 → next.1.next_id ≤ 16777216 → count_by (frame_asks id) next.0.frames ≤ cond (is_between t.profile t.next_id next.1.next_id id) 1 0
+    IsSmall next.0 → IsNext t → count_by (frame_asks id) next.0.frames ≤ cond (is_between t.ids t.next_id (min next.1.next_id (end_number t.ids)) id) 1 0
 
 abbrev OkAsks : ℕ → ScannerTable → Result Next StepFault → Type 0
 OkAsks id t said = IfOk said (NextAsks id t)
 
--- 1 where the id has a counter below this one, and was not allocated before
+-- 1 where the id has a number below this one, and was not allocated before
 abbrev one_between : ℕ → ScannerTable → ℕ → ℕ
-one_between id t to = cond (is_between t.profile t.next_id to id) 1 0
+one_between id t to = cond (is_between t.ids t.next_id to id) 1 0
+
+lowest : (a b end : ℕ) → b ≡ a → a ≤ end → a ≡ min b end
+lowest a b end same within = omega (arith, same, within)
 
 effect_asks : ItemsReadBack → (id : ℕ) (t : ScannerTable) (next : Next) → IsOfEffect (Asks id) t next → NextAsks id t next
-effect_asks back id t next of small byte below =
+effect_asks back id t next of small first =
     let effect = of.effect in
     let does = of.does in
-    let requested = does.requested byte (omega (arith, below, of.next_id)) in
+    let requested = does.requested first in
     let short : AllByRecursion IsShortFrame (map sent_frame of.effect.sent) = subst (AllByRecursion IsShortFrame) of.frames small.short_frames in
     let frames = frames_count back id of.effect.sent requested.fits short in
     let same : count_by (frame_asks id) next.0.frames ≡ count_by (frame_asks id) (map sent_frame of.effect.sent) = ap (λ (l : List Frame). count_by (frame_asks id) l) of.frames in
-    let last : one_between id t of.effect.table.next_id ≡ one_between id t next.1.next_id = ap (one_between id t) (sym of.next_id) in
+    let within = does.left first.ends in
+    let last : one_between id t of.effect.table.next_id ≡ one_between id t (min next.1.next_id (end_number t.ids)) = ap (one_between id t) (lowest of.effect.table.next_id next.1.next_id (end_number t.ids) of.next_id within) in
     omega (arith, frames, requested.count, same, last)
 
 next_asks : ItemsReadBack → (id : ℕ) (t : ScannerTable) (next : Next) → NextDoes (Asks id) t next → NextAsks id t next
-next_asks back id t next (inl none) = λ small byte below. rw none (omega arith)
+next_asks back id t next (inl none) = λ small first. rw none (omega arith)
 next_asks back id t next (inr of) = effect_asks back id t next of
 
 ok_asks : ItemsReadBack → (id : ℕ) (t : ScannerTable) (said : Result Next StepFault) → OkDoes (Asks id) t said → OkAsks id t said
@@ -289,7 +316,7 @@ ok_asks back id t (Ok next) goes = next_asks back id t next goes
 registering_asks : ItemsReadBack → (id : ℕ) (t : ScannerTable) (number : ℕ) (target : Node) → NextAsks id t (done (registering_on t number target))
 registering_asks back id t number target =
     effect_asks back id t (done (registering_on t number target))
-    (record { effect = registering_on t number target; frames = refl; next_id = refl; does = record { profile = refl; ids = omega arith; requested = λ byte below. record { fits = (tt, tt); count = omega arith } } })
+    (record { effect = registering_on t number target; frames = refl; next_id = refl; does = record { blocks = refl; ids = omega arith; left = λ ends. ends; requested = λ is. record { fits = (tt, tt); count = omega arith } } })
 
 opens_asks : ItemsReadBack → (id : ℕ) (t : ScannerTable) (number : ℕ) (target : Node) → OkAsks id t (stream_opened t number target)
 unfolding stream_opened
@@ -303,6 +330,6 @@ step_asks back id some t other = ok_asks back id t (scanner_step t other) (event
 
 pub scanners_ask : ItemsReadBack → AnswersAreSmall → ScannersAskOnce
 unfolding step
-scanners_ask back few t happens answer next id is whole byte below some =
+scanners_ask back few t happens answer next id is whole some =
     let small = few (Scanner t) happens answer (Scanner next) whole (ap as_scanner is) in
-    (subst (OkAsks id t) is (step_asks back id some t happens)) small byte below
+    (subst (OkAsks id t) is (step_asks back id some t happens)) small (record { blocks = whole.table.blocks; begins = whole.table.ids_begin; ends = whole.table.ids })

@@ -73,7 +73,7 @@ use Rattle.adapter_table.specs.Profiles.{is_at}
 use Rattle.adapter_table.specs.Requests.{Next, Served, counted_once, judged_open, admitted_open, served_open, close_of, served_close, end_of, served_end, router_refusal, object_served, served_object, served, replied, answered, requested_by, requested}
 use Rattle.adapter_table.specs.Rows.{lives, has_triad, written_state, written_row}
 use Rattle.adapter_table.specs.Sound.{IdsAreDrawn}
-use Rattle.adapter_table.specs.Step.{written_table, changed_table, written, write_of, write, adapter_step}
+use Rattle.adapter_table.specs.Step.{written_table, changed_table, written, write_of, write, taken_table, adapter_step}
 use Rattle.adapter_table.specs.Streams.{is_stream, is_other_stream, is_taken, new_stream, with_stream, without_stream, has_session, registered_stream, registered_table, stream_opened, cut_of, stream_cut}
 use Rattle.adapter_table.specs.Ticks.{has_expired, expired_row, expired_rows, clocked_table, expired_table, produced_table, advanced, aged_next, tick}
 use Rattle.device_laws.specs.Lemmas.Lists.{all_both, all_more, all_filtered, all_mapped}
@@ -87,7 +87,7 @@ use Rattle.adapter_table.specs.Lemmas.LimitLemmas.{limited_is}
 use Rattle.adapter_table.specs.Lemmas.CountLemmas.{counted_keeps}
 use Rattle.adapter_table.specs.Lemmas.ItemLemmas.{items_any}
 use Rattle.adapter_table.specs.Lemmas.PassiveLemmas.{passive_holds}
-use Rattle.adapter_table.specs.Lemmas.PlainLemmas.{counters_hold}
+use Rattle.adapter_table.specs.Lemmas.PlainLemmas.{counters_hold, ids_hold}
 use Rattle.adapter_table.specs.Lemmas.FrameLemmas.{answer_has}
 
 -- ---- a list and its elements
@@ -214,7 +214,7 @@ as_requested d t next request row (inl joins) = inl joins
 as_requested d t next request row (inr (inl starts)) = inr (inl starts)
 as_requested d t next request row (inr (inr single)) = inr (inr (record { single = single.single; t_o = single.t_o; producer = single.producer }))
 
-open_after : (O : OpenFields → Type 0) (t : AdapterTable) (peer : Node) (large : Bool) (request : OpenFields) (said : Result Admitted Refusal) → limited_admission t peer (whole_request t.profile.description request) ≡ said → O request → IdsAreDrawn t.profile t.next_id t.rows → TableAfter O t peer (judged_open t peer large (whole_request t.profile.description request) said).table
+open_after : (O : OpenFields → Type 0) (t : AdapterTable) (peer : Node) (large : Bool) (request : OpenFields) (said : Result Admitted Refusal) → limited_admission t peer (whole_request t.profile.description request) ≡ said → O request → IdsAreDrawn t.ids t.next_id t.rows → TableAfter O t peer (judged_open t peer large (whole_request t.profile.description request) said).table
 unfolding admitted_open
 open_after O t peer large request (Err why) is so drawn = stays_so O t peer
 open_after O t peer large request (Ok admitted) is so drawn =
@@ -254,7 +254,7 @@ object_after O t peer service (objects.answering by general content) = stays_so 
 object_after O t peer service (objects.refusing named why) = stays_so O t peer
 object_after O t peer service (objects.unrouted words) = stays_so O t peer
 
-served_after : (O : OpenFields → Type 0) (t : AdapterTable) (peer : Node) (requested : RouterRequestFields) → ((large : Bool) (request : OpenFields) → requested ≡ opening large request → O request) → IdsAreDrawn t.profile t.next_id t.rows → IfSome (served t peer requested) (ServedAfter O t peer)
+served_after : (O : OpenFields → Type 0) (t : AdapterTable) (peer : Node) (requested : RouterRequestFields) → ((large : Bool) (request : OpenFields) → requested ≡ opening large request → O request) → IdsAreDrawn t.ids t.next_id t.rows → IfSome (served t peer requested) (ServedAfter O t peer)
 unfolding served_open served_end served_object
 served_after O t peer nothing asks drawn = tt
 served_after O t peer (refused service why) asks drawn = stays_so O t peer
@@ -330,7 +330,7 @@ class3_after : (O : OpenFields → Type 0) (t : AdapterTable) (stream : Stream) 
 class3_after O t stream large request (Some why) = stays_so O t stream.peer
 class3_after O t stream large request None = counted_after O t stream.peer (t.next_id + 1) _ _
 
-over_stream_after : (O : OpenFields → Type 0) (t : AdapterTable) (stream : Stream) (requested : RouterRequestFields) → ((large : Bool) (request : OpenFields) → requested ≡ opening large request → O request) → IdsAreDrawn t.profile t.next_id t.rows → IfSome (stream_served t stream requested) (ServedAfter O t stream.peer)
+over_stream_after : (O : OpenFields → Type 0) (t : AdapterTable) (stream : Stream) (requested : RouterRequestFields) → ((large : Bool) (request : OpenFields) → requested ≡ opening large request → O request) → IdsAreDrawn t.ids t.next_id t.rows → IfSome (stream_served t stream requested) (ServedAfter O t stream.peer)
 unfolding served_class3
 over_stream_after O t stream (opening large request) asks drawn =
     either (λ (s : Option Served). IfSome s (ServedAfter O t stream.peer)) (is_message_trigger request.trigger) (Some (served_class3 t stream large request)) (served t stream.peer (opening large request))
@@ -340,14 +340,14 @@ over_stream_after O t stream (refused service why) asks drawn = served_after O t
 over_stream_after O t stream (closing request) asks drawn = served_after O t stream.peer (closing request) asks drawn
 over_stream_after O t stream (object service class instance attribute body) asks drawn = served_after O t stream.peer (object service class instance attribute body) asks drawn
 
-request_after : (O : OpenFields → Type 0) (t : AdapterTable) (stream : Stream) (context : ℕ) (requested : RouterRequestFields) (own : Option OwnRequest) → ((large : Bool) (request : OpenFields) → requested ≡ opening large request → O request) → IdsAreDrawn t.profile t.next_id t.rows → HandledAfter O t stream.peer (request_handled t stream context requested own)
+request_after : (O : OpenFields → Type 0) (t : AdapterTable) (stream : Stream) (context : ℕ) (requested : RouterRequestFields) (own : Option OwnRequest) → ((large : Bool) (request : OpenFields) → requested ≡ opening large request → O request) → IdsAreDrawn t.ids t.next_id t.rows → HandledAfter O t stream.peer (request_handled t stream context requested own)
 request_after O t stream context requested None asks drawn =
     replied_after O t stream.peer (counted_once requested (stream_served t stream requested))
     (counted_keeps (ServedAfter O t stream.peer) (λ s counters goes. recounted O t stream.peer s.table counters goes) requested (stream_served t stream requested) (over_stream_after O t stream requested asks drawn))
 request_after O t stream context requested (Some own) asks drawn =
     either (HandledAfter O t stream.peer) (cannot_ask t stream.peer) (request_replied t (Some (router_refusal t own.service status.ResourceUnavailable))) _ (stays_so O t stream.peer) (messages_after O t stream.peer t.next_id _)
 
-packet_after : (O : OpenFields → Type 0) (t : AdapterTable) (stream : Stream) (context : ℕ) (reading : Result PacketFields ItemFault) → PacketRequests O reading → IdsAreDrawn t.profile t.next_id t.rows → HandledAfter O t stream.peer (packet_replied t stream context reading)
+packet_after : (O : OpenFields → Type 0) (t : AdapterTable) (stream : Stream) (context : ℕ) (reading : Result PacketFields ItemFault) → PacketRequests O reading → IdsAreDrawn t.ids t.next_id t.rows → HandledAfter O t stream.peer (packet_replied t stream context reading)
 packet_after O t stream context (Err fault) asks drawn = stays_so O t stream.peer
 packet_after O t stream context (Ok packet) asks drawn =
     request_after O t stream context (router_request_reading packet.payload) (own_of t.profile.objects (router_request_reading packet.payload)) (asks packet refl) drawn
@@ -355,7 +355,7 @@ packet_after O t stream context (Ok packet) asks drawn =
 unit_after : (O : OpenFields → Type 0) (t : AdapterTable) (peer : Node) (done : Handled) → IsOfMessages t done → HandledAfter O t peer done
 unit_after O t peer done is = subst (TableAfter O t peer) (sym is.table) (both_after O t peer is.counters t.next_id is.messages)
 
-handled_after : (O : OpenFields → Type 0) (t : AdapterTable) (stream : Stream) (echo : RequestHeader) (body : List ℕ) (requested : Command) → PacketRequests O (any_packet_reading body) → IdsAreDrawn t.profile t.next_id t.rows → HandledAfter O t stream.peer (handled t stream echo body requested)
+handled_after : (O : OpenFields → Type 0) (t : AdapterTable) (stream : Stream) (echo : RequestHeader) (body : List ℕ) (requested : Command) → PacketRequests O (any_packet_reading body) → IdsAreDrawn t.ids t.next_id t.rows → HandledAfter O t stream.peer (handled t stream echo body requested)
 unfolding handled
 handled_after O t stream echo body command.Nop asks drawn = stays_so O t stream.peer
 handled_after O t stream echo body command.ListServices asks drawn = stays_so O t stream.peer
@@ -381,15 +381,15 @@ misfit_after O t stream (Some h) =
 abbrev MessageRequests : (OpenFields → Type 0) → Result MessageFields EncapFault → Type 0
 MessageRequests O reading = (m : MessageFields) → reading ≡ Ok m → PacketRequests O (any_packet_reading m.payload)
 
-message_after : (O : OpenFields → Type 0) (t : AdapterTable) (stream : Stream) (header : Option Tailed) (reading : Result MessageFields EncapFault) → MessageRequests O reading → IdsAreDrawn t.profile t.next_id t.rows → NextAfter O t stream.peer (frame_answer t stream (frame_fields header reading))
+message_after : (O : OpenFields → Type 0) (t : AdapterTable) (stream : Stream) (header : Option Tailed) (reading : Result MessageFields EncapFault) → MessageRequests O reading → IdsAreDrawn t.ids t.next_id t.rows → NextAfter O t stream.peer (frame_answer t stream (frame_fields header reading))
 message_after O t stream header (Err why) asks drawn = misfit_after O t stream header
 message_after O t stream header (Ok m) asks drawn = handled_after O t stream (request_header_of m) m.payload (command_of m.command) (asks m refl) drawn
 
-read_after : (O : OpenFields → Type 0) (t : AdapterTable) (stream : Stream) (bytes : List ℕ) → MessageRequests O (message_reading bytes) → IdsAreDrawn t.profile t.next_id t.rows → NextAfter O t stream.peer (frame_answer t stream (frame_reading bytes))
+read_after : (O : OpenFields → Type 0) (t : AdapterTable) (stream : Stream) (bytes : List ℕ) → MessageRequests O (message_reading bytes) → IdsAreDrawn t.ids t.next_id t.rows → NextAfter O t stream.peer (frame_answer t stream (frame_reading bytes))
 unfolding frame_reading
 read_after O t stream bytes asks drawn = message_after O t stream _ (message_reading bytes) asks drawn
 
-frame_after : (O : OpenFields → Type 0) (t : AdapterTable) (stream : Stream) (bytes : List ℕ) → MessageRequests O (message_reading bytes) → IdsAreDrawn t.profile t.next_id t.rows → NextAfter O t stream.peer (frame_answer t stream (frame_for t.profile.description bytes))
+frame_after : (O : OpenFields → Type 0) (t : AdapterTable) (stream : Stream) (bytes : List ℕ) → MessageRequests O (message_reading bytes) → IdsAreDrawn t.ids t.next_id t.rows → NextAfter O t stream.peer (frame_answer t stream (frame_for t.profile.description bytes))
 frame_after O t stream bytes asks drawn =
     answer_has (NextAfter O t stream.peer) t stream bytes (read_after O t stream bytes asks drawn) (misfit_after O t stream (fields_at header_widths bytes)) (stays_so O t stream.peer)
 
@@ -415,7 +415,7 @@ rows_stay t next happens rows same = record {
 table_stays : (t : AdapterTable) (happens : Event) → Came t t happens
 table_stays t happens = rows_stay t t happens (were_there t) refl
 
-stream_came : (t : AdapterTable) (number : ℕ) (bytes : List ℕ) (stream : Stream) (reply : Option (List ℕ)) → find (is_stream number) t.streams ≡ Some stream → IdsAreDrawn t.profile t.next_id t.rows → Came t (stream_answer t stream bytes reply).1 (event.Frame number bytes)
+stream_came : (t : AdapterTable) (number : ℕ) (bytes : List ℕ) (stream : Stream) (reply : Option (List ℕ)) → find (is_stream number) t.streams ≡ Some stream → IdsAreDrawn t.ids t.next_id t.rows → Came t (stream_answer t stream bytes reply).1 (event.Frame number bytes)
 stream_came t number bytes stream (Some text) is drawn = table_stays t (event.Frame number bytes)
 stream_came t number bytes stream None is drawn =
     let next = (frame_answer t stream (frame_for t.profile.description bytes)).1 in
@@ -426,7 +426,7 @@ stream_came t number bytes stream None is drawn =
     news row (inl was) = inl was
     news row (inr new) = inr (record { stream = stream; found = is; new = new.new; request = new.request; requested = new.so; produced = new.produced })
 
-frame_of_came : (t : AdapterTable) (number : ℕ) (bytes : List ℕ) (found : Option Stream) → find (is_stream number) t.streams ≡ found → IdsAreDrawn t.profile t.next_id t.rows → OkCame t (event.Frame number bytes) (frame_of t bytes found)
+frame_of_came : (t : AdapterTable) (number : ℕ) (bytes : List ℕ) (found : Option Stream) → find (is_stream number) t.streams ≡ found → IdsAreDrawn t.ids t.next_id t.rows → OkCame t (event.Frame number bytes) (frame_of t bytes found)
 frame_of_came t number bytes None is drawn = tt
 frame_of_came t number bytes (Some stream) is drawn = stream_came t number bytes stream (inquiry_reply t bytes) is drawn
 
@@ -449,7 +449,7 @@ answered_came : (t : AdapterTable) (peer : Node) (bytes : List ℕ) (s : Option 
 answered_came t peer bytes None goes = table_stays t (event.Request peer bytes)
 answered_came t peer bytes (Some s) goes = peer_came t s.table peer bytes goes
 
-request_came : (t : AdapterTable) (peer : Node) (bytes : List ℕ) (requested : RouterRequestFields) (own : Option OwnRequest) → IdsAreDrawn t.profile t.next_id t.rows → OkCame t (event.Request peer bytes) (Ok (requested_by t peer requested own))
+request_came : (t : AdapterTable) (peer : Node) (bytes : List ℕ) (requested : RouterRequestFields) (own : Option OwnRequest) → IdsAreDrawn t.ids t.next_id t.rows → OkCame t (event.Request peer bytes) (Ok (requested_by t peer requested own))
 request_came t peer bytes requested None drawn =
     answered_came t peer bytes (counted_once requested (served t peer requested))
     (counted_keeps (ServedAfter Anything t peer) (λ s counters goes. recounted Anything t peer s.table counters goes) requested (served t peer requested) (served_after Anything t peer requested (λ large request is. tt) drawn))
@@ -523,7 +523,7 @@ tick_came t ms =
     (either (OkCame t (event.Tick ms)) (nat_lt clock_end (t.clock.0 + ms)) (Err ClockEnd) (Ok (aged_next (advanced (clocked_table t ms)))) tt
     (messages_came t (advanced (clocked_table t ms)).1 (event.Tick ms) _ _ (advanced_rows t ms) (advanced_streams t ms)))
 
-step_came : (t : AdapterTable) (happens : Event) → IdsAreDrawn t.profile t.next_id t.rows → OkCame t happens (adapter_step t happens)
+step_came : (t : AdapterTable) (happens : Event) → IdsAreDrawn t.ids t.next_id t.rows → OkCame t happens (adapter_step t happens)
 unfolding requested received inquired write frame stream_cut stream_opened
 step_came t (event.Request peer bytes) drawn = request_came t peer bytes (router_request_reading bytes) (own_of t.profile.objects (router_request_reading bytes)) drawn
 step_came t (event.StreamOpened number peer) drawn =
@@ -538,6 +538,7 @@ step_came t (event.Respond number general bytes) drawn =
     respond_holds (OkCame t (event.Respond number general bytes)) t number general bytes (λ why. tt)
     (λ w found few. messages_came t t (event.Respond number general bytes) t.next_id _ (were_there t) refl)
 step_came t (event.Counters bytes) drawn = counters_hold (OkCame t (event.Counters bytes)) t bytes (λ why. tt) (rows_stay t (counted_link t bytes) (event.Counters bytes) (were_there t) refl)
+step_came t (event.Ids block) drawn = ids_hold (OkCame t (event.Ids block)) t block (λ why. tt) (λ may. rows_stay t (taken_table t block) (event.Ids block) (were_there t) refl)
 step_came t other drawn = passive_holds (OkCame t other) t (λ why. tt) (λ verdict. table_stays t other) other refl
 
 pub connections_keep : ConnectionsKeepTheirIds

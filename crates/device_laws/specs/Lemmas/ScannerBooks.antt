@@ -152,7 +152,7 @@ books_kept : (sent : List Production) (device : ℕ) → Kept (Keeps sent device
 books_kept sent device = record {
   same = λ t ok. ok;
   after = λ t u v first next ok. next (first ok);
-  opening = λ t place stands resting in_turn. opening_keeps sent device t place stands resting;
+  opening = λ t place stands resting in_turn left. opening_keeps sent device t place stands resting;
   idling = λ t place slot stands idle ok. set_books sent device t t place slot (same_alike t) stands (none_old t place slot Idle idle.state (λ r. refl)) (idle_state sent device t.run t.next_request place.config slot idle.state) ok;
   timing_out = λ t place link slot stands is becomes ok. set_books sent device t t place slot (same_alike t) stands (none_old t place slot (TimedOut link) becomes.state (λ r. refl)) (timed_out_state sent device t.run t.next_request place.config slot link becomes.state) ok;
   closing = λ t place link desired_up stands is ok.

@@ -49,6 +49,7 @@ use Rattle.scanner_table.specs.Step.{scanner_step}
 use Rattle.scanner_table.specs.Ticks.{expired_slots, expired_state, expired, all_expired, is_overdue, all_given_up, clocked_table, advanced, moved_on, ticked, tick}
 use Rattle.base_lemmas.specs.Booleans.{or_true}
 use Rattle.base_lemmas.specs.Numbers.{number_same}
+use Rattle.std.proofs.lemmas.Bool.{cond_both}
 use Rattle.std.proofs.lemmas.Option.{same_Some}
 use Rattle.device_laws.specs.Lemmas.ExplicitRequests.{GoesOut, explicit_holds, message_ends, SendsIfExplicit}
 use Rattle.device_laws.specs.Lemmas.Lists.{all_both}
@@ -59,9 +60,10 @@ use Rattle.scanner_table.specs.Lemmas.SlotEventLemmas.{slots_hold}
 abbrev pub SameStreams : ScannerTable → ScannerTable → Type 0
 SameStreams t u = (n : ℕ) → list_any (is_stream n) u.streams ≡ list_any (is_stream n) t.streams
 
--- a table of the same profile, counter of ids and streams
+-- a table of the same profile, blocks and number of ids, and streams
 pub record IsLike (t u : ScannerTable) : Type 0 where
   pub profile : u.profile ≡ t.profile
+  pub ids : u.ids ≡ t.ids
   pub next_id : u.next_id ≡ t.next_id
   pub streams : SameStreams t u
 
@@ -76,7 +78,7 @@ silent notices table = record { sent = []; notices = notices; table = table }
 pub record EffectsDo (R : ScannerTable → Effect → Type 0) : Type 0 where
   pub stays : (t u : ScannerTable) (notices : List Notice) → IsLike t u → R t (silent notices u)
   pub next : (t : ScannerTable) (first second : Effect) → R t first → R first.table second → R t (after first second)
-  pub opens : (t : ScannerTable) (place : IndexedSlot) (session : Session) → session_with t place.config.target ≡ Some session → R t (open_requested t place session)
+  pub opens : (t : ScannerTable) (place : IndexedSlot) (session : Session) → can_open t place.config ≡ true → session_with t place.config.target ≡ Some session → R t (open_requested t place session)
   pub closes : (t : ScannerTable) (place : IndexedSlot) (link : Link) (desired_up : Bool) (session : Session) → session_with t place.config.target ≡ Some session → R t (close_requested t place link desired_up session)
   pub disowns : (t : ScannerTable) (config : SlotConfig) (triad : Triad) (session : Session) → session_with t config.target ≡ Some session → R t (disowned t config triad session)
   pub registers : (t : ScannerTable) (stream : TargetStream) → IsOpen stream t → R t (registering_again t stream)
@@ -88,10 +90,10 @@ Relation = ScannerTable → Effect → Type 0
 -- ---- effects
 
 like_itself : (t : ScannerTable) → IsLike t t
-like_itself t = record { profile = refl; next_id = refl; streams = λ n. refl }
+like_itself t = record { profile = refl; ids = refl; next_id = refl; streams = λ n. refl }
 
 changed_does : (R : Relation) → EffectsDo R → (t : ScannerTable) (place : IndexedSlot) (slot : Slot) (reported : List Notice) → R t (changed t place slot reported)
-changed_does R does t place slot reported = does.stays t (with_slot t place.number slot) (changed t place slot reported).notices (record { profile = refl; next_id = refl; streams = λ n. refl })
+changed_does R does t place slot reported = does.stays t (with_slot t place.number slot) (changed t place slot reported).notices (record { profile = refl; ids = refl; next_id = refl; streams = λ n. refl })
 
 nothing_does : (R : Relation) → EffectsDo R → (t : ScannerTable) → R t (silent [] t)
 nothing_does R does t = does.stays t t [] (like_itself t)
@@ -127,7 +129,7 @@ asks_in t target (Closing c) = turn_asks (has_place t target) t target
 within_does : (R : Relation) → EffectsDo R → (t : ScannerTable) (place : IndexedSlot) (session : Option Session) → IsOfTarget t place.config.target session → R t (opened_within t place session)
 within_does R does t place None is = nothing_does R does t
 within_does R does t place (Some session) is =
-    either (R t) (can_open t place.config) (open_requested t place session) (exhausted t place) (does.opens t place session (is session refl)) (changed_does R does t place (resigned place.slot) (notice.NoIds place.number ∷ []))
+    cond_both (can_open t place.config) (open_requested t place session) (exhausted t place) (R t) (λ can. does.opens t place session can (is session refl)) (λ full. changed_does R does t place (resigned place.slot) (notice.NoIds place.number ∷ []))
 
 close_does : (R : Relation) → EffectsDo R → (t : ScannerTable) (place : IndexedSlot) (link : Link) (desired_up : Bool) (session : Session) → session_with t place.config.target ≡ Some session → R t (cond (has_request t) (close_requested t place link desired_up session) (exhausted t place))
 close_does R does t place link desired_up session is =
@@ -228,7 +230,7 @@ staged_same number stage n (s ∷ streams) =
     rw (one, rest) refl
 
 staged_like : (t : ScannerTable) (number : ℕ) (stage : Stage) → IsLike t (with_stage t number stage)
-staged_like t number stage = record { profile = refl; next_id = refl; streams = λ n. staged_same number stage n t.streams }
+staged_like t number stage = record { profile = refl; ids = refl; next_id = refl; streams = λ n. staged_same number stage n t.streams }
 
 registered_does : (R : Relation) → EffectsDo R → (t : ScannerTable) (stream : TargetStream) (m : MessageFields) → R t (registered t stream m)
 registered_does R does t stream m =
@@ -238,7 +240,7 @@ registered_does R does t stream m =
 
 started_does : (R : Relation) → EffectsDo R → (t : ScannerTable) (place : IndexedSlot) (slot : Slot) → R t (started t place slot)
 started_does R does t place slot =
-    from_like R does t (with_slot t place.number slot) (started t place slot) (record { profile = refl; next_id = refl; streams = λ n. refl })
+    from_like R does t (with_slot t place.number slot) (started t place slot) (record { profile = refl; ids = refl; next_id = refl; streams = λ n. refl })
     (opened_does R does (with_slot t place.number slot) (record place { slot = slot }))
 
 -- ---- a step
@@ -277,7 +279,7 @@ lost_does R does target t = each_does R does given_up (λ u place. given_does R 
 
 explicit_lost_does : (R : Relation) → EffectsDo R → (stream : ℕ) (t : ScannerTable) → R t (explicit_lost stream t)
 unfolding explicit_lost
-explicit_lost_does R does stream t = does.stays t (explicit_lost stream t).table (explicit_lost stream t).notices (record { profile = refl; next_id = refl; streams = λ n. refl })
+explicit_lost_does R does stream t = does.stays t (explicit_lost stream t).table (explicit_lost stream t).notices (record { profile = refl; ids = refl; next_id = refl; streams = λ n. refl })
 
 -- the session on an open stream ends, and a new one is registered
 renewed_does : (R : Relation) → EffectsDo R → (t : ScannerTable) (stream : TargetStream) → IsOpen stream t → R t (session_renewed stream t)
@@ -394,7 +396,7 @@ stop_does R t (Ok effect) goes = done_does R t effect goes
 
 timed_out_does : (R : Relation) → EffectsDo R → (t : ScannerTable) → R t (explicit_timed_out t)
 unfolding explicit_timed_out
-timed_out_does R does t = does.stays t (explicit_timed_out t).table (explicit_timed_out t).notices (record { profile = refl; next_id = refl; streams = λ n. refl })
+timed_out_does R does t = does.stays t (explicit_timed_out t).table (explicit_timed_out t).notices (record { profile = refl; ids = refl; next_id = refl; streams = λ n. refl })
 
 moved_does : (R : Relation) → EffectsDo R → (t : ScannerTable) → R t (moved_on t)
 moved_does R does t =
@@ -409,7 +411,7 @@ ticked_does R does t ms =
       effect = effect;
       frames = refl;
       next_id = refl;
-      does = from_like R does t (clocked_table t ms) (moved_on (clocked_table t ms)) (record { profile = refl; next_id = refl; streams = λ n. refl }) (moved_does R does (clocked_table t ms));
+      does = from_like R does t (clocked_table t ms) (moved_on (clocked_table t ms)) (record { profile = refl; ids = refl; next_id = refl; streams = λ n. refl }) (moved_does R does (clocked_table t ms));
     })
 
 tick_does : (R : Relation) → EffectsDo R → (t : ScannerTable) (ms : ℕ) → OkDoes R t (tick t ms)
@@ -453,7 +455,7 @@ any_effects : EffectsDo AnyEffect
 any_effects = record {
   stays = λ t u notices like. tt;
   next = λ t first second one other. all_both SendsIfExplicit first.sent second.sent one other;
-  opens = λ t place session is. (tt, tt);
+  opens = λ t place session can is. (tt, tt);
   closes = λ t place link desired_up session is. (tt, tt);
   disowns = λ t config triad session is. (tt, tt);
   registers = λ t stream is_open. (tt, tt);

@@ -66,6 +66,7 @@ use Rattle.device_laws.specs.Lemmas.AdapterIds.{plain_protocol, few_bytes}
 use Rattle.device_laws.specs.Lemmas.Slots.{Counts, OfSlots, SlotHolds, SlotsHold, IsSlotOf, all_slots, with_slot_holds, mapped_indexed, mapped_slots, Kept, RequestId, SentId, RequestIdsHold, EffectHolds, same_counts, changed_counts, changed_holds, both_hold, closing_holds, left_holds, opened_holds, target_holds, lost_holds, advanced_holds, SaysSo, answered_holds}
 use Rattle.scanner_table.specs.Lemmas.Moves.{link_in}
 use Rattle.scanner_table.specs.Lemmas.PassiveLemmas.{passive_holds}
+use Rattle.scanner_table.specs.Lemmas.SlotEventLemmas.{ids_hold}
 
 -- ---- requests that are sent
 
@@ -166,7 +167,7 @@ registered_holds : ItemsReadBack → (G : OfSlots) (P : ℕ → Type 0) → Cuts
 registered_holds back G P cuts to t happens kept requested_ids stream m slots =
     done_holds back G P cuts to (registered t stream m)
     (either (λ (e : Effect). e.table.next_id ≤ to → EffectHolds G P e) (is_registered m) (session_begun t stream m.session) (session_failed t stream)
-    (λ below. target_holds G P t to happens kept requested_ids stream.peer (with_stage t stream.number (Up m.session)) (record { profile = refl; ids = omega arith; requests = omega arith }) below slots)
+    (λ below. target_holds G P t to happens kept requested_ids stream.peer (with_stage t stream.number (Up m.session)) (record { profile = refl; blocks = refl; ids = omega arith; requests = omega arith }) below slots)
     (λ below. record { slots = slots; sent = tt }))
 
 -- an effect behind another one, which keeps slots and sends nothing
@@ -191,7 +192,7 @@ renewed_holds G P to t happens kept stream now counts below slots =
     silent_after G P (and_then (registering_again now stream) (target_lost stream.peer)) (explicit_lost stream.number)
     (λ u whole. ended_holds G P stream.number u whole)
     (both_hold G P (registering_again now stream) lost (record { slots = slots; sent = (tt, tt) })
-    (lost_holds G P t to happens kept stream.peer staged (record { profile = counts.profile; ids = counts.ids; requests = counts.requests }) (ended_below stream.number to lost.table below) slots))
+    (lost_holds G P t to happens kept stream.peer staged (record { profile = counts.profile; blocks = counts.blocks; ids = counts.ids; requests = counts.requests }) (ended_below stream.number to lost.table below) slots))
 
 -- behind a slot that is not served
 unserved_holds : (G : OfSlots) (P : ℕ → Type 0) (to : ℕ) (t : ScannerTable) (happens : Event) → Kept G t to happens → (stream : TargetStream) (indexed : IndexedSlot) (status : ℕ) (state : SlotState) → slice_get t.profile.slots indexed.number ≡ Some indexed.config → SlotsHold G t → (and_then (unserved_state status t indexed state) (session_renewed stream)).table.next_id ≤ to → EffectHolds G P (and_then (unserved_state status t indexed state) (session_renewed stream))
@@ -246,7 +247,7 @@ cut_holds back G P cuts to t happens kept (Some stream) slots =
     done_holds back G P cuts to (stream_lost t stream)
     (λ below. silent_after G P (target_lost stream.peer (without_stream t stream.number)) (explicit_lost stream.number)
     (λ now whole. ended_holds G P stream.number now whole)
-    (lost_holds G P t to happens kept stream.peer (without_stream t stream.number) (record { profile = refl; ids = omega arith; requests = omega arith }) (ended_below stream.number to (target_lost stream.peer (without_stream t stream.number)).table below) slots))
+    (lost_holds G P t to happens kept stream.peer (without_stream t stream.number) (record { profile = refl; blocks = refl; ids = omega arith; requests = omega arith }) (ended_below stream.number to (target_lost stream.peer (without_stream t stream.number)).table below) slots))
 
 -- ---- datagrams received
 
@@ -401,7 +402,7 @@ tick_holds back G P cuts sends to t happens kept requested_ids ms slots =
     (either (OkHolds G P to) (nat_lt clock_end (t.clock.0 + ms)) (Err fault.ClockEnd) (Ok (ticked (moved_on (clocked_table t ms)))) tt
     (ticked_holds back G P cuts sends to t happens kept (moved_on (clocked_table t ms))
     (λ below. silent_after G P (advanced (clocked_table t ms)) explicit_timed_out (λ now whole. timed_out_holds G P now whole)
-    (advanced_holds G P t to happens kept requested_ids (clocked_table t ms) (record { profile = refl; ids = omega arith; requests = omega arith }) (timed_out_below to (advanced (clocked_table t ms)).table below) slots))))
+    (advanced_holds G P t to happens kept requested_ids (clocked_table t ms) (record { profile = refl; blocks = refl; ids = omega arith; requests = omega arith }) (timed_out_below to (advanced (clocked_table t ms)).table below) slots))))
 
 -- ---- explicit requests
 
@@ -430,4 +431,5 @@ scanner_holds back G P cuts sends to t (event.Mode run) kept requested_ids slots
 scanner_holds back G P cuts sends to t (event.Start number) kept requested_ids slots = start_holds back G P cuts to t (event.Start number) kept requested_ids (slot_at t number) (found_slot G t (is_numbered number) slots) slots
 scanner_holds back G P cuts sends to t (event.Stop number) kept requested_ids slots = stop_holds back G P cuts to t (event.Stop number) kept (slot_at t number) (found_slot G t (is_numbered number) slots) slots
 scanner_holds back G P cuts sends to t (event.Explicit target number bytes) kept requested_ids slots = explicit_request_holds back G P cuts to t target number bytes slots
+scanner_holds back G P cuts sends to t (event.Ids block) kept requested_ids slots = ids_hold (OkHolds G P to) t block (λ why. tt) (λ may below small. (record { frames = tt; datagrams = tt }, slots))
 scanner_holds back G P cuts sends to t other kept requested_ids slots = passive_holds (OkHolds G P to) t (λ why. tt) (λ verdict below small. (record { frames = tt; datagrams = tt }, slots)) other refl

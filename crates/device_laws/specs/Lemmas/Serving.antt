@@ -14,7 +14,6 @@ use Rattle.cip_router.specs.declared.refusal.Refusal.{Refusal}
 use Rattle.cip_router.specs.Requests.{RouterRequestFields, nothing, refused, closing, object, opening}
 use Rattle.adapter_table.specs.Intervals.{whole_request}
 use Rattle.adapter_table.specs.Lemmas.RefusalLemmas.{refusal_either}
-use Rattle.adapter_table.specs.declared.profile.Profile.{Profile}
 use Rattle.adapter_table.specs.Connections.{Row}
 use Rattle.adapter_table.specs.declared.table.AdapterTable.{AdapterTable}
 use Rattle.adapter_table.specs.Checks.{Admitted}
@@ -25,6 +24,7 @@ use Rattle.adapter_table.specs.Objects.{ObjectAnswer, said, denied, resetting, a
 use Rattle.adapter_table.specs.Carrying.{object_answer}
 use Rattle.adapter_table.specs.Requests.{Served, judged_open, admitted_open, served_open, close_of, served_close, end_of, served_end, object_served, served_object, served}
 use Rattle.adapter_table.specs.Rows.{has_triad}
+use Rattle.cip_types.specs.declared.ids.IdBlock.{IdBlock}
 use Rattle.adapter_table.specs.Sound.{IdsAreDrawn}
 use Rattle.device_laws.specs.Lemmas.Lists.{all_filtered}
 use Rattle.device_laws.specs.Lemmas.Texts.{either}
@@ -39,22 +39,22 @@ ServedHas t s = ReplyHolds (IsOfRow t s.table) s.reply
 abbrev IsBelow : ℕ → Row → Type 0
 IsBelow next row = was_opened_as next row ≡ false
 
-all_below : (profile : Profile) (next : ℕ) (rows : List Row) → IdsAreDrawn profile next rows → AllByRecursion (IsBelow next) rows
-all_below profile next [] drawn = tt
-all_below profile next (row ∷ rows) drawn = (less_other row.opening next drawn.1, all_below profile next rows drawn.2)
+all_below : (ids : List IdBlock) (next : ℕ) (rows : List Row) → IdsAreDrawn ids next rows → AllByRecursion (IsBelow next) rows
+all_below ids next [] drawn = tt
+all_below ids next (row ∷ rows) drawn = (less_other row.opening next drawn.0.below, all_below ids next rows drawn.1)
 
 find_last : (p : Row → Bool) (rows : List Row) (row : Row) → AllByRecursion (λ r. p r ≡ false) rows → p row ≡ true → find p (rows ++ row ∷ []) ≡ Some row
 find_last p [] row none is = rw is refl
 find_last p (r ∷ rows) row none is = rw (none.0) (find_last p rows row none.1 is)
 
-pub new_row_found : (t : AdapterTable) (peer : Node) (request : OpenFields) (admitted : Admitted) → IdsAreDrawn t.profile t.next_id t.rows → find (was_opened_as t.next_id) (opened_table t (opened_row t peer request admitted) admitted).rows ≡ Some (opened_row t peer request admitted)
+pub new_row_found : (t : AdapterTable) (peer : Node) (request : OpenFields) (admitted : Admitted) → IdsAreDrawn t.ids t.next_id t.rows → find (was_opened_as t.next_id) (opened_table t (opened_row t peer request admitted) admitted).rows ≡ Some (opened_row t peer request admitted)
 unfolding opened_table opened_row
 new_row_found t peer request admitted drawn =
-    find_last (was_opened_as t.next_id) _ (opened_row t peer request admitted) (all_filtered (IsBelow t.next_id) _ t.rows (all_below t.profile t.next_id t.rows drawn)) (number_same t.next_id)
+    find_last (was_opened_as t.next_id) _ (opened_row t peer request admitted) (all_filtered (IsBelow t.next_id) _ t.rows (all_below t.ids t.next_id t.rows drawn)) (number_same t.next_id)
 
 -- ---- what is served
 
-open_has : (t : AdapterTable) (peer : Node) (large : Bool) (request : OpenFields) (said : Result Admitted Refusal) → IdsAreDrawn t.profile t.next_id t.rows → ServedHas t (judged_open t peer large request said)
+open_has : (t : AdapterTable) (peer : Node) (large : Bool) (request : OpenFields) (said : Result Admitted Refusal) → IdsAreDrawn t.ids t.next_id t.rows → ServedHas t (judged_open t peer large request said)
 unfolding admitted_open
 open_has t peer large request (Err why) drawn = refusal_either (ReplyHolds (IsOfRow t t)) t.profile t.rows _ request why (λ fault fails. fails) (λ a. tt)
 open_has t peer large request (Ok admitted) drawn = λ read ids. record {
@@ -83,7 +83,7 @@ object_has t service (answering by general content) = inl (object_answers_none b
 object_has t service (refusing named why) = nonzero why
 object_has t service (unrouted words) = tt
 
-pub served_has : (t : AdapterTable) (peer : Node) (requested : RouterRequestFields) → IdsAreDrawn t.profile t.next_id t.rows → IfSome (served t peer requested) (ServedHas t)
+pub served_has : (t : AdapterTable) (peer : Node) (requested : RouterRequestFields) → IdsAreDrawn t.ids t.next_id t.rows → IfSome (served t peer requested) (ServedHas t)
 unfolding served_open served_end served_object
 served_has t peer nothing drawn = tt
 served_has t peer (refused service why) drawn = nonzero why

@@ -2,7 +2,7 @@
 -- become idle, open, are established by replies, go on, time out and close.
 use Rattle.std.proofs.Common.{◌≡◌, ◌≤◌, ◌<◌, ℕ, zero, suc, ◌+◌, ◌&&◌, not, Bool, true, false, cond, List, [], ◌∷◌, map, filter, slice_get, slice_set, Option, Some, None, Result, Ok, Err, refl, sym, ◌∙◌, ap, subst, arith}
 use Rattle.std.specs.List.{AllByRecursion}
-use Rattle.std.proofs.lemmas.Bool.{and_parts}
+use Rattle.std.proofs.lemmas.Bool.{and_parts, cond_both}
 use Rattle.std.proofs.lemmas.Option.{same_Some}
 use Rattle.scanner_table.specs.Lemmas.Slotwise.{id_later}
 use Rattle.cip_types.specs.Cases.{first_case}
@@ -32,7 +32,7 @@ use Rattle.scanner_table.specs.declared.table.Session.{Session}
 use Rattle.scanner_table.specs.Slots.{IndexedSlot, indexed_from, indexed_slots, is_with, with_slot}
 use Rattle.scanner_table.specs.Requests.{Request, registering, opening, closing, requesting, Sent, next_t_o_id, next_requested, id_or_zero}
 use Rattle.scanner_table.specs.Effects.{Effect, nothing, after, and_then, on_each, changed, counted}
-use Rattle.scanner_table.specs.Opening.{has_request, closing_slot, close_requested, cleared_within, opened_from, can_open, drawn, opening_slot, resigned, exhausted, open_requested, opened_within, opened, is_ready_slot, ready_slots, ready_opened, target_opened, asking_session}
+use Rattle.scanner_table.specs.Opening.{has_id, has_request, closing_slot, close_requested, cleared_within, opened_from, can_open, drawn, opening_slot, resigned, exhausted, open_requested, opened_within, opened, is_ready_slot, ready_slots, ready_opened, target_opened, asking_session}
 use Rattle.scanner_table.specs.Closing.{requested_link, left_state, idle_slot, is_close_in_time, unclosed_slot, given_up_state, given_up, target_lost}
 use Rattle.scanner_table.specs.Replies.{is_id_free, new_connection, established_slot, failed_slot, refused, disowned, disowned_within, rejected, judged_success, answered}
 use Rattle.scanner_table.specs.Lemmas.Moves.{link_in}
@@ -101,12 +101,14 @@ mapped_slots G f keeps n (config ∷ configs) (slot ∷ slots) holds = (keeps n 
 -- nothing but counters differs, and they have not fallen
 pub record Counts (old new : ScannerTable) : Type 0 where
   pub profile : new.profile ≡ old.profile
+  pub blocks : new.ids ≡ old.ids
   pub ids : old.next_id ≤ new.next_id
   pub requests : old.next_request ≤ new.next_request
 
 -- a table within the event at which a slot of this configuration opens, with the id counter within the limit
 pub record CanDraw (old : ScannerTable) (to : ℕ) (now : ScannerTable) (config : SlotConfig) : Type 0 where
   pub counts : Counts old now
+  pub has : has_id now config ≡ true
   pub left : config.multicast ≡ false → now.next_id < to
 
 pub record Kept (G : OfSlots) (old : ScannerTable) (to : ℕ) (happens : Event) : Type 0 where
@@ -138,20 +140,20 @@ pub record EffectHolds (G : OfSlots) (P : ℕ → Type 0) (effect : Effect) : Ty
 -- ---- counters
 
 pub same_counts : (t : ScannerTable) → Counts t t
-same_counts t = record { profile = refl; ids = omega arith; requests = omega arith }
+same_counts t = record { profile = refl; blocks = refl; ids = omega arith; requests = omega arith }
 
 pub more_counts : (a b c : ScannerTable) → Counts a b → Counts b c → Counts a c
-more_counts a b c first next = record { profile = next.profile ∙ first.profile; ids = omega (arith, first.ids, next.ids); requests = omega (arith, first.requests, next.requests) }
+more_counts a b c first next = record { profile = next.profile ∙ first.profile; blocks = next.blocks ∙ first.blocks; ids = omega (arith, first.ids, next.ids); requests = omega (arith, first.requests, next.requests) }
 
 left_below : (multicast : Bool) (counter to : ℕ) → cond multicast counter (counter + 1) ≤ to → multicast ≡ false → counter < to
 left_below true counter to below is = absurd cc
 left_below false counter to below is = omega (arith, below)
 
 pub changed_counts : (t : ScannerTable) (indexed : IndexedSlot) (slot : Slot) → Counts t (with_slot t indexed.number slot)
-changed_counts t indexed slot = record { profile = refl; ids = omega arith; requests = omega arith }
+changed_counts t indexed slot = record { profile = refl; blocks = refl; ids = omega arith; requests = omega arith }
 
 requested_counts : (t : ScannerTable) (indexed : IndexedSlot) (slot : Slot) → Counts t (with_slot (counted (drawn t indexed.config)) indexed.number slot)
-requested_counts t indexed slot = record { profile = refl; ids = id_later indexed.config.multicast t.next_id; requests = omega arith }
+requested_counts t indexed slot = record { profile = refl; blocks = refl; ids = id_later indexed.config.multicast t.next_id; requests = omega arith }
 
 within_counts : (t : ScannerTable) (indexed : IndexedSlot) (session : Option Session) → Counts t (opened_within t indexed session).table
 within_counts t indexed None = same_counts t
@@ -160,7 +162,7 @@ within_counts t indexed (Some session) =
     (requested_counts t indexed (opening_slot t indexed)) (changed_counts t indexed (resigned indexed.slot))
 
 closing_counts : (t : ScannerTable) (indexed : IndexedSlot) (slot : Slot) → Counts t (with_slot (counted t) indexed.number slot)
-closing_counts t indexed slot = record { profile = refl; ids = omega arith; requests = omega arith }
+closing_counts t indexed slot = record { profile = refl; blocks = refl; ids = omega arith; requests = omega arith }
 
 cleared_counts : (t : ScannerTable) (indexed : IndexedSlot) (link : Link) (session : Option Session) → Counts t (cleared_within t indexed link session).table
 cleared_counts t indexed link None = same_counts t
@@ -226,13 +228,13 @@ changed_holds G P old now indexed slot reported counts there new holds =
 within_holds : (G : OfSlots) (P : ℕ → Type 0) (old : ScannerTable) (to : ℕ) (happens : Event) → Kept G old to happens → RequestIdsHold P old to → (now : ScannerTable) (indexed : IndexedSlot) (session : Option Session) → Counts old now → (opened_within now indexed session).table.next_id ≤ to → SlotsHold G now → IsSlotOf G old.profile.slots indexed → EffectHolds G P (opened_within now indexed session)
 within_holds G P old to happens kept requested_ids now indexed None counts below holds is_slot = record { slots = holds; sent = tt }
 within_holds G P old to happens kept requested_ids now indexed (Some session) counts below holds is_slot =
-    either (λ (e : Effect). e.table.next_id ≤ to → EffectHolds G P e) (can_open now indexed.config) (open_requested now indexed session) (exhausted now indexed)
-    (λ under.
-    let can : CanDraw old to now indexed.config = record { counts = counts; left = left_below indexed.config.multicast now.next_id to under } in
+    cond_both (can_open now indexed.config) (open_requested now indexed session) (exhausted now indexed) (λ (e : Effect). e.table.next_id ≤ to → EffectHolds G P e)
+    (λ may under.
+    let can : CanDraw old to now indexed.config = record { counts = counts; has = (and_parts (has_request now) (has_id now indexed.config) may).1; left = left_below indexed.config.multicast now.next_id to under } in
     let slots = with_slot_holds G old.profile.slots (counted (drawn now indexed.config)) indexed (opening_slot now indexed) (ap (λ (p : ScannerProfile). p.slots) counts.profile) is_slot.there
     (kept.opens indexed.number indexed.config now _ can refl refl) holds in
     record { slots = slots; sent = (requested_ids now indexed.config can, tt) })
-    (λ under. changed_holds G P old now indexed (resigned indexed.slot) (notice.NoIds indexed.number ∷ []) counts is_slot.there (kept.rests indexed.number indexed.config) holds) below
+    (λ full under. changed_holds G P old now indexed (resigned indexed.slot) (notice.NoIds indexed.number ∷ []) counts is_slot.there (kept.rests indexed.number indexed.config) holds) below
 
 -- the slot closes its connection
 pub closing_holds : (G : OfSlots) (P : ℕ → Type 0) (old : ScannerTable) (to : ℕ) (happens : Event) → Kept G old to happens → (now : ScannerTable) (indexed : IndexedSlot) (link : Link) (desired_up : Bool) (session : Session) (state : SlotState) → link_in state ≡ Some link → G indexed.number indexed.config state → Counts old now → slice_get old.profile.slots indexed.number ≡ Some indexed.config → SlotsHold G now → EffectHolds G P (cond (has_request now) (close_requested now indexed link desired_up session) (exhausted now indexed))
