@@ -1,13 +1,15 @@
 -- More moves add lives and acts.
-use Rattle.std.proofs.Common.{ℕ, ◌==◌, Bool, true, false, List, [], ◌∷◌, ◌++◌, slice_get, Option, Some, None, Result, Ok, Err, refl, sym, ◌∙◌, ap, subst}
+use Rattle.std.proofs.Common.{◌&&◌, ℕ, ◌==◌, Bool, true, false, List, [], ◌∷◌, ◌++◌, slice_get, Option, Some, None, Result, Ok, Err, refl, sym, ◌∙◌, ap, subst}
 use Rattle.std.specs.Option.{IfSome}
 use Rattle.std.proofs.lemmas.List.{append_assoc, append-nil}
+use Rattle.std.specs.Prelude.{is_none}
+use Rattle.cip_tables.specs.Ids.{stated_ids}
 use Rattle.cip_tables.specs.declared.table.Config.{Config}
 use Rattle.segment_world.specs.declared.act.Act.{Act}
 use Rattle.segment_world.specs.declared.act.ActFault.{ActFault}
 use Rattle.segment_world.specs.World.{Happened, happens}
 use Rattle.segment_world.specs.Lives.Plants.{life_of, act_of_lives}
-use Rattle.segment_world.specs.Lives.Restarts.{is_used, with_incarnation, restarts_unless, restarts_as, restarts_at}
+use Rattle.segment_world.specs.Lives.Restarts.{is_used, next_config, restarts_unless, restarts_as, restarts_at}
 use Rattle.segment_world.specs.Lives.Stories.{Move, Performed, Restart, PlantStory, with_act, with_act_of_lives, cuts_at, with_restart, then_move, plays, Grows, StoriesGrow}
 
 itself : (h : PlantStory) → Grows h h
@@ -34,11 +36,11 @@ act_grows h (Ok act) = happened_grows h act (happens h.plant.world act)
 unless_grows : (h : PlantStory) (cutting : List Act) (device byte life : ℕ) (config : Config) (used none : Bool) → IfSome (with_restart h cutting (restarts_unless h.plant device byte life config used none)) (Grows h)
 unless_grows h cutting device byte life config true none = tt
 unless_grows h cutting device byte life config false true = tt
-unless_grows h cutting device byte life config false false = record { later = with_incarnation byte config ∷ []; more = cutting; configs_are = refl; acts_are = refl }
+unless_grows h cutting device byte life config false false = record { later = next_config h.plant byte life config ∷ []; more = cutting; configs_are = refl; acts_are = refl }
 
 as_grows : (h : PlantStory) (cutting : List Act) (device byte life : ℕ) (found : Option Config) → IfSome (with_restart h cutting (restarts_as h.plant device byte life found)) (Grows h)
 as_grows h cutting device byte life None = tt
-as_grows h cutting device byte life (Some config) = unless_grows h cutting device byte life config (is_used byte h.plant.configs) (byte == 0)
+as_grows h cutting device byte life (Some config) = unless_grows h cutting device byte life config (is_none (stated_ids config) && is_used byte h.plant.configs) (byte == 0)
 
 at_grows : (h : PlantStory) (device byte : ℕ) (life : Option ℕ) → IfSome (with_restart h (cuts_at h.plant life) (restarts_at h.plant device byte life)) (Grows h)
 at_grows h device byte None = tt

@@ -1,11 +1,13 @@
 -- The stories of a plant: what each move keeps.
-use Rattle.std.proofs.Common.{◌≡◌, ◌<◌, ◌≤◌, ℕ, zero, suc, ◌+◌, ◌==◌, Bool, true, false, cond, List, [], ◌∷◌, ◌++◌, map, filter, length, slice_get, Option, Some, None, Result, Ok, Err, IfOk, refl, sym, ◌∙◌, ap, subst, arith}
+use Rattle.std.proofs.Common.{◌&&◌, ◌≡◌, ◌<◌, ◌≤◌, ℕ, zero, suc, ◌+◌, ◌==◌, Bool, true, false, cond, List, [], ◌∷◌, ◌++◌, map, filter, length, slice_get, Option, Some, None, Result, Ok, Err, IfOk, refl, sym, ◌∙◌, ap, subst, arith}
 use Rattle.std.specs.List.{AllByRecursion}
 use Rattle.std.specs.Option.{IfSome}
 use Rattle.std.proofs.lemmas.List.{append_assoc, append-nil, length-map, map-append}
 use Rattle.std.proofs.lemmas.Option.{same_Some}
 use Rattle.base_lemmas.specs.Numbers.{less_other}
 use Rattle.cip_types.specs.declared.names.Node.{Node}
+use Rattle.std.specs.Prelude.{is_none}
+use Rattle.cip_tables.specs.Ids.{stated_ids}
 use Rattle.cip_tables.specs.declared.table.Config.{Config}
 use Rattle.cip_tables.specs.declared.table.DeviceTable.{DeviceTable}
 use Rattle.cip_tables.specs.Step.{opening_table}
@@ -15,7 +17,7 @@ use Rattle.segment_world.specs.Configs.{node_of_config, opening_world, with_devi
 use Rattle.segment_world.specs.Story.{Story, begins, event_reported, events_of, goes_on, is_of, reported_more, reports, runs, ProjectionsAreRuns}
 use Rattle.segment_world.specs.World.{World, ReportedEvent, Happened, happens}
 use Rattle.segment_world.specs.Lives.Plants.{first_lives, life_of, act_of_lives}
-use Rattle.segment_world.specs.Lives.Restarts.{severed, severed_world, cuts, is_used, with_incarnation, restarted, restarts_at, restarts_as, restarts_unless}
+use Rattle.segment_world.specs.Lives.Restarts.{severed, severed_world, cuts, is_used, next_config, restarted, restarts_at, restarts_as, restarts_unless}
 use Rattle.segment_world.specs.Lives.Stories.{Move, Performed, Restart, PlantStory, fresh_story, with_act, with_act_of_lives, cuts_at, with_restart, then_move, plays, IsStory, with_later, MomentsAreSchedules, StoriesAreSchedules, LivesAreRuns, DevicesRunSinceTheirRestart, LaterLivesHaveNoEvents}
 use Rattle.segment_world.proofs.Lists.{all_both, all_more, all_set, one_longer}
 use Rattle.segment_world.proofs.Extending.{Stands, Extends, IsWithin, act_extends}
@@ -139,11 +141,11 @@ next_life_holds h device life config holds =
 unless_holds : (h : PlantStory) (device byte life : ℕ) (config : Config) (used none : Bool) → Holds h → IfSome (with_restart h (cuts life 0 h.plant.world.streams) (restarts_unless h.plant device byte life config used none)) Holds
 unless_holds h device byte life config true none holds = tt
 unless_holds h device byte life config false true holds = tt
-unless_holds h device byte life config false false holds = next_life_holds h device life (with_incarnation byte config) holds
+unless_holds h device byte life config false false holds = next_life_holds h device life (next_config h.plant byte life config) holds
 
 as_holds : (h : PlantStory) (device byte life : ℕ) (found : Option Config) → Holds h → IfSome (with_restart h (cuts life 0 h.plant.world.streams) (restarts_as h.plant device byte life found)) Holds
 as_holds h device byte life None holds = tt
-as_holds h device byte life (Some config) holds = unless_holds h device byte life config (is_used byte h.plant.configs) (byte == 0) holds
+as_holds h device byte life (Some config) holds = unless_holds h device byte life config (is_none (stated_ids config) && is_used byte h.plant.configs) (byte == 0) holds
 
 at_holds : (h : PlantStory) (device byte : ℕ) (life : Option ℕ) → Holds h → IfSome (with_restart h (cuts_at h.plant life) (restarts_at h.plant device byte life)) Holds
 at_holds h device byte None holds = tt

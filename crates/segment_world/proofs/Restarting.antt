@@ -1,32 +1,47 @@
 -- A restart: the code's decisions are those of the definition.
-use Rattle.std.proofs.Common.{◌≡◌, ◌≢◌, ◌<◌, ℕ, ◌==◌, Bool, false, List, length, get_or, slice_get, Some, None, Ok, IsOk, refl, sym, ◌∙◌, ap, subst, arith}
+use Rattle.std.proofs.Common.{◌≡◌, ◌≢◌, ◌<◌, ◌≤◌, ℕ, ◌==◌, ◌&&◌, not, Bool, true, false, List, length, get_or, slice_get, Option, Some, None, Ok, IsOk, refl, sym, ◌∙◌, ap, subst, arith}
 use Rattle.std.proofs.lemmas.Bool.Decides.{nat_tests}
 use Rattle.std.proofs.lemmas.Option.{slice_get_read, slice_get_within}
+use Rattle.std.specs.Option.{IfSome}
+use Rattle.std.specs.Prelude.{is_none}
+use Rattle.cip_types.specs.declared.ids.IdBlock.{IdBlock}
+use Rattle.cip_types.specs.Ids.{are_ids, is_block}
 use Rattle.cip_tables.specs.declared.table.Config.{Config}
+use Rattle.cip_tables.specs.Ids.{stated_ids, with_ids}
 use Rattle.cip_tables.specs.Step.{config_fault}
 use Rattle.segment_world.specs.Configs.{first_fault}
 use Rattle.segment_world.specs.Lives.Plants.{Plant, life_of}
-use Rattle.segment_world.specs.Lives.Restarts.{Restarted, is_used, with_incarnation, restarted, restarts, restarts_at, restarts_as, restarts_unless}
-use Rattle.segment_world.proofs.Naming.{good_at, none_again}
+use Rattle.segment_world.specs.Lives.Restarts.{Restarted, ids_of_next, is_used, next_config, with_incarnation, restarted, restarts, restarts_at, restarts_as, restarts_unless}
+use Rattle.segment_world.proofs.Naming.{byte_ids, good_at, none_next}
 
--- the configuration of a life was read, copied, and given another incarnation
-pub record Next (configs : List Config) (byte life : ℕ) (made : Config) : Type 0 where
+-- the configuration of a life was read, copied, and given another incarnation, and the ids that this life has left
+pub record Next (p : Plant) (byte life : ℕ) (made : Config) : Type 0 where
   pub found : Config
-  pub at : slice_get configs life ≡ Some found
-  pub is : made ≡ with_incarnation byte found
+  pub at : slice_get p.configs life ≡ Some found
+  pub is : made ≡ next_config p byte life found
 
-pub next_of : (configs read : List Config) (byte life : ℕ) (found copied made : Config) → read ≡ configs → life < length read → found ≡ get_or read life found → copied ≡ found → made ≡ with_incarnation byte copied → Next configs byte life made
-next_of configs read byte life found copied made read_is lt found_is copied_is made_is = record {
+pub next_of : (p : Plant) (read : List Config) (byte life : ℕ) (found copied made : Config) (ids : Option IdBlock) → read ≡ p.configs → life < length read → found ≡ get_or read life found → copied ≡ found → ids ≡ ids_of_next p life (stated_ids copied) → made ≡ with_ids ids (with_incarnation byte copied) → Next p byte life made
+next_of p read byte life found copied made ids read_is lt found_is copied_is ids_are made_is = record {
   found = found;
   at = ap (λ (l : List Config). slice_get l life) (sym read_is) ∙ slice_get_read read (length read) life found refl lt found_is;
-  is = made_is ∙ ap (with_incarnation byte) copied_is;
+  is = made_is ∙ ap (λ (i : Option IdBlock). with_ids i (with_incarnation byte copied)) ids_are ∙ ap (λ (c : Config). next_config p byte life c) copied_is;
 }
 
-pub next_is_good : (configs : List Config) (byte life : ℕ) (made : Config) → Next configs byte life made → first_fault configs ≡ None → (byte == 0) ≡ false → config_fault made ≡ None
-next_is_good configs byte life made next good other = ap config_fault next.is ∙ none_again byte next.found (good_at configs life next.found good next.at) other
+begins : (zero_is block_is : Bool) → zero_is ≡ false → block_is ≡ true → not (not zero_is && block_is) ≡ false
+begins zero_is block_is other is = rw (other, is) refl
 
--- a restart of a device whose life and configuration are found, with a new byte that is not 0
-pub goes_so : (p : Plant) (device byte life : ℕ) (made : Config) → life_of p device ≡ Some life → Next p.configs byte life made → is_used byte p.configs ≡ false → (byte == 0) ≡ false → restarts p device byte ≡ Ok (restarted device life made p)
+-- a device can begin with the ids that are a block, or with those of a byte
+can_begin : (byte : ℕ) (ids : Option IdBlock) → (byte == 0) ≡ false → byte ≤ 255 → IfSome ids (λ block. is_block block ≡ true) → not (are_ids byte ids) ≡ false
+can_begin byte None other le is = byte_ids byte other le
+can_begin byte (Some block) other le is = begins (byte == 0) (is_block block) other is
+
+pub next_is_good : (p : Plant) (byte life : ℕ) (made : Config) (next : Next p byte life made) → first_fault p.configs ≡ None → (byte == 0) ≡ false → byte ≤ 255 → IfSome (ids_of_next p life (stated_ids next.found)) (λ block. is_block block ≡ true) → config_fault made ≡ None
+next_is_good p byte life made next good other le block =
+    ap config_fault next.is
+    ∙ none_next byte (ids_of_next p life (stated_ids next.found)) next.found (good_at p.configs life next.found good next.at) (can_begin byte (ids_of_next p life (stated_ids next.found)) other le block)
+
+-- a restart of a device whose life and configuration are found, with a byte that is not 0, and is a new one where no ids are stated
+pub goes_so : (p : Plant) (device byte life : ℕ) (made : Config) → life_of p device ≡ Some life → (next : Next p byte life made) → (is_none (stated_ids next.found) && is_used byte p.configs) ≡ false → (byte == 0) ≡ false → restarts p device byte ≡ Ok (restarted device life made p)
 goes_so p device byte life made there next new other =
     ap (restarts_at p device byte) there
     ∙ ap (restarts_as p device byte life) next.at
@@ -35,7 +50,7 @@ goes_so p device byte life made there next new other =
     ∙ ap (λ (c : Config). Ok (restarted device life c p)) (sym next.is)
 
 -- so it has no fault
-pub goes : (p : Plant) (device byte life : ℕ) (made : Config) → life_of p device ≡ Some life → Next p.configs byte life made → is_used byte p.configs ≡ false → (byte == 0) ≡ false → IsOk (restarts p device byte)
+pub goes : (p : Plant) (device byte life : ℕ) (made : Config) → life_of p device ≡ Some life → (next : Next p byte life made) → (is_none (stated_ids next.found) && is_used byte p.configs) ≡ false → (byte == 0) ≡ false → IsOk (restarts p device byte)
 goes p device byte life made there next new other = subst (λ (said : Restarted). IsOk said) (sym (goes_so p device byte life made there next new other)) refl
 
 pub is_other : (byte : ℕ) → byte ≢ 0 → (byte == 0) ≡ false

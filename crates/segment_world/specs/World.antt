@@ -79,6 +79,7 @@ event_of_call (call.Stop slot) = event.Stop slot
 event_of_call (call.Explicit target number bytes) = event.Explicit target number bytes
 event_of_call (call.Respond number status bytes) = event.Respond number status bytes
 event_of_call (call.Counters bytes) = event.Counters bytes
+event_of_call (call.Ids block) = event.Ids block
 event_of_call (call.Tick ms) = event.Tick ms
 event_of_call (call.Inquiry peer bytes) = event.Inquiry peer bytes
 

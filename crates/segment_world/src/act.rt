@@ -10,7 +10,7 @@ ghost use Rattle.segment_world.specs.World.{event_of_call, event_of_ready};
 use crate::transit::Direction;
 use cip_events::{Event, Outcome, StepFault};
 use cip_tables::Device;
-use cip_types::{Items, Node, OutOfMemory};
+use cip_types::{IdBlock, Items, Node, OutOfMemory};
 use std::alloc::Global;
 use thiserror::Error;
 
@@ -53,6 +53,10 @@ pub enum Call {
     /// The host says what it has counted of the interface of an adapter.
     Counters {
         bytes: Items<u8>,
+    },
+    /// The device gets a further block of connection ids.
+    Ids {
+        block: IdBlock,
     },
     /// A number of milliseconds passes, at most 60,000.
     Tick {
@@ -113,6 +117,7 @@ impl Call {
             Call::Counters { bytes } => ReadyCall::Event(Event::Counters {
                 bytes: Items::copy_of(alloc, bytes.as_slice())?,
             }),
+            Call::Ids { block } => ReadyCall::Event(Event::Ids { block: *block }),
             Call::Tick { ms } => ReadyCall::Event(Event::Tick { ms: *ms }),
             Call::Inquiry { peer, bytes } => ReadyCall::Event(Event::Inquiry {
                 peer: *peer,
@@ -160,6 +165,7 @@ impl Call {
                 status: *status,
                 bytes: Items::copy_of(alloc, bytes.as_slice())?,
             },
+            Event::Ids { block } => Call::Ids { block: *block },
             Event::Inquiry { peer, bytes } => Call::Inquiry {
                 peer: *peer,
                 bytes: Items::copy_of(alloc, bytes.as_slice())?,

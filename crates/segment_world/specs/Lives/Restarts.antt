@@ -1,6 +1,9 @@
 -- A restart of a device: its life ends and the next one begins.
-use Rattle.std.specs.Prelude.{◌≡◌, ℕ, suc, ◌==◌, ◌&&◌, ◌||◌, not, if◌then◌else◌, Bool, true, false, List, [], ◌∷◌, ◌++◌, map, set, length, slice_get, Option, Some, None, Result, Ok, Err, IsOk}
+use Rattle.std.specs.Prelude.{◌≡◌, ℕ, suc, ◌==◌, ◌&&◌, ◌||◌, not, if◌then◌else◌, Bool, true, false, List, [], ◌∷◌, ◌++◌, map, set, length, slice_get, Option, Some, None, Result, Ok, Err, IsOk, is_none}
 use Rattle.std.specs.List.{list_any}
+use Rattle.cip_types.specs.declared.ids.IdBlock.{IdBlock}
+use Rattle.cip_tables.specs.declared.table.DeviceTable.{DeviceTable}
+use Rattle.cip_tables.specs.Ids.{next_ids, stated_ids, with_ids}
 use Rattle.cip_tables.specs.declared.table.Config.{Config}
 use Rattle.cip_tables.specs.declared.table.Config.TheVariants as config
 use Rattle.segment_world.specs.Transit.Streams.{Stream, cut_stream}
@@ -18,6 +21,19 @@ use Rattle.segment_world.specs.Lives.Plants.{Plant, life_of}
 abbrev pub with_incarnation : ℕ → Config → Config
 with_incarnation byte (config.Adapter profile) = config.Adapter (record profile { incarnation = byte })
 with_incarnation byte (config.Scanner profile) = config.Scanner (record profile { incarnation = byte })
+
+-- the ids that the life behind this one states: if it states some, what it has left of them
+abbrev pub ids_from : Option DeviceTable → Option IdBlock → Option IdBlock
+ids_from table None = None
+ids_from None (Some block) = Some block
+ids_from (Some t) (Some block) = Some (next_ids t)
+
+abbrev pub ids_of_next : Plant → ℕ → Option IdBlock → Option IdBlock
+ids_of_next p life stated = ids_from (slice_get p.world.tables life) stated
+
+-- the configuration of the next life
+abbrev pub next_config : Plant → ℕ → ℕ → Config → Config
+next_config p byte life config = with_ids (ids_of_next p life (stated_ids config)) (with_incarnation byte config)
 
 -- a life, which may have ended, has this byte
 abbrev pub is_used : ℕ → List Config → Bool
@@ -59,11 +75,11 @@ Restarted = Result Plant RestartFault
 abbrev pub restarts_unless : Plant → ℕ → ℕ → ℕ → Config → Bool → Bool → Restarted
 restarts_unless p device byte life config true none = Err UsedIncarnation
 restarts_unless p device byte life config false true = Err ZeroIncarnation
-restarts_unless p device byte life config false false = Ok (restarted device life (with_incarnation byte config) p)
+restarts_unless p device byte life config false false = Ok (restarted device life (next_config p byte life config) p)
 
 abbrev pub restarts_as : Plant → ℕ → ℕ → ℕ → Option Config → Restarted
 restarts_as p device byte life None = Err NoSuchDevice
-restarts_as p device byte life (Some config) = restarts_unless p device byte life config (is_used byte p.configs) (byte == 0)
+restarts_as p device byte life (Some config) = restarts_unless p device byte life config (is_none (stated_ids config) && is_used byte p.configs) (byte == 0)
 
 abbrev pub restarts_at : Plant → ℕ → ℕ → Option ℕ → Restarted
 restarts_at p device byte None = Err NoSuchDevice

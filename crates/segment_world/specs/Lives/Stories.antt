@@ -2,6 +2,8 @@
 -- story. (A world may have lives behind those of the plant that have not begun: nothing names them, and their tables are
 -- fresh.)
 use Rattle.std.specs.Prelude.{◌≡◌, ◌≤◌, ℕ, false, List, [], ◌∷◌, ◌++◌, length, map, slice_get, Option, Some, None, Result, Ok, Err}
+use Rattle.std.specs.List.{AllByRecursion}
+use Rattle.cip_tables.specs.Ids.{stated_ids}
 use Rattle.cip_tables.specs.declared.table.Config.{Config}
 use Rattle.cip_tables.specs.Run.{table_after}
 use Rattle.cip_tables.specs.Step.{opening_table}
@@ -27,6 +29,15 @@ pub record PlantStory : Type 0 where
 
 abbrev pub fresh_story : List Config → PlantStory
 fresh_story configs = record { plant = opening_plant configs; acts = []; reported = [] }
+
+-- an incarnation of a restart is a byte, as it is in the program
+abbrev pub IsByteMove : Move → Type 0
+IsByteMove (Performed act) = Unit {0}
+IsByteMove (Restart device byte) = byte ≤ 255
+
+-- none of the configurations states its connection ids
+abbrev pub StateNoIds : List Config → Type 0
+StateNoIds configs = AllByRecursion (λ config. stated_ids config ≡ None) configs
 
 -- MOVES
 
@@ -121,8 +132,8 @@ pub record Grows (was now : PlantStory) : Type 0 where
 abbrev pub StoriesGrow : Type 0
 StoriesGrow = (moves : List Move) (was now : PlantStory) → plays (Some was) moves ≡ Some now → Grows was now
 
--- no two lives have one incarnation byte, and no profile has a fault
+-- Where no profile states its connection ids, no two lives have one incarnation byte, and no profile has a fault.
 abbrev pub IncarnationsNameLives : Type 0
 IncarnationsNameLives =
-    (configs : List Config) (moves : List Move) (h : PlantStory) → world_fault configs ≡ None → IsStory configs moves h →
+    (configs : List Config) (moves : List Move) (h : PlantStory) → world_fault configs ≡ None → StateNoIds configs → AllByRecursion IsByteMove moves → IsStory configs moves h →
     (any_twice Incarnation h.plant.configs ≡ false) × (first_fault h.plant.configs ≡ None)

@@ -9,7 +9,8 @@ pub enum RestartFault {
     /// The plant has no device of this index.
     #[error("no such device")]
     NoSuchDevice,
-    /// A life of this plant has the incarnation, so a datagram of that life could be taken for one of the next.
+    /// A life of this plant has the incarnation, so a datagram of that life could be taken for one of the next: the profile
+    /// states no connection ids.
     #[error("the incarnation was used")]
     UsedIncarnation,
     /// The incarnation is 0, which begins no connection id.

@@ -41,7 +41,8 @@ pub fn devices_run_since_their_restart()
     projections_are_runs();
 }
 
-/// In a plant that began without a fault no two lives have one incarnation byte. So the byte names the life.
+/// In a plant that began without a fault, and whose profiles state no connection ids, no two lives have one incarnation byte. So the
+/// byte names the life.
 pub fn incarnations_name_lives()
     ensures { IncarnationsNameLives }
 {}

@@ -1,12 +1,14 @@
 //! A plant: devices on a simulated network that restart.
 
 ghost use Rattle.std.specs.Prelude.{◌≡◌, ◌<◌, true, None, IfOk, IfErr, OnOk, OnErr, length, slice_get};
+ghost use Rattle.std.specs.Option.{IfSome};
+ghost use Rattle.cip_types.specs.Ids.{is_block};
 ghost use Rattle.cip_tables.specs.Step.{AcceptsAll, config_fault};
 ghost use Rattle.segment_world.specs.Configs.{world_fault, IsRefused};
 ghost use Rattle.segment_world.specs.Follows.{ActFollows, takes_no_memory, NeverOutOfMemory};
 ghost use Rattle.segment_world.specs.declared.act.Act.TheVariants as Act;
 ghost use Rattle.segment_world.specs.Lives.Plants.{opening_plant, life_of, is_living, happens_at_lives, happens_if, at_life, between_lives, frame_at};
-ghost use Rattle.segment_world.specs.Lives.Restarts.{RestartFollows, restarts, restarted};
+ghost use Rattle.segment_world.specs.Lives.Restarts.{RestartFollows, ids_of_next, restarts, restarted};
 
 use crate::lives::configs::{copies, first_lives, is_used, number_of, with_incarnation};
 use crate::lives::fault::RestartFault;
@@ -17,7 +19,7 @@ use crate::{
 };
 use cip_events::Answer;
 use cip_tables::{Config, Device};
-use cip_types::OutOfMemory;
+use cip_types::{IdBlock, OutOfMemory};
 use std::alloc::Global;
 use std::marker::Model;
 
@@ -75,10 +77,11 @@ impl<D: Device + Drop> Plant<D> {
     }
 
     /// Restarts a device: its streams are cut, and its next life begins with a fresh table, of the configuration of its
-    /// last life with this incarnation. What it sent is still on its way. A restart that fails leaves the plant unchanged.
+    /// last life with this incarnation. If the profile states its connection ids, those of the next life are what the last one has
+    /// left of them. What it sent is still on its way. A restart that fails leaves the plant unchanged.
     ///
-    /// The errors, in order: `NoSuchDevice`; `UsedIncarnation` if a life of this plant has the incarnation;
-    /// `ZeroIncarnation`; `OutOfMemory`.
+    /// The errors, in order: `NoSuchDevice`; `UsedIncarnation` if a life of this plant has the incarnation, and the profile states
+    /// no connection ids; `ZeroIncarnation`; `OutOfMemory`.
     pub fn restart(&mut self, device: u32, incarnation: u8) -> Result<(), RestartFault>
         requires accepts { AcceptsAll D.accepts }
         ensures { RestartFollows (restarts self.old device incarnation) self.old result self.new }
@@ -89,7 +92,7 @@ impl<D: Device + Drop> Plant<D> {
         let Some(config) = self.configs.get(life as usize) else {
             return Err(RestartFault::NoSuchDevice);
         };
-        if is_used(incarnation, &self.configs) {
+        if config.stated_ids().is_none() && is_used(incarnation, &self.configs) {
             return Err(RestartFault::UsedIncarnation);
         }
         if incarnation == 0 {
@@ -98,9 +101,31 @@ impl<D: Device + Drop> Plant<D> {
         let Ok(config) = config.copy(self.alloc) else {
             return Err(RestartFault::OutOfMemory);
         };
-        match self.replace(device, life, with_incarnation(incarnation, config)) {
+        let Ok(ids) = self.ids_behind(life, config.stated_ids()) else {
+            return Err(RestartFault::OutOfMemory);
+        };
+        let config = with_incarnation(incarnation, config).with_ids(ids);
+        match self.replace(device, life, config) {
             Ok(()) => Ok(()),
             Err(_) => Err(RestartFault::OutOfMemory),
+        }
+    }
+}
+
+impl<D: Device> Plant<D> {
+    /// The connection ids that the life behind this one states, which are a block: if it states some, what it has left of them.
+    /// `OutOfMemory` is the only error.
+    fn ids_behind(&self, life: u32, stated: Option<IdBlock>) -> Result<Option<IdBlock>, OutOfMemory>
+        requires { IfSome stated (λ block. is_block block ≡ true) }
+        ensures value { IfOk result (λ ids. ids ≡ ids_of_next self.now life stated) }
+        ensures block { IfOk result (λ ids. IfSome ids (λ block. is_block block ≡ true)) }
+    {
+        if stated.is_none() {
+            return Ok(None);
+        }
+        match self.world.table(life) {
+            Some(table) => Ok(Some(table?.table().next_ids())),
+            None => Ok(stated),
         }
     }
 }
