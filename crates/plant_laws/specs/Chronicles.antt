@@ -3,24 +3,21 @@ use Rattle.std.specs.Prelude.{◌≡◌, ◌≤◌, ℕ, List, ◌++◌, None, S
 use Rattle.std.specs.List.{AllByRecursion}
 use Rattle.cip_tables.specs.declared.table.Config.{Config}
 use Rattle.segment_world.specs.Configs.{world_fault}
-use Rattle.segment_world.specs.Lives.Stories.{Move, Performed, Restart, PlantStory, IsStory, plays, with_later}
+use Rattle.segment_world.specs.Lives.Stories.{Move, IsByteMove, StateNoIds, PlantStory, IsStory, plays, with_later}
 use Rattle.schedule_laws.specs.Chronicle.{Chronicle}
-use Rattle.schedule_laws.specs.Ids.{AreBytes}
+use Rattle.schedule_laws.specs.Lives.{AreApart}
 use Rattle.schedule_laws.specs.Order.{IsChronicle}
 use Rattle.schedule_laws.specs.Producers.{AreMoments}
 use Rattle.schedule_laws.specs.Restarts.{IsNew, TakesNothingOlder}
 
--- an incarnation of a restart is a byte, as it is in the program
-abbrev pub IsByteMove : Move → Type 0
-IsByteMove (Performed act) = Unit {0}
-IsByteMove (Restart device byte) = byte ≤ 255
-
--- a story of a plant that begins from configurations without fault, where incarnations are bytes
+-- A story of a plant that begins from configurations without fault, which state no connection ids, where incarnations of restarts
+-- are bytes. No two lives have connection ids in common at its end.
 pub record IsPlayed (configs : List Config) (moves : List Move) (h : PlantStory) : Type 0 where
   pub faultless : world_fault configs ≡ None
-  pub bytes : AreBytes configs
+  pub unstated : StateNoIds configs
   pub moves_are : AllByRecursion IsByteMove moves
   pub played : IsStory configs moves h
+  pub apart : AreApart h.plant.world.tables
 
 -- the chronicle of the story's acts among its lives
 pub record IsChronicled (h : PlantStory) (c : Chronicle) : Type 0 where
@@ -49,6 +46,6 @@ pub record ArePlantMoments (early now : PlantStory) : Type 0 where
 abbrev pub LaterLivesTakeNothingOlder : Type 0
 LaterLivesTakeNothingOlder =
     (configs : List Config) (moves more : List Move) (early now : PlantStory) (life : ℕ) →
-    IsPlayed configs moves early → AllByRecursion IsByteMove more → plays (Some early) more ≡ Some now →
+    IsPlayed configs moves early → AllByRecursion IsByteMove more → plays (Some early) more ≡ Some now → AreApart now.plant.world.tables →
     length early.plant.configs ≤ life →
     (two : ArePlantMoments early now) × TakesNothingOlder two.was_chronicle two.now_chronicle life

@@ -4,15 +4,16 @@
 
 ghost use Rattle.plant_laws.specs.Chronicles.{StoriesAreChronicled, LaterLivesTakeNothingOlder};
 
+use cip_tables::laws::blocks_grow;
 use schedule_laws::a_new_life_takes_nothing_older;
 use segment_world::lives::laws::{
     incarnations_name_lives, later_lives_have_no_events, moments_are_schedules,
     stories_are_schedules, stories_grow,
 };
 
-/// Each story of a plant has a chronicle of its lives, in the sense of the laws of schedules: its lives begin with incarnations
-/// that differ and profiles without fault, and its acts lead to the world of the plant, with the same events. The plant begins
-/// from configurations without fault, and incarnations are bytes.
+/// Each story of a plant has a chronicle of its lives, in the sense of the laws of schedules: its lives begin with profiles without
+/// fault, and its acts lead to the world of the plant, with the same events. The plant begins from configurations without fault that
+/// state no connection ids, incarnations are bytes, and no two lives have connection ids in common at the end.
 pub fn stories_are_chronicled()
     ensures { StoriesAreChronicled }
 {
@@ -26,6 +27,7 @@ pub fn stories_are_chronicled()
 pub fn later_lives_take_nothing_older()
     ensures { LaterLivesTakeNothingOlder }
 {
+    blocks_grow();
     moments_are_schedules();
     stories_are_schedules();
     later_lives_have_no_events();

@@ -1,17 +1,19 @@
 -- Each law of order refuses a chronicle that was bent against it.
-use Rattle.std.proofs.Common.{◌≡◌, ◌+◌, ◌==◌, Bool, true, false, cond, inl, inr, List, [], ◌∷◌, map, Some, refl, sym, ◌∙◌, arith}
+use Rattle.std.proofs.Common.{◌≡◌, ◌+◌, ◌==◌, Bool, true, false, cond, ℕ, inl, inr, List, [], ◌∷◌, map, Some, refl, sym, subst, ◌∙◌, arith}
 use Rattle.cip_fwdopen.specs.Open.{OpenFields}
 use Rattle.adapter_table.specs.declared.table.PointValue.{PointValue}
 use Rattle.adapter_table.specs.Checks.{is_multicast}
 use Rattle.cip_tables.specs.declared.table.DeviceTable.{DeviceTable}
 use Rattle.cip_tables.specs.declared.table.DeviceTable.TheVariants.{Adapter, Scanner}
+use Rattle.std.specs.List.{list_any}
+use Rattle.cip_types.specs.IdLaws.{has_id, ids_are_theirs}
 use Rattle.device_laws.specs.OwnIds.{AsksOwnId}
 use Rattle.device_laws.specs.Productions.{AreInOrder, end_at, Production}
 use Rattle.schedule_laws.specs.Chronicle.{Acceptance, Chronicle}
 use Rattle.schedule_laws.specs.Order.{AreNear, Rise}
 use Rattle.schedule_laws.specs.Outputs.{AdaptersAccept, OutputsHold}
 use Rattle.samples.specs.Oracle.{rises}
-use Rattle.samples.specs.Schedules.{observed, owned, owner, played, scanner}
+use Rattle.samples.specs.Schedules.{blocks_of, observed, owned, owner, played, scanner}
 use Rattle.samples.specs.Tests.{are_named, are_numbered, outputs_hold}
 use Rattle.samples.specs.Stories.{twice_written}
 use Rattle.samples.specs.Playing.{playing}
@@ -147,7 +149,11 @@ other_data_are_refused law = refuses OrderIn are_numbered order_passes repeated_
 
 -- ---- the id that a scanner asks for
 
--- an id of another incarnation is not the scanner's own
-another_id_is_refused : (request : OpenFields) → is_multicast request.t_o_params.kind ≡ false → request.t_o_id.0 ≡ 0x30000001 → AsksOwnId (scanner owner) request → ⊥
+-- an id of another incarnation is none of the scanner's blocks
+another_id_is_refused : (request : OpenFields) → is_multicast request.t_o_params.kind ≡ false → request.t_o_id.0 ≡ 0x30000001 → AsksOwnId (blocks_of (scanner owner)) request → ⊥
 another_id_is_refused request single id (inl many) = absurd (let e = sym single ∙ many in cc)
-another_id_is_refused request single id (inr own) = absurd (omega (arith, id, own.is, own.ends))
+another_id_is_refused request single id (inr own) =
+    let ends = own.ends in
+    let there : list_any (has_id 0x30000001) (blocks_of (scanner owner)) ≡ true =
+    subst (λ (n : ℕ). list_any (has_id n) (blocks_of (scanner owner)) ≡ true) (sym own.is ∙ id) (ids_are_theirs (blocks_of (scanner owner)) own.number own.begins (omega (arith, ends))) in
+    absurd cc

@@ -30,7 +30,7 @@ use Rattle.device_laws.specs.Values.{IsSlots}
 use Rattle.schedule_laws.specs.Ids.{IdsAreDrawn}
 use Rattle.schedule_laws.specs.Chronicle.{Chronicle}
 use Rattle.samples.specs.Playing.{playing}
-use Rattle.samples.specs.Schedules.{meets, neighbour, observed, owned, owner, played, scanner}
+use Rattle.samples.specs.Schedules.{blocks_of, meets, neighbour, observed, owned, owner, played, scanner}
 use Rattle.samples.specs.Stories.{begins, twice_written}
 use Rattle.samples.specs.NameTests.{device_of}
 use Rattle.samples.specs.StepTests.{all_sent_drawn, bytes_ask_own, is_made_by_a_slot, one_has_number, rows_stay, succeeds_not}
@@ -64,21 +64,21 @@ request_waits = meets 1 0 ++ Local 1 (call.Start 0) ∷ []
 abbrev reply_waits : List Act
 reply_waits = request_waits ++ NextFrame 0 Forth ∷ []
 
-asks_for_its_own : observed (λ c. bytes_ask_own (scanner owner) (waiting Forth c)) (played owned request_waits) ≡ Some true
+asks_for_its_own : observed (λ c. bytes_ask_own (blocks_of (scanner owner)) (waiting Forth c)) (played owned request_waits) ≡ Some true
 unfolding playing
 asks_for_its_own = refl
 
-asks_for_anothers : observed (λ c. bytes_ask_own (neighbour owner) (waiting Forth c)) (played owned request_waits) ≡ Some false
+asks_for_anothers : observed (λ c. bytes_ask_own (blocks_of (neighbour owner)) (waiting Forth c)) (played owned request_waits) ≡ Some false
 unfolding playing
 asks_for_anothers = refl
 
 -- another scanner may not ask for that id
 abbrev RequestedByAnother : Chronicle → Type 0
-RequestedByAnother c = OpeningsAre (AsksOwnId (neighbour owner)) (waiting Forth c)
+RequestedByAnother c = OpeningsAre (AsksOwnId (blocks_of (neighbour owner))) (waiting Forth c)
 
 the_id_of_another_is_refused : LawAt RequestedByAnother as_played (played owned request_waits) → ⊥
 the_id_of_another_is_refused law =
-    refuses RequestedByAnother (λ c. bytes_ask_own (neighbour owner) (waiting Forth c)) (λ c is. asking_passes (neighbour owner) (waiting Forth c) is) as_played (played owned request_waits) asks_for_anothers law
+    refuses RequestedByAnother (λ c. bytes_ask_own (blocks_of (neighbour owner)) (waiting Forth c)) (λ c is. asking_passes (blocks_of (neighbour owner)) (waiting Forth c) is) as_played (played owned request_waits) asks_for_anothers law
 
 abbrev frame_of : List ℕ → Frame
 frame_of bytes = record { to = recipient.Stream 0; bytes = bytes }

@@ -8,8 +8,7 @@ use Rattle.cip_tables.specs.declared.table.DeviceTable.TheVariants.{Adapter, Sca
 use Rattle.segment_world.specs.declared.act.Act.{Act}
 use Rattle.segment_world.specs.Configs.{opening_world, world_fault}
 use Rattle.schedule_laws.specs.Chronicle.{Acceptance, Chronicle, blank, chronicles}
-use Rattle.schedule_laws.specs.Ids.{AreBytes}
-use Rattle.schedule_laws.specs.Lives.{DifferInAddress}
+use Rattle.schedule_laws.specs.Lives.{AreApart, DifferInAddress}
 use Rattle.schedule_laws.specs.Devices.{SchedulesKeepDevices}
 use Rattle.schedule_laws.specs.Indexes.{ProducedInOrder}
 use Rattle.schedule_laws.specs.MadeOnce.{AnIdOpensOneConnection, SchedulesUseIdsOnce}
@@ -17,7 +16,7 @@ use Rattle.schedule_laws.specs.Marks.{SchedulesFollowMarks}
 use Rattle.schedule_laws.specs.Names.{AnIdNamesOneOpening, SchedulesAcceptOneOpening, SchedulesNameOpenings}
 use Rattle.schedule_laws.specs.Order.{AcceptedIndexesRise, IsChronicle, KeepsHalfCircle, ProducedAsWritten}
 use Rattle.schedule_laws.specs.Producers.{AreMoments, LaterAcceptNothingOlder, LaterConnectionsAcceptNothingOlder, SchedulesNameOneProducer}
-use Rattle.schedule_laws.specs.Restarts.{BytesNameIds, IsNew, LivesAreNamedByBytes, NewLivesTakeNothingOlder, TakesNothingOlder}
+use Rattle.schedule_laws.specs.Restarts.{IsNew, LivesAreNamedByIds, LivesDrewIds, NewLivesTakeNothingOlder, TakesNothingOlder}
 use Rattle.schedule_laws.specs.Lemmas.Lives.{worlds_are_lives}
 use Rattle.schedule_laws.specs.Images.{GatheredInOrder, SchedulesGatherImages}
 use Rattle.schedule_laws.specs.Outputs.{AppliedInOrder}
@@ -167,9 +166,9 @@ new_life_holds law configs was now life are new = law configs was now life are n
 
 -- ---- of lives
 
-named_by_bytes : LivesAreNamedByBytes → (configs : List Config) (acts : List Act) (c : Chronicle) → IsChronicle configs acts c → BytesNameIds configs c
-named_by_bytes law configs acts c is = law configs acts c is
+named_by_ids : LivesAreNamedByIds → (configs : List Config) (acts : List Act) (c : Chronicle) → IsChronicle configs acts c → LivesDrewIds c
+named_by_ids law configs acts c is = law configs acts c is
 
 -- a world of devices is one of lives
-worlds_pass : (configs : List Config) (acts : List Act) (c : Chronicle) → world_fault configs ≡ None → AreBytes configs → chronicles (Ok (blank (opening_world configs))) acts ≡ Ok c → IsChronicle configs acts c
-worlds_pass configs acts c none bytes ran = record { lives = worlds_are_lives configs none; bytes = bytes; ran = ran }
+worlds_pass : (configs : List Config) (acts : List Act) (c : Chronicle) → world_fault configs ≡ None → chronicles (Ok (blank (opening_world configs))) acts ≡ Ok c → AreApart c.story.world.tables → IsChronicle configs acts c
+worlds_pass configs acts c none ran apart = record { lives = worlds_are_lives configs none; ran = ran; apart = apart }

@@ -1,12 +1,11 @@
 -- Lives of one adapter: with incarnations that differ, what was sent to the first life is not accepted by the second; with one
 -- incarnation it is, at the other output. And the laws of lives refuse what was bent against them.
-use Rattle.std.proofs.Common.{◌≡◌, ◌⊎◌, inl, inr, ◌<◌, ◌+◌, ◌*◌, ◌^◌, ℕ, true, false, List, [], ◌∷◌, replicate, Some, refl}
+use Rattle.std.proofs.Common.{◌≡◌, ◌⊎◌, inl, inr, ◌<◌, ◌+◌, ◌*◌, ◌^◌, ℕ, true, false, [], ◌∷◌, replicate, Some, refl}
 use Rattle.std.specs.List.{Contains}
 use Rattle.cip_events.specs.declared.event.Delivery.TheVariants.{Applied}
 use Rattle.adapter_table.specs.declared.table.AdapterTable.{AdapterTable}
 use Rattle.scanner_table.specs.declared.table.ScannerTable.{ScannerTable}
 use Rattle.scanner_table.specs.Slots.{IndexedSlot, slot_at}
-use Rattle.cip_tables.specs.declared.table.Config.{Config}
 use lib.Count.{ones}
 use Rattle.segment_world.specs.Configs.{any_twice, world_fault}
 use Rattle.segment_world.specs.Story.{events_of}
@@ -17,7 +16,7 @@ use Rattle.schedule_laws.specs.Chronicle.{Acceptance, Chronicle}
 use Rattle.schedule_laws.specs.Lives.{AreLives}
 use Rattle.schedule_laws.specs.Order.{IsAdapterAt, IsScannerAt}
 use Rattle.schedule_laws.specs.Producers.{HasConnection}
-use Rattle.schedule_laws.specs.Restarts.{BytesNameIds, HasByte, TakesNothingOlder, WasTaken}
+use Rattle.schedule_laws.specs.Restarts.{LivesDrewIds, TakesNothingOlder, WasDrawnBy, WasTaken}
 use Rattle.samples.specs.Oracle.{is_in_order}
 use Rattle.samples.specs.Playing.{playing}
 use Rattle.samples.specs.Restarted.{first_life, late, one_byte, two_lives}
@@ -33,7 +32,7 @@ two_of_one_address = refl
 
 they_are_lives : AreLives two_lives
 unfolding playing ones
-they_are_lives = record { incarnations = refl; profiles = refl }
+they_are_lives = record { profiles = refl }
 
 -- before the second life begins nothing has happened at it
 it_is_new : observed (λ c. events_of 2 c.story.reported) (played two_lives first_life) ≡ Some []
@@ -86,8 +85,5 @@ an_image_that_nothing_gave_is_refused was now life t place at there zeros other 
     held (inl is) = zeros is
     held (inr taken) = other taken.acceptance taken.there taken.data_is
 
-an_id_of_no_life_is_refused : (configs : List Config) (c : Chronicle) (p : Production) → Contains c.produced p → ((life byte counter : ℕ) → HasByte configs life byte → counter < 2 ^ 24 → p.made.datagram.connection ≡ byte * 2 ^ 24 + counter → ⊥) → BytesNameIds configs c → ⊥
-an_id_of_no_life_is_refused configs c p there none law =
-    let drawn = law.productions p there in
-    let by = drawn.by in
-    none drawn.life by.byte by.counter by.named by.ends by.is
+an_id_of_no_life_is_refused : (c : Chronicle) (p : Production) → Contains c.produced p → ((life : ℕ) → WasDrawnBy c life p.made.datagram.connection → ⊥) → LivesDrewIds c → ⊥
+an_id_of_no_life_is_refused c p there none law = let drawn = law.productions p there in none drawn.life drawn.by

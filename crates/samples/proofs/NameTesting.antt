@@ -1,9 +1,12 @@
 -- The laws of connection ids pass their tests, at any chronicle.
-use Rattle.std.proofs.Common.{◌≡◌, ◌<◌, ◌≤◌, ℕ, ◌+◌, ◌-◌, ◌*◌, ◌^◌, ◌==◌, ◌&&◌, ◌||◌, ◌⊎◌, not, nat_le, nat_lt, Bool, true, find, inl, inr, slice_get, Option, Some, None, refl, sym, ◌∙◌, ap, subst, arith}
+use Rattle.std.proofs.Common.{cond, false, ◌∷◌, [], List, ◌≡◌, ◌<◌, ◌≤◌, ℕ, ◌+◌, ◌-◌, ◌*◌, ◌^◌, ◌==◌, ◌&&◌, ◌||◌, ◌⊎◌, not, nat_le, nat_lt, Bool, true, find, inl, inr, slice_get, Option, Some, None, refl, sym, ◌∙◌, ap, subst, arith}
 use Rattle.std.specs.List.{list_any}
 use Rattle.std.specs.Str.{bytes_eq}
-use Rattle.std.proofs.lemmas.Bool.{and_parts}
+use Rattle.std.proofs.lemmas.Bool.{and_parts, cases_lt, le-leb, lt-leb}
 use Rattle.std.proofs.lemmas.Bool.Decides.{nat_tests}
+use Rattle.cip_types.specs.declared.ids.IdBlock.{IdBlock}
+use Rattle.cip_types.specs.Ids.{end_number, id_at, ids_in}
+use Rattle.cip_types.specs.IdLaws.{has_id}
 use Rattle.cip_types.specs.declared.names.ConnId.{ConnId}
 use Rattle.cip_types.specs.declared.names.Node.{Node}
 use Rattle.adapter_table.specs.Connections.{Row}
@@ -20,11 +23,12 @@ use Rattle.segment_world.specs.World.{node_at}
 use Rattle.device_laws.specs.OwnIds.{IsDrawnId}
 use Rattle.device_laws.specs.Productions.{End, end_at, is_end, Production}
 use Rattle.schedule_laws.specs.Chronicle.{Acceptance, Chronicle, Opened, opens_row}
+use Rattle.schedule_laws.specs.Lives.{HasNumber}
 use Rattle.schedule_laws.specs.MadeOnce.{IdsAreUsedOnce, IsOfScanner, OneConnectionHasIt, uses}
 use Rattle.schedule_laws.specs.Names.{HasEntry, IdsNameOpenings, IsEntry, IsOfGroup, IsOfItsEntry, IsOfItsOpening, IsOpenedAt, IsOwn, IsScannerIn, OneOpeningHasTheId, OneOpeningIsAccepted, ProducerHasEntry, ProductionHasEntry, SlotAcceptsByEntry, SlotHasEntry, StateHasEntry, WasProduced}
 use Rattle.schedule_laws.specs.Order.{IsAdapterAt}
 use Rattle.schedule_laws.specs.Producers.{OneProducerHasTheId, OneProducerSends}
-use Rattle.samples.specs.NameTests.{accept_one_opening, adapters_produce_by_entries, are_entries, device_of, drew, has_entries, has_its_entry, has_t_o, is_adapter, is_entry, is_entry_at, is_entry_of, is_first, is_of_its_connection, is_of_its_producer, is_of_its_slot, is_of_one_opening, is_opened_at, is_opened_by, is_opened_for, is_produced, is_production, is_scanner, is_the_one, is_the_one_of, is_unused, is_used_once, made_by_one, made_by_one_of, one_has_it, one_makes, one_scanner_made, one_scanner_made_of, one_sends, one_slot_makes, row_has_entry, row_is_of, same_entry, scanners_produce_by_entries, sends_one, sends_one_of, slot_has_entry, slots_accept_by_entries, state_has_entry, table_has_entries, unused_before, used_once, were_produced}
+use Rattle.samples.specs.NameTests.{accept_one_opening, adapters_produce_by_entries, are_entries, device_of, drew, has_entries, has_its_entry, has_t_o, is_adapter, is_entry, is_entry_at, is_entry_of, is_first, is_numbered, is_of_its_connection, is_of_its_producer, is_of_its_slot, is_of_one_opening, is_opened_at, is_opened_by, is_opened_for, is_produced, is_production, is_scanner, is_the_one, is_the_one_of, is_unused, is_used_once, made_by_one, made_by_one_of, number_of, one_has_it, one_makes, one_scanner_made, one_scanner_made_of, one_sends, one_slot_makes, row_has_entry, row_is_of, same_entry, scanners_produce_by_entries, sends_one, sends_one_of, slot_has_entry, slots_accept_by_entries, state_has_entry, table_has_entries, unused_before, used_once, were_produced}
 use Rattle.samples.proofs.Passing.{all_pass, both, bytes_are, end_passes, is_number, left_passes, members_pass, number_is, number_is_at_most, number_is_less, one_passes, right_passes, then_passes, ids_same}
 
 -- ---- devices
@@ -134,10 +138,92 @@ entry_is e =
 is_scanner_in : (c : Chronicle) (device : ℕ) → IsScannerIn c.story.world device → is_scanner (device_of c device) ≡ true
 is_scanner_in c device is = ap is_scanner is.is
 
-drawn_passes : (c : Chronicle) (device id : ℕ) (t : ScannerTable) → slice_get c.story.world.tables device ≡ Some (Scanner t) → IsDrawnId t.profile id → drew id (device_of c device) ≡ true
-drawn_passes c device id t at is =
-    ap (drew id) at
-    ∙ both (number_is_at_most (t.profile.incarnation * 2 ^ 24) id (omega (arith, is.is))) (number_is_less id ((t.profile.incarnation + 1) * 2 ^ 24) (omega (arith, is.is, is.ends)))
+-- a number of the scanner's blocks
+has_number_of : (t : ScannerTable) (number : ℕ) → is_numbered t number ≡ true → HasNumber (Scanner t) number
+has_number_of t number is =
+    let parts = and_parts (nat_le 1 number) (nat_lt number (end_number t.ids)) is in
+    record { begins = at_least number parts.0; ends = less number (end_number t.ids) parts.1 }
+  where
+    at_least : (a : ℕ) → nat_le 1 a ≡ true → 1 ≤ a
+    at_least a is = grind (arith, nat_tests)
+
+    less : (a b : ℕ) → nat_lt a b ≡ true → a < b
+    less a b is = grind (arith, nat_tests)
+
+-- ids of the first block, and of those behind it
+abbrev id_of : ℕ → ConnId
+id_of id = record { 0 = id }
+
+near : (block : IdBlock) (blocks : List IdBlock) (number : ℕ) → number ≤ block.count → id_at (block ∷ blocks) number ≡ id_of (block.first + (number - 1))
+near block blocks number to = ap (λ (b : Bool). cond b (id_of (block.first + (number - 1))) (id_at blocks (number - block.count))) (le-leb number block.count to)
+
+far : (block : IdBlock) (blocks : List IdBlock) (number : ℕ) → block.count < number → id_at (block ∷ blocks) number ≡ id_at blocks (number - block.count)
+far block blocks number from = ap (λ (b : Bool). cond b (id_of (block.first + (number - 1))) (id_at blocks (number - block.count))) (lt-leb number block.count from)
+
+-- the first number of an id is no later than another one, and has the id
+pub record IsFirstNumber (ids : List IdBlock) (number id : ℕ) : Type 0 where
+  pub begins : 1 ≤ number_of id ids
+  pub first : number_of id ids ≤ number
+  pub is : (id_at ids (number_of id ids)).0 ≡ id
+
+here : (block : IdBlock) (id number : ℕ) → has_id id block ≡ true → (number ≤ block.count → id ≡ block.first + (number - 1)) → 1 ≤ number → (id - block.first + 1 ≤ number) × (id - block.first + 1 ≤ block.count) × (block.first + (id - block.first + 1 - 1) ≡ id)
+here block id number has within from = elim (cases_lt block.count number) [
+  | inl more ↦ (let few : id - block.first + 1 ≤ block.count = grind (arith, nat_tests) in omega (arith, few, more), grind (arith, nat_tests), grind (arith, nat_tests))
+  | inr near ↦ let is = within near in (omega (arith, is, from), grind (arith, nat_tests), grind (arith, nat_tests))
+]
+
+first_step : (b : Bool) (block : IdBlock) (blocks : List IdBlock) (id number : ℕ) → has_id id block ≡ b → (number ≤ block.count → id ≡ block.first + (number - 1)) → (b ≡ false → block.count < number) → 1 ≤ number → (b ≡ false → IsFirstNumber blocks (number - block.count) id) → IsFirstNumber (block ∷ blocks) number id
+first_step true block blocks id number has within past from later =
+    let k = here block id number has within from in
+    let is_k : number_of id (block ∷ blocks) ≡ id - block.first + 1 = ap (λ (b : Bool). cond b (id - block.first + 1) (block.count + number_of id blocks)) has in
+    let first = k.0 in
+    record {
+      begins = omega (arith, is_k);
+      first = omega (arith, is_k, first);
+      is = ap (λ (n : ℕ). (id_at (block ∷ blocks) n).0) is_k ∙ ap (λ (c : ConnId). c.0) (near block blocks (id - block.first + 1) k.1) ∙ k.2;
+    }
+first_step false block blocks id number has within past from later =
+    let rest = later refl in
+    let is_k : number_of id (block ∷ blocks) ≡ block.count + number_of id blocks = ap (λ (b : Bool). cond b (id - block.first + 1) (block.count + number_of id blocks)) has in
+    let begins = rest.begins in
+    let first = rest.first in
+    let more = past refl in
+    record {
+      begins = omega (arith, is_k, begins);
+      first = omega (arith, is_k, first, more);
+      is = ap (λ (n : ℕ). (id_at (block ∷ blocks) n).0) is_k ∙ ap (λ (c : ConnId). c.0) (far block blocks (block.count + number_of id blocks) (omega (arith, begins)))
+          ∙ ap (λ (n : ℕ). (id_at blocks n).0) (back block.count (number_of id blocks)) ∙ rest.is;
+    }
+  where
+    back : (a b : ℕ) → a + b - a ≡ b
+    back a b = omega arith
+
+owns : (block : IdBlock) (id number : ℕ) → 1 ≤ number → number ≤ block.count → id ≡ block.first + (number - 1) → has_id id block ≡ true
+owns block id number from to is = grind (arith, nat_tests, is)
+
+first_number : (ids : List IdBlock) (number id : ℕ) → 1 ≤ number → number ≤ ids_in ids → (id_at ids number).0 ≡ id → IsFirstNumber ids number id
+first_number [] number id from to is = absurd (omega arith)
+first_number (block ∷ blocks) number id from to is =
+    let within : number ≤ block.count → id ≡ block.first + (number - 1) = λ few. sym is ∙ ap (λ (c : ConnId). c.0) (near block blocks number few) in
+    let past : has_id id block ≡ false → block.count < number = λ none. elim (cases_lt block.count number) [
+      | inl more ↦ more
+      | inr few ↦ absurd (let own = owns block id number from few (within few) in cc)
+    ] in
+    first_step (has_id id block) block blocks id number refl within past from (λ none.
+    let more = past none in
+    first_number blocks (number - block.count) id (omega (arith, more)) (omega (arith, to)) (ap (λ (c : ConnId). c.0) (sym (far block blocks number more)) ∙ is))
+
+-- an id that the scanner has is of its blocks
+numbered : (t : ScannerTable) (id : ℕ) → IsDrawnId t.ids id → (is_numbered t (number_of id t.ids) && (id_at t.ids (number_of id t.ids)).0 == id) ≡ true
+numbered t id own =
+    let ends = own.ends in
+    let first = first_number t.ids own.number id own.begins (omega (arith, ends)) (sym own.is) in
+    let no_later = first.first in
+    both (both (number_is_at_most 1 (number_of id t.ids) first.begins) (number_is_less (number_of id t.ids) (end_number t.ids) (omega (arith, no_later, ends))))
+    (number_is (id_at t.ids (number_of id t.ids)).0 id first.is)
+
+drawn_passes : (c : Chronicle) (device id : ℕ) (t : ScannerTable) → slice_get c.story.world.tables device ≡ Some (Scanner t) → IsDrawnId t.ids id → drew id (device_of c device) ≡ true
+drawn_passes c device id t at is = ap (drew id) at ∙ numbered t id is
 
 t_o_passes : (c : Chronicle) (t : AdapterTable) (e : Opened) (at : slice_get c.story.world.tables e.row.device ≡ Some (Adapter t)) (is : IsEntry c.story.world c.opened e) → has_t_o c t e ≡ true
 t_o_passes c t e at is = step is.t_o
@@ -149,7 +235,7 @@ t_o_passes c t e at is = step is.t_o
     tables = let a = same in cc
 
     group : Bool
-    group = e.t_o_id.0 == t.profile.incarnation * 2 ^ 24 + (e.producer.number + 1) && nat_lt (e.producer.number + 1) t.next_id
+    group = e.t_o_id.0 == (id_at t.ids (e.producer.number + 1)).0 && nat_lt (e.producer.number + 1) t.next_id
 
     own : Bool
     own = drew e.t_o_id.0 (device_of c e.slot.device) && is_end e.producer e.row
@@ -157,15 +243,15 @@ t_o_passes c t e at is = step is.t_o
     step : IsOfGroup is.table e ⊎ IsOwn c.story.world e → (group || own) ≡ true
     step (inl it) =
         left_passes group own
-        (subst (λ (u : AdapterTable). (e.t_o_id.0 == u.profile.incarnation * 2 ^ 24 + (e.producer.number + 1) && nat_lt (e.producer.number + 1) u.next_id) ≡ true) tables
-        (both (number_is e.t_o_id.0 (is.table.profile.incarnation * 2 ^ 24 + (e.producer.number + 1)) (ap (λ (id : ConnId). id.0) it.id)) (number_is_less (e.producer.number + 1) is.table.next_id it.drawn)))
+        (subst (λ (u : AdapterTable). (e.t_o_id.0 == (id_at u.ids (e.producer.number + 1)).0 && nat_lt (e.producer.number + 1) u.next_id) ≡ true) tables
+        (both (number_is e.t_o_id.0 (id_at is.table.ids (e.producer.number + 1)).0 (ap (λ (id : ConnId). id.0) it.id)) (number_is_less (e.producer.number + 1) is.table.next_id it.drawn)))
     step (inr it) =
         right_passes group own (both (drawn_passes c e.slot.device e.t_o_id.0 it.scanner.table it.scanner.is it.id) (end_passes e.producer e.row it.producer))
 
 entry_step : (c : Chronicle) (e : Opened) → IsEntry c.story.world c.opened e → is_entry c e ≡ true
 entry_step c e is =
     ap (is_entry_at c e) is.there
-    ∙ both (both (number_is_less e.row.number is.table.next_id is.drawn) (number_is e.o_t_id.0 (is.table.profile.incarnation * 2 ^ 24 + e.row.number) (ap (λ (id : ConnId). id.0) is.id)))
+    ∙ both (both (number_is_less e.row.number is.table.next_id is.drawn) (number_is e.o_t_id.0 (id_at is.table.ids e.row.number).0 (ap (λ (id : ConnId). id.0) is.id)))
     (both (is_scanner_in c e.slot.device is.scanner)
     (both (ap (is_first e) is.first ∙ entry_is e) (both (number_is e.producer.device e.row.device is.maker) (t_o_passes c is.table e is.there is))))
 
@@ -200,16 +286,8 @@ of_scanner : (c : Chronicle) (device id : ℕ) (found : Option DeviceTable) → 
 of_scanner c device id None at is = absurd (let e = is in cc)
 of_scanner c device id (Some (Adapter t)) at is = absurd (let e = is in cc)
 of_scanner c device id (Some (Scanner t)) at is =
-    let parts = and_parts (nat_le (t.profile.incarnation * 2 ^ 24) id) (nat_lt id ((t.profile.incarnation + 1) * 2 ^ 24)) is in
-    let least = at_most (t.profile.incarnation * 2 ^ 24) id parts.0 in
-    let most = less (id) ((t.profile.incarnation + 1) * 2 ^ 24) parts.1 in
-    record { device = device; table = t; there = at; counter = id - t.profile.incarnation * 2 ^ 24; below = omega (arith, least, most); is = omega (arith, least) }
-  where
-    at_most : (a b : ℕ) → nat_le a b ≡ true → a ≤ b
-    at_most a b is = grind (arith, nat_tests)
-
-    less : (a b : ℕ) → nat_lt a b ≡ true → a < b
-    less a b is = grind (arith, nat_tests)
+    let parts = and_parts (is_numbered t (number_of id t.ids)) ((id_at t.ids (number_of id t.ids)).0 == id) is in
+    record { device = device; table = t; there = at; number = number_of id t.ids; has = has_number_of t (number_of id t.ids) parts.0; is = sym (is_number (id_at t.ids (number_of id t.ids)).0 id parts.1) }
 
 pub one_has_it_passes : (device : ℕ) (c : Chronicle) → OneConnectionHasIt c → one_has_it device c ≡ true
 one_has_it_passes device c law =
@@ -218,31 +296,26 @@ one_has_it_passes device c law =
     then_passes (e.t_o_id.0 == f.t_o_id.0) (same_entry e f) (λ same.
     subst (λ (x : Opened). same_entry e x ≡ true) (law e f one two (of_scanner c device e.t_o_id.0 (device_of c device) refl own) (is_number e.t_o_id.0 f.t_o_id.0 same)) (entry_is e)))))
 
-is_below : (a b : ℕ) → nat_lt a b ≡ true → a < b
-is_below a b is = grind (arith, nat_tests)
+once_step : (number : ℕ) (c : Chronicle) (device : ℕ) (found : Option DeviceTable) → slice_get c.story.world.tables device ≡ found → IdsAreUsedOnce c.story.world c.opened → is_used_once number c found ≡ true
+once_step number c device None at law = refl
+once_step number c device (Some (Adapter t)) at law = refl
+once_step number c device (Some (Scanner t)) at law =
+    then_passes (is_numbered t number) (nat_le (uses (id_at t.ids number).0 c.story.world.streams c.opened) 1)
+    (λ has. number_is_at_most (uses (id_at t.ids number).0 c.story.world.streams c.opened) 1 (law.once device t number at (has_number_of t number has)))
 
-once_step : (counter : ℕ) (c : Chronicle) (device : ℕ) (found : Option DeviceTable) → slice_get c.story.world.tables device ≡ found → counter < 2 ^ 24 → IdsAreUsedOnce c.story.world c.opened → is_used_once counter c found ≡ true
-once_step counter c device None at less law = refl
-once_step counter c device (Some (Adapter t)) at less law = refl
-once_step counter c device (Some (Scanner t)) at less law =
-    number_is_at_most (uses (t.profile.incarnation * 2 ^ 24 + counter) c.story.world.streams c.opened) 1 (law.once device t counter at less)
+pub used_once_passes : (device number : ℕ) (c : Chronicle) → IdsAreUsedOnce c.story.world c.opened → used_once device number c ≡ true
+used_once_passes device number c law = once_step number c device (device_of c device) refl law
 
-pub used_once_passes : (device counter : ℕ) (c : Chronicle) → IdsAreUsedOnce c.story.world c.opened → used_once device counter c ≡ true
-used_once_passes device counter c law =
-    then_passes (nat_lt counter (2 ^ 24)) (is_used_once counter c (device_of c device))
-    (λ less. once_step counter c device (device_of c device) refl (is_below counter (2 ^ 24) less) law)
-
-unused_step : (counter : ℕ) (c : Chronicle) (device : ℕ) (found : Option DeviceTable) → slice_get c.story.world.tables device ≡ found → counter < 2 ^ 24 → IdsAreUsedOnce c.story.world c.opened → is_unused counter c found ≡ true
-unused_step counter c device None at less law = refl
-unused_step counter c device (Some (Adapter t)) at less law = refl
-unused_step counter c device (Some (Scanner t)) at less law =
-    then_passes (nat_le t.next_id counter) (uses (t.profile.incarnation * 2 ^ 24 + counter) c.story.world.streams c.opened == 0)
-    (λ on. number_is (uses (t.profile.incarnation * 2 ^ 24 + counter) c.story.world.streams c.opened) 0 (law.unused device t counter at (at_most t.next_id counter on) less))
+unused_step : (number : ℕ) (c : Chronicle) (device : ℕ) (found : Option DeviceTable) → slice_get c.story.world.tables device ≡ found → IdsAreUsedOnce c.story.world c.opened → is_unused number c found ≡ true
+unused_step number c device None at law = refl
+unused_step number c device (Some (Adapter t)) at law = refl
+unused_step number c device (Some (Scanner t)) at law =
+    then_passes (is_numbered t number) (not (nat_le t.next_id number) || uses (id_at t.ids number).0 c.story.world.streams c.opened == 0) (λ has.
+    then_passes (nat_le t.next_id number) (uses (id_at t.ids number).0 c.story.world.streams c.opened == 0)
+    (λ on. number_is (uses (id_at t.ids number).0 c.story.world.streams c.opened) 0 (law.unused device t number at (at_most t.next_id number on) (has_number_of t number has))))
   where
     at_most : (a b : ℕ) → nat_le a b ≡ true → a ≤ b
     at_most a b is = grind (arith, nat_tests)
 
-pub unused_passes : (device counter : ℕ) (c : Chronicle) → IdsAreUsedOnce c.story.world c.opened → unused_before device counter c ≡ true
-unused_passes device counter c law =
-    then_passes (nat_lt counter (2 ^ 24)) (is_unused counter c (device_of c device))
-    (λ less. unused_step counter c device (device_of c device) refl (is_below counter (2 ^ 24) less) law)
+pub unused_passes : (device number : ℕ) (c : Chronicle) → IdsAreUsedOnce c.story.world c.opened → unused_before device number c ≡ true
+unused_passes device number c law = unused_step number c device (device_of c device) refl law

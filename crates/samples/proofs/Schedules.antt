@@ -21,27 +21,31 @@ use Rattle.cip_tables.specs.Step.{step}
 use Rattle.cip_tables.specs.Run.{table_of}
 use Rattle.samples.specs.Datagrams.{datagram, running}
 use Rattle.samples.specs.Devices.{common, fresh, own, peer}
+use Rattle.samples.specs.Rows.{at_counter}
 use Rattle.samples.specs.Hex.{hex}
 use Rattle.samples.specs.Requests.{owner}
 use Rattle.samples.specs.Runs.{closes, id, opens}
 use Rattle.segment_world.specs.World.{ReportedEvent}
 use Rattle.schedule_laws.specs.Stories.{led_to}
-use Rattle.schedule_laws.specs.Ids.{is_to_come, is_drawn}
+use Rattle.device_laws.specs.Requests.{is_between}
+use Rattle.schedule_laws.specs.Ids.{has_drawn, is_drawn}
 use Rattle.schedule_laws.specs.Owners.{Brings, Ends}
 
 -- ---- ids
 
--- ids of an adapter with incarnation 0x10 whose next counter is 1
-some_are_to_come :
-    is_to_come 0x10000001 (fresh common) ∷ is_to_come 0x10FFFFFF (fresh common) ∷ is_to_come 0x10000000 (fresh common) ∷ is_to_come 0x11000000 (fresh common)
-    ∷ is_to_come 0x0FFFFFFF (fresh common) ∷ []
-    ≡ true ∷ true ∷ false ∷ false ∷ false ∷ []
-some_are_to_come = refl
-
-others_are_drawn :
-    is_drawn (fresh common ∷ []) 0x20000001 ∷ is_drawn (fresh common ∷ []) 0x10000000 ∷ is_drawn (fresh common ∷ []) 0x10000001 ∷ is_drawn [] 0x100000000 ∷ []
+-- an adapter with incarnation 0x10 whose next number is 3 has drawn two ids
+two_are_drawn :
+    has_drawn 0x10000001 (at_counter 3) ∷ has_drawn 0x10000002 (at_counter 3) ∷ has_drawn 0x10000003 (at_counter 3) ∷ has_drawn 0x11000001 (at_counter 3) ∷ []
     ≡ true ∷ true ∷ false ∷ false ∷ []
-others_are_drawn = refl
+unfolding is_between
+two_are_drawn = refl
+
+-- 0 is the id for none
+no_others_are_drawn :
+    is_drawn (at_counter 3 ∷ []) 0 ∷ is_drawn (at_counter 3 ∷ []) 0x10000001 ∷ is_drawn (at_counter 3 ∷ []) 0x10000003 ∷ is_drawn [] 0x10000001 ∷ []
+    ≡ true ∷ true ∷ false ∷ false ∷ []
+unfolding is_between
+no_others_are_drawn = refl
 
 -- ---- reported events
 

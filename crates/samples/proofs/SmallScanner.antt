@@ -67,6 +67,7 @@ profile slots = record {
   tidy = false;
   openings = None;
   serials = None;
+  ids = None;
   slots = slots;
 }
 

@@ -1,11 +1,13 @@
 -- The laws of one device's step pass their tests.
-use Rattle.std.proofs.Common.{◌≡◌, ℕ, ◌+◌, ◌*◌, ◌^◌, ◌==◌, ◌&&◌, not, nat_le, nat_lt, Bool, true, false, List, inl, inr, Result, Ok, Err, refl, sym, ap, arith}
-use Rattle.std.specs.List.{AllByRecursion, list_all}
+use Rattle.std.proofs.Common.{subst, ◌≡◌, ℕ, ◌+◌, ◌*◌, ◌^◌, ◌==◌, ◌&&◌, not, Bool, true, false, List, inl, inr, Result, Ok, Err, refl, sym, ap, arith}
+use Rattle.std.specs.List.{list_any, AllByRecursion, list_all}
 use Rattle.std.proofs.lemmas.Bool.{and_parts}
 use Rattle.cip_types.specs.declared.names.Node.{Node}
 use Rattle.cip_datagram.specs.declared.datagram.DatagramFault.{DatagramFault}
 use Rattle.cip_datagram.specs.Datagram.{DatagramFields}
 use Rattle.cip_datagram.specs.Reading.{datagram_reading}
+use Rattle.cip_types.specs.declared.ids.IdBlock.{IdBlock}
+use Rattle.cip_types.specs.IdLaws.{has_id, ids_are_theirs}
 use Rattle.cip_encap.specs.declared.message.EncapFault.{EncapFault}
 use Rattle.cip_encap.specs.declared.packet.ItemFault.{ItemFault}
 use Rattle.cip_encap.specs.Message.{MessageFields}
@@ -24,7 +26,6 @@ use Rattle.adapter_table.specs.Connections.{Row}
 use Rattle.adapter_table.specs.declared.table.AdapterTable.{AdapterTable}
 use Rattle.adapter_table.specs.Productions.{producer_of}
 use Rattle.adapter_table.specs.Rows.{is_established}
-use Rattle.scanner_table.specs.declared.profile.ScannerProfile.{ScannerProfile}
 use Rattle.scanner_table.specs.declared.table.ScannerTable.{ScannerTable}
 use Rattle.scanner_table.specs.Replies.{open_answer}
 use Rattle.scanner_table.specs.Slots.{indexed_slots}
@@ -41,35 +42,35 @@ use Rattle.device_laws.specs.Values.{IsSlots}
 use Rattle.schedule_laws.specs.Ids.{IdsAreDrawn, SentHolds, is_drawn}
 use Rattle.samples.specs.MomentTests.{has_number}
 use Rattle.samples.specs.StepTests.{all_sent_drawn, asks_own, bytes_ask_own, is_apart, is_apart_of, is_made_by_a_slot, is_no_success, is_same_row, is_slots, message_asks_own, message_succeeds_not, one_has_number, packet_asks_own, reads_drawn, request_asks_own, rows_stay, same_mode, sent_drawn, succeeds_not, was_there}
-use Rattle.samples.proofs.Passing.{all_pass, both, bytes_are, left_passes, number_is, number_is_at_most, number_is_less, one_passes, right_passes, slot_among, slots_pass, then_passes, ids_same, number_found}
+use Rattle.samples.proofs.Passing.{all_pass, both, bytes_are, left_passes, number_is, one_passes, right_passes, slot_among, slots_pass, then_passes, ids_same, number_found}
 
 -- ---- for which id a request asks
 
-pub own_passes : (profile : ScannerProfile) (request : OpenFields) → AsksOwnId profile request → asks_own profile request ≡ true
-own_passes profile request (inl many) =
-    left_passes (is_multicast request.t_o_params.kind) (nat_le (profile.incarnation * 2 ^ 24) request.t_o_id.0 && nat_lt request.t_o_id.0 ((profile.incarnation + 1) * 2 ^ 24)) many
-own_passes profile request (inr own) =
-    right_passes (is_multicast request.t_o_params.kind) (nat_le (profile.incarnation * 2 ^ 24) request.t_o_id.0 && nat_lt request.t_o_id.0 ((profile.incarnation + 1) * 2 ^ 24))
-    (both (number_is_at_most (profile.incarnation * 2 ^ 24) request.t_o_id.0 (omega (arith, own.is))) (number_is_less request.t_o_id.0 ((profile.incarnation + 1) * 2 ^ 24) (omega (arith, own.is, own.ends))))
+pub own_passes : (ids : List IdBlock) (request : OpenFields) → AsksOwnId ids request → asks_own ids request ≡ true
+own_passes ids request (inl many) = left_passes (is_multicast request.t_o_params.kind) (list_any (has_id request.t_o_id.0) ids) many
+own_passes ids request (inr own) =
+    let ends = own.ends in
+    right_passes (is_multicast request.t_o_params.kind) (list_any (has_id request.t_o_id.0) ids)
+    (subst (λ (id : ℕ). list_any (has_id id) ids ≡ true) (sym own.is) (ids_are_theirs ids own.number own.begins (omega (arith, ends))))
 
-request_step : (profile : ScannerProfile) (bytes : List ℕ) (m : MessageFields) (packet : PacketFields) (found : RouterRequestFields) → message_reading bytes ≡ Ok m → any_packet_reading m.payload ≡ Ok packet → router_request_reading packet.payload ≡ found → OpeningsAre (AsksOwnId profile) bytes → request_asks_own profile found ≡ true
-request_step profile bytes m packet nothing one two is law = refl
-request_step profile bytes m packet (refused service why) one two is law = refl
-request_step profile bytes m packet (closing request) one two is law = refl
-request_step profile bytes m packet (object service class instance attribute body) one two is law = refl
-request_step profile bytes m packet (opening large request) one two is law =
-    own_passes profile request (law request (record { message = m; reads = one; packet = packet; packet_is = two; large = large; opens = is }))
+request_step : (ids : List IdBlock) (bytes : List ℕ) (m : MessageFields) (packet : PacketFields) (found : RouterRequestFields) → message_reading bytes ≡ Ok m → any_packet_reading m.payload ≡ Ok packet → router_request_reading packet.payload ≡ found → OpeningsAre (AsksOwnId ids) bytes → request_asks_own ids found ≡ true
+request_step ids bytes m packet nothing one two is law = refl
+request_step ids bytes m packet (refused service why) one two is law = refl
+request_step ids bytes m packet (closing request) one two is law = refl
+request_step ids bytes m packet (object service class instance attribute body) one two is law = refl
+request_step ids bytes m packet (opening large request) one two is law =
+    own_passes ids request (law request (record { message = m; reads = one; packet = packet; packet_is = two; large = large; opens = is }))
 
-packet_step : (profile : ScannerProfile) (bytes : List ℕ) (m : MessageFields) (found : Result PacketFields ItemFault) → message_reading bytes ≡ Ok m → any_packet_reading m.payload ≡ found → OpeningsAre (AsksOwnId profile) bytes → packet_asks_own profile found ≡ true
-packet_step profile bytes m (Err fault) one is law = refl
-packet_step profile bytes m (Ok packet) one is law = request_step profile bytes m packet (router_request_reading packet.payload) one is refl law
+packet_step : (ids : List IdBlock) (bytes : List ℕ) (m : MessageFields) (found : Result PacketFields ItemFault) → message_reading bytes ≡ Ok m → any_packet_reading m.payload ≡ found → OpeningsAre (AsksOwnId ids) bytes → packet_asks_own ids found ≡ true
+packet_step ids bytes m (Err fault) one is law = refl
+packet_step ids bytes m (Ok packet) one is law = request_step ids bytes m packet (router_request_reading packet.payload) one is refl law
 
-message_step : (profile : ScannerProfile) (bytes : List ℕ) (found : Result MessageFields EncapFault) → message_reading bytes ≡ found → OpeningsAre (AsksOwnId profile) bytes → message_asks_own profile found ≡ true
-message_step profile bytes (Err fault) is law = refl
-message_step profile bytes (Ok m) is law = packet_step profile bytes m (any_packet_reading m.payload) is refl law
+message_step : (ids : List IdBlock) (bytes : List ℕ) (found : Result MessageFields EncapFault) → message_reading bytes ≡ found → OpeningsAre (AsksOwnId ids) bytes → message_asks_own ids found ≡ true
+message_step ids bytes (Err fault) is law = refl
+message_step ids bytes (Ok m) is law = packet_step ids bytes m (any_packet_reading m.payload) is refl law
 
-pub asking_passes : (profile : ScannerProfile) (bytes : List ℕ) → OpeningsAre (AsksOwnId profile) bytes → bytes_ask_own profile bytes ≡ true
-asking_passes profile bytes law = message_step profile bytes (message_reading bytes) refl law
+pub asking_passes : (ids : List IdBlock) (bytes : List ℕ) → OpeningsAre (AsksOwnId ids) bytes → bytes_ask_own ids bytes ≡ true
+asking_passes ids bytes law = message_step ids bytes (message_reading bytes) refl law
 
 -- ---- successes
 

@@ -35,6 +35,7 @@ common = record {
   description = None;
   limits = no_limits;
   objects = [];
+  ids = None;
 }
 
 -- the same with two bytes of configuration

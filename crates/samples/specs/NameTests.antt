@@ -1,13 +1,17 @@
 -- What the laws of connection ids say, as tests of one chronicle: which opening an id names, and which producer.
-use Rattle.std.specs.Prelude.{ℕ, ◌+◌, ◌*◌, ◌^◌, ◌==◌, ◌&&◌, ◌||◌, not, nat_le, nat_lt, Bool, true, false, List, find, slice_get, Option, Some, None}
+use Rattle.std.specs.Prelude.{◌∷◌, [], if◌then◌else◌, ◌-◌, ℕ, ◌+◌, ◌==◌, ◌&&◌, ◌||◌, not, nat_le, nat_lt, Bool, true, false, List, find, slice_get, Option, Some, None}
 use Rattle.std.specs.List.{list_all, list_any}
 use Rattle.std.specs.Str.{bytes_eq}
+use Rattle.cip_types.specs.declared.ids.IdBlock.{IdBlock}
+use Rattle.cip_types.specs.Ids.{end_number, id_at}
+use Rattle.cip_types.specs.IdLaws.{has_id}
 use Rattle.adapter_table.specs.Connections.{Row}
 use Rattle.adapter_table.specs.declared.table.AdapterTable.{AdapterTable}
 use Rattle.adapter_table.specs.Productions.{producer_of}
 use Rattle.adapter_table.specs.Rows.{is_established}
 use Rattle.scanner_table.specs.declared.slot.SlotState.{SlotState}
 use Rattle.scanner_table.specs.declared.slot.SlotState.TheVariants.{Idle, Opening, Established, TimedOut, Closing}
+use Rattle.scanner_table.specs.declared.table.ScannerTable.{ScannerTable}
 use Rattle.scanner_table.specs.Slots.{IndexedSlot, indexed_slots}
 use Rattle.cip_tables.specs.declared.table.DeviceTable.{DeviceTable}
 use Rattle.cip_tables.specs.declared.table.DeviceTable.TheVariants.{Adapter, Scanner}
@@ -127,22 +131,31 @@ abbrev pub is_first : Opened → Option Opened → Bool
 is_first e None = false
 is_first e (Some f) = same_entry e f
 
--- the id has the incarnation of the scanner
+-- the number of which this is the id, if a block has it
+abbrev pub number_of : ℕ → List IdBlock → ℕ
+number_of id [] = 0
+number_of id (block ∷ blocks) = if has_id id block then id - block.first + 1 else block.count + number_of id blocks
+
+-- the scanner's blocks have an id of this number
+abbrev pub is_numbered : ScannerTable → ℕ → Bool
+is_numbered t number = nat_le 1 number && nat_lt number (end_number t.ids)
+
+-- the id is of the scanner's blocks
 abbrev pub drew : ℕ → Option DeviceTable → Bool
 drew id None = false
 drew id (Some (Adapter t)) = false
-drew id (Some (Scanner t)) = nat_le (t.profile.incarnation * 2 ^ 24) id && nat_lt id ((t.profile.incarnation + 1) * 2 ^ 24)
+drew id (Some (Scanner t)) = is_numbered t (number_of id t.ids) && (id_at t.ids (number_of id t.ids)).0 == id
 
 -- the T->O id is the second of a group of this adapter, or the scanner's, whose connection has a producer of its own
 abbrev pub has_t_o : Chronicle → AdapterTable → Opened → Bool
 has_t_o c t e =
-    (e.t_o_id.0 == t.profile.incarnation * 2 ^ 24 + (e.producer.number + 1) && nat_lt (e.producer.number + 1) t.next_id)
+    (e.t_o_id.0 == (id_at t.ids (e.producer.number + 1)).0 && nat_lt (e.producer.number + 1) t.next_id)
     || (drew e.t_o_id.0 (device_of c e.slot.device) && is_end e.producer e.row)
 
 abbrev pub is_entry_at : Chronicle → Opened → Option DeviceTable → Bool
 is_entry_at c e None = false
 is_entry_at c e (Some (Adapter t)) =
-    (nat_lt e.row.number t.next_id && e.o_t_id.0 == t.profile.incarnation * 2 ^ 24 + e.row.number)
+    (nat_lt e.row.number t.next_id && e.o_t_id.0 == (id_at t.ids e.row.number).0)
     && (is_scanner (device_of c e.slot.device) && (is_first e (find (opens_row e.row) c.opened) && (e.producer.device == e.row.device && has_t_o c t e)))
 is_entry_at c e (Some (Scanner t)) = false
 
@@ -197,19 +210,19 @@ abbrev pub one_has_it : ℕ → Chronicle → Bool
 one_has_it device c = list_all (is_the_one_of (device_of c device) c.opened) c.opened
 
 abbrev pub is_used_once : ℕ → Chronicle → Option DeviceTable → Bool
-is_used_once counter c None = true
-is_used_once counter c (Some (Adapter t)) = true
-is_used_once counter c (Some (Scanner t)) = nat_le (uses (t.profile.incarnation * 2 ^ 24 + counter) c.story.world.streams c.opened) 1
+is_used_once number c None = true
+is_used_once number c (Some (Adapter t)) = true
+is_used_once number c (Some (Scanner t)) = not (is_numbered t number) || nat_le (uses (id_at t.ids number).0 c.story.world.streams c.opened) 1
 
--- the id with this counter of the scanner at this place is used once at most
+-- the id of this number of the scanner at this place is used once at most
 abbrev pub used_once : ℕ → ℕ → Chronicle → Bool
-used_once device counter c = not (nat_lt counter (2 ^ 24)) || is_used_once counter c (device_of c device)
+used_once device number c = is_used_once number c (device_of c device)
 
 abbrev pub is_unused : ℕ → Chronicle → Option DeviceTable → Bool
-is_unused counter c None = true
-is_unused counter c (Some (Adapter t)) = true
-is_unused counter c (Some (Scanner t)) = not (nat_le t.next_id counter) || uses (t.profile.incarnation * 2 ^ 24 + counter) c.story.world.streams c.opened == 0
+is_unused number c None = true
+is_unused number c (Some (Adapter t)) = true
+is_unused number c (Some (Scanner t)) = not (is_numbered t number) || (not (nat_le t.next_id number) || uses (id_at t.ids number).0 c.story.world.streams c.opened == 0)
 
 -- it is not used before the scanner draws it
 abbrev pub unused_before : ℕ → ℕ → Chronicle → Bool
-unused_before device counter c = not (nat_lt counter (2 ^ 24)) || is_unused counter c (device_of c device)
+unused_before device number c = is_unused number c (device_of c device)

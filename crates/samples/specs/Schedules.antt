@@ -1,10 +1,12 @@
 -- An adapter and scanners on a segment, and the acts of small schedules.
 use Rattle.std.specs.Prelude.{ℕ, true, false, List, [], ◌∷◌, map, slice_get, Option, Some, None, Result, Ok, Err}
+use Rattle.cip_types.specs.declared.ids.IdBlock.{IdBlock}
 use Rattle.std.specs.Option.{option_map}
 use Rattle.cip_events.specs.declared.event.Delivery.{Delivery}
 use Rattle.cip_netparams.specs.declared.Trigger.TheVariants.{Cyclic}
 use Rattle.cip_productions.specs.declared.kind.Kind.TheVariants.{ExclusiveOwner, InputOnly}
 use Rattle.adapter_table.specs.Points.{bytes_at}
+use Rattle.scanner_table.specs.Profiles.{first_ids}
 use Rattle.scanner_table.specs.declared.profile.ScannerProfile.{ScannerProfile}
 use Rattle.scanner_table.specs.declared.profile.SlotConfig.{SlotConfig}
 use Rattle.scanner_table.specs.declared.slot.Slot.{Slot}
@@ -61,11 +63,16 @@ scanner slot = record {
   tidy = false;
   openings = None;
   serials = None;
+  ids = None;
   slots = slot ∷ [];
 }
 
 abbrev pub neighbour : SlotConfig → ScannerProfile
 neighbour slot = record (scanner slot) { incarnation = 0x30; node = record { 0 = 0xC0A80115 }; serial = 0x12345679 }
+
+-- the blocks of connection ids that a scanner begins with
+abbrev pub blocks_of : ScannerProfile → List IdBlock
+blocks_of profile = first_ids profile ∷ []
 
 -- the adapter at index 0, and one scanner at index 1, which owns the output
 abbrev pub owned : List Config

@@ -1,5 +1,5 @@
 -- What the laws of one device's step say, as tests: of the frames that it sends, of its connections, and of what it makes.
-use Rattle.std.specs.Prelude.{ℕ, ◌+◌, ◌*◌, ◌^◌, ◌==◌, ◌&&◌, ◌||◌, not, nat_le, nat_lt, Bool, true, false, List, Result, Ok, Err}
+use Rattle.std.specs.Prelude.{ℕ, ◌+◌, ◌*◌, ◌^◌, ◌==◌, ◌&&◌, ◌||◌, not, Bool, true, false, List, Result, Ok, Err}
 use Rattle.std.specs.List.{list_all, list_any}
 use Rattle.std.specs.Str.{bytes_eq}
 use Rattle.cip_datagram.specs.declared.datagram.DatagramFault.{DatagramFault}
@@ -7,6 +7,8 @@ use Rattle.cip_datagram.specs.Datagram.{DatagramFields}
 use Rattle.cip_datagram.specs.Reading.{datagram_reading}
 use Rattle.cip_encap.specs.declared.message.EncapFault.{EncapFault}
 use Rattle.cip_encap.specs.declared.packet.ItemFault.{ItemFault}
+use Rattle.cip_types.specs.declared.ids.IdBlock.{IdBlock}
+use Rattle.cip_types.specs.IdLaws.{has_id}
 use Rattle.cip_encap.specs.Message.{MessageFields}
 use Rattle.cip_encap.specs.Packet.{PacketFields}
 use Rattle.cip_encap.specs.AnyItems.{any_packet_reading}
@@ -21,7 +23,6 @@ use Rattle.adapter_table.specs.Connections.{Row}
 use Rattle.adapter_table.specs.declared.table.AdapterTable.{AdapterTable}
 use Rattle.adapter_table.specs.Productions.{producer_of}
 use Rattle.adapter_table.specs.Rows.{is_established}
-use Rattle.scanner_table.specs.declared.profile.ScannerProfile.{ScannerProfile}
 use Rattle.scanner_table.specs.declared.table.ScannerTable.{ScannerTable}
 use Rattle.scanner_table.specs.Replies.{open_answer}
 use Rattle.scanner_table.specs.Slots.{IndexedSlot, indexed_slots}
@@ -35,29 +36,28 @@ use Rattle.samples.specs.MomentTests.{has_number}
 
 -- ---- for which id a request asks
 
--- it is multicast, or the id has the scanner's incarnation
-abbrev pub asks_own : ScannerProfile → OpenFields → Bool
-asks_own profile request =
-    is_multicast request.t_o_params.kind || (nat_le (profile.incarnation * 2 ^ 24) request.t_o_id.0 && nat_lt request.t_o_id.0 ((profile.incarnation + 1) * 2 ^ 24))
+-- it is multicast, or the id is of the scanner's blocks
+abbrev pub asks_own : List IdBlock → OpenFields → Bool
+asks_own ids request = is_multicast request.t_o_params.kind || list_any (has_id request.t_o_id.0) ids
 
-abbrev pub request_asks_own : ScannerProfile → RouterRequestFields → Bool
-request_asks_own profile nothing = true
-request_asks_own profile (refused service why) = true
-request_asks_own profile (closing request) = true
-request_asks_own profile (object service class instance attribute body) = true
-request_asks_own profile (opening large request) = asks_own profile request
+abbrev pub request_asks_own : List IdBlock → RouterRequestFields → Bool
+request_asks_own ids nothing = true
+request_asks_own ids (refused service why) = true
+request_asks_own ids (closing request) = true
+request_asks_own ids (object service class instance attribute body) = true
+request_asks_own ids (opening large request) = asks_own ids request
 
-abbrev pub packet_asks_own : ScannerProfile → Result PacketFields ItemFault → Bool
-packet_asks_own profile (Err fault) = true
-packet_asks_own profile (Ok packet) = request_asks_own profile (router_request_reading packet.payload)
+abbrev pub packet_asks_own : List IdBlock → Result PacketFields ItemFault → Bool
+packet_asks_own ids (Err fault) = true
+packet_asks_own ids (Ok packet) = request_asks_own ids (router_request_reading packet.payload)
 
-abbrev pub message_asks_own : ScannerProfile → Result MessageFields EncapFault → Bool
-message_asks_own profile (Err fault) = true
-message_asks_own profile (Ok m) = packet_asks_own profile (any_packet_reading m.payload)
+abbrev pub message_asks_own : List IdBlock → Result MessageFields EncapFault → Bool
+message_asks_own ids (Err fault) = true
+message_asks_own ids (Ok m) = packet_asks_own ids (any_packet_reading m.payload)
 
 -- the bytes are no request to open, or one that asks for an id of the scanner's own
-abbrev pub bytes_ask_own : ScannerProfile → List ℕ → Bool
-bytes_ask_own profile bytes = message_asks_own profile (message_reading bytes)
+abbrev pub bytes_ask_own : List IdBlock → List ℕ → Bool
+bytes_ask_own ids bytes = message_asks_own ids (message_reading bytes)
 
 -- ---- successes
 

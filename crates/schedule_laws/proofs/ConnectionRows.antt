@@ -38,7 +38,7 @@ use Rattle.device_laws.specs.Lemmas.MessageSteps.{respond_holds}
 use Rattle.device_laws.specs.Lemmas.Texts.{either}
 use Rattle.device_laws.specs.Lemmas.OpenedRows.{MessageMakes, NextRows, RowsAre, frame_rows, without_rows}
 use Rattle.adapter_table.specs.Lemmas.PassiveLemmas.{passive_holds}
-use Rattle.adapter_table.specs.Lemmas.PlainLemmas.{counters_hold}
+use Rattle.adapter_table.specs.Lemmas.PlainLemmas.{counters_hold, ids_hold}
 
 -- ---- one connection
 
@@ -151,6 +151,7 @@ all_rows O lasts t (event.Write point bytes) makes rows = write_rows O lasts t p
 all_rows O lasts t (event.Tick ms) makes rows = tick_rows O lasts t ms rows
 all_rows O lasts t (event.Respond number general bytes) makes rows = respond_holds (OkRows O) t number general bytes (λ why. tt) (λ w found few. rows)
 all_rows O lasts t (event.Counters bytes) makes rows = counters_hold (OkRows O) t bytes (λ why. tt) rows
+all_rows O lasts t (event.Ids block) makes rows = ids_hold (OkRows O) t block (λ why. tt) (λ may. rows)
 all_rows O lasts t other makes rows = passive_holds (OkRows O) t (λ why. tt) (λ verdict. rows) other refl
 
 pub step_rows : (O : Row → Type 0) → Lasts O → (t : AdapterTable) (happens : Event) (next : Next) → adapter_step t happens ≡ Ok next → EventMakes O t happens → AllByRecursion O t.rows → AllByRecursion O next.1.rows

@@ -78,7 +78,7 @@ opened_old base producer device None slot never = tt
 opened_old base producer device (Some row) None never = tt
 opened_old base producer device (Some row) (Some slot) never = ((λ same. absurd (never row refl same)), tt)
 
-opens_old : (w : World) (base : List Opened) (producer : End) (device : ℕ) (t u : AdapterTable) (happens : Event) → RowIdsAreDrawn t.profile t.next_id t.rows → AllByRecursion (RowCame t u happens) u.rows → ((request : OpenFields) (row : Row) → IsProduced t u request row → end_at device (producer_of row.state) ≢ producer) → AllByRecursion (IsOld base producer) (frame_opens w device (Adapter t) happens (Adapter u))
+opens_old : (w : World) (base : List Opened) (producer : End) (device : ℕ) (t u : AdapterTable) (happens : Event) → RowIdsAreDrawn t.ids t.next_id t.rows → AllByRecursion (RowCame t u happens) u.rows → ((request : OpenFields) (row : Row) → IsProduced t u request row → end_at device (producer_of row.state) ≢ producer) → AllByRecursion (IsOld base producer) (frame_opens w device (Adapter t) happens (Adapter u))
 opens_old w base producer device t u (event.Frame k bytes) drawn came never =
     opened_old base producer device (find (was_opened_as t.next_id) u.rows) (requester_of k bytes) new_data
   where

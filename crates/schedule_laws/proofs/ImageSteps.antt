@@ -100,7 +100,7 @@ pub images_slotwise : Slotwise Images
 images_slotwise = record {
   stays = λ t u number config slot later. stays_on config slot;
   after = λ t u v number config a b c one two first next. goes_after config a b c first next;
-  opening = λ t place resting. not_established place.config place.slot (opening_slot t place) (opening_slot t place).state refl (λ c is. let e = is in cc) refl;
+  opening = λ t place resting left. not_established place.config place.slot (opening_slot t place) (opening_slot t place).state refl (λ c is. let e = is in cc) refl;
   idling = λ t place slot idle. not_established place.config place.slot slot Idle idle.state (λ c is. let e = is in cc) idle.image;
   timing_out = λ t place link slot is becomes. not_established place.config place.slot slot (TimedOut link) becomes.state (λ d now. let e = now in cc) becomes.image;
   closing = λ t place link desired_up is. not_established place.config place.slot (closing_slot t link desired_up place.slot) (closing_slot t link desired_up place.slot).state refl (λ d now. let e = now in cc) refl;

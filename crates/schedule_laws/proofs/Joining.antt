@@ -3,7 +3,7 @@ use Rattle.std.proofs.Common.{◌≡◌, ◌≢◌, ◌⊎◌, inl, inr, ℕ, ze
 use Rattle.std.specs.List.{AllByRecursion, Contains}
 use Rattle.std.proofs.lemmas.List.Elements.{Contains-append_cases}
 use Rattle.std.proofs.lemmas.Option.{same_Some}
-use Rattle.schedule_laws.specs.Lemmas.Acts.{more_acts, nothing_yet}
+use Rattle.schedule_laws.specs.Lemmas.Acts.{WhereApart, more_acts, nothing_yet}
 use Rattle.device_laws.specs.Lemmas.Stepping.{device_stepped, table_is}
 use Rattle.device_laws.specs.Lemmas.Folds.{scanner_is}
 use Rattle.base_lemmas.specs.Lists.{set_own, found_passes}
@@ -48,7 +48,7 @@ use Rattle.device_laws.specs.Made.{AnswersSendWhatIsMade}
 use Rattle.device_laws.specs.Productions.{End, end_at, Production}
 use Rattle.schedule_laws.specs.Ids.{IdsAreDrawn, SchedulesKeepIdsDrawn, OpeningWorldsHaveIdsDrawn}
 use Rattle.schedule_laws.specs.Lemmas.Tests.{set_cases}
-use Rattle.schedule_laws.specs.Chronicle.{Chronicle, Opened, opens_row, frame_opens, after_act, then_act, with_event_at, recorded, blank, chronicles}
+use Rattle.schedule_laws.specs.Chronicle.{Chronicle, Opened, opens_row, frame_opens, after_act, with_event_at, recorded, blank}
 use Rattle.schedule_laws.specs.Names.{IsEntry, HasEntry}
 use Rattle.schedule_laws.specs.Order.{IsChronicle}
 use Rattle.schedule_laws.specs.Streams.{Ends, ends_of, Waiting, ItemWaits, StreamsWait}
@@ -57,7 +57,7 @@ use Rattle.schedule_laws.specs.Lemmas.Entries.{DeviceStays, step_stays, Waits}
 use Rattle.schedule_laws.specs.Lemmas.Found.{all_contains, find_more, found_holds}
 use Rattle.schedule_laws.specs.Lemmas.NameActs.{NamedAt, NameLaws, adapter_result}
 use Rattle.schedule_laws.specs.Lemmas.OpeningActs.{OpeningsIn, schedule_openings, after_is}
-use Rattle.schedule_laws.specs.Lemmas.ProducedActs.{drawn_on}
+use Rattle.schedule_laws.specs.Lemmas.ProducedActs.{ApartActsKeep, apart_keeps, chronicles_keep, drawn_on}
 use Rattle.schedule_laws.specs.Lemmas.StreamActs.{FrameSent, EventArrives, OneEvent, StreamsOnly, ActCases, act_acts, answered_waits, streams_more}
 use Rattle.device_laws.specs.Lemmas.Books.{end_is}
 use Rattle.device_laws.specs.Lemmas.OpenedRows.{MessageMakes}
@@ -148,7 +148,7 @@ adapter_stepped t u happened answer is = adapter_result (adapter_step t happened
 own_scanner : NameLaws → (w : World) (device : ℕ) (t : DeviceTable) (u : ScannerTable) (happened : Event) (answer : Answer) → slice_get w.tables device ≡ Some t → step t happened ≡ Ok (answer, Scanner u) → DeviceStays t (Scanner u) → WasScanner w device u
 own_scanner laws w device (Adapter t) u happened answer at is stays = absurd stays
 own_scanner laws w device (Scanner t) u happened answer at is stays =
-    record { table = t; there = at; later = step_later t happened answer u (device_stepped t u happened answer is); profile = stays }
+    record { table = t; there = at; later = step_later t happened answer u (device_stepped t u happened answer is); profile = stays.profile }
 
 scanner_by : NameLaws → (w : World) (d : ℕ) (t u : DeviceTable) (happened : Event) (answer : Answer) (device : ℕ) (x : ScannerTable) → slice_get w.tables d ≡ Some t → step t happened ≡ Ok (answer, u) → ((device ≡ d) × (Scanner x ≡ u)) ⊎ ((device ≢ d) × (slice_get w.tables device ≡ Some (Scanner x))) → WasScanner w device x
 scanner_by laws w d t u happened answer device x at is (inl own) =
@@ -183,7 +183,7 @@ record AdapterEvent (w new : World) (opened : List Opened) (device : ℕ) (t u :
   at : slice_get w.tables device ≡ Some (Adapter t)
   later : AreLater w new
   entries : AllByRecursion (IsEntry w opened) opened
-  drawn : RowIdsAreDrawn t.profile t.next_id t.rows
+  drawn : RowIdsAreDrawn t.ids t.next_id t.rows
   profile : u.profile ≡ t.profile
 
 adapter_same : (a b : AdapterTable) → Some (Adapter a) ≡ Some (Adapter b) → a ≡ b
@@ -317,7 +317,7 @@ device_asks laws w new device t (Adapter u) happened answer at is stays after dr
 device_asks laws w new device (Adapter t) (Scanner u) happened answer at is stays after drawn next_drawn paths = absurd stays
 device_asks laws w new device (Scanner t) (Scanner u) happened answer at is stays after drawn next_drawn paths =
     all_more (FrameAsks u) (DeviceAsks new device) (λ frame so s there. subst (λ (x : ScannerTable). OpeningsCome (NamesSlots x) frame.bytes) (table_is u s (sym after ∙ there)) so) answer.frames
-    (stepped_asks laws w new device t u happened answer at is after stays drawn next_drawn (paths t at))
+    (stepped_asks laws w new device t u happened answer at is after stays.profile drawn next_drawn (paths t at))
 
 -- ---- an act
 
@@ -376,13 +376,12 @@ by_act laws c act (Ok (Some reported, new)) is acts at joined =
     (subst (λ (u : DeviceTable). JoinsAt new (c.opened ++ frame_opens c.story.world reported.device acts.before reported.event u)) (sym (after_is acts.before reported acts.after acts.stepped))
     (event_joined laws c.story.world new c.opened c.produced reported acts produced.drawn (drawn_on laws.keep c.story.world act (Some reported) new is produced.drawn) openings.named joined))
 
-and_reached : (configs : List Config) (acts : List Act) (c : Chronicle) (act : Act) (said : Result Chronicle ActFault) → after_act c act ≡ said → IsChronicle configs acts c → IfOk said JoinedAfter → IfOk said (JoinsIn configs)
+and_reached : (configs : List Config) (acts : List Act) (c : Chronicle) (act : Act) (said : Result Chronicle ActFault) → after_act c act ≡ said → IsChronicle configs acts c → IfOk said JoinedAfter → IfOk said (WhereApart (JoinsIn configs))
 and_reached configs acts c act (Err fault) goes is joined = tt
-and_reached configs acts c act (Ok next) goes is joined = record { acts = acts ++ act ∷ []; is = more_acts configs acts c next act is goes; joined = joined }
+and_reached configs acts c act (Ok next) goes is joined = λ apart. record { acts = acts ++ act ∷ []; is = more_acts configs acts c next act is goes apart; joined = joined }
 
-act_joined : JoinLaws → (configs : List Config) (so_far : Result Chronicle ActFault) (act : Act) → IfOk so_far (JoinsIn configs) → IfOk (then_act so_far act) (JoinsIn configs)
-act_joined laws configs (Err fault) act at = tt
-act_joined laws configs (Ok c) act at =
+act_joined : JoinLaws → (configs : List Config) → ApartActsKeep (JoinsIn configs)
+act_joined laws configs c act at =
     let w = c.story.world in
     let openings = schedule_openings laws.sends laws.keep laws.opens laws.once laws.names configs at.acts c at.is in
     let known = openings.openings in
@@ -391,11 +390,6 @@ act_joined laws configs (Ok c) act at =
     let waits = streams_both (Waits c.story.world c.opened) (Asks c.story.world) c.story.world.streams named.streams joined.streams in
     and_reached configs at.acts c act (after_act c act) refl at.is
     (by_act laws c act (happens c.story.world act) refl (act_acts (Both (Waits c.story.world c.opened) (Asks c.story.world)) c.story.world act waits) openings at.joined)
-
-acts_joined : JoinLaws → (configs : List Config) (acts : List Act) (so_far : Result Chronicle ActFault) → IfOk so_far (JoinsIn configs) → IfOk (chronicles so_far acts) (JoinsIn configs)
-unfolding chronicles
-acts_joined laws configs [] so_far at = at
-acts_joined laws configs (act ∷ acts) so_far at = acts_joined laws configs acts (then_act so_far act) (act_joined laws configs so_far act at)
 
 -- ---- at the beginning
 
@@ -417,10 +411,10 @@ all_have_paths [] n s have at = absurd (let e = at in cc)
 all_have_paths (made ∷ configs) zero s have at = has_paths made s have.0 (same_Some (opening_table made) (Scanner s) at)
 all_have_paths (made ∷ configs) (suc n) s have at = all_have_paths configs n s have.1 at
 
-begins_joined : (configs : List Config) (acts : List Act) (c : Chronicle) → IsChronicle configs acts c → HavePaths configs → JoinsIn configs (blank (opening_world configs))
-begins_joined configs acts c is have = record {
+begins_joined : (configs : List Config) (acts : List Act) (c : Chronicle) → IsChronicle configs acts c → HavePaths configs → WhereApart (JoinsIn configs) (blank (opening_world configs))
+begins_joined configs acts c is have = λ apart. record {
   acts = [];
-  is = nothing_yet configs acts c is;
+  is = nothing_yet configs acts c is apart;
   joined = record {
     paths = λ device s at. all_have_paths configs device s have at;
     rows = λ device t at. subst (AllByRecursion (RowJoins (opening_world configs) [] device t.profile)) (sym (all_empty configs device t at)) tt;
@@ -430,8 +424,11 @@ begins_joined configs acts c is have = record {
 
 schedule_joined : JoinLaws → (configs : List Config) (acts : List Act) (c : Chronicle) → IsChronicle configs acts c → HavePaths configs → JoinsIn configs c
 schedule_joined laws configs acts c is have =
-    subst (λ (r : Result Chronicle ActFault). IfOk r (JoinsIn configs)) is.ran
-    (acts_joined laws configs acts (Ok (blank (opening_world configs))) (begins_joined configs acts c is have))
+    let names = laws.names in
+    let steps = names.steps in
+    let held : WhereApart (JoinsIn configs) c = subst (λ (r : Result Chronicle ActFault). IfOk r (WhereApart (JoinsIn configs))) is.ran
+    (chronicles_keep (WhereApart (JoinsIn configs)) (apart_keeps steps.blocks (JoinsIn configs) (act_joined laws configs)) acts (Ok (blank (opening_world configs))) (begins_joined configs acts c is have)) in
+    held is.apart
 
 -- ---- the law
 

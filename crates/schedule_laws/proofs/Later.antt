@@ -1,10 +1,12 @@
 -- A connection that begins after a moment accepts nothing that was sent by then.
-use Rattle.std.proofs.Common.{◌≡◌, ◌≢◌, ◌≤◌, ◌<◌, inl, inr, ℕ, zero, suc, ◌+◌, ◌*◌, ◌^◌, ◌==◌, ◌&&◌, ◌||◌, nat_le, Bool, true, false, cond, List, [], ◌∷◌, length, set, slice_get, slice_index_or, find, Option, Some, None, Result, Ok, Err, IfOk, refl, sym, ◌∙◌, ap, subst, arith, eqb-true, eq-eqb, leb-true, le-leb}
+use Rattle.std.proofs.Common.{◌≡◌, ◌≢◌, ◌≤◌, ◌<◌, ◌⊎◌, inl, inr, ℕ, zero, suc, ◌+◌, ◌==◌, ◌&&◌, ◌||◌, nat_le, Bool, true, false, cond, List, [], ◌∷◌, length, set, slice_get, slice_index_or, find, Option, Some, None, Result, Ok, Err, IfOk, refl, sym, ◌∙◌, ap, subst, arith, eqb-true, eq-eqb, leb-true, le-leb}
 use Rattle.std.specs.List.{AllByRecursion, Contains, list_any}
 use Rattle.std.proofs.lemmas.Bool.{and_parts, false_from_ne_true, or_right}
 use Rattle.std.proofs.lemmas.Option.{same_Some}
 use Rattle.base_lemmas.specs.Lists.{found_passes}
 use Rattle.base_lemmas.specs.Numbers.{number_same}
+use Rattle.cip_types.specs.IdLaws.{ids_fit}
+use Rattle.cip_types.specs.Ids.{id_at}
 use Rattle.cip_types.specs.declared.names.ConnId.{ConnId}
 use Rattle.cip_types.specs.declared.names.Node.{Node}
 use Rattle.cip_datagram.specs.declared.datagram.DatagramFault.{DatagramFault}
@@ -12,30 +14,31 @@ use Rattle.cip_datagram.specs.Datagram.{DatagramFields}
 use Rattle.cip_datagram.specs.Reading.{datagram_reading}
 use Rattle.cip_events.specs.declared.event.Answer.{Answer}
 use Rattle.cip_events.specs.declared.event.Event.{Event}
-use Rattle.adapter_table.specs.declared.profile.Profile.{Profile}
 use Rattle.adapter_table.specs.Connections.{Row}
 use Rattle.adapter_table.specs.declared.table.AdapterTable.{AdapterTable}
 use Rattle.adapter_table.specs.Datagrams.{is_for}
 use Rattle.adapter_table.specs.Newest.{Acceptance, was_opened_as, accepted_found, accepted_read}
-use Rattle.cip_types.specs.Ids.{connection_id}
+use Rattle.adapter_table.specs.EachLemmas.{each_found}
 use Rattle.adapter_table.specs.Productions.{producer_of}
 use Rattle.adapter_table.specs.Rows.{Each, is_established}
-use Rattle.adapter_table.specs.Sound.{IdsAreDrawn as RowIdsAreDrawn, MulticastIdIsDrawn}
+use Rattle.adapter_table.specs.Sound.{IsDrawn, MulticastIdIsDrawn}
 use Rattle.cip_tables.specs.declared.table.DeviceTable.{DeviceTable}
 use Rattle.cip_tables.specs.declared.table.DeviceTable.TheVariants.{Adapter, Scanner}
-use Rattle.cip_tables.specs.Step.{incarnation_of, step}
-use Rattle.cip_tables.specs.Whole.{IsWholeDevice, next_id_of}
+use Rattle.cip_tables.specs.Step.{step}
+use Rattle.cip_tables.specs.Whole.{IsWholeDevice, ids_of, next_id_of}
 use Rattle.segment_world.specs.Transit.Log.{Sent}
 use Rattle.segment_world.specs.declared.act.Act.{Act}
 use Rattle.segment_world.specs.declared.act.ActFault.{ActFault}
 use Rattle.segment_world.specs.World.{World, ReportedEvent, Happened, happens}
 use Rattle.segment_world.specs.Story.{Story, goes_on, runs}
 use Rattle.device_laws.specs.Ids.{ReadId, RowIds}
+use Rattle.device_laws.specs.Lemmas.Numbered.{one_number}
 use Rattle.device_laws.specs.Carrying.{Passes, TableIds}
-use Rattle.schedule_laws.specs.Ids.{IsDrawnFrame, is_to_come, is_drawn, any_opening, SentHolds, IdsAreDrawn, Moments, IdsToComeAreUnsent, LaterConnectionsAcceptNoneOfIt, LaterGroupsSentNoneOfIt}
+use Rattle.schedule_laws.specs.Ids.{IsDrawnFrame, is_drawn, any_opening, SentHolds, IdsAreDrawn, Moments, IdsToComeAreUnsent, LaterConnectionsAcceptNoneOfIt, LaterGroupsSentNoneOfIt}
+use Rattle.schedule_laws.specs.Lives.{AreApart, HasNumber}
 use Rattle.schedule_laws.specs.Lemmas.Moves.{Moves, act_moves, runs_keep}
-use Rattle.schedule_laws.specs.Lemmas.Tests.{not_both, so_comes, drawn_parts, none_at, set_cases}
-use Rattle.schedule_laws.specs.Lemmas.Drawing.{StepLaws, Openings, Drawn, step_same, moved_drawn, runs_drawn, all_drawn}
+use Rattle.schedule_laws.specs.Lemmas.Tests.{DrawnBy, drawn_cases, not_both, numbered_on, set_cases, whole_blocks, whole_in_range}
+use Rattle.schedule_laws.specs.Lemmas.Drawing.{StepLaws, Openings, Drawn, Grew, grew_itself, runs_grew, moved_drawn, runs_drawn, all_drawn}
 
 -- ---- what a list contains
 
@@ -59,15 +62,35 @@ sent_id w s d all there reads =
     let id = all_contains (SentHolds (Passes (is_drawn w.tables))) w.sent s all there in
     subst (ReadId (Passes (is_drawn w.tables))) reads id
 
--- it is no id of this device with a counter from the next one on
-pub unsent : (w : World) (device : ℕ) (t : DeviceTable) (counter : ℕ) (s : Sent) (d : DatagramFields) → AllByRecursion (SentHolds (Passes (is_drawn w.tables))) w.sent → slice_get w.tables device ≡ Some t → next_id_of t ≤ counter → counter < 16777216 → Contains w.sent s → datagram_reading s.bytes ≡ Ok d → d.connection ≢ incarnation_of t * 16777216 + counter
-unsent w device t counter s d all at from below there reads is =
-    let none = none_at d.connection w.tables device t (drawn_parts w.tables d.connection (sent_id w s d all there reads)).1 at in
-    not_both (is_to_come d.connection t) (so_comes d.connection t (record { from = omega (arith, is, from); below = omega (arith, is, below) })) none
+-- it is no id that the device draws after that moment, where no two devices have blocks with one id at the later one
+pub unsent : (was now : World) (device : ℕ) (t u : DeviceTable) (number : ℕ) (s : Sent) (d : DatagramFields) → AllByRecursion (SentHolds (Passes (is_drawn was.tables))) was.sent → ((e : ℕ) (x : DeviceTable) → slice_get was.tables e ≡ Some x → IsWholeDevice x) → ((e : ℕ) (x : DeviceTable) → slice_get now.tables e ≡ Some x → IsWholeDevice x) → Grew was.tables now.tables → AreApart now.tables → slice_get was.tables device ≡ Some t → slice_get now.tables device ≡ Some u → next_id_of t ≤ number → HasNumber u number → Contains was.sent s → datagram_reading s.bytes ≡ Ok d → d.connection ≢ (id_at (ids_of u) number).0
+unsent was now device t u number s d all whole whole_now grew apart at_was at_now from has there reads is = by_case (drawn_cases was.tables d.connection (sent_id was s d all there reads)) where
+  by_case : (d.connection ≡ 0) ⊎ DrawnBy was.tables d.connection → ⊥
+  by_case (inl none) =
+      let ends = has.ends in
+      let some = (ids_fit (ids_of u) number (whole_blocks u (whole_now device u at_now)) has.begins (omega (arith, ends))).0 in
+      absurd (omega (arith, none, is, some))
+  by_case (inr by) =
+      let g = grew by.device by.table by.there in
+      let n = by.numbered in
+      let last = whole_in_range by.table (whole by.device by.table by.there) in
+      let later = numbered_on by.table g.table d.connection last g.blocks g.counts by.numbered in
+      let below = later.ends in
+      let last_now = whole_in_range g.table (whole_now by.device g.table g.there) in
+      let same : (id_at (ids_of g.table) n.number).0 ≡ (id_at (ids_of u) number).0 = later.is ∙ is in
+      let place : by.device ≡ device = apart.differ by.device device g.table u n.number number g.there at_now (record { begins = n.begins; ends = omega (arith, below, last_now) }) has same in
+      let own : g.table ≡ u = same_Some g.table u (sym g.there ∙ ap (slice_get now.tables) place ∙ at_now) in
+      let first : by.table ≡ t = same_Some by.table t (sym by.there ∙ ap (slice_get was.tables) place ∙ at_was) in
+      let old : n.number < next_id_of t = subst (λ (x : DeviceTable). n.number < next_id_of x) first n.ends in
+      let ends = has.ends in
+      let equal : n.number ≡ number =
+      one_number (ids_of u) n.number number (whole_blocks u (whole_now device u at_now)) n.begins (omega (arith, old, from, ends)) has.begins has.ends
+      (subst (λ (x : DeviceTable). (id_at (ids_of x) n.number).0 ≡ (id_at (ids_of u) number).0) own same) in
+      absurd (omega (arith, equal, old, from))
 
 pub ids_to_come_are_unsent : IdsToComeAreUnsent
-ids_to_come_are_unsent w device t counter s d ids at from below there reads is =
-    unsent w device t counter s d ids.sent at from (omega (arith, below)) there reads (omega (arith, is))
+ids_to_come_are_unsent w device t number s d ids apart at from has there reads is =
+    unsent w w device t t number s d ids.sent ids.whole ids.whole (grew_itself w.tables) apart at at from has there reads is
 
 -- ---- connections of an adapter
 
@@ -85,17 +108,9 @@ adapter_same a b is = ap (λ (x : DeviceTable). adapter_or x) is where
   adapter_or (Adapter x) = x
   adapter_or (Scanner x) = a
 
-abbrev HasDrawnId : Profile → ℕ → Row → Type 0
-HasDrawnId profile next row = (row.o_t_id ≡ connection_id profile.incarnation row.opening) × (row.opening < next)
-
 found_step : (P : Row → Type 0) (b : Bool) (first row : Row) (rest : Option Row) → cond b (Some first) rest ≡ Some row → P first → (rest ≡ Some row → P row) → P row
 found_step P true first row rest is here more = let same : first ≡ row = cc in subst P same here
 found_step P false first row rest is here more = more is
-
-rows_found : (p : Row → Bool) (profile : Profile) (next : ℕ) (rows : List Row) (row : Row) → find p rows ≡ Some row → RowIdsAreDrawn profile next rows → HasDrawnId profile next row
-rows_found p profile next [] row is drawn = absurd (let e = is in cc)
-rows_found p profile next (first ∷ rows) row is drawn =
-    found_step (HasDrawnId profile next) (p first) first row (find p rows) is (drawn.0, drawn.1) (λ later. rows_found p profile next rows row later drawn.2)
 
 all_found : (P : Row → Type 0) (p : Row → Bool) (rows : List Row) (row : Row) → find p rows ≡ Some row → AllByRecursion P rows → P row
 all_found P p [] row is all = absurd (let e = is in cc)
@@ -136,15 +151,6 @@ runs_kept laws R keep q device was now acts ran kept =
     subst (λ (r : Result Story ActFault). IfOk r (Kept R q device)) ran
     (runs_keep (Kept R q device) (λ story act is. act_kept laws R keep q device story (happens story.world act) is (act_moves (IsDrawnFrame story.world.tables) story.world act is.drawn.streams)) acts (Ok was) kept)
 
--- its incarnation stays
-abbrev HasByte : ℕ → DeviceTable → Type 0
-HasByte byte t = incarnation_of t ≡ byte
-
-pub byte_kept : StepLaws → (q : Openings) (device : ℕ) (t u : DeviceTable) (was now : Story) (acts : List Act) → runs (Ok was) acts ≡ Ok now → Drawn q was.world → slice_get was.world.tables device ≡ Some t → slice_get now.world.tables device ≡ Some u → incarnation_of u ≡ incarnation_of t
-byte_kept laws q device t u was now acts ran drawn at_was at_now =
-    (runs_kept laws (HasByte (incarnation_of t)) (λ x happens a y stepped whole whole_y same. step_same laws x happens a y stepped ∙ same) q device was now acts ran
-    (record { drawn = drawn; holds = λ x at. ap incarnation_of (same_Some x t (sym at ∙ at_was)) })).holds u at_now
-
 -- ---- the moment
 
 -- the earlier moment has the properties that the start has
@@ -184,7 +190,6 @@ mark_step false device e n t a x tables is at there table stands = refl
 marked_moment : (device : ℕ) (t : AdapterTable) (w : World) → slice_get w.tables device ≡ Some (Adapter t) → Drawn (λ e opening. true) w → Drawn (opened_from device t) w
 marked_moment device t w at drawn = record {
   whole = drawn.whole;
-  apart = drawn.apart;
   tables = λ e x there. mark_table (is_drawn w.tables) (opened_from device t e) x (λ a table row stands. mark_step (e == device) device e row.opening t a x w.tables refl at there table stands) (drawn.tables e x there);
   class3 = drawn.class3;
   opens = λ e x there n from. opens_step (e == device) device e n t x w.tables refl at there from;
@@ -203,23 +208,24 @@ left_is : (a b : Bool) → (a || b) ≡ true → b ≡ false → a ≡ true
 left_is true b is none = refl
 left_is false b is none = not_both b is none
 
-later_row : (was : World) (device : ℕ) (t u : AdapterTable) (opening : ℕ) (peer : Node) (s : Sent) (d : DatagramFields) (row : Row) (ids : ℕ → Bool) → AllByRecursion (SentHolds (Passes (is_drawn was.tables))) was.sent → slice_get was.tables device ≡ Some (Adapter t) → u.profile.incarnation ≡ t.profile.incarnation → IsWholeDevice (Adapter u) → TableIds ids (opened_from device t device) (Adapter u) → list_any (was_opened_as opening) t.rows ≡ false → Contains was.sent s → datagram_reading s.bytes ≡ Ok d → find (is_for peer d.connection) u.rows ≡ Some row → was_opened_as opening row ≡ false
-later_row was device t u opening peer s d row ids all at byte whole table none there reads found =
+later_row : (was now : World) (device : ℕ) (t u : AdapterTable) (opening : ℕ) (peer : Node) (s : Sent) (d : DatagramFields) (row : Row) (ids : ℕ → Bool) → AllByRecursion (SentHolds (Passes (is_drawn was.tables))) was.sent → ((e : ℕ) (x : DeviceTable) → slice_get was.tables e ≡ Some x → IsWholeDevice x) → ((e : ℕ) (x : DeviceTable) → slice_get now.tables e ≡ Some x → IsWholeDevice x) → Grew was.tables now.tables → AreApart now.tables → slice_get was.tables device ≡ Some (Adapter t) → slice_get now.tables device ≡ Some (Adapter u) → TableIds ids (opened_from device t device) (Adapter u) → list_any (was_opened_as opening) t.rows ≡ false → Contains was.sent s → datagram_reading s.bytes ≡ Ok d → find (is_for peer d.connection) u.rows ≡ Some row → was_opened_as opening row ≡ false
+later_row was now device t u opening peer s d row ids all whole whole_now grew apart at_was at_now table none there reads found =
     false_from_ne_true (was_opened_as opening row) (λ is.
+    let own_whole = whole_now device (Adapter u) at_now in
     let same = eqb-true row.opening opening is in
     let passes = found_passes (is_for peer d.connection) u.rows row found in
     let parts = and_parts (is_established row) ((row.peer.0 == peer.0) && (row.o_t_id.0 == d.connection)) passes in
     let own = and_parts (row.peer.0 == peer.0) (row.o_t_id.0 == d.connection) parts.1 in
     let id = eqb-true row.o_t_id.0 d.connection own.1 in
-    let drawn_id = rows_found (is_for peer d.connection) u.profile u.next_id u.rows row found whole.sound.ids_are_drawn in
-    let value : row.o_t_id.0 ≡ u.profile.incarnation * 2 ^ 24 + row.opening = ap (λ (i : ConnId). i.0) drawn_id.0 in
+    let drawn = each_found (IsDrawn u.ids u.next_id) (is_for peer d.connection) u.rows row found own_whole.sound.ids_are_drawn in
     let marks = (all_found (RowIds (Passes ids) (Passes (opened_from device t device))) (is_for peer d.connection) u.rows row found table).opening in
     let test_passes : opened_or_later t row.opening true ≡ true = ap (λ (b : Bool). opened_or_later t row.opening b) (sym (number_same device)) ∙ marks in
     let stood : list_any (was_opened_as row.opening) t.rows ≡ false = ap (λ (n : ℕ). list_any (was_opened_as n) t.rows) same ∙ none in
     let from = leb-true t.next_id row.opening (left_is (nat_le t.next_id row.opening) (list_any (was_opened_as row.opening) t.rows) test_passes stood) in
-    let in_range = whole.sound.ids_are_left in
-    let below = drawn_id.1 in
-    unsent was device (Adapter t) row.opening s d all at from (omega (arith, in_range, below)) there reads (omega (arith, id, value, byte)))
+    let in_range = own_whole.sound.ids_are_left in
+    let below = drawn.below in
+    unsent was now device (Adapter t) (Adapter u) row.opening s d all whole whole_now grew apart at_was at_now from (record { begins = drawn.begins; ends = omega (arith, in_range, below) }) there reads
+    (sym id ∙ ap (λ (i : ConnId). i.0) drawn.id))
 
 accepts_none : (opening : ℕ) (u : AdapterTable) (peer : Node) (reading : Result DatagramFields DatagramFault) → ((d : DatagramFields) (row : Row) → reading ≡ Ok d → find (is_for peer d.connection) u.rows ≡ Some row → was_opened_as opening row ≡ false) → accepted_read opening u peer reading ≡ []
 accepts_none opening u peer (Err fault) later = refl
@@ -229,23 +235,23 @@ accepts_none opening u peer (Ok d) later = found_none (find (is_for peer d.conne
   found_none (Some row) is = none_by (was_opened_as opening row) _ _ (later d row refl is)
 
 pub later_connections : StepLaws → LaterConnectionsAcceptNoneOfIt
-later_connections laws start was now device opening t u s ids moments at_was at_now none there =
+later_connections laws start was now device opening t u s ids moments apart at_was at_now none there =
     let drawn = at_moment laws start was now ids moments in
     let later = runs_drawn laws (opened_from device t) was now moments.late moments.rest (marked_moment device t was.world at_was drawn) in
-    let byte = byte_kept laws (λ e o. true) device (Adapter t) (Adapter u) was now moments.late moments.rest drawn at_was at_now in
+    let grew = runs_grew laws (λ e o. true) was now moments.late moments.rest drawn in
     accepts_none opening u s.from (datagram_reading s.bytes)
-    (λ d row reads found. later_row was.world device t u opening s.from s d row (is_drawn now.world.tables) drawn.sent at_was byte (later.whole device (Adapter u) at_now) (later.tables device (Adapter u) at_now) none there reads found)
+    (λ d row reads found. later_row was.world now.world device t u opening s.from s d row (is_drawn now.world.tables) drawn.sent drawn.whole later.whole grew apart at_was at_now (later.tables device (Adapter u) at_now) none there reads found)
 
 -- ---- groups
 
 pub later_groups : StepLaws → LaterGroupsSentNoneOfIt
-later_groups laws start was now device t u row s d ids moments at_was at_now among lives multicast from there reads is =
+later_groups laws start was now device t u row s d ids moments apart at_was at_now among lives multicast from there reads is =
     let drawn = at_moment laws start was now ids moments in
     let later = runs_drawn laws (λ e o. true) was now moments.late moments.rest drawn in
-    let byte : u.profile.incarnation ≡ t.profile.incarnation = byte_kept laws (λ e o. true) device (Adapter t) (Adapter u) was now moments.late moments.rest drawn at_was at_now in
+    let grew = runs_grew laws (λ e o. true) was now moments.late moments.rest drawn in
     let whole = later.whole device (Adapter u) at_now in
-    let id = each_contains (MulticastIdIsDrawn u.profile u.next_id) u.rows row whole.sound.producers.multicast among lives multicast in
-    let value : row.t_o_id.0 ≡ u.profile.incarnation * 2 ^ 24 + (producer_of row.state + 1) = ap (λ (i : ConnId). i.0) id.0 in
+    let id = each_contains (MulticastIdIsDrawn u.ids u.next_id) u.rows row whole.sound.producers.multicast among lives multicast in
     let in_range = whole.sound.ids_are_left in
     let below = id.1 in
-    unsent was.world device (Adapter t) (producer_of row.state + 1) s d drawn.sent at_was (omega (arith, from)) (omega (arith, in_range, below)) there reads (omega (arith, is, value, byte))
+    unsent was.world now.world device (Adapter t) (Adapter u) (producer_of row.state + 1) s d drawn.sent drawn.whole later.whole grew apart at_was at_now (omega (arith, from)) (record { begins = omega arith; ends = omega (arith, in_range, below) }) there reads
+    (is ∙ ap (λ (i : ConnId). i.0) id.0)

@@ -16,7 +16,8 @@ use Rattle.segment_world.specs.declared.act.Act.{Act}
 use Rattle.segment_world.specs.declared.act.ActFault.{ActFault}
 use Rattle.segment_world.specs.Configs.{opening_world}
 use Rattle.segment_world.specs.World.{World, ReportedEvent, Happened, happens}
-use Rattle.schedule_laws.specs.Ids.{SchedulesKeepIdsDrawn, OpeningWorldsHaveIdsDrawn}
+use Rattle.schedule_laws.specs.Ids.{AreDrawnApart, SchedulesKeepIdsDrawn, OpeningWorldsHaveIdsDrawn}
+use Rattle.schedule_laws.specs.Lives.{AreApart}
 use Rattle.device_laws.specs.Lemmas.RowIds.{all_contained}
 use Rattle.device_laws.specs.Lemmas.Lists.{all_more}
 use Rattle.device_laws.specs.Made.{AnswersSendWhatIsMade, makes}
@@ -27,7 +28,7 @@ use Rattle.schedule_laws.specs.Names.{IsScannerIn, IsAdapterIn, IsOfGroup, IsOwn
 use Rattle.schedule_laws.specs.Order.{IsChronicle}
 use Rattle.schedule_laws.specs.Producers.{AreMoments, SchedulesNameOneProducer, WasOpenedLater, HasConnection, RowsAcceptNothingOlder, SlotsAcceptOfTheLiving, LaterConnectionsAcceptNothingOlder}
 use Rattle.schedule_laws.specs.Lemmas.AcceptedOpenings.{IsAccepted, entries_same}
-use Rattle.schedule_laws.specs.Lemmas.Acts.{acts_after}
+use Rattle.schedule_laws.specs.Lemmas.Acts.{WhereApart, acts_after}
 use Rattle.schedule_laws.specs.Lemmas.ApartIds.{Differ, DifferFromAll}
 use Rattle.schedule_laws.proofs.EndedProducers.{IsOld, EndedIn, act_ended}
 use Rattle.schedule_laws.specs.Lemmas.Entries.{IsDeviceIn, Waits}
@@ -35,7 +36,7 @@ use Rattle.schedule_laws.specs.Lemmas.Found.{all_contains}
 use Rattle.schedule_laws.specs.Lemmas.NameActs.{NameLaws}
 use Rattle.schedule_laws.specs.Lemmas.OneProducer.{OpenedOnce, opened_once, one_producer, adapters_made, slot_producer}
 use Rattle.schedule_laws.specs.Lemmas.OpeningActs.{OpeningsIn, acts_keep, grows, schedule_openings}
-use Rattle.schedule_laws.specs.Lemmas.ProducedActs.{ActsKeep, chronicles_keep}
+use Rattle.schedule_laws.specs.Lemmas.ProducedActs.{ApartActsKeep, apart_keeps, chronicles_keep}
 use Rattle.schedule_laws.specs.Lemmas.StreamActs.{act_acts}
 
 -- ---- two moments
@@ -71,19 +72,21 @@ record EndedKnown (base : List Opened) (device n : ℕ) (c : Chronicle) : Type 0
   openings : OpeningsIn c
   ended : EndedIn base device n c
 
-ended_keep : AnswersSendWhatIsMade → SchedulesKeepIdsDrawn → AnIdOpensOneConnection → NameLaws → (base : List Opened) (device n : ℕ) → ActsKeep (EndedKnown base device n)
+ended_keep : AnswersSendWhatIsMade → SchedulesKeepIdsDrawn → AnIdOpensOneConnection → NameLaws → (base : List Opened) (device n : ℕ) → ApartActsKeep (EndedKnown base device n)
 ended_keep sends keep once laws base device n c act at =
     let in_order = at.openings in
     let openings = in_order.openings in
     let named = openings.named in
     let produced = in_order.produced in
-    both_ok OpeningsIn (EndedIn base device n) (EndedKnown base device n) (λ d known ended. record { openings = known; ended = ended }) (after_act c act) (acts_keep sends keep once laws c act at.openings)
+    both_ok (WhereApart OpeningsIn) (EndedIn base device n) (WhereApart (EndedKnown base device n)) (λ d known ended apart. record { openings = known apart; ended = ended }) (after_act c act) (acts_keep sends keep once laws c act at.openings)
     (act_ended laws base device n c act (happens c.story.world act) (act_acts (Waits c.story.world c.opened) c.story.world act named.streams) produced.drawn at.ended)
 
-ended_later : AnswersSendWhatIsMade → SchedulesKeepIdsDrawn → AnIdOpensOneConnection → NameLaws → (base : List Opened) (device n : ℕ) (was now : Chronicle) (late : List Act) → chronicles (Ok was) late ≡ Ok now → OpeningsIn was → EndedIn base device n was → EndedIn base device n now
-ended_later sends keep once laws base device n was now late is openings ended =
-    let known : EndedKnown base device n now = subst (λ (r : Result Chronicle ActFault). IfOk r (EndedKnown base device n)) is
-    (chronicles_keep (EndedKnown base device n) (ended_keep sends keep once laws base device n) late (Ok was) (record { openings = openings; ended = ended })) in
+ended_later : AnswersSendWhatIsMade → SchedulesKeepIdsDrawn → AnIdOpensOneConnection → NameLaws → (base : List Opened) (device n : ℕ) (was now : Chronicle) (late : List Act) → chronicles (Ok was) late ≡ Ok now → AreApart now.story.world.tables → OpeningsIn was → EndedIn base device n was → EndedIn base device n now
+ended_later sends keep once laws base device n was now late is apart openings ended =
+    let held : WhereApart (EndedKnown base device n) now = subst (λ (r : Result Chronicle ActFault). IfOk r (WhereApart (EndedKnown base device n))) is
+    (chronicles_keep (WhereApart (EndedKnown base device n)) (apart_keeps laws.steps.blocks (EndedKnown base device n) (ended_keep sends keep once laws base device n)) late (Ok was)
+    (λ before. record { openings = openings; ended = ended })) in
+    let known = held apart in
     known.ended
 
 -- ---- devices keep their kind
@@ -131,8 +134,8 @@ maker_of c p in_order there =
 
 -- ---- at the adapter
 
-rows_later : (was now : Chronicle) → OpeningsIn was → OpeningsIn now → Grown was now → RowsAcceptNothingOlder was now
-rows_later was now before after more e a later there consumer older =
+rows_later : (was now : Chronicle) → AreApart now.story.world.tables → OpeningsIn was → OpeningsIn now → Grown was now → RowsAcceptNothingOlder was now
+rows_later was now apart before after more e a later there consumer older =
     let old = before.openings in
     let old_named = old.named in
     let new = after.openings in
@@ -148,7 +151,7 @@ rows_later was now before after more e a later there consumer older =
     let was_scanner = scanner_made was now a.production maker.table before after more older maker.is scanner in
     let f : IsOpenedFor was.opened a.production.producer a.production.made.datagram.connection = all_contains (ProductionHasEntry was.story.world was.opened) was.produced a.production old_named.productions older was_scanner in
     let other : IsEntry now.story.world now.opened f.entry = all_contains (IsEntry now.story.world now.opened) now.opened f.entry new_named.entries (more.opened f.entry f.there) in
-    let one : f.entry ≡ e = entries_same now.story.world now.opened f.entry e produced.drawn other entry (f.o_t_is ∙ x.id ∙ ap (λ (o : Opened). o.o_t_id.0) same) in
+    let one : f.entry ≡ e = entries_same now.story.world now.opened f.entry e (record { ids = produced.drawn; apart = apart }) other entry (f.o_t_is ∙ x.id ∙ ap (λ (o : Opened). o.o_t_id.0) same) in
     later.later (subst (Contains was.opened) one f.there)
 
 -- ---- at the slot
@@ -191,30 +194,31 @@ has_ended was p t before there at none =
     next_of (Adapter x) = x.next_id
     next_of (Scanner x) = x.next_id
 
-living : AnswersSendWhatIsMade → SchedulesKeepIdsDrawn → AnIdOpensOneConnection → NameLaws → (was now : Chronicle) (late : List Act) (e : Opened) (p : Production) (t : AdapterTable) (found : Option Row) → chronicles (Ok was) late ≡ Ok now → OpeningsIn was → WasOpenedLater was now e → e.producer ≡ p.producer → Contains was.produced p → slice_get was.story.world.tables p.producer.device ≡ Some (Adapter t) → find (is_produced_by p.producer.number) t.rows ≡ found → HasConnection was p.producer
-living sends keep once laws was now late e p t (Some row) is before later same there at found = record { table = t; is = at; row = row; there = found }
-living sends keep once laws was now late e p t None is before later same there at none =
-    let ended = ended_later sends keep once laws was.opened p.producer.device p.producer.number was now late is before (has_ended was p t before there at none) in
+living : AnswersSendWhatIsMade → SchedulesKeepIdsDrawn → AnIdOpensOneConnection → NameLaws → (was now : Chronicle) (late : List Act) (e : Opened) (p : Production) (t : AdapterTable) (found : Option Row) → chronicles (Ok was) late ≡ Ok now → AreApart now.story.world.tables → OpeningsIn was → WasOpenedLater was now e → e.producer ≡ p.producer → Contains was.produced p → slice_get was.story.world.tables p.producer.device ≡ Some (Adapter t) → find (is_produced_by p.producer.number) t.rows ≡ found → HasConnection was p.producer
+living sends keep once laws was now late e p t (Some row) is apart before later same there at found = record { table = t; is = at; row = row; there = found }
+living sends keep once laws was now late e p t None is apart before later same there at none =
+    let ended = ended_later sends keep once laws was.opened p.producer.device p.producer.number was now late is apart before (has_ended was p t before there at none) in
     absurd (later.later (all_contains (IsOld was.opened (end_at p.producer.device p.producer.number)) now.opened e ended.old later.there same))
 
-slots_later : AnswersSendWhatIsMade → SchedulesKeepIdsDrawn → AnIdOpensOneConnection → NameLaws → (was now : Chronicle) (late : List Act) → chronicles (Ok was) late ≡ Ok now → OpeningsIn was → OpeningsIn now → OpenedOnce now.story.world now.opened → Grown was now → SlotsAcceptOfTheLiving was now
-slots_later sends keep law laws was now late is before after once more e a later there consumer id older =
+slots_later : AnswersSendWhatIsMade → SchedulesKeepIdsDrawn → AnIdOpensOneConnection → NameLaws → (was now : Chronicle) (late : List Act) → chronicles (Ok was) late ≡ Ok now → AreApart now.story.world.tables → OpeningsIn was → OpeningsIn now → OpenedOnce now.story.world now.opened → Grown was now → SlotsAcceptOfTheLiving was now
+slots_later sends keep law laws was now late is apart before after once more e a later there consumer id older =
     let new = after.openings in
     let new_named = new.named in
     let produced = after.produced in
     let entry : IsEntry now.story.world now.opened e = all_contains (IsEntry now.story.world now.opened) now.opened e new_named.entries later.there in
     let accepted : IsAccepted now.story.world now.opened now.produced a = all_contains (IsAccepted now.story.world now.opened now.produced) now.accepted a new.of_openings there in
     let of : IsOfItsEntry now.opened a = accepted.of_entry (subst (λ (r : End). IsScannerIn now.story.world r.device) (sym consumer) entry.scanner) in
-    let x = slot_producer now.story.world now.opened now.produced a produced.drawn once new_named.entries new_named.producers accepted.was_produced of in
+    let drawn : AreDrawnApart now.story.world = record { ids = produced.drawn; apart = apart } in
+    let x = slot_producer now.story.world now.opened now.produced a drawn once new_named.entries new_named.producers accepted.was_produced of in
     let from = x.of in
     let other : IsEntry now.story.world now.opened from.entry = all_contains (IsEntry now.story.world now.opened) now.opened from.entry new_named.entries from.there in
     let same : e.producer ≡ a.production.producer =
-    one_producer now.story.world now.opened e from.entry produced.drawn once later.there from.there entry other (sym id ∙ from.id) ∙ sym x.producer in
+    one_producer now.story.world now.opened e from.entry drawn once later.there from.there entry other (sym id ∙ from.id) ∙ sym x.producer in
     let adapter : IsAdapterIn now.story.world a.production.producer.device =
     record { table = entry.table; is = ap (slice_get now.story.world.tables) (ap (λ (r : End). r.device) (sym same) ∙ entry.maker) ∙ entry.there } in
     let maker = maker_of was a.production before older in
     let table = adapter_made was now a.production maker.table before after more older maker.is adapter in
-    living sends keep law laws was now late e a.production table.table (find (is_produced_by a.production.producer.number) table.table.rows) is before later same older table.is refl
+    living sends keep law laws was now late e a.production table.table (find (is_produced_by a.production.producer.number) table.table.rows) is apart before later same older table.is refl
 
 -- ---- one producer
 
@@ -228,8 +232,8 @@ never_one c p q in_order one two scanner adapter same =
     let f = made.by in
     all_contains (Differ e.entry) c.opened f.entry (all_contains (DifferFromAll c.opened) c.opened e.entry named.apart e.there) f.there (e.o_t_is ∙ same ∙ sym f.t_o_is)
 
-scanners_made : (c : Chronicle) (p q : Production) → OpeningsIn c → Contains c.produced p → Contains c.produced q → IsScannerIn c.story.world p.producer.device → IsScannerIn c.story.world q.producer.device → p.made.datagram.connection ≡ q.made.datagram.connection → p.producer ≡ q.producer
-scanners_made c p q in_order one two first second same =
+scanners_made : (c : Chronicle) (p q : Production) → AreApart c.story.world.tables → OpeningsIn c → Contains c.produced p → Contains c.produced q → IsScannerIn c.story.world p.producer.device → IsScannerIn c.story.world q.producer.device → p.made.datagram.connection ≡ q.made.datagram.connection → p.producer ≡ q.producer
+scanners_made c p q apart in_order one two first second same =
     let openings = in_order.openings in
     let named = openings.named in
     let produced = in_order.produced in
@@ -237,18 +241,18 @@ scanners_made c p q in_order one two first second same =
     let f : IsOpenedFor c.opened q.producer q.made.datagram.connection = all_contains (ProductionHasEntry c.story.world c.opened) c.produced q named.productions two second in
     let entry : IsEntry c.story.world c.opened e.entry = all_contains (IsEntry c.story.world c.opened) c.opened e.entry named.entries e.there in
     let other : IsEntry c.story.world c.opened f.entry = all_contains (IsEntry c.story.world c.opened) c.opened f.entry named.entries f.there in
-    let equal = entries_same c.story.world c.opened e.entry f.entry produced.drawn entry other (e.o_t_is ∙ same ∙ sym f.o_t_is) in
+    let equal = entries_same c.story.world c.opened e.entry f.entry (record { ids = produced.drawn; apart = apart }) entry other (e.o_t_is ∙ same ∙ sym f.o_t_is) in
     sym e.slot_is ∙ ap (λ (x : Opened). x.slot) equal ∙ f.slot_is
 
-by_kinds : (c : Chronicle) (p q : Production) (t u : DeviceTable) → OpeningsIn c → OpenedOnce c.story.world c.opened → Contains c.produced p → Contains c.produced q → slice_get c.story.world.tables p.producer.device ≡ Some t → slice_get c.story.world.tables q.producer.device ≡ Some u → p.made.datagram.connection ≡ q.made.datagram.connection → p.producer ≡ q.producer
-by_kinds c p q (Adapter t) (Adapter u) in_order once one two at_p at_q same =
+by_kinds : (c : Chronicle) (p q : Production) (t u : DeviceTable) → AreApart c.story.world.tables → OpeningsIn c → OpenedOnce c.story.world c.opened → Contains c.produced p → Contains c.produced q → slice_get c.story.world.tables p.producer.device ≡ Some t → slice_get c.story.world.tables q.producer.device ≡ Some u → p.made.datagram.connection ≡ q.made.datagram.connection → p.producer ≡ q.producer
+by_kinds c p q (Adapter t) (Adapter u) apart in_order once one two at_p at_q same =
     let openings = in_order.openings in
     let named = openings.named in
     let produced = in_order.produced in
-    adapters_made c.story.world c.opened c.produced p q produced.drawn once named.entries named.producers one two (record { table = t; is = at_p }) (record { table = u; is = at_q }) same
-by_kinds c p q (Scanner t) (Scanner u) in_order once one two at_p at_q same = scanners_made c p q in_order one two (record { table = t; is = at_p }) (record { table = u; is = at_q }) same
-by_kinds c p q (Scanner t) (Adapter u) in_order once one two at_p at_q same = absurd (never_one c p q in_order one two (record { table = t; is = at_p }) (record { table = u; is = at_q }) same)
-by_kinds c p q (Adapter t) (Scanner u) in_order once one two at_p at_q same = absurd (never_one c q p in_order two one (record { table = u; is = at_q }) (record { table = t; is = at_p }) (sym same))
+    adapters_made c.story.world c.opened c.produced p q (record { ids = produced.drawn; apart = apart }) once named.entries named.producers one two (record { table = t; is = at_p }) (record { table = u; is = at_q }) same
+by_kinds c p q (Scanner t) (Scanner u) apart in_order once one two at_p at_q same = scanners_made c p q apart in_order one two (record { table = t; is = at_p }) (record { table = u; is = at_q }) same
+by_kinds c p q (Scanner t) (Adapter u) apart in_order once one two at_p at_q same = absurd (never_one c p q in_order one two (record { table = t; is = at_p }) (record { table = u; is = at_q }) same)
+by_kinds c p q (Adapter t) (Scanner u) apart in_order once one two at_p at_q same = absurd (never_one c q p in_order two one (record { table = u; is = at_q }) (record { table = t; is = at_p }) (sym same))
 
 -- ---- the laws
 
@@ -263,9 +267,9 @@ name_one_producer sends keep opens laws once configs acts c is =
       productions = λ p q one two same.
           let a = maker_of c p in_order one in
           let b = maker_of c q in_order two in
-          by_kinds c p q a.table b.table in_order opened one two a.is b.is same;
+          by_kinds c p q a.table b.table is.apart in_order opened one two a.is b.is same;
       connections = λ e f one two same.
-          one_producer c.story.world c.opened e f produced.drawn opened one two (all_contains (IsEntry c.story.world c.opened) c.opened e named.entries one) (all_contains (IsEntry c.story.world c.opened) c.opened f named.entries two) same;
+          one_producer c.story.world c.opened e f (record { ids = produced.drawn; apart = is.apart }) opened one two (all_contains (IsEntry c.story.world c.opened) c.opened e named.entries one) (all_contains (IsEntry c.story.world c.opened) c.opened f named.entries two) same;
     }
 
 -- the later moment of two is that of a chronicle
@@ -274,8 +278,8 @@ later_moment configs was now moments =
     let first = moments.first in
     record {
       lives = first.lives;
-      bytes = first.bytes;
       ran = acts_after (Ok (blank (opening_world configs))) moments.early moments.late ∙ ap (λ (c : Result Chronicle ActFault). chronicles c moments.late) first.ran ∙ moments.rest;
+      apart = moments.apart;
     }
 
 pub later_accept : AnswersSendWhatIsMade → SchedulesKeepIdsDrawn → OpeningWorldsHaveIdsDrawn → NameLaws → AnIdOpensOneConnection → LaterConnectionsAcceptNothingOlder
@@ -286,6 +290,6 @@ later_accept sends keep opens laws once configs was now moments =
     let after = schedule_openings sends keep opens once laws configs (moments.early ++ moments.late) now whole in
     let more = grown was now moments.late moments.rest in
     record {
-      rows = rows_later was now before after more;
-      slots = slots_later sends keep once laws was now moments.late moments.rest before after (opened_once now (once configs (moments.early ++ moments.late) now whole)) more;
+      rows = rows_later was now moments.apart before after more;
+      slots = slots_later sends keep once laws was now moments.late moments.rest moments.apart before after (opened_once now (once configs (moments.early ++ moments.late) now whole)) more;
     }

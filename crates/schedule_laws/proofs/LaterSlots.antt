@@ -1,16 +1,16 @@
 -- A point to point slot that opens after a moment receives nothing that was sent by then; and only the reply to its own
 -- request establishes a slot.
-use Rattle.std.proofs.Common.{◌≡◌, ◌≢◌, ◌≤◌, ℕ, suc, ◌+◌, ◌*◌, ◌^◌, ◌==◌, Bool, true, false, List, [], ◌∷◌, ◌++◌, Result, Ok, Err, refl, sym, ◌∙◌, ap, subst, arith, eq-eqb, eqb-true}
+use Rattle.std.proofs.Common.{◌≡◌, ◌≢◌, ◌≤◌, ℕ, suc, ◌==◌, Bool, true, false, List, [], ◌∷◌, ◌++◌, Result, Ok, Err, sym, ◌∙◌, ap, subst, arith, eq-eqb, eqb-true}
 use Rattle.std.specs.List.{AllByRecursion}
 use Rattle.std.proofs.lemmas.Bool.{and_parts, false_from_ne_true}
 use Rattle.std.proofs.lemmas.Option.{same_Some}
 use Rattle.device_laws.specs.Lemmas.Stepping.{device_stepped, ok_inside}
+use Rattle.cip_types.specs.declared.ids.IdBlock.{IdBlock}
 use Rattle.cip_types.specs.declared.names.ConnId.{ConnId}
 use Rattle.cip_types.specs.declared.names.Node.{Node}
 use Rattle.cip_events.specs.declared.event.Answer.{Answer}
 use Rattle.cip_events.specs.declared.event.Event.{Event}
 use Rattle.cip_events.specs.declared.event.StepFault.{StepFault}
-use Rattle.scanner_table.specs.declared.profile.ScannerProfile.{ScannerProfile}
 use Rattle.scanner_table.specs.declared.profile.SlotConfig.{SlotConfig}
 use Rattle.scanner_table.specs.declared.slot.SlotConnection.{SlotConnection}
 use Rattle.scanner_table.specs.declared.slot.Slot.{Slot}
@@ -35,7 +35,7 @@ use Rattle.device_laws.specs.Carrying.{IsFrom, StateFrom, SlotFrom, SlotsFrom, S
 use Rattle.schedule_laws.specs.Stories.{led_by, led_to}
 use Rattle.schedule_laws.specs.Ids.{LaterSlotsTakeNoneOfIt, RepliesEstablishTheirOwn}
 use Rattle.schedule_laws.specs.Lemmas.Reporting.{Answers, AnswersIf, Reports, led_both, reports_rest, reports_first, is_run, outcomes_of, story_leads}
-use Rattle.schedule_laws.specs.Lemmas.Drawing.{StepLaws, whole_in_range}
+use Rattle.schedule_laws.specs.Lemmas.Drawing.{StepLaws, runs_drawn, runs_grew}
 use Rattle.schedule_laws.proofs.Later.{all_contains, unsent, StepsKeepIt, runs_kept, at_moment}
 
 -- ---- the scanner's step
@@ -45,33 +45,29 @@ ok_of n = Ok n
 
 -- ---- slots that are opened later
 
-fits_from : (profile : ScannerProfile) (request first clock n : ℕ) (configs : List SlotConfig) (slots : List Slot) → SlotsFit request clock configs slots → AllByRecursion (SlotFrom profile request first) (indexed_from n configs slots)
-fits_from profile request first clock n [] slots fit = tt
-fits_from profile request first clock n (config ∷ configs) [] fit = tt
-fits_from profile request first clock n (config ∷ configs) (slot ∷ slots) fit =
-    (λ single. state_from profile request first clock slot.desired_up slot.state fit.0.state, fits_from profile request first clock (suc n) configs slots fit.1)
+fits_from : (ids : List IdBlock) (request first clock n : ℕ) (configs : List SlotConfig) (slots : List Slot) → SlotsFit request clock configs slots → AllByRecursion (SlotFrom ids request first) (indexed_from n configs slots)
+fits_from ids request first clock n [] slots fit = tt
+fits_from ids request first clock n (config ∷ configs) [] fit = tt
+fits_from ids request first clock n (config ∷ configs) (slot ∷ slots) fit =
+    (λ single. state_from ids request first clock slot.desired_up slot.state fit.0.state, fits_from ids request first clock (suc n) configs slots fit.1)
   where
-    state_from : (profile : ScannerProfile) (request first clock : ℕ) (desired_up : Bool) (state : SlotState) → FitsState request clock desired_up state → StateFrom profile request first state
-    state_from profile request first clock desired_up Idle is = tt
-    state_from profile request first clock desired_up (Opening o) is = λ over. absurd (let below = is.1 in omega (arith, below, over))
-    state_from profile request first clock desired_up (Established c) is = λ over. absurd (let below = is.1.opening in omega (arith, below, over))
-    state_from profile request first clock desired_up (TimedOut link) is = tt
-    state_from profile request first clock desired_up (Closing c) is = tt
+    state_from : (ids : List IdBlock) (request first clock : ℕ) (desired_up : Bool) (state : SlotState) → FitsState request clock desired_up state → StateFrom ids request first state
+    state_from ids request first clock desired_up Idle is = tt
+    state_from ids request first clock desired_up (Opening o) is = λ over. absurd (let below = is.1 in omega (arith, below, over))
+    state_from ids request first clock desired_up (Established c) is = λ over. absurd (let below = is.1.opening in omega (arith, below, over))
+    state_from ids request first clock desired_up (TimedOut link) is = tt
+    state_from ids request first clock desired_up (Closing c) is = tt
 
 -- a property that a scanner keeps from the moment on
-abbrev GoesOn : ScannerProfile → ℕ → ℕ → DeviceTable → Type 0
-GoesOn profile request first (Scanner u) = (u.profile ≡ profile) × (first ≤ u.next_id) × SlotsFrom profile request first u
-GoesOn profile request first (Adapter a) = Unit {0}
+abbrev GoesOn : (request first : ℕ) → DeviceTable → Type 0
+GoesOn request first (Scanner u) = (first ≤ u.next_id) × SlotsFrom request first u
+GoesOn request first (Adapter a) = Unit {0}
 
-goes_scanner : StepLaws → StepsKeepFrom → (profile : ScannerProfile) (request first : ℕ) (t u : ScannerTable) (happens : Event) (a : Answer) → scanner_step t happens ≡ Ok (a, u) → IsWholeDevice (Scanner t) → IsWholeDevice (Scanner u) → GoesOn profile request first (Scanner t) → GoesOn profile request first (Scanner u)
-goes_scanner laws keeps profile request first t u happens a is whole whole_u goes =
+goes_scanner : StepLaws → StepsKeepFrom → (request first : ℕ) (t u : ScannerTable) (happens : Event) (a : Answer) → scanner_step t happens ≡ Ok (a, u) → IsWholeDevice (Scanner t) → GoesOn request first (Scanner t) → GoesOn request first (Scanner u)
+goes_scanner laws keeps request first t u happens a is whole goes =
     let counts = laws.scanners t happens (a, u) is in
-    let before = goes.0 in
-    let from = goes.1 in
-    let slots : SlotsFrom t.profile request first t = subst (λ (p : ScannerProfile). SlotsFrom p request first t) (sym before) goes.2 in
-    let in_range = whole_in_range (Scanner u) whole_u in
-    let now = keeps request first t happens a u is whole from (omega (arith, in_range)) slots in
-    (counts.profile ∙ before, omega (arith, from, counts.ids), subst (λ (p : ScannerProfile). SlotsFrom p request first u) before now)
+    let from = goes.0 in
+    (omega (arith, from, counts.ids), keeps request first t happens a u is whole from goes.1)
 
 no_scanner : (a : Answer) (u : ScannerTable) (said : Result Next StepFault) → as_adapter said ≡ Ok (a, Scanner u) → ⊥
 no_scanner a u (Err fault) is = absurd (let e = is in cc)
@@ -81,11 +77,11 @@ stays_adapter : (t : AdapterTable) (u : ScannerTable) (happens : Event) (a : Ans
 unfolding step
 stays_adapter t u happens a is = no_scanner a u (adapter_step t happens) is
 
-goes_device : StepLaws → StepsKeepFrom → (profile : ScannerProfile) (request first : ℕ) → StepsKeepIt (GoesOn profile request first)
-goes_device laws keeps profile request first (Scanner t) happens a (Scanner u) is whole whole_u goes = goes_scanner laws keeps profile request first t u happens a (device_stepped t u happens a is) whole whole_u goes
-goes_device laws keeps profile request first (Adapter t) happens a (Adapter u) is whole whole_u goes = tt
-goes_device laws keeps profile request first (Scanner t) happens a (Adapter u) is whole whole_u goes = tt
-goes_device laws keeps profile request first (Adapter t) happens a (Scanner u) is whole whole_u goes = absurd (stays_adapter t u happens a is)
+goes_device : StepLaws → StepsKeepFrom → (request first : ℕ) → StepsKeepIt (GoesOn request first)
+goes_device laws keeps request first (Scanner t) happens a (Scanner u) is whole whole_u goes = goes_scanner laws keeps request first t u happens a (device_stepped t u happens a is) whole goes
+goes_device laws keeps request first (Adapter t) happens a (Adapter u) is whole whole_u goes = tt
+goes_device laws keeps request first (Scanner t) happens a (Adapter u) is whole whole_u goes = tt
+goes_device laws keeps request first (Adapter t) happens a (Scanner u) is whole whole_u goes = absurd (stays_adapter t u happens a is)
 
 takes_none : (peer : Node) (id : ℕ) (indexed : IndexedSlot) (c : SlotConnection) → indexed.slot.state ≡ Established c → id ≢ c.link.t_o_id.0 → is_for peer id indexed ≡ false
 takes_none peer id indexed c is other =
@@ -94,22 +90,23 @@ takes_none peer id indexed c is other =
     let consumes : (c.link.t_o_id.0 == id) ≡ true = sym (ap (state_consumes (record { 0 = id })) is) ∙ parts.1 in
     other (sym (eqb-true c.link.t_o_id.0 id consumes)))
 
-established_from : (profile : ScannerProfile) (request first : ℕ) (indexed : IndexedSlot) (c : SlotConnection) → SlotFrom profile request first indexed → indexed.config.multicast ≡ false → indexed.slot.state ≡ Established c → request ≤ c.opening → IsFrom profile first c.link.t_o_id
-established_from profile request first indexed c from single is over = (subst (StateFrom profile request first) is (from single)) over
+established_from : (ids : List IdBlock) (request first : ℕ) (indexed : IndexedSlot) (c : SlotConnection) → SlotFrom ids request first indexed → indexed.config.multicast ≡ false → indexed.slot.state ≡ Established c → request ≤ c.opening → IsFrom ids first c.link.t_o_id
+established_from ids request first indexed c from single is over = (subst (StateFrom ids request first) is (from single)) over
 
 pub later_slots : StepLaws → StepsKeepFrom → LaterSlotsTakeNoneOfIt
-later_slots laws keeps start was now device t u indexed c s d ids moments at_was at_now among single is over there reads =
+later_slots laws keeps start was now device t u indexed c s d ids moments apart at_was at_now among single is over there reads =
     let drawn = at_moment laws start was now ids moments in
+    let later = runs_drawn laws (λ e o. true) was now moments.late moments.rest drawn in
+    let grew = runs_grew laws (λ e o. true) was now moments.late moments.rest drawn in
     let whole = drawn.whole device (Scanner t) at_was in
-    let first : GoesOn t.profile t.next_request t.next_id (Scanner t) = (refl, omega arith, fits_from t.profile t.next_request t.next_id t.clock.0 0 t.profile.slots t.slots whole.table.slots) in
-    let kept = runs_kept laws (GoesOn t.profile t.next_request t.next_id) (goes_device laws keeps t.profile t.next_request t.next_id) (λ e o. true) device was now moments.late moments.rest
-    (record { drawn = drawn; holds = λ x at. subst (GoesOn t.profile t.next_request t.next_id) (same_Some (Scanner t) x (sym at_was ∙ at)) first }) in
+    let first : GoesOn t.next_request t.next_id (Scanner t) = (omega arith, fits_from t.ids t.next_request t.next_id t.clock.0 0 t.profile.slots t.slots whole.table.slots) in
+    let kept = runs_kept laws (GoesOn t.next_request t.next_id) (goes_device laws keeps t.next_request t.next_id) (λ e o. true) device was now moments.late moments.rest
+    (record { drawn = drawn; holds = λ x at. subst (GoesOn t.next_request t.next_id) (same_Some (Scanner t) x (sym at_was ∙ at)) first }) in
     let goes = kept.holds (Scanner u) at_now in
-    let from = established_from t.profile t.next_request t.next_id indexed c (all_contains (SlotFrom t.profile t.next_request t.next_id) (indexed_slots u) indexed goes.2 among) single is over in
-    let value : c.link.t_o_id.0 ≡ t.profile.incarnation * 2 ^ 24 + from.counter = ap (λ (i : ConnId). i.0) from.is in
-    let begins = from.begins in
-    let ends = from.ends in
-    takes_none s.from d.connection indexed c is (λ same. unsent was.world device (Scanner t) from.counter s d drawn.sent at_was begins (omega (arith, ends)) there reads (omega (arith, same, value)))
+    let from = established_from u.ids t.next_request t.next_id indexed c (all_contains (SlotFrom u.ids t.next_request t.next_id) (indexed_slots u) indexed goes.1 among) single is over in
+    takes_none s.from d.connection indexed c is
+    (λ same. unsent was.world now.world device (Scanner t) (Scanner u) from.number s d drawn.sent drawn.whole later.whole grew apart at_was at_now from.begins (record { begins = from.one; ends = from.ends }) there reads
+    (same ∙ ap (λ (i : ConnId). i.0) from.is))
 
 -- ---- replies
 

@@ -2,6 +2,8 @@
 use Rattle.std.proofs.Common.{◌≡◌, ◌≢◌, ◌⊎◌, inl, inr, ℕ, Bool, true, false, List, [], ◌∷◌, ◌++◌, set, slice_get, Option, Some, None, Result, Ok, Err, IfOk, unwrap_or, refl, sym, ◌∙◌, ap, subst, append_assoc, append-nil}
 use Rattle.std.specs.List.{AllByRecursion, Contains}
 use Rattle.std.proofs.lemmas.Option.{same_Some}
+use Rattle.cip_tables.specs.Sound.{StepsGrow}
+use Rattle.schedule_laws.specs.Lives.{AreApart}
 use Rattle.schedule_laws.specs.Lemmas.Acts.{more_acts, nothing_yet}
 use Rattle.cip_events.specs.declared.event.Event.{Event}
 use Rattle.cip_events.specs.declared.event.Event.TheVariants.{Write}
@@ -34,7 +36,7 @@ use Rattle.schedule_laws.specs.Chronicle.{after_act, blank, Chronicle, chronicle
 use Rattle.schedule_laws.specs.Names.{IsEntry, IsMadeBy, IsOfItsEntry, IsScannerIn, ProducerHasEntry, SchedulesNameOpenings, SlotAcceptsByEntry, WasProduced}
 use Rattle.schedule_laws.specs.Order.{IsChronicle, IsScannerAt, ProducedAsWritten}
 use Rattle.schedule_laws.specs.Lemmas.Found.{all_contains, found_holds}
-use Rattle.schedule_laws.specs.Lemmas.ProducedActs.{Any, any_streams}
+use Rattle.schedule_laws.specs.Lemmas.ProducedActs.{Any, any_streams, begins_apart}
 use Rattle.schedule_laws.specs.Written.{AcceptedDataWereWritten, GatheredDataWereInput, HappensNext, IsMomentOf, WasInput, WasWritten}
 use Rattle.schedule_laws.proofs.Forms.{HasForm, scanner_forms}
 use Rattle.schedule_laws.proofs.InputsMade.{HasInput, MadeOf, all_made_of}
@@ -180,23 +182,23 @@ chronicle_same : (a b : Chronicle) → ◌≡◌ {A = Result Chronicle ActFault}
 chronicle_same a b e = cc
 
 -- what follows an act
-next_made : (configs : List Config) (before : List Act) (c last : Chronicle) (act : Act) (acts : List Act) (r : Result Chronicle ActFault) → IsChronicle configs before c → after_act c act ≡ r → IfOk r (MadeBy configs (before ++ act ∷ [])) → chronicles r acts ≡ Ok last → ((next : Chronicle) → IsChronicle configs (before ++ act ∷ []) next → MadeBy configs (before ++ act ∷ []) next → chronicles (Ok next) acts ≡ Ok last → MadeBy configs ((before ++ act ∷ []) ++ acts) last) → MadeBy configs (before ++ act ∷ acts) last
-next_made configs before c last act acts (Err fault) is goes all so on = absurd (let e = sym (fault_stays acts fault) ∙ so in cc)
-next_made configs before c last act acts (Ok next) is goes all so on =
-    subst (λ (l : List Act). MadeBy configs l last) (append_assoc before (act ∷ []) acts) (on next (more_acts configs before c next act is goes) all so)
+next_made : StepsGrow → (configs : List Config) (before : List Act) (c last : Chronicle) (act : Act) (acts : List Act) (r : Result Chronicle ActFault) → IsChronicle configs before c → after_act c act ≡ r → IfOk r (MadeBy configs (before ++ act ∷ [])) → chronicles r acts ≡ Ok last → AreApart last.story.world.tables → ((next : Chronicle) → IsChronicle configs (before ++ act ∷ []) next → MadeBy configs (before ++ act ∷ []) next → chronicles (Ok next) acts ≡ Ok last → MadeBy configs ((before ++ act ∷ []) ++ acts) last) → MadeBy configs (before ++ act ∷ acts) last
+next_made blocks configs before c last act acts (Err fault) is goes all so apart on = absurd (let e = sym (fault_stays acts fault) ∙ so in cc)
+next_made blocks configs before c last act acts (Ok next) is goes all so apart on =
+    subst (λ (l : List Act). MadeBy configs l last) (append_assoc before (act ∷ []) acts) (on next (more_acts configs before c next act is goes (begins_apart blocks next last acts so apart)) all so)
 
-acts_made : (configs : List Config) (before acts : List Act) (c last : Chronicle) → IsChronicle configs before c → MadeBy configs before c → chronicles (Ok c) acts ≡ Ok last → MadeBy configs (before ++ acts) last
+acts_made : StepsGrow → (configs : List Config) (before acts : List Act) (c last : Chronicle) → IsChronicle configs before c → MadeBy configs before c → chronicles (Ok c) acts ≡ Ok last → AreApart last.story.world.tables → MadeBy configs (before ++ acts) last
 unfolding chronicles
-acts_made configs before [] c last is made ran =
+acts_made blocks configs before [] c last is made ran apart =
     subst (λ (l : List Act). MadeBy configs l last) (sym (append-nil before)) (subst (MadeBy configs before) (chronicle_same c last ran) made)
-acts_made configs before (act ∷ acts) c last is made ran =
-    next_made configs before c last act acts (after_act c act) is refl (act_made configs before c act is made) ran
-    (λ next is_next made_next so. acts_made configs (before ++ act ∷ []) acts next last is_next made_next so)
+acts_made blocks configs before (act ∷ acts) c last is made ran apart =
+    next_made blocks configs before c last act acts (after_act c act) is refl (act_made configs before c act is made) ran apart
+    (λ next is_next made_next so. acts_made blocks configs (before ++ act ∷ []) acts next last is_next made_next so apart)
 
-schedule_made : (configs : List Config) (acts : List Act) (c : Chronicle) → IsChronicle configs acts c → MadeBy configs acts c
-schedule_made configs acts c is =
-    acts_made configs [] acts (blank (opening_world configs)) c (nothing_yet configs acts c is)
-    (record { began = λ device t at. record { first = t; there = at; same = refl }; made = tt }) is.ran
+schedule_made : StepsGrow → (configs : List Config) (acts : List Act) (c : Chronicle) → IsChronicle configs acts c → MadeBy configs acts c
+schedule_made blocks configs acts c is =
+    acts_made blocks configs [] acts (blank (opening_world configs)) c (nothing_yet configs acts c is (begins_apart blocks (blank (opening_world configs)) c acts is.ran is.apart))
+    (record { began = λ device t at. record { first = t; there = at; same = refl }; made = tt }) is.ran is.apart
 
 -- ---- what is accepted
 
@@ -206,6 +208,7 @@ as_a_scanner (Adapter t) is = absurd (let e = is in cc)
 as_a_scanner (Scanner t) is = (t, refl)
 
 pub record WriteLaws : Type 0 where
+  pub blocks : StepsGrow
   pub names : SchedulesNameOpenings
   pub outputs : SlotsProduceTheirOutputs
   pub written : ProducedAsWritten
@@ -236,7 +239,7 @@ held_by laws configs acts p made x first table begins =
 
 pub accepted_written : WriteLaws → AcceptedDataWereWritten
 accepted_written laws configs acts c is a t there at =
-    let all = schedule_made configs acts c is in
+    let all = schedule_made laws.blocks configs acts c is in
     let names = laws.names configs acts c is in
     let opening = names.openings a t there at in
     let entry : IsEntry c.story.world c.opened opening.entry =
@@ -246,7 +249,7 @@ accepted_written laws configs acts c is a t there at =
     let made : WasMade configs acts a.production.producer a.production.made = all_contains (λ (p : Production). WasMade configs acts p.producer p.made) c.produced a.production all.made produced in
     let now = all.began a.production.producer.device (Scanner scanner.table) scanner.is in
     let moment = made.moment in
-    let earlier = schedule_made configs moment.early made.was moment.is in
+    let earlier = schedule_made laws.blocks configs moment.early made.was moment.is in
     let then_was = earlier.began a.production.producer.device made.table made.there in
     let same : then_was.first ≡ now.first = same_Some then_was.first now.first (sym then_was.there ∙ now.there) in
     let table = as_a_scanner made.table (then_was.same ∙ ap is_scanner same ∙ sym now.same) in
@@ -284,9 +287,9 @@ input_by configs acts p made x table carries =
     at_input point (inl held) = inl held
     at_input point (inr written) = inr (subst (HappensNext made.was (IsMomentOf.late made.moment) p.producer.device) written made.next)
 
-pub gathered_input : SchedulesNameOpenings → GatheredDataWereInput
-gathered_input laws configs acts c is a t there at =
-    let all = schedule_made configs acts c is in
+pub gathered_input : StepsGrow → SchedulesNameOpenings → GatheredDataWereInput
+gathered_input blocks laws configs acts c is a t there at =
+    let all = schedule_made blocks configs acts c is in
     let names = laws configs acts c is in
     let by : IsOfItsEntry c.opened a = all_contains (SlotAcceptsByEntry c.story.world c.opened) c.accepted a names.accepted there (record { table = t; is = at }) in
     let entry : IsEntry c.story.world c.opened by.entry = all_contains (IsEntry c.story.world c.opened) c.opened by.entry names.entries by.there in
@@ -297,7 +300,7 @@ gathered_input laws configs acts c is a t there at =
     let made : WasMade configs acts a.production.producer a.production.made = all_contains (λ (p : Production). WasMade configs acts p.producer p.made) c.produced a.production all.made produced in
     let now = all.began a.production.producer.device (Adapter entry.table) adapter in
     let moment = made.moment in
-    let earlier = schedule_made configs moment.early made.was moment.is in
+    let earlier = schedule_made blocks configs moment.early made.was moment.is in
     let then_was = earlier.began a.production.producer.device made.table made.there in
     let same : then_was.first ≡ now.first = same_Some then_was.first now.first (sym then_was.there ∙ now.there) in
     let table = as_an_adapter made.table (then_was.same ∙ ap is_scanner same ∙ sym now.same) in

@@ -184,7 +184,7 @@ schedule_marked : MarkLaws → SchedulesKeepIdsDrawn → OpeningWorldsHaveIdsDra
 schedule_marked laws keep opens configs acts c is =
     subst (λ (r : Result Chronicle ActFault). IfOk r MarkedIn) is.ran
     (chronicles_keep MarkedIn (marks_keep laws keep) acts (Ok (blank (opening_world configs)))
-    (record { drawn = opens configs is.lives is.bytes; marked = λ device t number at has. begins_marked configs device device number t at has }))
+    (record { drawn = opens configs is.lives; marked = λ device t number at has. begins_marked configs device device number t at has }))
 
 frame_marked : (t : DeviceTable) (events : List ReportedEvent) (reported : ReportedEvent) → ((number : ℕ) → has_stream t number ≡ true → WasMarked events reported.device number) → (frame : Frame) → GoesOverItsOwn t reported.event frame → FollowsMark (events ++ reported ∷ []) reported.device frame
 frame_marked t events reported marked frame goes = λ number to. marked_so t events number reported (marked number) (or_cases (has_stream t number) (opens_stream number reported.event) (goes number to))

@@ -22,6 +22,7 @@ use Rattle.scanner_table.specs.declared.table.ScannerTable.{ScannerTable}
 use Rattle.scanner_table.specs.Effects.{Next as ScannerNext}
 use Rattle.scanner_table.specs.Step.{scanner_step}
 use Rattle.device_laws.specs.ScannerDeliveries.{reports_accepted}
+use Rattle.cip_tables.specs.Sound.{StepsGrow}
 use Rattle.cip_tables.specs.declared.table.DeviceTable.{DeviceTable}
 use Rattle.cip_tables.specs.declared.table.DeviceTable.TheVariants.{Adapter, Scanner}
 use Rattle.cip_tables.specs.Step.{DeviceNext, as_adapter, as_scanner, step}
@@ -143,6 +144,7 @@ pub record Holds (c : Chronicle) : Type 0 where
 
 -- what is known of steps and of schedules
 pub record PointLaws : Type 0 where
+  pub blocks : StepsGrow
   pub leaves : StepsLeave
   pub reads : HeaderReadsBack
   pub sends : AnswersSendWhatIsMade

@@ -3,7 +3,7 @@ use Rattle.std.proofs.Common.{◌≡◌, ◌≤◌, ◌⊎◌, inl, inr, ℕ, �
 use Rattle.std.specs.List.{Contains, count_by}
 use Rattle.std.proofs.lemmas.List.Elements.{Contains-append_cases, Contains-push_cases}
 use Rattle.base_lemmas.specs.Lists.{count_cons}
-use Rattle.cip_types.specs.Ids.{connection_id}
+use Rattle.cip_types.specs.Ids.{id_at}
 use Rattle.schedule_laws.specs.Chronicle.{Chronicle}
 use Rattle.schedule_laws.specs.MadeOnce.{has_id, uses, SchedulesUseIdsOnce, AnIdOpensOneConnection}
 
@@ -59,8 +59,7 @@ opened_at_most id n w is = omega (arith, is)
 pub one_connection : SchedulesUseIdsOnce → AnIdOpensOneConnection
 one_connection once configs acts c is e f there other scanner same =
     let used = once configs acts c is in
-    let id = (connection_id scanner.table.profile.incarnation scanner.counter).0 in
-    let few = opened_at_most (connection_id scanner.table.profile.incarnation scanner.counter).0 1 c (used.once scanner.device scanner.table scanner.counter scanner.there scanner.below) in
-    only_one (has_id (connection_id scanner.table.profile.incarnation scanner.counter).0) c.opened e f there other
-    (eq-eqb e.t_o_id.0 (connection_id scanner.table.profile.incarnation scanner.counter).0 scanner.is)
-    (eq-eqb f.t_o_id.0 (connection_id scanner.table.profile.incarnation scanner.counter).0 (sym same ∙ scanner.is)) few
+    let few = opened_at_most (id_at scanner.table.ids scanner.number).0 1 c (used.once scanner.device scanner.table scanner.number scanner.there scanner.has) in
+    only_one (has_id (id_at scanner.table.ids scanner.number).0) c.opened e f there other
+    (eq-eqb e.t_o_id.0 (id_at scanner.table.ids scanner.number).0 scanner.is)
+    (eq-eqb f.t_o_id.0 (id_at scanner.table.ids scanner.number).0 (sym same ∙ scanner.is)) few

@@ -54,6 +54,7 @@ profile = record {
   tidy = false;
   openings = None;
   serials = None;
+  ids = None;
   slots = owner ∷ record owner { produced = 101 } ∷ [];
 }
 

@@ -37,12 +37,13 @@ use Rattle.device_laws.specs.Lemmas.Books.{end_is}
 use Rattle.device_laws.specs.Lemmas.ListCounts.{Has, all_has, get_has}
 use Rattle.schedule_laws.specs.Chronicle.{Acceptance, accepted_by_verdict, accepted_sent, accepted_by_act, blank, Chronicle, has_consumer, names, newest, opens_row, Opened, with_event}
 use Rattle.schedule_laws.specs.Indexes.{sent_of}
+use Rattle.schedule_laws.specs.Lives.{AreApart}
 use Rattle.schedule_laws.specs.Names.{IsAdapterIn, IsEntry, IsScannerIn}
 use Rattle.schedule_laws.specs.Order.{AreNear, HalfCircle, IsAdapterAt, IsChronicle, IsNear, IsNearAct, IsNearNamed, IsNearSent, KeepsHalfCircle, step_accepts}
 use Rattle.schedule_laws.specs.Lemmas.AdapterNewest.{Entry}
 use Rattle.schedule_laws.specs.Lemmas.Found.{found_holds}
 use Rattle.schedule_laws.specs.Lemmas.Beginning.{schedule_produced}
-use Rattle.schedule_laws.specs.Lemmas.ProducedActs.{Any, Produced}
+use Rattle.schedule_laws.specs.Lemmas.ProducedActs.{Any, Produced, begins_apart, reached_keeps}
 use Rattle.schedule_laws.specs.Lemmas.RisingIndexes.{schedule_taken}
 use Rattle.schedule_laws.specs.Lemmas.NewestSteps.{Known, other_event}
 use Rattle.schedule_laws.specs.Lemmas.NewestActs.{NearCases, TakenIn, IsSentAs, near_keep, sent_as, taken_cases}
@@ -51,7 +52,8 @@ use Rattle.schedule_laws.specs.Outputs as law
 use Rattle.schedule_laws.specs.Outputs.{AppliedInOrder, OutputsHold}
 use Rattle.schedule_laws.proofs.Forms.{HasForm}
 use Rattle.schedule_laws.proofs.Holding.{AcceptFacts, FactsAt, IsSame, TableHolds, applied_runs, datagram_holds, quiet_holds}
-use Rattle.schedule_laws.specs.Lemmas.Acts.{Reached, nothing_yet, reached_by, reached_keeps}
+use Rattle.schedule_laws.specs.Lemmas.Acts.{Reached, WhereApart, nothing_yet, reached_by}
+use Rattle.schedule_laws.specs.Lemmas.Drawing.{moved_apart}
 use Rattle.schedule_laws.proofs.Moments.{AdapterBefore, Holds, IsFormed, PointLaws, TableCases, WasAccepted, WasRunning, adapter_back, all_front, contains_has, goes_on_to, has_more, made_formed, makes_formed, near_new_data, other_holds, scanner_before, table_cases, noted_produced, was_accepted}
 
 -- ---- a production that is accepted
@@ -124,8 +126,8 @@ facts_of laws configs c c' d p u verdict n reached at accepted so has more forme
 
 -- ---- an act
 
-came_holds : PointLaws → (configs : List Config) (c : Chronicle) (act : Act) (reported : ReportedEvent) (new : World) → happens c.story.world act ≡ Ok (Some reported, new) → (m : Came Any c.story.world reported new) → IsNearAct c act → Reached configs c → Holds c → Holds (with_event c act reported new m.before)
-came_holds laws configs c act reported new is m near reached ok = record {
+came_holds : PointLaws → (configs : List Config) (c : Chronicle) (act : Act) (reported : ReportedEvent) (new : World) → happens c.story.world act ≡ Ok (Some reported, new) → (m : Came Any c.story.world reported new) → IsNearAct c act → AreApart new.tables → Reached configs c → Holds c → Holds (with_event c act reported new m.before)
+came_holds laws configs c act reported new is m near apart reached ok = record {
   taken = (taken_cases laws.accepts).came c act reported new is m near before ok.taken;
   formed = formed;
   produced = by_produced kind;
@@ -146,7 +148,7 @@ came_holds laws configs c act reported new is m near reached ok = record {
     before = schedule_produced laws.sends laws.keep laws.opens configs reached.acts c reached.is
 
     after : Reached configs c'
-    after = reached_by configs c c' act reached (goes_on_to c act reported new is m)
+    after = reached_by configs c c' act reached (goes_on_to c act reported new is m) apart
 
     kind : IsDelivery w act reported ⊎ IsOther w c.produced act reported
     kind = act_kind w c.produced act reported new is
@@ -289,10 +291,14 @@ rests_holds laws configs c act new is rests reached ok = record {
   outputs = λ device t at. ok.outputs device t (ap (λ (ts : List DeviceTable). slice_get ts device) (sym rests.tables) ∙ at);
 }
 
-hold_cases : PointLaws → (configs : List Config) → NearCases (Reached configs) Holds
+hold_cases : PointLaws → (configs : List Config) → NearCases (WhereApart (Reached configs)) (WhereApart Holds)
 hold_cases laws configs = record {
-  rests = rests_holds laws configs;
-  came = came_holds laws configs;
+  rests = λ c act new is rests reached held apart.
+      let was : AreApart c.story.world.tables = subst AreApart rests.tables apart in
+      rests_holds laws configs c act new is rests (reached was) (held was);
+  came = λ c act reported new is m near reached held apart.
+      let was = moved_apart laws.blocks c.story.world Any (Some reported, new) m apart in
+      came_holds laws configs c act reported new is m near apart (reached was) (held was);
 }
 
 -- ---- a schedule
@@ -306,11 +312,12 @@ no_rows configs n device t at row has lives owns a newest_is run = absurd (let h
 
 pub schedule_holds : PointLaws → (configs : List Config) (acts : List Act) (c : Chronicle) → IsChronicle configs acts c → KeepsHalfCircle configs acts → Holds c
 schedule_holds laws configs acts c is half =
-    let begins = nothing_yet configs acts c is in
-    subst (λ (r : Result Chronicle ActFault). IfOk r Holds) is.ran
-    (near_keep (Reached configs) Holds (reached_keeps configs) (hold_cases laws configs) acts (Ok (blank (opening_world configs))) half
-    (record { acts = []; is = begins })
-    (record { taken = blank_taken laws configs begins; formed = tt; produced = tt; running = tt; outputs = λ device t at. no_rows configs device device t at }))
+    let begins = nothing_yet configs acts c is (begins_apart laws.blocks (blank (opening_world configs)) c acts is.ran is.apart) in
+    let held : WhereApart Holds c = subst (λ (r : Result Chronicle ActFault). IfOk r (WhereApart Holds)) is.ran
+    (near_keep (WhereApart (Reached configs)) (WhereApart Holds) (reached_keeps laws.blocks configs) (hold_cases laws configs) acts (Ok (blank (opening_world configs))) half
+    (λ apart. record { acts = []; is = begins })
+    (λ apart. record { taken = blank_taken laws configs begins; formed = tt; produced = tt; running = tt; outputs = λ device t at. no_rows configs device device t at })) in
+    held is.apart
 
 pub outputs_hold : PointLaws → (configs : List Config) (acts : List Act) (c : Chronicle) → IsChronicle configs acts c → KeepsHalfCircle configs acts → OutputsHold c
 outputs_hold laws configs acts c is half device t row a at there lives owns newest_is run =

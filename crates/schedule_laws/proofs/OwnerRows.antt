@@ -128,6 +128,7 @@ requests_from = record {
   messaged = λ t next_id m goes. messaged_from t next_id m;
   counted = λ t next openings from. from;
   tallied = λ t next counters from. from;
+  taken = λ t block may. own_rows t;
 }
 
 written_from : (t : AdapterTable) (point : ℕ) (bytes : List ℕ) → RowsFrom t (changed_table (written_table t point bytes) point)

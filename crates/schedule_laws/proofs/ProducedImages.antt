@@ -6,7 +6,7 @@ use Rattle.scanner_table.specs.Slots.{IndexedSlot}
 use Rattle.scanner_table.specs.Lemmas.SlotLookups.{slot_is}
 use Rattle.device_laws.specs.Lemmas.Texts.{same_again}
 use Rattle.device_laws.specs.SlotIds.{SlotsHaveTheIdsOfTheirSuccess}
-use Rattle.schedule_laws.specs.Ids.{IdsAreDrawn, SchedulesKeepIdsDrawn, OpeningWorldsHaveIdsDrawn}
+use Rattle.schedule_laws.specs.Ids.{AreDrawnApart, SchedulesKeepIdsDrawn, OpeningWorldsHaveIdsDrawn}
 use Rattle.device_laws.specs.Made.{AnswersSendWhatIsMade}
 use Rattle.device_laws.specs.Productions.{End}
 use Rattle.schedule_laws.specs.Chronicle.{Acceptance, Chronicle, Establishment, is_slot}
@@ -22,20 +22,20 @@ use Rattle.schedule_laws.proofs.ImageActs.{ImageOf}
 use Rattle.schedule_laws.proofs.Outputs.{contains_by}
 
 -- what a slot accepted is of the producer of its entry
-accepted_of : (c : Chronicle) (a : Acceptance) → IdsAreDrawn c.story.world → OpenedOnce c.story.world c.opened → IdsNameOpenings c → Contains c.accepted a → IsScannerIn c.story.world a.consumer.device → IsOfProducer c.opened a
+accepted_of : (c : Chronicle) (a : Acceptance) → AreDrawnApart c.story.world → OpenedOnce c.story.world c.opened → IdsNameOpenings c → Contains c.accepted a → IsScannerIn c.story.world a.consumer.device → IsOfProducer c.opened a
 accepted_of c a drawn once named there scanner =
     let w = c.story.world in
     let of : IsOfItsEntry c.opened a = all_contains (SlotAcceptsByEntry c.story.world c.opened) c.accepted a named.accepted there scanner in
     let produced : IsProduced c.produced a = all_contains (IsProduced c.produced) c.accepted a named.were_produced there in
     slot_producer c.story.world c.opened c.produced a drawn once named.entries named.producers produced of
 
-pub slots_accept : (c : Chronicle) → IdsAreDrawn c.story.world → OpenedOnce c.story.world c.opened → IdsNameOpenings c → ScannersAccept c
+pub slots_accept : (c : Chronicle) → AreDrawnApart c.story.world → OpenedOnce c.story.world c.opened → IdsNameOpenings c → ScannersAccept c
 slots_accept c drawn once named a t there at =
     let is = accepted_of c a drawn once named there (record { table = t; is = at }) in
     let of = is.of in
     record { entry = of.entry; there = of.there; slot_is = of.slot_is; id_is = of.id; producer_is = is.producer }
 
-image_produced : (c : Chronicle) (device : ℕ) (t : ScannerTable) (place : IndexedSlot) (found : Option Establishment) → IdsAreDrawn c.story.world → OpenedOnce c.story.world c.opened → IdsNameOpenings c → IsScannerAt c device t → ImageOf c.accepted device place.config place.slot.image found → ImageWasProduced c place found
+image_produced : (c : Chronicle) (device : ℕ) (t : ScannerTable) (place : IndexedSlot) (found : Option Establishment) → AreDrawnApart c.story.world → OpenedOnce c.story.world c.opened → IdsNameOpenings c → IsScannerAt c device t → ImageOf c.accepted device place.config place.slot.image found → ImageWasProduced c place found
 image_produced c device t place None drawn once named at zeros = zeros
 image_produced c device t place (Some e) drawn once named at (inl zeros) = inl zeros
 image_produced c device t place (Some e) drawn once named at (inr g) =
@@ -74,9 +74,10 @@ gathered_in_order laws configs acts c is near =
     let produced = gathers.produced in
     let named = laws.names configs acts c is in
     let once = opened_once c (laws.once configs acts c is) in
+    let drawn : AreDrawnApart c.story.world = record { ids = produced.drawn; apart = is.apart } in
     record {
-      one_producer = slots_accept c produced.drawn once named;
+      one_producer = slots_accept c drawn once named;
       rising = laws.rise configs acts c is near;
       images = λ device t place at there.
-          image_produced c device t place (find (is_slot device place.number) c.established) produced.drawn once named at (gathers.images device t at place (slot_is t place.number place there).stands).image;
+          image_produced c device t place (find (is_slot device place.number) c.established) drawn once named at (gathers.images device t at place (slot_is t place.number place there).stands).image;
     }

@@ -97,7 +97,7 @@ draws_always = record {
   widely = record {
     stays = λ t u number config slot later. kept t.next_request u.next_request slot.state slot.state refl;
     after = λ t u v number config a b c first next before behind. drew_after t.next_request u.next_request v.next_request a.state b.state c.state first.requests next.requests before behind;
-    opening = λ t place closed_before number has. inr (let same = same_Some t.next_request number has in record { first = omega (arith, same); last = omega (arith, same) });
+    opening = λ t place closed_before left number has. inr (let same = same_Some t.next_request number has in record { first = omega (arith, same); last = omega (arith, same) });
     idling = λ t place slot idle. none_left t.next_request t.next_request place.slot.state slot.state (ap opening_number idle.state);
     timing_out = λ t place link slot is becomes. none_left t.next_request t.next_request place.slot.state slot.state (ap opening_number becomes.state);
     closing = λ t place link desired_up is number has. absurd (let e = has in cc);

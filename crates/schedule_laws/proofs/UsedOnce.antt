@@ -1,9 +1,14 @@
 -- Each act keeps that an id of a scanner is used once at most.
-use Rattle.std.proofs.Common.{◌≡◌, ◌≢◌, ◌≤◌, ◌<◌, ◌⊎◌, inl, inr, ℕ, ◌+◌, ◌*◌, ◌==◌, ◌&&◌, nat_le, nat_lt, Bool, true, false, cond, List, [], ◌∷◌, ◌++◌, find, set, slice_get, Option, Some, None, Result, Ok, Err, IfOk, refl, sym, ◌∙◌, ap, subst, arith, eqb-true}
+use Rattle.std.proofs.Common.{◌≡◌, ◌≢◌, ◌≤◌, ◌<◌, ◌⊎◌, inl, inr, ℕ, ◌+◌, ◌==◌, nat_lt, Bool, true, false, cond, List, [], ◌∷◌, ◌++◌, find, set, slice_get, Option, Some, None, Result, Ok, Err, IfOk, refl, sym, ◌∙◌, ap, subst, arith, eqb-true}
+use Rattle.std.specs.Prelude.{min}
 use Rattle.std.specs.List.{AllByRecursion, count_by}
+use Rattle.std.proofs.lemmas.Bool.{eqb-false}
 use Rattle.std.proofs.lemmas.Bool.Decides.{nat_tests}
+use Rattle.std.proofs.lemmas.Option.{same_Some}
 use Rattle.device_laws.specs.Lemmas.Stepping.{device_stepped}
-use Rattle.base_lemmas.specs.Lists.{count_cons, set_own, count_both, found_passes}
+use Rattle.base_lemmas.specs.Lists.{count_cons, set_other, set_own, count_both, found_passes}
+use Rattle.cip_types.specs.IdLaws.{ids_fit}
+use Rattle.cip_types.specs.Ids.{Extends, end_number, id_at}
 use Rattle.cip_types.specs.declared.names.ConnId.{ConnId}
 use Rattle.cip_encap.specs.Reading.{message_reading}
 use Rattle.cip_events.specs.declared.event.Answer.{Answer}
@@ -14,34 +19,39 @@ use Rattle.adapter_table.specs.Connections.{Row}
 use Rattle.adapter_table.specs.declared.table.AdapterTable.{AdapterTable}
 use Rattle.adapter_table.specs.Newest.{was_opened_as}
 use Rattle.adapter_table.specs.Step.{adapter_step}
-use Rattle.scanner_table.specs.declared.profile.ScannerProfile.{ScannerProfile}
 use Rattle.scanner_table.specs.declared.table.ScannerTable.{ScannerTable}
-use Rattle.cip_types.specs.Ids.{connection_id}
 use Rattle.cip_tables.specs.declared.table.Config.{Config}
 use Rattle.cip_tables.specs.declared.table.DeviceTable.{DeviceTable}
 use Rattle.cip_tables.specs.declared.table.DeviceTable.TheVariants.{Adapter, Scanner}
 use Rattle.cip_tables.specs.Run.{table_of}
-use Rattle.cip_tables.specs.Step.{step, incarnation_of}
+use Rattle.cip_tables.specs.Step.{step}
+use Rattle.cip_tables.specs.Whole.{ids_of, next_id_of}
 use Rattle.segment_world.specs.World.{World, ReportedEvent, Happened, happens}
 use Rattle.segment_world.specs.Configs.{opening_world}
 use Rattle.segment_world.specs.declared.act.Act.{Act}
 use Rattle.segment_world.specs.declared.act.ActFault.{ActFault}
+use Rattle.device_laws.specs.Carrying.{Passes}
+use Rattle.device_laws.specs.Ids.{RowIds}
 use Rattle.device_laws.specs.Lemmas.Lists.{all_more}
+use Rattle.device_laws.specs.Lemmas.Numbered.{IsNumbered, between_numbered, one_number}
 use Rattle.device_laws.specs.Frames.{IsNoOpening}
 use Rattle.device_laws.specs.Plain.{ArePlain}
 use Rattle.device_laws.specs.Replies.{IsLateReply, IsAnswerTo, RepliesCarryOpenedIds}
-use Rattle.device_laws.specs.Requests.{asks_id, frame_asks, is_between, ScannersAskOnce, IsOldOrRequested, NewConnectionsAreRequested}
+use Rattle.device_laws.specs.Requests.{asks_id, frame_asks, is_between, ScannersAskOnce, IsOldOrRequested, IsOwnId, NewConnectionsAreRequested}
 use Rattle.device_laws.specs.Lemmas.RequestedIds.{none_requested, one_at_most}
-use Rattle.schedule_laws.specs.Ids.{any_stream, AreApart, IdsAreDrawn, SchedulesKeepIdsDrawn, OpeningWorldsHaveIdsDrawn}
+use Rattle.schedule_laws.specs.Ids.{any_opening, any_stream, is_drawn, AreDrawnApart, IdsAreDrawn, SchedulesKeepIdsDrawn, OpeningWorldsHaveIdsDrawn}
+use Rattle.schedule_laws.specs.Lives.{AreApart, HasNumber}
+use Rattle.schedule_laws.specs.Lemmas.Acts.{WhereApart}
+use Rattle.schedule_laws.specs.Lemmas.Numbers.{IsOne, drawn_number, id_later, number_later, one_id}
 use Rattle.schedule_laws.specs.Lemmas.Drawing.{StepLaws}
-use Rattle.schedule_laws.specs.Lemmas.Tests.{set_cases}
+use Rattle.schedule_laws.specs.Lemmas.Tests.{DrawnBy, drawn_at, drawn_cases, drawn_more, set_cases, whole_begins, whole_blocks, whole_in_range}
 use Rattle.device_laws.specs.Productions.{End}
 use Rattle.schedule_laws.specs.Chronicle.{Opened, requester, opened_for, frame_opens, Chronicle, with_event_at, recorded, blank}
 use Rattle.schedule_laws.specs.MadeOnce.{waiting_count, has_id, uses, IdsAreUsedOnce, SchedulesUseIdsOnce}
 use Rattle.schedule_laws.specs.Lemmas.Entries.{DeviceStays, step_stays}
 use Rattle.schedule_laws.specs.Lemmas.Found.{found_holds}
 use Rattle.schedule_laws.specs.Lemmas.NameActs.{adapter_result}
-use Rattle.schedule_laws.specs.Lemmas.ProducedActs.{ActsKeep, chronicles_keep, drawn_on}
+use Rattle.schedule_laws.specs.Lemmas.ProducedActs.{ApartActsKeep, apart_keeps, chronicles_keep, drawn_on}
 use Rattle.schedule_laws.proofs.WaitingCounts.{Test, none_waits, passes, event_count, IsInSchedule, EventCounts, RestCounts, ActCounts, act_counts}
 
 -- what is known of the steps of devices
@@ -63,40 +73,35 @@ one_most : (b : Bool) → cond b 1 0 ≤ 1
 one_most true = omega arith
 one_most false = omega arith
 
-low_none : (first to id : ℕ) → id < first → cond (nat_le first id && nat_lt id to) 1 0 ≤ 0
-low_none first to id is = grind (arith, nat_tests)
+no_one : (b : Bool) → (b ≡ true → ⊥) → cond b 1 0 ≤ 0
+no_one true never = absurd (never refl)
+no_one false never = omega arith
 
-high_none : (first to id : ℕ) → to ≤ id → cond (nat_le first id && nat_lt id to) 1 0 ≤ 0
-high_none first to id is = grind (arith, nat_tests)
+-- an id of a device is not 0
+not_zero : (w : World) (device : ℕ) (t : DeviceTable) (n : ℕ) → IdsAreDrawn w → slice_get w.tables device ≡ Some t → HasNumber t n → (id_at (ids_of t) n).0 ≢ 0
+not_zero w device t n drawn at has = λ is.
+    let ends = has.ends in
+    let some = (ids_fit (ids_of t) n (whole_blocks t (drawn.whole device t at)) has.begins (omega (arith, ends))).0 in
+    absurd (omega (arith, some, is))
 
--- an id with a counter below the first, or from the last on, is not between
-below_none : (profile : ScannerProfile) (from to k : ℕ) → k < from → cond (is_between profile from to (connection_id profile.incarnation k).0) 1 0 ≤ 0
-unfolding is_between
-below_none profile from to k is = low_none (connection_id profile.incarnation from).0 (connection_id profile.incarnation to).0 (connection_id profile.incarnation k).0 (omega (arith, is))
+-- no device has drawn the id of a number that is still to come
+to_come : (w : World) (device : ℕ) (t : DeviceTable) (n : ℕ) → AreDrawnApart w → slice_get w.tables device ≡ Some t → next_id_of t ≤ n → HasNumber t n → is_drawn w.tables (id_at (ids_of t) n).0 ≡ false
+to_come w device t n known at from has = by_test (is_drawn w.tables (id_at (ids_of t) n).0) refl where
+  never : ((id_at (ids_of t) n).0 ≡ 0) ⊎ DrawnBy w.tables (id_at (ids_of t) n).0 → ⊥
+  never (inl none) = not_zero w device t n known.ids at has none
+  never (inr by) =
+      let which = by.numbered in
+      let one : IsOne device by.device n which.number =
+      one_id w device by.device t by.table n which.number known.ids known.apart at by.there has (drawn_number w by.device by.table which.number known.ids by.there which.begins which.ends) (sym which.is) in
+      let same : by.table ≡ t = same_Some by.table t (sym by.there ∙ ap (slice_get w.tables) (sym one.device) ∙ at) in
+      let next = ap next_id_of same in
+      let number = one.number in
+      let below = which.ends in
+      absurd (omega (arith, from, number, below, next))
 
-above_none : (profile : ScannerProfile) (from to k : ℕ) → to ≤ k → cond (is_between profile from to (connection_id profile.incarnation k).0) 1 0 ≤ 0
-unfolding is_between
-above_none profile from to k is = high_none (connection_id profile.incarnation from).0 (connection_id profile.incarnation to).0 (connection_id profile.incarnation k).0 (omega (arith, is))
-
-either_side : (a b from to k : ℕ) → a ≢ b → k < 16777216 → to ≤ 16777216 → (b * 16777216 + k < a * 16777216 + from) ⊎ (a * 16777216 + to ≤ b * 16777216 + k)
-either_side a b from to k differ below last = side (below_or_not a b) where
-  side : (a < b) ⊎ (b ≤ a) → (b * 16777216 + k < a * 16777216 + from) ⊎ (a * 16777216 + to ≤ b * 16777216 + k)
-  side (inl less) = inr (omega (arith, less, last))
-  side (inr more) = inl (omega (arith, more, differ, below))
-
--- nor is an id of another incarnation
-other_none : (profile other : ScannerProfile) (from to k : ℕ) → profile.incarnation ≢ other.incarnation → k < 16777216 → to ≤ 16777216 → cond (is_between profile from to (connection_id other.incarnation k).0) 1 0 ≤ 0
-unfolding is_between
-other_none profile other from to k differ below last = none (either_side profile.incarnation other.incarnation from to k differ below last) where
-  none : (other.incarnation * 16777216 + k < profile.incarnation * 16777216 + from) ⊎ (profile.incarnation * 16777216 + to ≤ other.incarnation * 16777216 + k) → cond (nat_le (connection_id profile.incarnation from).0 (connection_id other.incarnation k).0 && nat_lt (connection_id other.incarnation k).0 (connection_id profile.incarnation to).0) 1 0 ≤ 0
-  none (inl low) = low_none (connection_id profile.incarnation from).0 (connection_id profile.incarnation to).0 (connection_id other.incarnation k).0 low
-  none (inr high) = high_none (connection_id profile.incarnation from).0 (connection_id profile.incarnation to).0 (connection_id other.incarnation k).0 high
-
-ids_apart : (a b c k : ℕ) → a ≢ b → c < 16777216 → k < 16777216 → a * 16777216 + c ≡ b * 16777216 + k → ⊥
-ids_apart a b c k differ one two same = differ (omega (arith, one, two, same))
-
-not_zero : (a k : ℕ) → 1 ≤ a → a * 16777216 + k ≢ 0
-not_zero a k some = λ is. absurd (omega (arith, some, is))
+  by_test : (b : Bool) → is_drawn w.tables (id_at (ids_of t) n).0 ≡ b → is_drawn w.tables (id_at (ids_of t) n).0 ≡ false
+  by_test true passes = absurd (never (drawn_cases w.tables (id_at (ids_of t) n).0 passes))
+  by_test false is = is
 
 -- ---- an event
 
@@ -110,6 +115,7 @@ pub record OneStep (w new : World) (device : ℕ) (t u : DeviceTable) (happens :
   pub counts : (p : Test) → waiting_count p new.streams + event_count p happens ≤ waiting_count p w.streams + count_by (passes p) answer.frames
   pub drawn : IdsAreDrawn w
   pub next_drawn : IdsAreDrawn new
+  pub apart : AreApart new.tables
 
 -- an id is used more only by the frames of the answer, where each new connection was asked for
 uses_more : (w new : World) (device : ℕ) (t u : DeviceTable) (happens : Event) (answer : Answer) (id : ℕ) (opened more : List Opened) → OneStep w new device t u happens answer → count_by (has_id id) more ≤ event_count (asks_id id) happens → uses id new.streams (opened ++ more) ≤ uses id w.streams opened + count_by (frame_asks id) answer.frames
@@ -119,73 +125,170 @@ uses_more w new device t u happens answer id opened more s less =
     let both = count_both (has_id id) opened more in
     omega (arith, count, both, less)
 
--- the uses of one id of a scanner
-record UsedSo (w : World) (opened : List Opened) (t : ScannerTable) (k : ℕ) : Type 0 where
-  once : uses (connection_id t.profile.incarnation k).0 w.streams opened ≤ 1
-  unused : t.next_id ≤ k → uses (connection_id t.profile.incarnation k).0 w.streams opened ≡ 0
+-- what no device has drawn is not used, and what a scanner has drawn is used once at most
+pub record AreUsed (w : World) (opened : List Opened) : Type 0 where
+  pub once : (device : ℕ) (t : ScannerTable) (number : ℕ) → slice_get w.tables device ≡ Some (Scanner t) → 1 ≤ number → number < t.next_id → uses (id_at t.ids number).0 w.streams opened ≤ 1
+  pub unused : (id : ℕ) → id ≢ 0 → is_drawn w.tables id ≡ false → uses id w.streams opened ≡ 0
 
-was_so : (w : World) (opened : List Opened) (device : ℕ) (t : ScannerTable) (k : ℕ) → IdsAreUsedOnce w opened → slice_get w.tables device ≡ Some (Scanner t) → k < 16777216 → UsedSo w opened t k
-was_so w opened device t k used at below = record { once = used.once device t k at below; unused = λ from. used.unused device t k at from below }
+-- what no device has drawn after the event none had drawn before it
+undrawn_before : OnceLaws → (w new : World) (device : ℕ) (t u : DeviceTable) (happens : Event) (answer : Answer) (id : ℕ) → OneStep w new device t u happens answer → is_drawn new.tables id ≡ false → is_drawn w.tables id ≡ false
+undrawn_before laws w new device t u happens answer id s none = by_test (is_drawn w.tables id) refl where
+  by_test : (b : Bool) → is_drawn w.tables id ≡ b → is_drawn w.tables id ≡ false
+  by_test true passes =
+      let steps = laws.steps in
+      let drawn = s.drawn in
+      let now = drawn_more w.tables device t u id s.at (whole_in_range t (drawn.whole device t s.at)) (steps.blocks t happens (answer, u) s.stepped) (steps.counts t happens (answer, u) s.stepped) passes in
+      absurd (let e = sym none ∙ ap (λ (ts : List DeviceTable). is_drawn ts id) s.tables ∙ now in cc)
+  by_test false is = is
 
 -- ---- an event of a scanner
 
-scanner_frames : OnceLaws → (w new : World) (device : ℕ) (t u : ScannerTable) (happens : Event) (answer : Answer) → OneStep w new device (Scanner t) (Scanner u) happens answer → slice_get new.tables device ≡ Some (Scanner u) → (id : ℕ) → id ≢ 0 → count_by (frame_asks id) answer.frames ≤ cond (is_between t.profile t.next_id u.next_id id) 1 0
-scanner_frames laws w new device t u happens answer s after id some =
-    let drawn = s.drawn in
-    let next_drawn = s.next_drawn in
-    let apart = drawn.apart in
-    let whole = next_drawn.whole device (Scanner u) after in
-    let table = whole.table in
-    laws.asks t happens answer u id (device_stepped t u happens answer s.stepped) (drawn.whole device (Scanner t) s.at) (apart.ends device (Scanner t) s.at) table.ids some
+-- the id for which a frame of the answer asks is one that the scanner has drawn at the event
+asked_number : (t u : ScannerTable) (id : ℕ) → Extends t.ids u.ids → 1 ≤ t.next_id → is_between t.ids t.next_id (min u.next_id (end_number t.ids)) id ≡ true → IsNumbered u.ids t.next_id u.next_id id
+asked_number t u id blocks one asks =
+    let which = between_numbered t.ids t.next_id (min u.next_id (end_number t.ids)) id asks in
+    let begins = which.begins in
+    let ends = which.ends in
+    let has : HasNumber (Scanner t) which.number = record { begins = omega (arith, one, begins); ends = omega (arith, ends) } in
+    record {
+      number = which.number;
+      begins = which.begins;
+      ends = omega (arith, ends);
+      is = ap (λ (x : ConnId). x.0) (id_later (Scanner t) (Scanner u) which.number blocks has) ∙ which.is;
+    }
 
-own_uses : OnceLaws → (w new : World) (device : ℕ) (t u : ScannerTable) (happens : Event) (answer : Answer) (opened more : List Opened) (k : ℕ) → OneStep w new device (Scanner t) (Scanner u) happens answer → slice_get new.tables device ≡ Some (Scanner u) → more ≡ [] → IdsAreUsedOnce w opened → k < 16777216 → UsedSo new (opened ++ more) u k
-own_uses laws w new device t u happens answer opened more k s after none used below =
+scanner_frames : OnceLaws → (w new : World) (device : ℕ) (t u : ScannerTable) (happens : Event) (answer : Answer) → OneStep w new device (Scanner t) (Scanner u) happens answer → (id : ℕ) → id ≢ 0 → count_by (frame_asks id) answer.frames ≤ cond (is_between t.ids t.next_id (min u.next_id (end_number t.ids)) id) 1 0
+scanner_frames laws w new device t u happens answer s id some =
     let drawn = s.drawn in
-    let apart = drawn.apart in
-    let begins = apart.begins device (Scanner t) s.at in
-    let id = (connection_id t.profile.incarnation k).0 in
-    let frames = scanner_frames laws w new device t u happens answer s after (connection_id t.profile.incarnation k).0 (not_zero t.profile.incarnation k begins) in
-    let empty : count_by (has_id (connection_id t.profile.incarnation k).0) more ≤ event_count (asks_id (connection_id t.profile.incarnation k).0) happens = rw none (omega arith) in
-    let grows = uses_more w new device (Scanner t) (Scanner u) happens answer (connection_id t.profile.incarnation k).0 opened more s empty in
-    let was = was_so w opened device t k used s.at below in
+    laws.asks t happens answer u id (device_stepped t u happens answer s.stepped) (drawn.whole device (Scanner t) s.at) some
+
+-- no frame of the answer asks for an id that the scanner has not drawn at the event
+no_frames : OnceLaws → (w new : World) (device : ℕ) (t u : ScannerTable) (happens : Event) (answer : Answer) → OneStep w new device (Scanner t) (Scanner u) happens answer → (id : ℕ) → id ≢ 0 → (IsNumbered u.ids t.next_id u.next_id id → ⊥) → count_by (frame_asks id) answer.frames ≤ 0
+no_frames laws w new device t u happens answer s id some never =
     let steps = laws.steps in
-    let counts = steps.scanners t happens (answer, u) (device_stepped t u happens answer s.stepped) in
-    let now : UsedSo new (opened ++ more) (record u { profile = t.profile }) k = record { once = at_most (below_or_not k t.next_id) frames grows was; unused = λ from. still (omega (arith, from, counts.ids)) from frames grows was } in
-    subst (λ (p : ScannerProfile). UsedSo new (opened ++ more) (record u { profile = p }) k) (sym s.stays) now
-  where
-    at_most : (k < t.next_id) ⊎ (t.next_id ≤ k) → count_by (frame_asks (connection_id t.profile.incarnation k).0) answer.frames ≤ cond (is_between t.profile t.next_id u.next_id (connection_id t.profile.incarnation k).0) 1 0 → uses (connection_id t.profile.incarnation k).0 new.streams (opened ++ more) ≤ uses (connection_id t.profile.incarnation k).0 w.streams opened + count_by (frame_asks (connection_id t.profile.incarnation k).0) answer.frames → UsedSo w opened t k → uses (connection_id t.profile.incarnation k).0 new.streams (opened ++ more) ≤ 1
-    at_most (inl less) frames grows was = let none = below_none t.profile t.next_id u.next_id k less in omega (arith, frames, grows, was.once, none)
-    at_most (inr from) frames grows was = let one = one_most (is_between t.profile t.next_id u.next_id (connection_id t.profile.incarnation k).0) in let zero = was.unused from in omega (arith, frames, grows, one, zero)
+    let drawn = s.drawn in
+    let frames = scanner_frames laws w new device t u happens answer s id some in
+    let none = no_one (is_between t.ids t.next_id (min u.next_id (end_number t.ids)) id) (λ asks.
+    never (asked_number t u id (steps.blocks (Scanner t) happens (answer, Scanner u) s.stepped) (whole_begins (Scanner t) (drawn.whole device (Scanner t) s.at)) asks)) in
+    omega (arith, frames, none)
 
-    still : t.next_id ≤ k → u.next_id ≤ k → count_by (frame_asks (connection_id t.profile.incarnation k).0) answer.frames ≤ cond (is_between t.profile t.next_id u.next_id (connection_id t.profile.incarnation k).0) 1 0 → uses (connection_id t.profile.incarnation k).0 new.streams (opened ++ more) ≤ uses (connection_id t.profile.incarnation k).0 w.streams opened + count_by (frame_asks (connection_id t.profile.incarnation k).0) answer.frames → UsedSo w opened t k → uses (connection_id t.profile.incarnation k).0 new.streams (opened ++ more) ≡ 0
-    still from last frames grows was = let none = above_none t.profile t.next_id u.next_id k last in let zero = was.unused from in omega (arith, frames, grows, none, zero)
+-- an id that was drawn before the event
+old_uses : OnceLaws → (w new : World) (device : ℕ) (t u : ScannerTable) (happens : Event) (answer : Answer) (opened more : List Opened) (k : ℕ) → OneStep w new device (Scanner t) (Scanner u) happens answer → slice_get new.tables device ≡ Some (Scanner u) → more ≡ [] → AreUsed w opened → 1 ≤ k → k < t.next_id → uses (id_at u.ids k).0 new.streams (opened ++ more) ≤ 1
+old_uses laws w new device t u happens answer opened more k s after none used begins less =
+    let steps = laws.steps in
+    let next_drawn = s.next_drawn in
+    let blocks = steps.blocks (Scanner t) happens (answer, Scanner u) s.stepped in
+    let counts = steps.counts (Scanner t) happens (answer, Scanner u) s.stepped in
+    let had : HasNumber (Scanner t) k = drawn_number w device (Scanner t) k s.drawn s.at begins less in
+    let has = number_later (Scanner t) (Scanner u) k blocks had in
+    let same : (id_at u.ids k).0 ≡ (id_at t.ids k).0 = ap (λ (x : ConnId). x.0) (id_later (Scanner t) (Scanner u) k blocks had) in
+    let was : uses (id_at u.ids k).0 w.streams opened ≤ 1 = subst (λ (id : ℕ). uses id w.streams opened ≤ 1) (sym same) (used.once device t k s.at begins less) in
+    let frames = no_frames laws w new device t u happens answer s (id_at u.ids k).0 (not_zero new device (Scanner u) k next_drawn after has) (λ which.
+    let from = which.begins in
+    let ends = which.ends in
+    let other = drawn_number new device (Scanner u) which.number next_drawn after (omega (arith, begins, less, from)) ends in
+    let one = one_number u.ids which.number k (whole_blocks (Scanner u) (next_drawn.whole device (Scanner u) after)) other.begins other.ends has.begins has.ends which.is in
+    absurd (omega (arith, one, from, less))) in
+    let empty : count_by (has_id (id_at u.ids k).0) more ≤ event_count (asks_id (id_at u.ids k).0) happens = rw none (omega arith) in
+    let grows = uses_more w new device (Scanner t) (Scanner u) happens answer (id_at u.ids k).0 opened more s empty in
+    omega (arith, was, frames, grows)
 
--- the ids of another scanner
-other_uses : (w new : World) (device : ℕ) (t u : DeviceTable) (happens : Event) (answer : Answer) (opened more : List Opened) (x : ScannerTable) (k : ℕ) → OneStep w new device t u happens answer → count_by (has_id (connection_id x.profile.incarnation k).0) more ≤ event_count (asks_id (connection_id x.profile.incarnation k).0) happens → count_by (frame_asks (connection_id x.profile.incarnation k).0) answer.frames ≤ 0 → UsedSo w opened x k → UsedSo new (opened ++ more) x k
-other_uses w new device t u happens answer opened more x k s less frames was =
-    let grows = uses_more w new device t u happens answer (connection_id x.profile.incarnation k).0 opened more s less in
-    record { once = omega (arith, grows, frames, was.once); unused = λ from. let zero = was.unused from in omega (arith, grows, frames, zero) }
+-- no device had drawn an id before the event at which the scanner drew it
+fresh_before : OnceLaws → (w new : World) (device : ℕ) (t u : ScannerTable) (happens : Event) (answer : Answer) (k : ℕ) → OneStep w new device (Scanner t) (Scanner u) happens answer → slice_get new.tables device ≡ Some (Scanner u) → t.next_id ≤ k → HasNumber (Scanner u) k → is_drawn w.tables (id_at u.ids k).0 ≡ false
+fresh_before laws w new device t u happens answer k s after from has = by_test (is_drawn w.tables (id_at u.ids k).0) refl where
+  own : DrawnBy w.tables (id_at u.ids k).0 → slice_get w.tables device ≡ Some (Scanner t) → ⊥
+  own by at = by_place (by.device == device) refl where
+    by_place : (b : Bool) → (by.device == device) ≡ b → ⊥
+    by_place true is =
+        let steps = laws.steps in
+        let next_drawn = s.next_drawn in
+        let which = by.numbered in
+        let below = which.ends in
+        let place = eqb-true by.device device is in
+        let table : by.table ≡ Scanner t = same_Some by.table (Scanner t) (sym by.there ∙ ap (slice_get w.tables) place ∙ at) in
+        let next = ap next_id_of table in
+        let blocks = steps.blocks (Scanner t) happens (answer, Scanner u) s.stepped in
+        let had : HasNumber (Scanner t) which.number = drawn_number w device (Scanner t) which.number s.drawn at which.begins (omega (arith, below, next)) in
+        let value : (id_at u.ids which.number).0 ≡ (id_at u.ids k).0 =
+        ap (λ (x : ConnId). x.0) (id_later (Scanner t) (Scanner u) which.number blocks had) ∙ ap (λ (x : DeviceTable). (id_at (ids_of x) which.number).0) (sym table) ∙ which.is in
+        let behind = number_later (Scanner t) (Scanner u) which.number blocks had in
+        let one = one_number u.ids which.number k (whole_blocks (Scanner u) (next_drawn.whole device (Scanner u) after)) behind.begins behind.ends has.begins has.ends value in
+        absurd (omega (arith, one, below, next, from))
+    by_place false is =
+        let apart = s.apart in
+        let which = by.numbered in
+        let differ = eqb-false by.device device is in
+        let there : slice_get new.tables by.device ≡ Some by.table = ap (λ (ts : List DeviceTable). slice_get ts by.device) s.tables ∙ set_other w.tables device by.device (Scanner u) differ ∙ by.there in
+        absurd (differ (apart.differ by.device device by.table (Scanner u) which.number k there after (drawn_number w by.device by.table which.number s.drawn by.there which.begins which.ends) has which.is))
 
-apart_from : (w : World) (a b : ℕ) (t u : DeviceTable) → AreApart w.tables → slice_get w.tables a ≡ Some t → slice_get w.tables b ≡ Some u → b ≢ a → incarnation_of t ≢ incarnation_of u
-apart_from w a b t u apart at there differ = λ same. differ (sym (apart.differ a b t u at there same))
+  never : ((id_at u.ids k).0 ≡ 0) ⊎ DrawnBy w.tables (id_at u.ids k).0 → ⊥
+  never (inl none) = not_zero new device (Scanner u) k s.next_drawn after has none
+  never (inr by) = own by s.at
 
-scanner_uses : OnceLaws → (w new : World) (device : ℕ) (t u : ScannerTable) (happens : Event) (answer : Answer) (opened : List Opened) → OneStep w new device (Scanner t) (Scanner u) happens answer → slice_get new.tables device ≡ Some (Scanner u) → IdsAreUsedOnce w opened → (e : ℕ) (x : ScannerTable) (k : ℕ) → k < 16777216 → ((e ≡ device) × (Scanner x ≡ Scanner u)) ⊎ ((e ≢ device) × (slice_get w.tables e ≡ Some (Scanner x))) → UsedSo new (opened ++ frame_opens w device (Scanner t) happens (Scanner u)) x k
-scanner_uses laws w new device t u happens answer opened s after used e x k below (inl own) =
-    subst (λ (y : ScannerTable). UsedSo new (opened ++ []) y k) (sym (inside x u own.1)) (own_uses laws w new device t u happens answer opened [] k s after refl used below)
+  by_test : (b : Bool) → is_drawn w.tables (id_at u.ids k).0 ≡ b → is_drawn w.tables (id_at u.ids k).0 ≡ false
+  by_test true passes = absurd (never (drawn_cases w.tables (id_at u.ids k).0 passes))
+  by_test false is = is
+
+-- an id that is drawn at the event
+new_uses : OnceLaws → (w new : World) (device : ℕ) (t u : ScannerTable) (happens : Event) (answer : Answer) (opened more : List Opened) (k : ℕ) → OneStep w new device (Scanner t) (Scanner u) happens answer → slice_get new.tables device ≡ Some (Scanner u) → more ≡ [] → AreUsed w opened → t.next_id ≤ k → HasNumber (Scanner u) k → uses (id_at u.ids k).0 new.streams (opened ++ more) ≤ 1
+new_uses laws w new device t u happens answer opened more k s after none used from has =
+    let some = not_zero new device (Scanner u) k s.next_drawn after has in
+    let zero = used.unused (id_at u.ids k).0 some (fresh_before laws w new device t u happens answer k s after from has) in
+    let frames = scanner_frames laws w new device t u happens answer s (id_at u.ids k).0 some in
+    let one = one_most (is_between t.ids t.next_id (min u.next_id (end_number t.ids)) (id_at u.ids k).0) in
+    let empty : count_by (has_id (id_at u.ids k).0) more ≤ event_count (asks_id (id_at u.ids k).0) happens = rw none (omega arith) in
+    let grows = uses_more w new device (Scanner t) (Scanner u) happens answer (id_at u.ids k).0 opened more s empty in
+    omega (arith, zero, frames, one, grows)
+
+-- the uses of an id after an event, by those before it
+other_uses : (w new : World) (device : ℕ) (t u : DeviceTable) (happens : Event) (answer : Answer) (opened more : List Opened) (id most : ℕ) → OneStep w new device t u happens answer → count_by (has_id id) more ≤ event_count (asks_id id) happens → count_by (frame_asks id) answer.frames ≤ 0 → uses id w.streams opened ≤ most → uses id new.streams (opened ++ more) ≤ most
+other_uses w new device t u happens answer opened more id most s less frames was =
+    let grows = uses_more w new device t u happens answer id opened more s less in
+    omega (arith, grows, frames, was)
+
+none_left : (n : ℕ) → n ≤ 0 → n ≡ 0
+none_left n less = omega (arith, less)
+
+scanner_used : OnceLaws → (w new : World) (device : ℕ) (t u : ScannerTable) (happens : Event) (answer : Answer) (opened : List Opened) → OneStep w new device (Scanner t) (Scanner u) happens answer → slice_get new.tables device ≡ Some (Scanner u) → AreUsed w opened → AreUsed new (opened ++ [])
+scanner_used laws w new device t u happens answer opened s after used = record {
+  once = λ e x k there begins below. by_place e x k begins below there (set_cases w.tables device e (Scanner t) (Scanner u) (Scanner x) s.at (ap (λ (ts : List DeviceTable). slice_get ts e) (sym s.tables) ∙ there));
+  unused = λ id some none.
+      let was = used.unused id some (undrawn_before laws w new device (Scanner t) (Scanner u) happens answer id s none) in
+      none_left (uses id new.streams (opened ++ []))
+      (other_uses w new device (Scanner t) (Scanner u) happens answer opened [] id 0 s (omega arith)
+      (no_frames laws w new device t u happens answer s id some (λ which. absurd (let e = sym none ∙ drawn_now id which in cc))) (omega (arith, was)));
+}
   where
     inside : (x y : ScannerTable) → Scanner x ≡ Scanner y → x ≡ y
     inside x y e = cc
-scanner_uses laws w new device t u happens answer opened s after used e x k below (inr other) =
-    let drawn = s.drawn in
-    let next_drawn = s.next_drawn in
-    let apart = drawn.apart in
-    let begins = apart.begins e (Scanner x) other.1 in
-    let whole = next_drawn.whole device (Scanner u) after in
-    let table = whole.table in
-    let differ = apart_from w device e (Scanner t) (Scanner x) drawn.apart s.at other.1 other.0 in
-    let frames = scanner_frames laws w new device t u happens answer s after (connection_id x.profile.incarnation k).0 (not_zero x.profile.incarnation k begins) in
-    let none = other_none t.profile x.profile t.next_id u.next_id k differ below table.ids in
-    other_uses w new device (Scanner t) (Scanner u) happens answer opened [] x k s (omega arith) (omega (arith, frames, none)) (was_so w opened e x k used other.1 below)
+
+    drawn_now : (id : ℕ) → IsNumbered u.ids t.next_id u.next_id id → is_drawn new.tables id ≡ true
+    drawn_now id which =
+        let drawn = s.drawn in
+        let one = whole_begins (Scanner t) (drawn.whole device (Scanner t) s.at) in
+        let from = which.begins in
+        drawn_at new.tables device (Scanner u) id after (record { number = which.number; begins = omega (arith, one, from); ends = which.ends; is = which.is })
+
+    own : (k : ℕ) → 1 ≤ k → k < u.next_id → (k < t.next_id) ⊎ (t.next_id ≤ k) → uses (id_at u.ids k).0 new.streams (opened ++ []) ≤ 1
+    own k begins below (inl less) = old_uses laws w new device t u happens answer opened [] k s after refl used begins less
+    own k begins below (inr from) = new_uses laws w new device t u happens answer opened [] k s after refl used from (drawn_number new device (Scanner u) k s.next_drawn after begins below)
+
+    by_place : (e : ℕ) (x : ScannerTable) (k : ℕ) → 1 ≤ k → k < x.next_id → slice_get new.tables e ≡ Some (Scanner x) → ((e ≡ device) × (Scanner x ≡ Scanner u)) ⊎ ((e ≢ device) × (slice_get w.tables e ≡ Some (Scanner x))) → uses (id_at x.ids k).0 new.streams (opened ++ []) ≤ 1
+    by_place e x k begins below there (inl mine) =
+        let same : u ≡ x = sym (inside x u mine.1) in
+        subst (λ (y : ScannerTable). uses (id_at y.ids k).0 new.streams (opened ++ []) ≤ 1) same
+        (own k begins (subst (λ (y : ScannerTable). k < y.next_id) (sym same) below) (below_or_not k t.next_id))
+    by_place e x k begins below there (inr other) =
+        let apart = s.apart in
+        let has = drawn_number new e (Scanner x) k s.next_drawn there begins below in
+        other_uses w new device (Scanner t) (Scanner u) happens answer opened [] (id_at x.ids k).0 1 s (omega arith)
+        (no_frames laws w new device t u happens answer s (id_at x.ids k).0 (not_zero new e (Scanner x) k s.next_drawn there has) (λ which.
+        let from = which.begins in
+        let drawn = s.drawn in
+        let one = whole_begins (Scanner t) (drawn.whole device (Scanner t) s.at) in
+        let asked = drawn_number new device (Scanner u) which.number s.next_drawn after (omega (arith, one, from)) which.ends in
+        absurd (other.0 (sym (apart.differ device e (Scanner u) (Scanner x) which.number k after there asked has which.is)))))
+        (used.once e x k other.1 begins below)
 
 -- ---- an event of an adapter
 
@@ -196,10 +299,6 @@ none_of id (frame ∷ frames) none =
     let rest = none_of id frames none.1 in
     let both = count_cons (frame_asks id) frame frames in
     omega (arith, one, rest, both)
-  where
-    no_one : (b : Bool) → (b ≡ true → ⊥) → cond b 1 0 ≤ 0
-    no_one true none = absurd (none refl)
-    no_one false none = omega arith
 
 late_opens_none : (t : AdapterTable) (frame : Frame) → ArePlain any_stream t.messaging → IsLateReply t frame → IsNoOpening frame.bytes
 late_opens_none t frame plain (inl is) = absurd (is.over_none plain.over)
@@ -213,75 +312,95 @@ answers_open_none t u (event.Respond number status bytes) frame possible plain i
 answers_open_none t u (event.Tick ms) frame possible plain is = late_opens_none t frame plain is
 answers_open_none t u other frame possible plain is = absurd is
 
--- the new connection's T->O id is this one only where the frame asked for it
-row_requested : (t : AdapterTable) (bytes : List ℕ) (row : Row) (profile : ScannerProfile) (k : ℕ) → t.profile.incarnation ≢ profile.incarnation → k < 16777216 → was_opened_as t.next_id row ≡ true → IsOldOrRequested t bytes row → (row.t_o_id.0 == (connection_id profile.incarnation k).0) ≡ true → asks_id (connection_id profile.incarnation k).0 bytes ≡ true
-row_requested t bytes row profile k differ below new (inl old) is = let same = eqb-true row.opening t.next_id new in absurd (omega (arith, old, same))
-row_requested t bytes row profile k differ below new (inr (inl asks)) is = subst (λ (id : ℕ). asks_id id bytes ≡ true) (eqb-true row.t_o_id.0 (connection_id profile.incarnation k).0 is) asks
-row_requested t bytes row profile k differ below new (inr (inr own)) is =
-    absurd (ids_apart t.profile.incarnation profile.incarnation own.counter k differ own.below below (sym (ap (λ (id : ConnId). id.0) own.is) ∙ eqb-true row.t_o_id.0 (connection_id profile.incarnation k).0 is))
+-- the new connection's T->O id is this one only where the frame asked for it, if it is not one of the adapter's own
+row_requested : (t : AdapterTable) (bytes : List ℕ) (row : Row) (id : ℕ) → (IsOwnId t.ids row.t_o_id → row.t_o_id.0 ≡ id → ⊥) → was_opened_as t.next_id row ≡ true → IsOldOrRequested t bytes row → (row.t_o_id.0 == id) ≡ true → asks_id id bytes ≡ true
+row_requested t bytes row id never new (inl old) is = let same = eqb-true row.opening t.next_id new in absurd (omega (arith, old, same))
+row_requested t bytes row id never new (inr (inl asks)) is = subst (λ (n : ℕ). asks_id n bytes ≡ true) (eqb-true row.t_o_id.0 id is) asks
+row_requested t bytes row id never new (inr (inr own)) is = absurd (never own (eqb-true row.t_o_id.0 id is))
 
 opened_count : (device : ℕ) (id : ℕ) (bytes : List ℕ) (found : Option Row) (slot : Option End) → ((row : Row) → found ≡ Some row → (row.t_o_id.0 == id) ≡ true → asks_id id bytes ≡ true) → count_by (has_id id) (opened_for device found slot) ≤ cond (asks_id id bytes) 1 0
 opened_count device id bytes None slot requested = omega arith
 opened_count device id bytes (Some row) None requested = omega arith
 opened_count device id bytes (Some row) (Some slot) requested = let one = one_at_most (row.t_o_id.0 == id) (asks_id id bytes) (requested row refl) in omega (arith, one)
 
-new_counts : OnceLaws → (w new : World) (device : ℕ) (t u : AdapterTable) (happens : Event) (answer : Answer) (profile : ScannerProfile) (k : ℕ) → OneStep w new device (Adapter t) (Adapter u) happens answer → t.profile.incarnation ≢ profile.incarnation → k < 16777216 → count_by (has_id (connection_id profile.incarnation k).0) (frame_opens w device (Adapter t) happens (Adapter u)) ≤ event_count (asks_id (connection_id profile.incarnation k).0) happens
+-- the new row's T->O id is not this one of the adapter's own
+abbrev NeverOwn : AdapterTable → AdapterTable → ℕ → Type 0
+NeverOwn t u id = (row : Row) → find (was_opened_as t.next_id) u.rows ≡ Some row → IsOwnId t.ids row.t_o_id → row.t_o_id.0 ≡ id → ⊥
+
+new_counts : OnceLaws → (w new : World) (device : ℕ) (t u : AdapterTable) (happens : Event) (answer : Answer) (id : ℕ) → OneStep w new device (Adapter t) (Adapter u) happens answer → NeverOwn t u id → count_by (has_id id) (frame_opens w device (Adapter t) happens (Adapter u)) ≤ event_count (asks_id id) happens
 unfolding step
-new_counts laws w new device t u (event.Frame n bytes) answer profile k s differ below =
+new_counts laws w new device t u (event.Frame n bytes) answer id s never =
     let drawn = s.drawn in
     let rows = laws.requested t n bytes answer u (adapter_result (adapter_step t (event.Frame n bytes)) answer u s.stepped) (drawn.whole device (Adapter t) s.at) in
-    opened_count device (connection_id profile.incarnation k).0 bytes (find (was_opened_as t.next_id) u.rows) (requester device (slice_get w.streams n) (message_reading bytes))
-    (λ row found is. row_requested t bytes row profile k differ below (found_passes (was_opened_as t.next_id) u.rows row found) (found_holds (IsOldOrRequested t bytes) (was_opened_as t.next_id) u.rows row rows found) is)
-new_counts laws w new device t u other answer profile k s differ below = omega arith
+    opened_count device id bytes (find (was_opened_as t.next_id) u.rows) (requester device (slice_get w.streams n) (message_reading bytes))
+    (λ row found is. row_requested t bytes row id (never row found) (found_passes (was_opened_as t.next_id) u.rows row found) (found_holds (IsOldOrRequested t bytes) (was_opened_as t.next_id) u.rows row rows found) is)
+new_counts laws w new device t u other answer id s never = omega arith
 
-adapter_uses : OnceLaws → (w new : World) (device : ℕ) (t u : AdapterTable) (happens : Event) (answer : Answer) (opened : List Opened) → OneStep w new device (Adapter t) (Adapter u) happens answer → IdsAreUsedOnce w opened → (e : ℕ) (x : ScannerTable) (k : ℕ) → k < 16777216 → ((e ≡ device) × (Scanner x ≡ Adapter u)) ⊎ ((e ≢ device) × (slice_get w.tables e ≡ Some (Scanner x))) → UsedSo new (opened ++ frame_opens w device (Adapter t) happens (Adapter u)) x k
+adapter_frames : OnceLaws → (w new : World) (device : ℕ) (t u : AdapterTable) (happens : Event) (answer : Answer) (id : ℕ) → OneStep w new device (Adapter t) (Adapter u) happens answer → count_by (frame_asks id) answer.frames ≤ 0
 unfolding step
-adapter_uses laws w new device t u happens answer opened s used e x k below (inl own) = absurd (let same = own.1 in cc)
-adapter_uses laws w new device t u happens answer opened s used e x k below (inr other) =
+adapter_frames laws w new device t u happens answer id s =
     let drawn = s.drawn in
-    let differ = apart_from w device e (Adapter t) (Scanner x) drawn.apart s.at other.1 other.0 in
     let replies = laws.replies t happens answer u (adapter_result (adapter_step t happens) answer u s.stepped) (drawn.whole device (Adapter t) s.at) in
-    let none = none_of (connection_id x.profile.incarnation k).0 answer.frames (all_more (IsAnswerTo t u happens) (λ (f : Frame). IsNoOpening f.bytes) (λ f is. answers_open_none t u happens f s.possible (drawn.plain device (Adapter t) s.at) is) answer.frames replies) in
-    other_uses w new device (Adapter t) (Adapter u) happens answer opened (frame_opens w device (Adapter t) happens (Adapter u)) x k s (new_counts laws w new device t u happens answer x.profile k s differ below) (omega (arith, none)) (was_so w opened e x k used other.1 below)
+    let none = none_of id answer.frames (all_more (IsAnswerTo t u happens) (λ (f : Frame). IsNoOpening f.bytes) (λ f is. answers_open_none t u happens f s.possible (drawn.plain device (Adapter t) s.at) is) answer.frames replies) in
+    omega (arith, none)
+
+adapter_used : OnceLaws → (w new : World) (device : ℕ) (t u : AdapterTable) (happens : Event) (answer : Answer) (opened : List Opened) → OneStep w new device (Adapter t) (Adapter u) happens answer → slice_get new.tables device ≡ Some (Adapter u) → AreUsed w opened → AreUsed new (opened ++ frame_opens w device (Adapter t) happens (Adapter u))
+adapter_used laws w new device t u happens answer opened s after used = record {
+  once = λ e x k there begins below. by_place e x k begins below there (set_cases w.tables device e (Adapter t) (Adapter u) (Scanner x) s.at (ap (λ (ts : List DeviceTable). slice_get ts e) (sym s.tables) ∙ there));
+  unused = λ id some none.
+      let was = used.unused id some (undrawn_before laws w new device (Adapter t) (Adapter u) happens answer id s none) in
+      none_left (uses id new.streams (opened ++ frame_opens w device (Adapter t) happens (Adapter u)))
+      (goes id 0 (λ row found own is. absurd (let e = sym none ∙ ap (is_drawn new.tables) (sym is) ∙ row_drawn row found in cc)) (omega (arith, was)));
+}
+  where
+    goes : (id most : ℕ) → NeverOwn t u id → uses id w.streams opened ≤ most → uses id new.streams (opened ++ frame_opens w device (Adapter t) happens (Adapter u)) ≤ most
+    goes id most never was =
+        other_uses w new device (Adapter t) (Adapter u) happens answer opened (frame_opens w device (Adapter t) happens (Adapter u)) id most s (new_counts laws w new device t u happens answer id s never) (adapter_frames laws w new device t u happens answer id s) was
+
+    row_drawn : (row : Row) → find (was_opened_as t.next_id) u.rows ≡ Some row → is_drawn new.tables row.t_o_id.0 ≡ true
+    row_drawn row found =
+        let next_drawn = s.next_drawn in
+        let ids = found_holds (RowIds (Passes (is_drawn new.tables)) (Passes any_opening)) (was_opened_as t.next_id) u.rows row (next_drawn.tables device (Adapter u) after) found in
+        ids.t_o
+
+    by_place : (e : ℕ) (x : ScannerTable) (k : ℕ) → 1 ≤ k → k < x.next_id → slice_get new.tables e ≡ Some (Scanner x) → ((e ≡ device) × (Scanner x ≡ Adapter u)) ⊎ ((e ≢ device) × (slice_get w.tables e ≡ Some (Scanner x))) → uses (id_at x.ids k).0 new.streams (opened ++ frame_opens w device (Adapter t) happens (Adapter u)) ≤ 1
+    by_place e x k begins below there (inl mine) = absurd (let same = mine.1 in cc)
+    by_place e x k begins below there (inr other) =
+        goes (id_at x.ids k).0 1 (λ row found own is.
+        let apart = s.apart in
+        let steps = laws.steps in
+        let blocks = steps.blocks (Adapter t) happens (answer, Adapter u) s.stepped in
+        let had : HasNumber (Adapter t) own.number = record { begins = own.begins; ends = own.below } in
+        let value : (id_at u.ids own.number).0 ≡ (id_at x.ids k).0 = ap (λ (n : ConnId). n.0) (id_later (Adapter t) (Adapter u) own.number blocks had ∙ sym own.is) ∙ is in
+        absurd (other.0 (sym (apart.differ device e (Adapter u) (Scanner x) own.number k after there (number_later (Adapter t) (Adapter u) own.number blocks had) (drawn_number new e (Scanner x) k s.next_drawn there begins below) value))))
+        (used.once e x k other.1 begins below)
 
 -- ---- an act
 
-step_uses : OnceLaws → (w new : World) (device : ℕ) (t u : DeviceTable) (happens : Event) (answer : Answer) (opened : List Opened) → OneStep w new device t u happens answer → slice_get new.tables device ≡ Some u → IdsAreUsedOnce w opened → (e : ℕ) (x : ScannerTable) (k : ℕ) → k < 16777216 → ((e ≡ device) × (Scanner x ≡ u)) ⊎ ((e ≢ device) × (slice_get w.tables e ≡ Some (Scanner x))) → UsedSo new (opened ++ frame_opens w device t happens u) x k
-step_uses laws w new device (Adapter t) (Adapter u) happens answer opened s after used e x k below cases = adapter_uses laws w new device t u happens answer opened s used e x k below cases
-step_uses laws w new device (Scanner t) (Scanner u) happens answer opened s after used e x k below cases = scanner_uses laws w new device t u happens answer opened s after used e x k below cases
-step_uses laws w new device (Adapter t) (Scanner u) happens answer opened s after used e x k below cases = absurd s.stays
-step_uses laws w new device (Scanner t) (Adapter u) happens answer opened s after used e x k below cases = absurd s.stays
+event_used : OnceLaws → (w new : World) (device : ℕ) (t u : DeviceTable) (happens : Event) (answer : Answer) (opened : List Opened) → OneStep w new device t u happens answer → AreUsed w opened → AreUsed new (opened ++ frame_opens w device t happens u)
+event_used laws w new device t u happens answer opened s used = by_kind t u s (ap (λ (ts : List DeviceTable). slice_get ts device) s.tables ∙ set_own w.tables device t u s.at) where
+  by_kind : (t u : DeviceTable) → OneStep w new device t u happens answer → slice_get new.tables device ≡ Some u → AreUsed new (opened ++ frame_opens w device t happens u)
+  by_kind (Adapter t) (Adapter u) s after = adapter_used laws w new device t u happens answer opened s after used
+  by_kind (Scanner t) (Scanner u) s after = scanner_used laws w new device t u happens answer opened s after used
+  by_kind (Adapter t) (Scanner u) s after = absurd s.stays
+  by_kind (Scanner t) (Adapter u) s after = absurd s.stays
 
-event_used : OnceLaws → (w new : World) (device : ℕ) (t u : DeviceTable) (happens : Event) (answer : Answer) (opened : List Opened) → OneStep w new device t u happens answer → IdsAreUsedOnce w opened → IdsAreUsedOnce new (opened ++ frame_opens w device t happens u)
-event_used laws w new device t u happens answer opened s used = record {
-  once = λ e x k there below. let is = now e x k there below in is.once;
-  unused = λ e x k there from below. let is = now e x k there below in is.unused from;
-}
-  where
-    after : slice_get new.tables device ≡ Some u
-    after = ap (λ (ts : List DeviceTable). slice_get ts device) s.tables ∙ set_own w.tables device t u s.at
-
-    now : (e : ℕ) (x : ScannerTable) (k : ℕ) → slice_get new.tables e ≡ Some (Scanner x) → k < 16777216 → UsedSo new (opened ++ frame_opens w device t happens u) x k
-    now e x k there below =
-        step_uses laws w new device t u happens answer opened s (ap (λ (ts : List DeviceTable). slice_get ts device) s.tables ∙ set_own w.tables device t u s.at) used e x k below
-        (set_cases w.tables device e t u (Scanner x) s.at (ap (λ (ts : List DeviceTable). slice_get ts e) (sym s.tables) ∙ there))
-
-rest_used : (w new : World) (opened : List Opened) → new.tables ≡ w.tables → ((p : Test) → waiting_count p new.streams ≤ waiting_count p w.streams) → IdsAreUsedOnce w opened → IdsAreUsedOnce new opened
+rest_used : (w new : World) (opened : List Opened) → new.tables ≡ w.tables → ((p : Test) → waiting_count p new.streams ≤ waiting_count p w.streams) → AreUsed w opened → AreUsed new opened
 unfolding uses
 rest_used w new opened tables less used = record {
-  once = λ e x k there below.
-      let fewer = less (asks_id (connection_id x.profile.incarnation k).0) in
-      let was = used.once e x k (ap (λ (ts : List DeviceTable). slice_get ts e) (sym tables) ∙ there) below in
+  once = λ e x k there begins below.
+      let fewer = less (asks_id (id_at x.ids k).0) in
+      let was = used.once e x k (ap (λ (ts : List DeviceTable). slice_get ts e) (sym tables) ∙ there) begins below in
       omega (arith, fewer, was);
-  unused = λ e x k there from below.
-      let fewer = less (asks_id (connection_id x.profile.incarnation k).0) in
-      let was = used.unused e x k (ap (λ (ts : List DeviceTable). slice_get ts e) (sym tables) ∙ there) from below in
+  unused = λ id some none.
+      let fewer = less (asks_id id) in
+      let was = used.unused id some (ap (λ (ts : List DeviceTable). is_drawn ts id) (sym tables) ∙ none) in
       omega (arith, fewer, was);
 }
 
 pub record OnceIn (c : Chronicle) : Type 0 where
   pub drawn : IdsAreDrawn c.story.world
-  pub used : IdsAreUsedOnce c.story.world c.opened
+  pub used : AreUsed c.story.world c.opened
 
 pub event_counts : (w : World) (act : Act) (reported : ReportedEvent) (new : World) → happens w act ≡ Ok (Some reported, new) → (p : Test) → EventCounts p w reported new
 event_counts w act reported new is p = subst (λ (said : Happened). IfOk said (ActCounts p w)) is (act_counts p w act)
@@ -301,11 +420,11 @@ after_is t happens answer u is = ap (table_of t) is
 pub no_test : Test
 no_test bytes = false
 
-by_act : OnceLaws → SchedulesKeepIdsDrawn → (c : Chronicle) (act : Act) (said : Happened) → happens c.story.world act ≡ said → OnceIn c → IfOk (recorded c act said) OnceIn
+by_act : OnceLaws → SchedulesKeepIdsDrawn → (c : Chronicle) (act : Act) (said : Happened) → happens c.story.world act ≡ said → OnceIn c → IfOk (recorded c act said) (WhereApart OnceIn)
 by_act laws keep c act (Err why) is at = tt
 by_act laws keep c act (Ok (None, new)) is at =
     let rests = rest_counts c.story.world act new is no_test in
-    record {
+    λ apart. record {
       drawn = drawn_on keep c.story.world act None new is at.drawn;
       used = rest_used c.story.world new c.opened rests.tables (λ p. less_of p c.story.world new (rest_counts c.story.world act new is p)) at.used;
     }
@@ -313,7 +432,7 @@ by_act laws keep c act (Ok (Some reported, new)) is at =
     let w = c.story.world in
     let m = event_counts c.story.world act reported new is no_test in
     let next_drawn = drawn_on keep c.story.world act (Some reported) new is at.drawn in
-    let one : OneStep c.story.world new reported.device m.before m.after reported.event reported.answer = record {
+    let one : AreApart new.tables → OneStep c.story.world new reported.device m.before m.after reported.event reported.answer = λ apart. record {
       at = m.is;
       stepped = m.stepped;
       tables = m.tables;
@@ -322,29 +441,48 @@ by_act laws keep c act (Ok (Some reported, new)) is at =
       counts = λ p. count_of p c.story.world reported new (event_counts c.story.world act reported new is p);
       drawn = at.drawn;
       next_drawn = next_drawn;
+      apart = apart;
     } in
-    let used = event_used laws c.story.world new reported.device m.before m.after reported.event reported.answer c.opened one at.used in
-    subst (λ (o : Option DeviceTable). OnceIn (with_event_at c act reported new o)) (sym m.is)
-    (record {
+    subst (λ (o : Option DeviceTable). WhereApart OnceIn (with_event_at c act reported new o)) (sym m.is)
+    (λ apart. record {
       drawn = next_drawn;
-      used = subst (λ (u : DeviceTable). IdsAreUsedOnce new (c.opened ++ frame_opens c.story.world reported.device m.before reported.event u)) (sym (after_is m.before reported.event reported.answer m.after m.stepped)) used;
+      used = subst (λ (u : DeviceTable). AreUsed new (c.opened ++ frame_opens c.story.world reported.device m.before reported.event u)) (sym (after_is m.before reported.event reported.answer m.after m.stepped))
+          (event_used laws c.story.world new reported.device m.before m.after reported.event reported.answer c.opened (one apart) at.used);
     })
 
-once_keeps : OnceLaws → SchedulesKeepIdsDrawn → ActsKeep OnceIn
+once_keeps : OnceLaws → SchedulesKeepIdsDrawn → ApartActsKeep OnceIn
 once_keeps laws keep c act at = by_act laws keep c act (happens c.story.world act) refl at
 
 none_used : (id : ℕ) → uses id [] [] ≡ 0
 unfolding uses
 none_used id = let none = none_waits (asks_id id) in omega (arith, none)
 
-begins_used : (configs : List Config) → IdsAreUsedOnce (opening_world configs) []
+begins_used : (configs : List Config) → AreUsed (opening_world configs) []
 begins_used configs = record {
-  once = λ e x k there below. let none = none_used (connection_id x.profile.incarnation k).0 in omega (arith, none);
-  unused = λ e x k there from below. none_used (connection_id x.profile.incarnation k).0;
+  once = λ e x k there begins below. let none = none_used (id_at x.ids k).0 in omega (arith, none);
+  unused = λ id some none. none_used id;
 }
+
+-- each number of a scanner's blocks is one that it has drawn, or one to come
+used_once : (w : World) (opened : List Opened) → AreDrawnApart w → AreUsed w opened → IdsAreUsedOnce w opened
+used_once w opened known used = record {
+  once = λ device t number at has. by_number device t number at has (below_or_not number t.next_id);
+  unused = none;
+}
+  where
+    none : (device : ℕ) (t : ScannerTable) (number : ℕ) → slice_get w.tables device ≡ Some (Scanner t) → t.next_id ≤ number → HasNumber (Scanner t) number → uses (id_at t.ids number).0 w.streams opened ≡ 0
+    none device t number at from has =
+        used.unused (id_at t.ids number).0 (not_zero w device (Scanner t) number known.ids at has) (to_come w device (Scanner t) number known at from has)
+
+    by_number : (device : ℕ) (t : ScannerTable) (number : ℕ) → slice_get w.tables device ≡ Some (Scanner t) → HasNumber (Scanner t) number → (number < t.next_id) ⊎ (t.next_id ≤ number) → uses (id_at t.ids number).0 w.streams opened ≤ 1
+    by_number device t number at has (inl less) = used.once device t number at has.begins less
+    by_number device t number at has (inr from) = let zero = none device t number at from has in omega (arith, zero)
 
 pub ids_used_once : OnceLaws → SchedulesKeepIdsDrawn → OpeningWorldsHaveIdsDrawn → SchedulesUseIdsOnce
 ids_used_once laws keep opens configs acts c is =
-    let all : OnceIn c = subst (λ (r : Result Chronicle ActFault). IfOk r OnceIn) is.ran
-    (chronicles_keep OnceIn (once_keeps laws keep) acts (Ok (blank (opening_world configs))) (record { drawn = opens configs is.lives is.bytes; used = begins_used configs })) in
-    all.used
+    let steps = laws.steps in
+    let held : WhereApart OnceIn c = subst (λ (r : Result Chronicle ActFault). IfOk r (WhereApart OnceIn)) is.ran
+    (chronicles_keep (WhereApart OnceIn) (apart_keeps steps.blocks OnceIn (once_keeps laws keep)) acts (Ok (blank (opening_world configs)))
+    (λ apart. record { drawn = opens configs is.lives; used = begins_used configs })) in
+    let all = held is.apart in
+    used_once c.story.world c.opened (record { ids = all.drawn; apart = is.apart }) all.used

@@ -1,7 +1,8 @@
--- Connection ids in every schedule of many devices: no id that a device may still allocate is anywhere in the world. So a
+-- Connection ids in every schedule of many devices: each id that is anywhere in the world was allocated by a device. So a
 -- connection accepts nothing that was sent before its id was allocated (Volume 1, chapter 3, network connection ids).
-use Rattle.std.specs.Prelude.{ℕ, ◌≡◌, ◌≢◌, ◌+◌, ◌*◌, ◌^◌, ◌<◌, ◌≤◌, ◌&&◌, not, nat_lt, nat_le, Bool, true, false, List, [], ◌∷◌, ◌++◌, slice_get, Some, Ok}
+use Rattle.std.specs.Prelude.{ℕ, ◌≡◌, ◌≢◌, ◌≤◌, ◌==◌, ◌||◌, Bool, true, false, List, [], ◌∷◌, ◌++◌, slice_get, Some, Ok}
 use Rattle.std.specs.List.{AllByRecursion, Contains, list_any}
+use Rattle.cip_types.specs.Ids.{id_at}
 use Rattle.cip_datagram.specs.Datagram.{DatagramFields}
 use Rattle.cip_datagram.specs.Reading.{datagram_reading}
 use Rattle.cip_events.specs.declared.event.Event.TheVariants.{Datagram}
@@ -18,8 +19,7 @@ use Rattle.scanner_table.specs.Slots.{IndexedSlot, indexed_slots}
 use Rattle.cip_tables.specs.declared.table.Config.{Config}
 use Rattle.cip_tables.specs.declared.table.DeviceTable.{DeviceTable}
 use Rattle.cip_tables.specs.declared.table.DeviceTable.TheVariants.{Adapter, Scanner}
-use Rattle.cip_tables.specs.Step.{incarnation_of, opening_table}
-use Rattle.cip_tables.specs.Whole.{IsWholeDevice, next_id_of}
+use Rattle.cip_tables.specs.Whole.{IsWholeDevice, ids_of, next_id_of}
 use Rattle.segment_world.specs.Transit.Log.{Sent}
 use Rattle.segment_world.specs.Transit.Streams.{QueueItem, Opening, Queued, Ending, Side, Stream}
 use Rattle.segment_world.specs.declared.act.Act.{Act}
@@ -29,24 +29,19 @@ use Rattle.segment_world.specs.Configs.{opening_world}
 use Rattle.device_laws.specs.Ids.{FrameIds, DatagramId}
 use Rattle.device_laws.specs.Carrying.{Passes, TableIds, HasClass3Ids, SlotCame}
 use Rattle.device_laws.specs.Plain.{IsPlainFrame, IsPlainDevice}
-use Rattle.schedule_laws.specs.Lives.{AreLives}
+use Rattle.device_laws.specs.Requests.{is_between}
+use Rattle.schedule_laws.specs.Lives.{AreApart, AreLives, HasNumber}
 use Rattle.schedule_laws.specs.Stories.{led_to}
 
--- IDS TO COME
+-- IDS THAT ARE DRAWN
 
--- the device may still allocate the id: the id has the device's incarnation, and the next counter or a later one
-abbrev pub is_to_come : ℕ → DeviceTable → Bool
-is_to_come id t = nat_le (incarnation_of t * 2 ^ 24 + next_id_of t) id && nat_lt id ((incarnation_of t + 1) * 2 ^ 24)
+-- the device has allocated the id: a number of its blocks below its next one has it
+abbrev pub has_drawn : ℕ → DeviceTable → Bool
+has_drawn id t = is_between (ids_of t) 1 (next_id_of t) id
 
--- the id has 32 bits, and no device may still allocate it
+-- the id is 0, the id for none, or a device has allocated it
 abbrev pub is_drawn : List DeviceTable → ℕ → Bool
-is_drawn tables id = nat_lt id (2 ^ 32) && not (list_any (is_to_come id) tables)
-
--- the incarnations of the devices are bytes that are not 0 and differ
-pub record AreApart (tables : List DeviceTable) : Type 0 where
-  pub begins : (device : ℕ) (t : DeviceTable) → slice_get tables device ≡ Some t → 1 ≤ incarnation_of t
-  pub ends : (device : ℕ) (t : DeviceTable) → slice_get tables device ≡ Some t → incarnation_of t ≤ 255
-  pub differ : (a b : ℕ) (t u : DeviceTable) → slice_get tables a ≡ Some t → slice_get tables b ≡ Some u → incarnation_of t ≡ incarnation_of u → a ≡ b
+is_drawn tables id = id == 0 || list_any (has_drawn id) tables
 
 -- FRAMES AND DATAGRAMS
 
@@ -76,38 +71,40 @@ any_opening opening = true
 abbrev pub any_stream : ℕ → Bool
 any_stream number = true
 
--- the frame has no id that a device may still allocate, and opens no class 3 connection
+-- each id of the frame is drawn, and it opens no class 3 connection
 abbrev pub IsDrawnFrame : List DeviceTable → List ℕ → Type 0
 IsDrawnFrame tables bytes = FrameIds (Passes (is_drawn tables)) bytes × IsPlainFrame bytes
 
--- All devices have whole tables. No id that a device may still allocate is anywhere: in no connection of class 1 or 3, in no
--- datagram that was ever sent, and in no frame that waits on a stream, whether it is read as a request or as a reply. No frame that
--- waits on a stream asks for a class 3 connection. Each request that waits for an application came over a stream or a class 3
--- connection, and has no service of an opening if it came over a stream itself.
+-- All devices have whole tables. Each id that is anywhere is drawn: in a connection of class 1 or 3, in a datagram that was ever
+-- sent, and in a frame that waits on a stream, whether it is read as a request or as a reply. No frame that waits on a stream asks
+-- for a class 3 connection. Each request that waits for an application came over a stream or a class 3 connection, and has no
+-- service of an opening if it came over a stream itself.
 pub record IdsAreDrawn (w : World) : Type 0 where
   pub whole : (device : ℕ) (t : DeviceTable) → slice_get w.tables device ≡ Some t → IsWholeDevice t
-  pub apart : AreApart w.tables
   pub tables : (device : ℕ) (t : DeviceTable) → slice_get w.tables device ≡ Some t → TableIds (is_drawn w.tables) any_opening t
   pub class3 : (device : ℕ) (t : DeviceTable) → slice_get w.tables device ≡ Some t → HasClass3Ids (is_drawn w.tables) t
   pub sent : AllByRecursion (SentHolds (Passes (is_drawn w.tables))) w.sent
   pub streams : StreamsHold (IsDrawnFrame w.tables) w.streams
   pub plain : (device : ℕ) (t : DeviceTable) → slice_get w.tables device ≡ Some t → IsPlainDevice any_stream t
 
--- every schedule keeps it
+-- all ids are drawn, and no two devices have blocks with one id
+pub record AreDrawnApart (w : World) : Type 0 where
+  pub ids : IdsAreDrawn w
+  pub apart : AreApart w.tables
+
+-- every schedule keeps it that ids are drawn
 abbrev pub SchedulesKeepIdsDrawn : Type 0
 SchedulesKeepIdsDrawn =
     (start : World) (acts : List Act) (story : Story) → runs (begins start) acts ≡ Ok story → IdsAreDrawn start → IdsAreDrawn story.world
 
--- each incarnation is a byte, as it is in the program
-abbrev pub AreBytes : List Config → Type 0
-AreBytes configs = AllByRecursion (λ config. incarnation_of (opening_table config) ≤ 255) configs
-
 -- it holds of a world that begins from configurations of lives
 abbrev pub OpeningWorldsHaveIdsDrawn : Type 0
-OpeningWorldsHaveIdsDrawn = (configs : List Config) → AreLives configs → AreBytes configs → IdsAreDrawn (opening_world configs)
+OpeningWorldsHaveIdsDrawn = (configs : List Config) → AreLives configs → IdsAreDrawn (opening_world configs)
 
 -- LATER CONNECTIONS
 
+-- The laws hold where no two devices have blocks with one id at the later moment.
+--
 -- Two moments of one schedule: the acts of the first part lead from the start to the earlier one, those of the rest to the
 -- later one.
 pub record Moments (start : World) (was now : Story) : Type 0 where
@@ -116,19 +113,19 @@ pub record Moments (start : World) (was now : Story) : Type 0 where
   pub first : runs (begins start) early ≡ Ok was
   pub rest : runs (Ok was) late ≡ Ok now
 
--- an id that a device may still allocate is on no datagram that was ever sent
+-- an id that a device may still allocate is on no datagram that was ever sent, where no two devices have blocks with one id
 abbrev pub IdsToComeAreUnsent : Type 0
 IdsToComeAreUnsent =
-    (w : World) (device : ℕ) (t : DeviceTable) (counter : ℕ) (s : Sent) (d : DatagramFields) →
-    IdsAreDrawn w → slice_get w.tables device ≡ Some t → next_id_of t ≤ counter → counter < 2 ^ 24 →
-    Contains w.sent s → datagram_reading s.bytes ≡ Ok d → d.connection ≢ incarnation_of t * 2 ^ 24 + counter
+    (w : World) (device : ℕ) (t : DeviceTable) (number : ℕ) (s : Sent) (d : DatagramFields) →
+    IdsAreDrawn w → AreApart w.tables → slice_get w.tables device ≡ Some t → next_id_of t ≤ number → HasNumber t number →
+    Contains w.sent s → datagram_reading s.bytes ≡ Ok d → d.connection ≢ (id_at (ids_of t) number).0
 
 -- A connection of an adapter that was not in its table at the earlier moment accepts no datagram that was sent by then,
 -- from whichever sender and however late it is delivered.
 abbrev pub LaterConnectionsAcceptNoneOfIt : Type 0
 LaterConnectionsAcceptNoneOfIt =
     (start : World) (was now : Story) (device opening : ℕ) (t u : AdapterTable) (s : Sent) →
-    IdsAreDrawn start → Moments start was now →
+    IdsAreDrawn start → Moments start was now → AreApart now.world.tables →
     slice_get was.world.tables device ≡ Some (Adapter t) → slice_get now.world.tables device ≡ Some (Adapter u) →
     list_any (was_opened_as opening) t.rows ≡ false → Contains was.world.sent s →
     accepted_at opening u (Datagram s.from s.bytes) ≡ []
@@ -138,7 +135,7 @@ LaterConnectionsAcceptNoneOfIt =
 abbrev pub LaterSlotsTakeNoneOfIt : Type 0
 LaterSlotsTakeNoneOfIt =
     (start : World) (was now : Story) (device : ℕ) (t u : ScannerTable) (indexed : IndexedSlot) (c : SlotConnection) (s : Sent) (d : DatagramFields) →
-    IdsAreDrawn start → Moments start was now →
+    IdsAreDrawn start → Moments start was now → AreApart now.world.tables →
     slice_get was.world.tables device ≡ Some (Scanner t) → slice_get now.world.tables device ≡ Some (Scanner u) →
     Contains (indexed_slots u) indexed → indexed.config.multicast ≡ false → indexed.slot.state ≡ Established c → t.next_request ≤ c.opening →
     Contains was.world.sent s → datagram_reading s.bytes ≡ Ok d →
@@ -149,7 +146,7 @@ LaterSlotsTakeNoneOfIt =
 abbrev pub LaterGroupsSentNoneOfIt : Type 0
 LaterGroupsSentNoneOfIt =
     (start : World) (was now : Story) (device : ℕ) (t u : AdapterTable) (row : Row) (s : Sent) (d : DatagramFields) →
-    IdsAreDrawn start → Moments start was now →
+    IdsAreDrawn start → Moments start was now → AreApart now.world.tables →
     slice_get was.world.tables device ≡ Some (Adapter t) → slice_get now.world.tables device ≡ Some (Adapter u) →
     Contains u.rows row → is_established row ≡ true → row.multicast ≡ true → t.next_id ≤ producer_of row.state →
     Contains was.world.sent s → datagram_reading s.bytes ≡ Ok d →

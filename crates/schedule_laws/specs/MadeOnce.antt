@@ -1,10 +1,10 @@
 -- A scanner's request to open makes one connection at most: of each T->O id that a scanner allocated, the requests that wait on
 -- streams and the connections that were opened with it are one at most. So two entries of the chronicle with one such id are
 -- one entry (Volume 1, chapter 3, network connection ids and Forward_Open service).
-use Rattle.std.specs.Prelude.{ℕ, ◌≡◌, ◌+◌, ◌^◌, ◌<◌, ◌≤◌, ◌==◌, Bool, false, List, slice_get, Some}
+use Rattle.std.specs.Prelude.{ℕ, ◌≡◌, ◌+◌, ◌≤◌, ◌==◌, Bool, false, List, slice_get, Some}
 use Rattle.std.specs.List.{Contains, count_by, sum_by}
 use Rattle.scanner_table.specs.declared.table.ScannerTable.{ScannerTable}
-use Rattle.cip_types.specs.Ids.{connection_id}
+use Rattle.cip_types.specs.Ids.{id_at}
 use Rattle.cip_tables.specs.declared.table.Config.{Config}
 use Rattle.cip_tables.specs.declared.table.DeviceTable.TheVariants.{Scanner}
 use Rattle.segment_world.specs.Transit.Streams.{QueueItem, Opening, Queued, Ending, Side, Stream}
@@ -12,6 +12,7 @@ use Rattle.segment_world.specs.declared.act.Act.{Act}
 use Rattle.segment_world.specs.World.{World}
 use Rattle.device_laws.specs.Requests.{asks_id}
 use Rattle.schedule_laws.specs.Chronicle.{Opened, Chronicle}
+use Rattle.schedule_laws.specs.Lives.{HasNumber}
 use Rattle.schedule_laws.specs.Order.{IsChronicle}
 
 -- HOW OFTEN AN ID IS USED
@@ -43,21 +44,21 @@ uses id streams opened = waiting_count (asks_id id) streams + count_by (has_id i
 
 -- Each T->O id of a scanner is used once at most, and one that the scanner may still allocate is not used.
 pub record IdsAreUsedOnce (w : World) (opened : List Opened) : Type 0 where
-  pub once : (device : ℕ) (t : ScannerTable) (counter : ℕ) → slice_get w.tables device ≡ Some (Scanner t) → counter < 2 ^ 24 → uses (connection_id t.profile.incarnation counter).0 w.streams opened ≤ 1
-  pub unused : (device : ℕ) (t : ScannerTable) (counter : ℕ) → slice_get w.tables device ≡ Some (Scanner t) → t.next_id ≤ counter → counter < 2 ^ 24 → uses (connection_id t.profile.incarnation counter).0 w.streams opened ≡ 0
+  pub once : (device : ℕ) (t : ScannerTable) (number : ℕ) → slice_get w.tables device ≡ Some (Scanner t) → HasNumber (Scanner t) number → uses (id_at t.ids number).0 w.streams opened ≤ 1
+  pub unused : (device : ℕ) (t : ScannerTable) (number : ℕ) → slice_get w.tables device ≡ Some (Scanner t) → t.next_id ≤ number → HasNumber (Scanner t) number → uses (id_at t.ids number).0 w.streams opened ≡ 0
 
 -- So it is in every schedule.
 abbrev pub SchedulesUseIdsOnce : Type 0
 SchedulesUseIdsOnce = (configs : List Config) (acts : List Act) (c : Chronicle) → IsChronicle configs acts c → IdsAreUsedOnce c.story.world c.opened
 
--- the id has the incarnation of a scanner, as the T->O id of a point to point connection has
+-- the id is of the blocks of a scanner, as the T->O id of a point to point connection is
 pub record IsOfScanner (w : World) (id : ℕ) : Type 0 where
   pub device : ℕ
   pub table : ScannerTable
   pub there : slice_get w.tables device ≡ Some (Scanner table)
-  pub counter : ℕ
-  pub below : counter < 2 ^ 24
-  pub is : id ≡ (connection_id table.profile.incarnation counter).0
+  pub number : ℕ
+  pub has : HasNumber (Scanner table) number
+  pub is : id ≡ (id_at table.ids number).0
 
 -- two entries with one T->O id of a scanner are one entry
 abbrev pub OneConnectionHasIt : Chronicle → Type 0

@@ -6,7 +6,7 @@ use Rattle.std.specs.List.{AllByRecursion, Contains}
 use Rattle.cip_types.specs.declared.names.Node.{Node}
 use Rattle.adapter_table.specs.Connections.{Row}
 use Rattle.adapter_table.specs.declared.table.AdapterTable.{AdapterTable}
-use Rattle.cip_types.specs.Ids.{connection_id}
+use Rattle.cip_types.specs.Ids.{id_at}
 use Rattle.adapter_table.specs.Productions.{producer_of}
 use Rattle.adapter_table.specs.Rows.{is_established}
 use Rattle.scanner_table.specs.declared.slot.SlotState.{SlotState}
@@ -21,6 +21,7 @@ use Rattle.device_laws.specs.OwnIds.{IsDrawnId}
 use Rattle.device_laws.specs.Made.{Made}
 use Rattle.device_laws.specs.Productions.{End, end_at, Production}
 use Rattle.schedule_laws.specs.Chronicle.{Opened, opens_row, Acceptance, Chronicle}
+use Rattle.schedule_laws.specs.Lives.{HasNumber}
 use Rattle.schedule_laws.specs.Order.{IsChronicle, IsAdapterAt, IsScannerAt}
 
 -- the device of this place is a scanner, or an adapter
@@ -36,13 +37,14 @@ pub record IsAdapterIn (w : World) (device : ℕ) : Type 0 where
 
 -- the T->O id of a multicast connection: the second id that the opening of its group drew
 pub record IsOfGroup (table : AdapterTable) (e : Opened) : Type 0 where
-  pub id : e.t_o_id ≡ connection_id table.profile.incarnation (e.producer.number + 1)
+  pub has : HasNumber (Adapter table) (e.producer.number + 1)
+  pub id : e.t_o_id ≡ id_at table.ids (e.producer.number + 1)
   pub drawn : e.producer.number + 1 < table.next_id
 
 -- the T->O id of a point to point connection, which has a producer of its own: the scanner that requested it drew it
 pub record IsOwn (w : World) (e : Opened) : Type 0 where
   pub scanner : IsScannerIn w e.slot.device
-  pub id : IsDrawnId scanner.table.profile e.t_o_id.0
+  pub id : IsDrawnId scanner.table.ids e.t_o_id.0
   pub producer : e.producer ≡ e.row
 
 -- An entry of the chronicle: the adapter drew its O->T id for this connection alone, and a slot of a scanner requested it. Its
@@ -50,8 +52,9 @@ pub record IsOwn (w : World) (e : Opened) : Type 0 where
 pub record IsEntry (w : World) (opened : List Opened) (e : Opened) : Type 0 where
   pub table : AdapterTable
   pub there : slice_get w.tables e.row.device ≡ Some (Adapter table)
+  pub has : HasNumber (Adapter table) e.row.number
   pub drawn : e.row.number < table.next_id
-  pub id : e.o_t_id ≡ connection_id table.profile.incarnation e.row.number
+  pub id : e.o_t_id ≡ id_at table.ids e.row.number
   pub scanner : IsScannerIn w e.slot.device
   pub first : find (opens_row e.row) opened ≡ Some e
   pub maker : e.producer.device ≡ e.row.device

@@ -20,8 +20,7 @@ use Rattle.segment_world.specs.declared.act.Act.TheVariants.{Local, Deliver, Nex
 use Rattle.segment_world.specs.declared.act.ActFault.{ActFault}
 use Rattle.segment_world.specs.Story.{events_of}
 use Rattle.segment_world.specs.Configs.{opening_world}
-use Rattle.schedule_laws.specs.Lives.{AreLives}
-use Rattle.schedule_laws.specs.Ids.{AreBytes}
+use Rattle.schedule_laws.specs.Lives.{AreApart, AreLives}
 use Rattle.device_laws.specs.Productions.{end_at, Production}
 use Rattle.schedule_laws.specs.Chronicle.{Acceptance, Chronicle, names, newest, then_act, chronicles, blank}
 
@@ -75,11 +74,11 @@ HalfCircle c (act ∷ acts) = IsNearIn c act × HalfCircle (then_act c act) acts
 
 -- SCHEDULES
 
--- A schedule of a world that begins from configurations of lives, and its chronicle.
+-- A schedule of a world that begins from configurations of lives, and its chronicle; no two devices have blocks with one id.
 pub record IsChronicle (configs : List Config) (acts : List Act) (c : Chronicle) : Type 0 where
   pub lives : AreLives configs
-  pub bytes : AreBytes configs
   pub ran : chronicles (Ok (blank (opening_world configs))) acts ≡ Ok c
+  pub apart : AreApart c.story.world.tables
 
 abbrev pub KeepsHalfCircle : List Config → List Act → Type 0
 KeepsHalfCircle configs acts = HalfCircle (Ok (blank (opening_world configs))) acts

@@ -10,6 +10,7 @@ use Rattle.cip_tables.specs.declared.table.Config.{Config}
 use Rattle.segment_world.specs.declared.act.Act.{Act}
 use Rattle.device_laws.specs.Productions.{End, Production}
 use Rattle.schedule_laws.specs.Chronicle.{Opened, Acceptance, Chronicle, chronicles}
+use Rattle.schedule_laws.specs.Lives.{AreApart}
 use Rattle.schedule_laws.specs.Order.{IsChronicle, IsAdapterAt}
 
 -- ONE PRODUCER
@@ -34,12 +35,13 @@ SchedulesNameOneProducer = (configs : List Config) (acts : List Act) (c : Chroni
 
 -- LATER CONNECTIONS
 
--- two moments of one schedule
+-- two moments of one schedule; no two devices have blocks with one id at the later one
 pub record AreMoments (configs : List Config) (was now : Chronicle) : Type 0 where
   pub early : List Act
   pub late : List Act
   pub first : IsChronicle configs early was
   pub rest : chronicles (Ok was) late ≡ Ok now
+  pub apart : AreApart now.story.world.tables
 
 -- the adapter took the connection's Forward_Open after the earlier moment
 pub record WasOpenedLater (was now : Chronicle) (e : Opened) : Type 0 where

@@ -1,67 +1,55 @@
--- A plant in which devices restart, as a schedule of lives: a life is named by its incarnation byte, with which each id begins that
--- it drew; and a new life takes nothing that was sent before it began, but what a group gives that it joined (Volume 1, chapter 3,
--- network connection ids; Volume 2, chapter 3, multicast connections).
-use Rattle.std.specs.Prelude.{ℕ, ◌≡◌, ◌⊎◌, ◌+◌, ◌*◌, ◌^◌, ◌<◌, List, [], replicate, slice_get, Some}
+-- A plant in which devices restart, as a schedule of lives: a life is named by each id that it drew; and a new life takes
+-- nothing that was sent before it began, but what a group gives that it joined (Volume 1, chapter 3, network connection ids;
+-- Volume 2, chapter 3, multicast connections).
+use Rattle.std.specs.Prelude.{ℕ, ◌≡◌, ◌⊎◌, List, [], replicate, slice_get, Some}
 use Rattle.std.specs.List.{Contains}
 use Rattle.adapter_table.specs.declared.table.AdapterTable.{AdapterTable}
 use Rattle.scanner_table.specs.declared.table.ScannerTable.{ScannerTable}
 use Rattle.scanner_table.specs.Slots.{IndexedSlot, slot_at}
 use Rattle.cip_tables.specs.declared.table.Config.{Config}
 use Rattle.cip_tables.specs.declared.table.DeviceTable.{DeviceTable}
-use Rattle.cip_tables.specs.Step.{incarnation_of, opening_table}
-use Rattle.cip_tables.specs.Whole.{next_id_of}
+use Rattle.cip_tables.specs.Whole.{ids_of, next_id_of}
 use Rattle.segment_world.specs.declared.act.Act.{Act}
 use Rattle.segment_world.specs.Story.{events_of}
+use Rattle.device_laws.specs.Lemmas.Numbered.{IsNumbered}
 use Rattle.device_laws.specs.Productions.{Production}
 use Rattle.schedule_laws.specs.Chronicle.{Acceptance, Chronicle, Opened}
 use Rattle.schedule_laws.specs.Names.{IsOfGroup}
 use Rattle.schedule_laws.specs.Order.{IsAdapterAt, IsChronicle, IsScannerAt}
 use Rattle.schedule_laws.specs.Producers.{AreMoments, HasConnection, WasOpenedLater}
 
--- THE BYTE OF A LIFE
+-- THE IDS OF A LIFE
 
--- the life of this place has this incarnation
-pub record HasByte (configs : List Config) (life byte : ℕ) : Type 0 where
-  pub config : Config
-  pub there : slice_get configs life ≡ Some config
-  pub is : incarnation_of (opening_table config) ≡ byte
-
--- two lives with one byte are one life
-abbrev pub BytesNameLives : List Config → Type 0
-BytesNameLives configs = (a b byte : ℕ) → HasByte configs a byte → HasByte configs b byte → a ≡ b
-
--- the id begins with the byte of the life, which has drawn it: the rest of the id is a counter below the life's next one
-pub record WasDrawnBy (configs : List Config) (c : Chronicle) (life id : ℕ) : Type 0 where
-  pub byte : ℕ
-  pub named : HasByte configs life byte
-  pub counter : ℕ
-  pub is : id ≡ byte * 2 ^ 24 + counter
-  pub ends : counter < 2 ^ 24
+-- the life has drawn the id: a number of its blocks below its next one has it
+pub record WasDrawnBy (c : Chronicle) (life id : ℕ) : Type 0 where
   pub table : DeviceTable
   pub there : slice_get c.story.world.tables life ≡ Some table
-  pub drawn : counter < next_id_of table
+  pub numbered : IsNumbered (ids_of table) 1 (next_id_of table) id
 
 -- so it is of a life
-pub record WasDrawn (configs : List Config) (c : Chronicle) (id : ℕ) : Type 0 where
+pub record WasDrawn (c : Chronicle) (id : ℕ) : Type 0 where
   pub life : ℕ
-  pub by : WasDrawnBy configs c life id
+  pub by : WasDrawnBy c life id
+
+-- two lives that have drawn one id are one life
+abbrev pub IdsNameLives : Chronicle → Type 0
+IdsNameLives c = (a b id : ℕ) → WasDrawnBy c a id → WasDrawnBy c b id → a ≡ b
 
 -- The life whose adapter opened a connection drew its O->T id. That life or the scanner's, whose slot requested it, drew its T->O
 -- id.
-pub record EndsDrewIds (configs : List Config) (c : Chronicle) (e : Opened) : Type 0 where
-  pub o_t : WasDrawnBy configs c e.row.device e.o_t_id.0
-  pub t_o : WasDrawnBy configs c e.row.device e.t_o_id.0 ⊎ WasDrawnBy configs c e.slot.device e.t_o_id.0
+pub record EndsDrewIds (c : Chronicle) (e : Opened) : Type 0 where
+  pub o_t : WasDrawnBy c e.row.device e.o_t_id.0
+  pub t_o : WasDrawnBy c e.row.device e.t_o_id.0 ⊎ WasDrawnBy c e.slot.device e.t_o_id.0
 
--- A byte names one life; and each connection id, of what was produced and of connections that were opened, begins with the byte of
--- a life that drew it.
-pub record BytesNameIds (configs : List Config) (c : Chronicle) : Type 0 where
-  pub lives : BytesNameLives configs
-  pub connections : (e : Opened) → Contains c.opened e → EndsDrewIds configs c e
-  pub productions : (p : Production) → Contains c.produced p → WasDrawn configs c p.made.datagram.connection
+-- An id names one life; and a life drew each connection id, of what was produced and of connections that were opened.
+pub record LivesDrewIds (c : Chronicle) : Type 0 where
+  pub lives : IdsNameLives c
+  pub connections : (e : Opened) → Contains c.opened e → EndsDrewIds c e
+  pub productions : (p : Production) → Contains c.produced p → WasDrawn c p.made.datagram.connection
 
 -- So it is at every moment of every schedule.
-abbrev pub LivesAreNamedByBytes : Type 0
-LivesAreNamedByBytes = (configs : List Config) (acts : List Act) (c : Chronicle) → IsChronicle configs acts c → BytesNameIds configs c
+abbrev pub LivesAreNamedByIds : Type 0
+LivesAreNamedByIds = (configs : List Config) (acts : List Act) (c : Chronicle) → IsChronicle configs acts c → LivesDrewIds c
 
 -- A NEW LIFE
 

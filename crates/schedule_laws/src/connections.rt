@@ -8,7 +8,7 @@ use crate::ids_are_drawn;
 use crate::made_once::an_id_opens_one_connection;
 use adapter_table::laws::profiles_stay;
 use answer_sizes::answers_are_small;
-use cip_tables::laws::{next_id_never_falls, tables_are_whole};
+use cip_tables::laws::{blocks_grow, next_id_never_falls, tables_are_whole};
 use device_laws::{
     a_scanners_streams_come_with_events, answers_send_what_is_made, class3_ids_are_carried,
     connections_keep_their_ids, counters_never_fall, ids_are_carried, openings_are_numbered,
@@ -39,6 +39,7 @@ pub fn connections_join_points()
     tables_are_whole();
     next_id_never_falls();
     profiles_stay();
+    blocks_grow();
     counters_never_fall();
     openings_are_numbered();
     replies_carry_opened_ids();

@@ -6,7 +6,7 @@ ghost use Rattle.schedule_laws.specs.Marks.{SchedulesFollowMarks};
 use crate::ids_are_drawn;
 use crate::made_once::an_id_opens_one_connection;
 use adapter_table::laws::profiles_stay;
-use cip_tables::laws::{next_id_never_falls, tables_are_whole};
+use cip_tables::laws::{blocks_grow, next_id_never_falls, tables_are_whole};
 use device_laws::{
     a_scanners_streams_come_with_events, answers_send_what_is_made, class3_ids_are_carried,
     connections_keep_their_ids, counters_never_fall, devices_send_over_their_streams,
@@ -31,6 +31,7 @@ pub fn devices_stand()
     tables_are_whole();
     next_id_never_falls();
     profiles_stay();
+    blocks_grow();
     counters_never_fall();
     replies_carry_opened_ids();
     connections_keep_their_ids();
@@ -54,6 +55,7 @@ pub fn streams_follow_their_marks()
     tables_are_whole();
     next_id_never_falls();
     profiles_stay();
+    blocks_grow();
     counters_never_fall();
     connections_keep_their_ids();
     a_scanners_streams_come_with_events();

@@ -38,7 +38,7 @@ pub use points::{
     accepted_data_were_written, applied_outputs_are_in_order, images_are_in_order,
     images_hold_accepted_data,
 };
-pub use restarts::{a_life_is_named_by_its_byte, a_new_life_takes_nothing_older};
+pub use restarts::{a_life_is_named_by_its_ids, a_new_life_takes_nothing_older};
 pub use slot_openings::an_opening_number_names_one_slot;
 
 /// Between data of two connections that were applied to one output of an adapter, the first connection was closed or
@@ -77,6 +77,7 @@ pub fn ids_are_drawn()
     tables::tables_are_whole();
     tables::next_id_never_falls();
     adapters::profiles_stay();
+    blocks_grow();
     counters_never_fall();
 }
 
@@ -108,6 +109,7 @@ pub fn later_connections_accept_nothing_sent_before()
     tables::tables_are_whole();
     tables::next_id_never_falls();
     adapters::profiles_stay();
+    blocks_grow();
     counters_never_fall();
 }
 

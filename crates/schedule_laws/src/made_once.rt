@@ -4,7 +4,7 @@ ghost use Rattle.schedule_laws.specs.MadeOnce.{AnIdOpensOneConnection, Schedules
 
 use crate::ids_are_drawn;
 use adapter_table::laws::profiles_stay;
-use cip_tables::laws::{next_id_never_falls, tables_are_whole};
+use cip_tables::laws::{blocks_grow, next_id_never_falls, tables_are_whole};
 use device_laws::{
     class3_ids_are_carried, counters_never_fall, ids_are_carried, new_connections_are_requested,
     plain_devices_stay_plain, replies_carry_opened_ids, scanners_ask_once,
@@ -26,6 +26,7 @@ pub fn ids_are_used_once()
     counters_never_fall();
     next_id_never_falls();
     profiles_stay();
+    blocks_grow();
     scanners_ask_once();
     replies_carry_opened_ids();
     new_connections_are_requested();

@@ -9,7 +9,7 @@ ghost use Rattle.schedule_laws.specs.Producers.{SchedulesNameOneProducer, LaterC
 use crate::ids_are_drawn;
 use crate::made_once::an_id_opens_one_connection;
 use adapter_table::laws::{accepted_datagrams_are_newer, profiles_stay};
-use cip_tables::laws::{next_id_never_falls, tables_are_whole};
+use cip_tables::laws::{blocks_grow, next_id_never_falls, tables_are_whole};
 use device_laws::{
     a_scanners_streams_come_with_events, accepted_numbers_are_newer, answers_send_what_is_made,
     bytes_are_from_scratch, class3_ids_are_carried, connections_keep_their_ids,
@@ -72,6 +72,7 @@ pub fn ids_name_openings()
     tables_are_whole();
     next_id_never_falls();
     profiles_stay();
+    blocks_grow();
     counters_never_fall();
     replies_carry_opened_ids();
     connections_keep_their_ids();
@@ -125,6 +126,7 @@ pub fn an_id_names_one_producer()
     tables_are_whole();
     next_id_never_falls();
     profiles_stay();
+    blocks_grow();
     counters_never_fall();
     replies_carry_opened_ids();
     connections_keep_their_ids();

@@ -10,6 +10,7 @@ use crate::{
 };
 use adapter_table::laws::{accepted_datagrams_are_newer, outputs_hold_what_is_left};
 use cip_datagram::reads_back;
+use cip_tables::laws::blocks_grow;
 use device_laws::{
     accepted_numbers_are_newer, answers_send_what_is_made, openings_are_numbered,
     slots_have_the_ids_of_their_success, slots_produce_their_outputs,
@@ -25,6 +26,7 @@ use device_laws::{
 pub fn applied_outputs_are_in_order()
     ensures { AppliedInOrder }
 {
+    blocks_grow();
     outputs_hold_what_is_left();
     reads_back();
     answers_send_what_is_made();
@@ -85,6 +87,7 @@ pub fn accepted_data_were_written()
     ensures outputs { AcceptedDataWereWritten }
     ensures inputs { GatheredDataWereInput }
 {
+    blocks_grow();
     ids_name_openings();
     slots_produce_their_outputs();
     outputs_are_as_written();

@@ -1,13 +1,13 @@
 //! Lives of devices: a device that restarts is several devices of one schedule. Each call does nothing: its contract is the law.
 
-ghost use Rattle.schedule_laws.specs.Restarts.{LivesAreNamedByBytes, NewLivesTakeNothingOlder};
+ghost use Rattle.schedule_laws.specs.Restarts.{LivesAreNamedByIds, NewLivesTakeNothingOlder};
 
 use crate::ids_are_drawn;
 use crate::made_once::{an_id_opens_one_connection, ids_are_used_once};
 use crate::order::{an_id_names_one_producer, ids_name_openings};
 use crate::points::images_hold_accepted_data;
 use adapter_table::laws::profiles_stay;
-use cip_tables::laws::{next_id_never_falls, tables_are_whole};
+use cip_tables::laws::{blocks_grow, next_id_never_falls, tables_are_whole};
 use device_laws::{
     a_scanners_streams_come_with_events, answers_send_what_is_made, class3_ids_are_carried,
     connections_keep_their_ids, counters_never_fall, ids_are_carried, plain_devices_stay_plain,
@@ -15,12 +15,12 @@ use device_laws::{
     slots_have_the_ids_of_their_success,
 };
 
-/// A life is named by its incarnation byte: two lives with one byte are one life. Each connection id, of what was produced and of
-/// connections that were opened, begins with the byte of a life that has drawn it.
+/// A life is named by each connection id that it has drawn: two lives that have drawn one id are one life. Each connection id, of
+/// what was produced and of connections that were opened, is one that a life has drawn.
 ///
 /// Volume 1, chapter 3, network connection ids.
-pub fn a_life_is_named_by_its_byte()
-    ensures { LivesAreNamedByBytes }
+pub fn a_life_is_named_by_its_ids()
+    ensures { LivesAreNamedByIds }
 {
     answers_send_what_is_made();
     ids_are_drawn();
@@ -30,6 +30,7 @@ pub fn a_life_is_named_by_its_byte()
     tables_are_whole();
     next_id_never_falls();
     profiles_stay();
+    blocks_grow();
     counters_never_fall();
     replies_carry_opened_ids();
     connections_keep_their_ids();

@@ -11,6 +11,7 @@ use Rattle.schedule_laws.specs.Indexes.{ProducedInOrder}
 use Rattle.schedule_laws.specs.MadeOnce.{AnIdOpensOneConnection, SchedulesUseIdsOnce}
 use Rattle.schedule_laws.specs.Marks.{SchedulesFollowMarks}
 use Rattle.schedule_laws.specs.Names.{AnIdNamesOneOpening, SchedulesNameOpenings}
+use Rattle.schedule_laws.specs.Lives.{AreApart}
 use Rattle.schedule_laws.specs.Order.{IsChronicle, ProducedAsWritten}
 use Rattle.schedule_laws.specs.Producers.{SchedulesNameOneProducer}
 use Rattle.schedule_laws.specs.Images.{GatheredInOrder, SchedulesGatherImages}
@@ -41,12 +42,12 @@ runs_chronicle : (configs : List Config) (acts : List Act) (story : Story) → r
 runs_chronicle configs acts story is = has_story (chronicles (Ok (blank (opening_world configs))) acts) story (chronicle_runs acts (Ok (blank (opening_world configs))) ∙ is)
 
 pub have_chronicles : SchedulesHaveChronicles
-have_chronicles hs rs acts faultless bytes settles =
+have_chronicles hs rs acts faultless settles apart =
     let settled = settles.settled in
     let found = runs_chronicle (configs_of hs) acts settled.story settled.runs_so in
     record {
       chronicle = found.chronicle;
-      is = record { lives = worlds_are_lives (configs_of hs) faultless; bytes = bytes; ran = found.is };
+      is = record { lives = worlds_are_lives (configs_of hs) faultless; ran = found.is; apart = subst (λ (s : Story). AreApart s.world.tables) found.story_is apart };
       projects = subst (Projects (events_of_all hs)) found.story_is settled.projects;
       stand = subst (λ (s : Story). AllStand hs s rs) found.story_is settles.stand;
     }
@@ -84,6 +85,6 @@ chronicle_in_order laws configs acts c is = record {
 }
 
 pub lines_in_order : OrderLaws → SettledLinesAreInOrder
-lines_in_order laws hs rs acts faultless bytes settles =
-    let happened = have_chronicles hs rs acts faultless bytes settles in
+lines_in_order laws hs rs acts faultless settles apart =
+    let happened = have_chronicles hs rs acts faultless settles apart in
     record { happened = happened; order = chronicle_in_order laws (configs_of hs) acts happened.chronicle happened.is }

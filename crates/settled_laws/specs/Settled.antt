@@ -6,7 +6,7 @@ use Rattle.device_lock.specs.declared.receipt.Receipt.{Receipt}
 use Rattle.device_lock.specs.Histories.{HistoryValue}
 use Rattle.segment_world.specs.declared.act.Act.{Act}
 use Rattle.segment_world.specs.Configs.{world_fault}
-use Rattle.schedule_laws.specs.Ids.{AreBytes}
+use Rattle.schedule_laws.specs.Lives.{AreApart}
 use Rattle.schedule_laws.specs.Chronicle.{Chronicle}
 use Rattle.schedule_laws.specs.Devices.{DevicesStand}
 use Rattle.schedule_laws.specs.Indexes.{IsWellProduced}
@@ -31,12 +31,12 @@ pub record HasChronicle (hs : List HistoryValue) (rs : List Receipt) (acts : Lis
   pub projects : Projects (events_of_all hs) chronicle.story
   pub stand : AllStand hs chronicle.story rs
 
--- A schedule that settles histories and receipts has a chronicle, if a world can be made of the histories' configurations, and
--- their incarnations are bytes.
+-- A schedule that settles histories and receipts has a chronicle, if a world can be made of the histories' configurations, and no
+-- two devices have connection ids in common at its end.
 abbrev pub SchedulesHaveChronicles : Type 0
 SchedulesHaveChronicles =
-    (hs : List HistoryValue) (rs : List Receipt) (acts : List Act) → world_fault (configs_of hs) ≡ None → AreBytes (configs_of hs) →
-    SettlesAll hs rs acts → HasChronicle hs rs acts
+    (hs : List HistoryValue) (rs : List Receipt) (acts : List Act) → world_fault (configs_of hs) ≡ None →
+    (settles : SettlesAll hs rs acts) → AreApart settles.settled.story.world.tables → HasChronicle hs rs acts
 
 -- THE LAWS OF ORDER
 
@@ -63,5 +63,5 @@ pub record HappenedInOrder (hs : List HistoryValue) (rs : List Receipt) (acts : 
 -- So it is of each schedule that settles histories and receipts.
 abbrev pub SettledLinesAreInOrder : Type 0
 SettledLinesAreInOrder =
-    (hs : List HistoryValue) (rs : List Receipt) (acts : List Act) → world_fault (configs_of hs) ≡ None → AreBytes (configs_of hs) →
-    SettlesAll hs rs acts → HappenedInOrder hs rs acts
+    (hs : List HistoryValue) (rs : List Receipt) (acts : List Act) → world_fault (configs_of hs) ≡ None →
+    (settles : SettlesAll hs rs acts) → AreApart settles.settled.story.world.tables → HappenedInOrder hs rs acts

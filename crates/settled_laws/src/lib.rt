@@ -14,7 +14,7 @@ use schedule_laws::{
 /// A schedule that settles histories and receipts has a chronicle. In its story the events of each device are the device's
 /// history, and each receipt stands at its place with the schedule's answer.
 ///
-/// The histories are of devices of which a world can be made, and whose incarnations are bytes.
+/// The histories are of devices of which a world can be made, and which have no connection ids in common at the schedule's end.
 pub fn settled_schedules_have_chronicles()
     ensures { SchedulesHaveChronicles }
 {}

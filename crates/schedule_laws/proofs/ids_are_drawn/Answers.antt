@@ -10,6 +10,7 @@ returns-clause-schedule c = schedules_keep (record {
   whole = c.tables_are_whole.ensures.run;
   counts = c.next_id_never_falls.ensures.step;
   adapters = c.profiles_stay.ensures;
+  blocks = c.blocks_grow.ensures;
   scanners = c.counters_never_fall.ensures.step;
 })
 

@@ -13,6 +13,7 @@ returns-clause-connections c = later_connections (record {
   whole = c.tables_are_whole.ensures.run;
   counts = c.next_id_never_falls.ensures.step;
   adapters = c.profiles_stay.ensures;
+  blocks = c.blocks_grow.ensures;
   scanners = c.counters_never_fall.ensures.step;
 })
 
@@ -24,6 +25,7 @@ returns-clause-slots c = later_slots (record {
   whole = c.tables_are_whole.ensures.run;
   counts = c.next_id_never_falls.ensures.step;
   adapters = c.profiles_stay.ensures;
+  blocks = c.blocks_grow.ensures;
   scanners = c.counters_never_fall.ensures.step;
 }) c.ids_are_drawn_with_openings.ensures
 
@@ -35,5 +37,6 @@ returns-clause-groups c = later_groups (record {
   whole = c.tables_are_whole.ensures.run;
   counts = c.next_id_never_falls.ensures.step;
   adapters = c.profiles_stay.ensures;
+  blocks = c.blocks_grow.ensures;
   scanners = c.counters_never_fall.ensures.step;
 })

@@ -1,5 +1,5 @@
 -- What an adapter accepts through one connection was produced by the slot's opening whose Forward_Open opened it.
-use Rattle.std.proofs.Common.{◌≡◌, ◌<◌, ◌⊎◌, inl, inr, ℕ, ◌+◌, ◌*◌, ◌^◌, ◌==◌, true, List, [], ◌++◌, find, map, slice_get, Option, Some, None, Result, Ok, Err, refl, sym, ◌∙◌, ap, subst, arith, eqb-true}
+use Rattle.std.proofs.Common.{◌≡◌, ◌<◌, ◌⊎◌, inl, inr, ℕ, ◌+◌, ◌^◌, ◌==◌, true, List, [], ◌++◌, find, map, slice_get, Option, Some, None, Result, Ok, Err, refl, sym, ◌∙◌, ap, subst, eqb-true}
 use Rattle.std.specs.List.{AllByRecursion, Contains}
 use Rattle.std.proofs.lemmas.List.Elements.{Contains-append_left}
 use Rattle.std.proofs.lemmas.Bool.{and_parts}
@@ -30,7 +30,7 @@ use Rattle.device_laws.specs.Lemmas.Lists.{all_both, all_more}
 use Rattle.device_laws.specs.Lemmas.Texts.{same_again}
 use Rattle.device_laws.specs.Productions.{End, end_at, Production}
 use Rattle.device_laws.specs.Lemmas.Reading.{ComesBack, read_as}
-use Rattle.schedule_laws.specs.Ids.{IdsAreDrawn}
+use Rattle.schedule_laws.specs.Ids.{AreDrawnApart}
 use Rattle.schedule_laws.specs.Lemmas.Lists.{all_get}
 use Rattle.schedule_laws.specs.Chronicle.{Opened, opens_row, row_number, state_number, slot_number, names_in, names, Acceptance, accepted_by_verdict, accepted_sent, accepted_by_act}
 use Rattle.schedule_laws.specs.Indexes.{sent_of}
@@ -40,55 +40,38 @@ use Rattle.schedule_laws.specs.Lemmas.Entries.{Later, adapter_back, scanner_back
 use Rattle.device_laws.specs.Lemmas.RowIds.{all_contained}
 use Rattle.schedule_laws.specs.Lemmas.Found.{find_more, found_holds, all_contains}
 use Rattle.schedule_laws.specs.Lemmas.NameActs.{NamedAt}
-use Rattle.schedule_laws.specs.Lemmas.Numbers.{two_numbers, two_rests}
+use Rattle.schedule_laws.specs.Lemmas.Numbers.{IsOne, id_fits, one_id}
 use Rattle.schedule_laws.specs.Lemmas.Addresses.{HaveNodes}
 use Rattle.schedule_laws.specs.Lemmas.ApartIds.{Differ, DifferFromAll}
-use Rattle.schedule_laws.specs.Lemmas.OneProducer.{OpenedOnce, one_producer}
+use Rattle.schedule_laws.specs.Lemmas.OneProducer.{OpenedOnce, one_producer, own_number}
 use Rattle.schedule_laws.specs.Lemmas.NewestActs.{sent_as}
 use Rattle.schedule_laws.specs.Lemmas.Deliveries.{IsDelivery, IsOther, act_kind, IsNoted, verdict_noted}
 
 -- ---- one O->T id, one entry
 
-entry_small : (w : World) (opened : List Opened) (e : Opened) → IdsAreDrawn w → IsEntry w opened e → e.row.number < 16777216
-entry_small w opened e drawn is =
-    let whole = drawn.whole e.row.device (Adapter is.table) is.there in
-    omega (arith, is.drawn, whole.sound.ids_are_left)
-
 -- an entry's id is of 32 bits
-entry_fits : (w : World) (opened : List Opened) (e : Opened) → IdsAreDrawn w → IsEntry w opened e → e.o_t_id.0 < 2 ^ 32
+entry_fits : (w : World) (opened : List Opened) (e : Opened) → AreDrawnApart w → IsEntry w opened e → e.o_t_id.0 < 2 ^ 32
 entry_fits w opened e drawn is =
-    let small = entry_small w opened e drawn is in
-    let byte = drawn.apart.ends e.row.device (Adapter is.table) is.there in
-    let value : e.o_t_id.0 ≡ is.table.profile.incarnation * 16777216 + e.row.number = ap (λ (id : ConnId). id.0) is.id in
-    omega (arith, small, byte, value)
+    subst (λ (id : ConnId). id.0 < 2 ^ 32) (sym is.id) (id_fits w e.row.device (Adapter is.table) e.row.number drawn.ids is.there is.has)
 
 -- and so is its T->O id
-t_o_fit : (w : World) (e : Opened) (t : AdapterTable) → IdsAreDrawn w → slice_get w.tables e.row.device ≡ Some (Adapter t) → IsOfGroup t e ⊎ IsOwn w e → e.t_o_id.0 < 2 ^ 32
+t_o_fit : (w : World) (e : Opened) (t : AdapterTable) → AreDrawnApart w → slice_get w.tables e.row.device ≡ Some (Adapter t) → IsOfGroup t e ⊎ IsOwn w e → e.t_o_id.0 < 2 ^ 32
 t_o_fit w e t drawn at (inl group) =
-    let whole = drawn.whole e.row.device (Adapter t) at in
-    let byte = drawn.apart.ends e.row.device (Adapter t) at in
-    let value : e.t_o_id.0 ≡ t.profile.incarnation * 16777216 + (e.producer.number + 1) = ap (λ (id : ConnId). id.0) group.id in
-    omega (arith, group.drawn, whole.sound.ids_are_left, byte, value)
+    subst (λ (id : ConnId). id.0 < 2 ^ 32) (sym group.id) (id_fits w e.row.device (Adapter t) (e.producer.number + 1) drawn.ids at group.has)
 t_o_fit w e t drawn at (inr own) =
     let scanner = own.scanner in
     let id = own.id in
-    let byte = drawn.apart.ends e.slot.device (Scanner scanner.table) scanner.is in
-    let value : e.t_o_id.0 ≡ scanner.table.profile.incarnation * 16777216 + id.counter = id.is in
-    omega (arith, id.ends, byte, value)
+    subst (λ (n : ℕ). n < 2 ^ 32) (sym id.is) (id_fits w e.slot.device (Scanner scanner.table) id.number drawn.ids scanner.is (own_number w e own))
 
-pub t_o_fits : (w : World) (opened : List Opened) (e : Opened) → IdsAreDrawn w → IsEntry w opened e → e.t_o_id.0 < 2 ^ 32
+pub t_o_fits : (w : World) (opened : List Opened) (e : Opened) → AreDrawnApart w → IsEntry w opened e → e.t_o_id.0 < 2 ^ 32
 t_o_fits w opened e drawn is = t_o_fit w e is.table drawn is.there is.t_o
 
-pub entries_same : (w : World) (opened : List Opened) (e f : Opened) → IdsAreDrawn w → IsEntry w opened e → IsEntry w opened f → e.o_t_id.0 ≡ f.o_t_id.0 → e ≡ f
+pub entries_same : (w : World) (opened : List Opened) (e f : Opened) → AreDrawnApart w → IsEntry w opened e → IsEntry w opened f → e.o_t_id.0 ≡ f.o_t_id.0 → e ≡ f
 entries_same w opened e f drawn one two same =
-    let x = entry_small w opened e drawn one in
-    let y = entry_small w opened f drawn two in
-    let value : one.table.profile.incarnation * 16777216 + e.row.number ≡ two.table.profile.incarnation * 16777216 + f.row.number =
-    sym (ap (λ (id : ConnId). id.0) one.id) ∙ same ∙ ap (λ (id : ConnId). id.0) two.id in
-    let byte = two_numbers one.table.profile.incarnation two.table.profile.incarnation e.row.number f.row.number x y value in
-    let device : e.row.device ≡ f.row.device = drawn.apart.differ e.row.device f.row.device (Adapter one.table) (Adapter two.table) one.there two.there byte in
-    let number = two_rests one.table.profile.incarnation two.table.profile.incarnation e.row.number f.row.number byte value in
-    let row : e.row ≡ f.row = ap (λ (d : ℕ). end_at d e.row.number) device ∙ ap (end_at f.row.device) number in
+    let is : IsOne e.row.device f.row.device e.row.number f.row.number =
+    one_id w e.row.device f.row.device (Adapter one.table) (Adapter two.table) e.row.number f.row.number drawn.ids drawn.apart one.there two.there
+    one.has two.has (sym (ap (λ (id : ConnId). id.0) one.id) ∙ same ∙ ap (λ (id : ConnId). id.0) two.id) in
+    let row : e.row ≡ f.row = ap (λ (d : ℕ). end_at d e.row.number) is.device ∙ ap (end_at f.row.device) is.number in
     same_Some e f (sym one.first ∙ ap (λ (x : End). find (opens_row x) opened) row ∙ two.first)
 
 -- ---- a datagram for a connection
@@ -124,7 +107,7 @@ row_id w p d row passes =
     let two = and_parts (row.peer.0 == (node_at w p.producer.device).0) (row.o_t_id.0 == d.connection) parts.1 in
     eqb-true row.o_t_id.0 d.connection two.1
 
-row_of_opening : (w : World) (opened : List Opened) (produced : List Production) (device : ℕ) (t : AdapterTable) (p : Production) (d : DatagramFields) (row : Row) (maker : DeviceTable) → NamedAt w opened produced → IdsAreDrawn w → slice_get w.tables p.producer.device ≡ Some maker → IsOfEntry w opened p → ComesBack p.made.datagram d → is_for (node_at w p.producer.device) d.connection row ≡ true → HasEntry w opened device row → IsOfOpening opened device row.opening p
+row_of_opening : (w : World) (opened : List Opened) (produced : List Production) (device : ℕ) (t : AdapterTable) (p : Production) (d : DatagramFields) (row : Row) (maker : DeviceTable) → NamedAt w opened produced → AreDrawnApart w → slice_get w.tables p.producer.device ≡ Some maker → IsOfEntry w opened p → ComesBack p.made.datagram d → is_for (node_at w p.producer.device) d.connection row ≡ true → HasEntry w opened device row → IsOfOpening opened device row.opening p
 row_of_opening w opened produced device t p d row (Scanner s) named drawn at has back passes entry =
     let e = entry.entry in
     let is : IsEntry w opened e = found_holds (IsEntry w opened) (opens_row (end_at device row.opening)) opened e named.entries entry.found in
@@ -144,7 +127,7 @@ row_of_opening w opened produced device t p d row (Adapter u) named drawn at has
     let read = read_id p d f.t_o_id.0 back from.t_o_is (t_o_fits w opened f drawn other) in
     absurd (never_equal w opened produced e f named there from.there (ap (λ (x : ConnId). x.0) entry.o_t ∙ row_id w p d row passes ∙ read ∙ sym from.t_o_is))
 
-named_row : (w : World) (opened : List Opened) (produced : List Production) (device : ℕ) (t : AdapterTable) (p : Production) (d : DatagramFields) (found : Option Row) (number : ℕ) → NamedAt w opened produced → IdsAreDrawn w → IsDeviceOf w p → IsOfEntry w opened p → ComesBack p.made.datagram d → AllByRecursion (HasEntry w opened device) t.rows → find (is_for (node_at w p.producer.device) d.connection) t.rows ≡ found → row_number found ≡ Some number → IsOfOpening opened device number p
+named_row : (w : World) (opened : List Opened) (produced : List Production) (device : ℕ) (t : AdapterTable) (p : Production) (d : DatagramFields) (found : Option Row) (number : ℕ) → NamedAt w opened produced → AreDrawnApart w → IsDeviceOf w p → IsOfEntry w opened p → ComesBack p.made.datagram d → AllByRecursion (HasEntry w opened device) t.rows → find (is_for (node_at w p.producer.device) d.connection) t.rows ≡ found → row_number found ≡ Some number → IsOfOpening opened device number p
 named_row w opened produced device t p d None number named drawn maker has back rows is names = absurd (let e = names in cc)
 named_row w opened produced device t p d (Some row) number named drawn maker has back rows is names =
     let test = is_for (node_at w p.producer.device) d.connection in
@@ -154,7 +137,7 @@ named_row w opened produced device t p d (Some row) number named drawn maker has
     some_number : (a b : ℕ) → Some a ≡ Some b → a ≡ b
     some_number a b e = cc
 
-named_reading : (w : World) (opened : List Opened) (produced : List Production) (device : ℕ) (t : AdapterTable) (p : Production) (reading : Result DatagramFields DatagramFault) (number : ℕ) → NamedAt w opened produced → IdsAreDrawn w → IsDeviceOf w p → IsOfEntry w opened p → AllByRecursion (HasEntry w opened device) t.rows → datagram_reading (datagram_text p.made.datagram) ≡ reading → names_in (Adapter t) (node_at w p.producer.device) reading ≡ Some number → IsOfOpening opened device number p
+named_reading : (w : World) (opened : List Opened) (produced : List Production) (device : ℕ) (t : AdapterTable) (p : Production) (reading : Result DatagramFields DatagramFault) (number : ℕ) → NamedAt w opened produced → AreDrawnApart w → IsDeviceOf w p → IsOfEntry w opened p → AllByRecursion (HasEntry w opened device) t.rows → datagram_reading (datagram_text p.made.datagram) ≡ reading → names_in (Adapter t) (node_at w p.producer.device) reading ≡ Some number → IsOfOpening opened device number p
 named_reading w opened produced device t p (Err why) number named drawn maker has rows is names = absurd (let e = names in cc)
 named_reading w opened produced device t p (Ok d) number named drawn maker has rows is names =
     named_row w opened produced device t p d (find (is_for (node_at w p.producer.device) d.connection) t.rows) number named drawn maker has (read_as p.made.datagram d is) rows refl names
@@ -166,7 +149,7 @@ entry_of w opened produced index p named there = record {
 }
 
 -- a production that names a connection of an adapter is of its opening
-named_production : (w : World) (opened : List Opened) (produced : List Production) (device index : ℕ) (t : AdapterTable) (p : Production) (number : ℕ) → NamedAt w opened produced → HaveNodes w produced → IdsAreDrawn w → slice_get w.tables device ≡ Some (Adapter t) → slice_get produced index ≡ Some p → names (Adapter t) (sent_of w p) ≡ Some number → IsOfOpening opened device number p
+named_production : (w : World) (opened : List Opened) (produced : List Production) (device index : ℕ) (t : AdapterTable) (p : Production) (number : ℕ) → NamedAt w opened produced → HaveNodes w produced → AreDrawnApart w → slice_get w.tables device ≡ Some (Adapter t) → slice_get produced index ≡ Some p → names (Adapter t) (sent_of w p) ≡ Some number → IsOfOpening opened device number p
 named_production w opened produced device index t p number named have drawn at there names =
     let maker = all_get (λ (q : Production). IsDeviceIn w q.producer.device) produced index p have.makers there in
     let table : AdapterIsNamed w opened device t = named.tables device (Adapter t) at in
@@ -189,7 +172,7 @@ slot_id w p d place c passes is_open =
     let parts = and_parts (is_with (node_at w p.producer.device) place) (state_consumes (record { 0 = d.connection }) place.slot.state) passes in
     eqb-true c.link.t_o_id.0 d.connection (subst (λ (s : SlotState). state_consumes (record { 0 = d.connection }) s ≡ true) is_open parts.1)
 
-entry_of_slot : (w : World) (opened : List Opened) (produced : List Production) (device : ℕ) (p : Production) (d : DatagramFields) (place : IndexedSlot) (c : SlotConnection) (maker : DeviceTable) → NamedAt w opened produced → OpenedOnce w opened → IdsAreDrawn w → slice_get w.tables p.producer.device ≡ Some maker → IsOfEntry w opened p → ComesBack p.made.datagram d → is_for_slot (node_at w p.producer.device) d.connection place ≡ true → place.slot.state ≡ Established c → SlotHasEntry w opened device place → IsOfSlot opened device c.opening p
+entry_of_slot : (w : World) (opened : List Opened) (produced : List Production) (device : ℕ) (p : Production) (d : DatagramFields) (place : IndexedSlot) (c : SlotConnection) (maker : DeviceTable) → NamedAt w opened produced → OpenedOnce w opened → AreDrawnApart w → slice_get w.tables p.producer.device ≡ Some maker → IsOfEntry w opened p → ComesBack p.made.datagram d → is_for_slot (node_at w p.producer.device) d.connection place ≡ true → place.slot.state ≡ Established c → SlotHasEntry w opened device place → IsOfSlot opened device c.opening p
 entry_of_slot w opened produced device p d place c (Adapter t) named once drawn maker has back passes is_open entry =
     let at : IsOpenedAt w opened place.config.target (end_at device c.opening) c.link.o_t_id.0 c.link.t_o_id.0 = subst (StateHasEntry w opened device place.config.target) is_open entry in
     let by = at.opening in
@@ -213,7 +196,7 @@ entry_of_slot w opened produced device p d place c (Scanner t) named once drawn 
     let read = read_id p d f.o_t_id.0 back opening.o_t_is (entry_fits w opened f drawn other) in
     absurd (never_equal w opened produced f e named opening.there by.there (opening.o_t_is ∙ sym read ∙ sym (slot_id w p d place c passes is_open) ∙ sym by.t_o_is))
 
-open_place : (w : World) (opened : List Opened) (produced : List Production) (device : ℕ) (p : Production) (d : DatagramFields) (place : IndexedSlot) (state : SlotState) (number : ℕ) → NamedAt w opened produced → OpenedOnce w opened → IdsAreDrawn w → IsDeviceOf w p → IsOfEntry w opened p → ComesBack p.made.datagram d → is_for_slot (node_at w p.producer.device) d.connection place ≡ true → SlotHasEntry w opened device place → place.slot.state ≡ state → state_number state ≡ Some number → IsOfSlot opened device number p
+open_place : (w : World) (opened : List Opened) (produced : List Production) (device : ℕ) (p : Production) (d : DatagramFields) (place : IndexedSlot) (state : SlotState) (number : ℕ) → NamedAt w opened produced → OpenedOnce w opened → AreDrawnApart w → IsDeviceOf w p → IsOfEntry w opened p → ComesBack p.made.datagram d → is_for_slot (node_at w p.producer.device) d.connection place ≡ true → SlotHasEntry w opened device place → place.slot.state ≡ state → state_number state ≡ Some number → IsOfSlot opened device number p
 open_place w opened produced device p d place Idle number named once drawn maker has back passes entry is names = absurd (let e = names in cc)
 open_place w opened produced device p d place (Opening o) number named once drawn maker has back passes entry is names = absurd (let e = names in cc)
 open_place w opened produced device p d place (Established c) number named once drawn maker has back passes entry is names =
@@ -221,7 +204,7 @@ open_place w opened produced device p d place (Established c) number named once 
 open_place w opened produced device p d place (TimedOut link) number named once drawn maker has back passes entry is names = absurd (let e = names in cc)
 open_place w opened produced device p d place (Closing c) number named once drawn maker has back passes entry is names = absurd (let e = names in cc)
 
-named_place : (w : World) (opened : List Opened) (produced : List Production) (device : ℕ) (t : ScannerTable) (p : Production) (d : DatagramFields) (found : Option IndexedSlot) (number : ℕ) → NamedAt w opened produced → OpenedOnce w opened → IdsAreDrawn w → IsDeviceOf w p → IsOfEntry w opened p → ComesBack p.made.datagram d → AllByRecursion (SlotHasEntry w opened device) (indexed_slots t) → find (is_for_slot (node_at w p.producer.device) d.connection) (indexed_slots t) ≡ found → slot_number found ≡ Some number → IsOfSlot opened device number p
+named_place : (w : World) (opened : List Opened) (produced : List Production) (device : ℕ) (t : ScannerTable) (p : Production) (d : DatagramFields) (found : Option IndexedSlot) (number : ℕ) → NamedAt w opened produced → OpenedOnce w opened → AreDrawnApart w → IsDeviceOf w p → IsOfEntry w opened p → ComesBack p.made.datagram d → AllByRecursion (SlotHasEntry w opened device) (indexed_slots t) → find (is_for_slot (node_at w p.producer.device) d.connection) (indexed_slots t) ≡ found → slot_number found ≡ Some number → IsOfSlot opened device number p
 named_place w opened produced device t p d None number named once drawn maker has back slots is names = absurd (let e = names in cc)
 named_place w opened produced device t p d (Some place) number named once drawn maker has back slots is names =
     let test = is_for_slot (node_at w p.producer.device) d.connection in
@@ -229,13 +212,13 @@ named_place w opened produced device t p d (Some place) number named once drawn 
     (found_passes (is_for_slot (node_at w p.producer.device) d.connection) (indexed_slots t) place is)
     (found_holds (SlotHasEntry w opened device) (is_for_slot (node_at w p.producer.device) d.connection) (indexed_slots t) place slots is) refl names
 
-slot_reading : (w : World) (opened : List Opened) (produced : List Production) (device : ℕ) (t : ScannerTable) (p : Production) (reading : Result DatagramFields DatagramFault) (number : ℕ) → NamedAt w opened produced → OpenedOnce w opened → IdsAreDrawn w → IsDeviceOf w p → IsOfEntry w opened p → AllByRecursion (SlotHasEntry w opened device) (indexed_slots t) → datagram_reading (datagram_text p.made.datagram) ≡ reading → names_in (Scanner t) (node_at w p.producer.device) reading ≡ Some number → IsOfSlot opened device number p
+slot_reading : (w : World) (opened : List Opened) (produced : List Production) (device : ℕ) (t : ScannerTable) (p : Production) (reading : Result DatagramFields DatagramFault) (number : ℕ) → NamedAt w opened produced → OpenedOnce w opened → AreDrawnApart w → IsDeviceOf w p → IsOfEntry w opened p → AllByRecursion (SlotHasEntry w opened device) (indexed_slots t) → datagram_reading (datagram_text p.made.datagram) ≡ reading → names_in (Scanner t) (node_at w p.producer.device) reading ≡ Some number → IsOfSlot opened device number p
 slot_reading w opened produced device t p (Err why) number named once drawn maker has slots is names = absurd (let e = names in cc)
 slot_reading w opened produced device t p (Ok d) number named once drawn maker has slots is names =
     named_place w opened produced device t p d (find (is_for_slot (node_at w p.producer.device) d.connection) (indexed_slots t)) number named once drawn maker has (read_as p.made.datagram d is) slots refl names
 
 -- a production that names a slot's opening has the id of its entry
-slot_production : (w : World) (opened : List Opened) (produced : List Production) (device index : ℕ) (t : ScannerTable) (p : Production) (number : ℕ) → NamedAt w opened produced → HaveNodes w produced → OpenedOnce w opened → IdsAreDrawn w → slice_get w.tables device ≡ Some (Scanner t) → slice_get produced index ≡ Some p → names (Scanner t) (sent_of w p) ≡ Some number → IsOfSlot opened device number p
+slot_production : (w : World) (opened : List Opened) (produced : List Production) (device index : ℕ) (t : ScannerTable) (p : Production) (number : ℕ) → NamedAt w opened produced → HaveNodes w produced → OpenedOnce w opened → AreDrawnApart w → slice_get w.tables device ≡ Some (Scanner t) → slice_get produced index ≡ Some p → names (Scanner t) (sent_of w p) ≡ Some number → IsOfSlot opened device number p
 slot_production w opened produced device index t p number named have once drawn at there names =
     let maker = all_get (λ (q : Production). IsDeviceIn w q.producer.device) produced index p have.makers there in
     let table : ScannerIsNamed w opened device t = named.tables device (Scanner t) at in
@@ -279,7 +262,7 @@ contained : (produced : List Production) (index : ℕ) (p : Production) → slic
 contained produced index p at = all_get (Contains produced) produced index p (all_contained produced [] produced refl) at
 
 -- what the chronicle notes of a delivery to this device
-noted_of_opening : (w : World) (opened : List Opened) (produced : List Production) (device index : ℕ) (t : DeviceTable) (p : Production) (mine : List Acceptance) (verdict : Verdict) → NamedAt w opened produced → HaveNodes w produced → OpenedOnce w opened → IdsAreDrawn w → slice_get w.tables device ≡ Some t → slice_get produced index ≡ Some p → (mine ≡ []) ⊎ IsNoted device p (names t (sent_of w p)) verdict mine → AreOfOpenings w opened produced mine
+noted_of_opening : (w : World) (opened : List Opened) (produced : List Production) (device index : ℕ) (t : DeviceTable) (p : Production) (mine : List Acceptance) (verdict : Verdict) → NamedAt w opened produced → HaveNodes w produced → OpenedOnce w opened → AreDrawnApart w → slice_get w.tables device ≡ Some t → slice_get produced index ≡ Some p → (mine ≡ []) ⊎ IsNoted device p (names t (sent_of w p)) verdict mine → AreOfOpenings w opened produced mine
 noted_of_opening w opened produced device index t p mine verdict named have once drawn at there (inl none) = subst (AreOfOpenings w opened produced) (sym none) tt
 noted_of_opening w opened produced device index t p mine verdict named have once drawn at there (inr noted) =
     subst (AreOfOpenings w opened produced) (sym noted.mine_is) (record { of_opening = opening_is; of_entry = entry_is; was_produced = contained produced index p there }, tt)
@@ -298,7 +281,7 @@ noted_of_opening w opened produced device index t p mine verdict named have once
 
 -- ---- an event
 
-delivery_of_opening : (w new : World) (opened more : List Opened) (produced now : List Production) (accepted : List Acceptance) (act : Act) (reported : ReportedEvent) (t : DeviceTable) → slice_get w.tables reported.device ≡ Some t → w.sent ≡ map (sent_of w) produced → NamedAt w opened produced → HaveNodes w produced → OpenedOnce w opened → IdsAreDrawn w → Later w new → Grows produced now → AreOfOpenings w opened produced accepted → IsDelivery w act reported → AreOfOpenings new (opened ++ more) now (accepted_by_act w produced act reported.answer.verdict ++ accepted)
+delivery_of_opening : (w new : World) (opened more : List Opened) (produced now : List Production) (accepted : List Acceptance) (act : Act) (reported : ReportedEvent) (t : DeviceTable) → slice_get w.tables reported.device ≡ Some t → w.sent ≡ map (sent_of w) produced → NamedAt w opened produced → HaveNodes w produced → OpenedOnce w opened → AreDrawnApart w → Later w new → Grows produced now → AreOfOpenings w opened produced accepted → IsDelivery w act reported → AreOfOpenings new (opened ++ more) now (accepted_by_act w produced act reported.answer.verdict ++ accepted)
 delivery_of_opening w new opened more produced now accepted act reported t at sent named have once drawn later grows all del =
     let found = sent_as w produced del.index del.sent (ap (λ (xs : List Sent). slice_get xs del.index) (sym sent) ∙ del.there) in
     let p = found.production in
@@ -313,7 +296,7 @@ delivery_of_opening w new opened more produced now accepted act reported t at se
     openings_later w new opened more produced now (accepted_by_act w produced act verdict ++ accepted) later grows
     (all_both (IsAccepted w opened produced) (accepted_by_act w produced act verdict) accepted (subst (AreOfOpenings w opened produced) (sym noted) mine) all)
 
-pub event_of_opening : (w new : World) (opened more : List Opened) (produced now : List Production) (accepted : List Acceptance) (act : Act) (reported : ReportedEvent) (t : DeviceTable) → happens w act ≡ Ok (Some reported, new) → slice_get w.tables reported.device ≡ Some t → w.sent ≡ map (sent_of w) produced → NamedAt w opened produced → HaveNodes w produced → OpenedOnce w opened → IdsAreDrawn w → Later w new → Grows produced now → AreOfOpenings w opened produced accepted → AreOfOpenings new (opened ++ more) now (accepted_by_act w produced act reported.answer.verdict ++ accepted)
+pub event_of_opening : (w new : World) (opened more : List Opened) (produced now : List Production) (accepted : List Acceptance) (act : Act) (reported : ReportedEvent) (t : DeviceTable) → happens w act ≡ Ok (Some reported, new) → slice_get w.tables reported.device ≡ Some t → w.sent ≡ map (sent_of w) produced → NamedAt w opened produced → HaveNodes w produced → OpenedOnce w opened → AreDrawnApart w → Later w new → Grows produced now → AreOfOpenings w opened produced accepted → AreOfOpenings new (opened ++ more) now (accepted_by_act w produced act reported.answer.verdict ++ accepted)
 event_of_opening w new opened more produced now accepted act reported t is at sent named have once drawn later grows all = kind (act_kind w produced act reported new is) where
   kind : IsDelivery w act reported ⊎ IsOther w produced act reported → AreOfOpenings new (opened ++ more) now (accepted_by_act w produced act reported.answer.verdict ++ accepted)
   kind (inl del) = delivery_of_opening w new opened more produced now accepted act reported t at sent named have once drawn later grows all del

@@ -5,6 +5,7 @@ use Rattle.segment_world.specs.declared.act.Act.{Act}
 use Rattle.segment_world.specs.declared.act.ActFault.{ActFault}
 use Rattle.segment_world.specs.Configs.{opening_world}
 use Rattle.schedule_laws.specs.Chronicle.{after_act, blank, Chronicle, chronicles, then_act}
+use Rattle.schedule_laws.specs.Lives.{AreApart}
 use Rattle.schedule_laws.specs.Order.{IsChronicle}
 
 pub acts_after : (so_far : Result Chronicle ActFault) (acts more : List Act) → chronicles so_far (acts ++ more) ≡ chronicles (chronicles so_far acts) more
@@ -16,11 +17,11 @@ pub one_act : (so_far : Result Chronicle ActFault) (act : Act) → chronicles so
 unfolding chronicles
 one_act so_far act = refl
 
-pub more_acts : (configs : List Config) (acts : List Act) (c next : Chronicle) (act : Act) → IsChronicle configs acts c → after_act c act ≡ Ok next → IsChronicle configs (acts ++ act ∷ []) next
-more_acts configs acts c next act is goes = record {
+pub more_acts : (configs : List Config) (acts : List Act) (c next : Chronicle) (act : Act) → IsChronicle configs acts c → after_act c act ≡ Ok next → AreApart next.story.world.tables → IsChronicle configs (acts ++ act ∷ []) next
+more_acts configs acts c next act is goes apart = record {
   lives = is.lives;
-  bytes = is.bytes;
   ran = acts_after (Ok (blank (opening_world configs))) acts (act ∷ []) ∙ ap (λ (s : Result Chronicle ActFault). chronicles s (act ∷ [])) is.ran ∙ one_act (Ok c) act ∙ goes;
+  apart = apart;
 }
 
 -- ---- a chronicle of a schedule
@@ -30,21 +31,21 @@ pub record Reached (configs : List Config) (c : Chronicle) : Type 0 where
   pub acts : List Act
   pub is : IsChronicle configs acts c
 
-pub reached_by : (configs : List Config) (c next : Chronicle) (act : Act) → Reached configs c → after_act c act ≡ Ok next → Reached configs next
-reached_by configs c next act r goes = record { acts = r.acts ++ act ∷ []; is = more_acts configs r.acts c next act r.is goes }
+-- of a chronicle in which no two devices have blocks with one id
+abbrev pub WhereApart : (Chronicle → Type 0) → Chronicle → Type 0
+WhereApart I c = AreApart c.story.world.tables → I c
 
-reached_step : (configs : List Config) (c : Chronicle) (act : Act) (said : Result Chronicle ActFault) → after_act c act ≡ said → Reached configs c → IfOk said (Reached configs)
+pub reached_by : (configs : List Config) (c next : Chronicle) (act : Act) → Reached configs c → after_act c act ≡ Ok next → AreApart next.story.world.tables → Reached configs next
+reached_by configs c next act r goes apart = record { acts = r.acts ++ act ∷ []; is = more_acts configs r.acts c next act r.is goes apart }
+
+reached_step : (configs : List Config) (c : Chronicle) (act : Act) (said : Result Chronicle ActFault) → after_act c act ≡ said → Reached configs c → IfOk said (WhereApart (Reached configs))
 reached_step configs c act (Err fault) is r = tt
-reached_step configs c act (Ok next) is r = reached_by configs c next act r is
+reached_step configs c act (Ok next) is r = λ apart. reached_by configs c next act r is apart
 
-pub reached_after : (configs : List Config) (c : Chronicle) (act : Act) → Reached configs c → IfOk (after_act c act) (Reached configs)
+pub reached_after : (configs : List Config) (c : Chronicle) (act : Act) → Reached configs c → IfOk (after_act c act) (WhereApart (Reached configs))
 reached_after configs c act r = reached_step configs c act (after_act c act) refl r
 
-pub reached_keeps : (configs : List Config) (so_far : Result Chronicle ActFault) (act : Act) → IfOk so_far (Reached configs) → IfOk (then_act so_far act) (Reached configs)
-reached_keeps configs (Err fault) act r = tt
-reached_keeps configs (Ok c) act r = reached_after configs c act r
-
 -- before any act
-pub nothing_yet : (configs : List Config) (acts : List Act) (c : Chronicle) → IsChronicle configs acts c → IsChronicle configs [] (blank (opening_world configs))
+pub nothing_yet : (configs : List Config) (acts : List Act) (c : Chronicle) → IsChronicle configs acts c → AreApart (opening_world configs).tables → IsChronicle configs [] (blank (opening_world configs))
 unfolding chronicles
-nothing_yet configs acts c is = record { lives = is.lives; bytes = is.bytes; ran = refl }
+nothing_yet configs acts c is apart = record { lives = is.lives; ran = refl; apart = apart }

@@ -18,20 +18,19 @@ use Rattle.cip_events.specs.declared.event.Frame.{Frame}
 use Rattle.cip_events.specs.declared.event.Recipient.TheVariants as recipient
 use Rattle.cip_fwdopen.specs.declared.reply.Opened as made
 use Rattle.cip_fwdopen.specs.Open.{OpenFields}
-use Rattle.adapter_table.specs.declared.profile.Profile.{Profile}
 use Rattle.adapter_table.specs.Connections.{Row}
 use Rattle.adapter_table.specs.declared.table.AdapterTable.{AdapterTable}
 use Rattle.adapter_table.specs.declared.table.Stream as adapter_stream
 use Rattle.adapter_table.specs.Checks.{is_multicast}
 use Rattle.adapter_table.specs.Newest.{was_opened_as}
-use Rattle.cip_types.specs.Ids.{connection_id}
+use Rattle.cip_types.specs.Ids.{end_number, id_at}
+use Rattle.cip_types.specs.declared.ids.IdBlock.{IdBlock}
 use Rattle.adapter_table.specs.Productions.{producer_of}
 use Rattle.adapter_table.specs.Rows.{Each}
-use Rattle.adapter_table.specs.Sound.{IdsAreDrawn, MulticastIdIsDrawn, MulticastIdsAreDrawn}
+use Rattle.adapter_table.specs.Sound.{IdsAreDrawn, IsDrawn, MulticastIdIsDrawn, MulticastIdsAreDrawn}
 use Rattle.adapter_table.specs.Streams.{is_stream}
 use Rattle.cip_netparams.specs.Word.{is_message_trigger}
 use Rattle.cip_router.specs.Requests.{router_request_reading}
-use Rattle.scanner_table.specs.declared.profile.ScannerProfile.{ScannerProfile}
 use Rattle.cip_tables.specs.declared.table.DeviceTable.{DeviceTable}
 use Rattle.cip_tables.specs.declared.table.DeviceTable.TheVariants.{Adapter, Scanner}
 use Rattle.segment_world.specs.World.{World, node_at}
@@ -51,6 +50,8 @@ use Rattle.schedule_laws.specs.Names.{IsScannerIn, IsOfGroup, IsOwn, IsEntry, Ha
 use Rattle.schedule_laws.specs.Streams.{Ends, ends_of, Waiting, IsBetween, IsOver}
 use Rattle.device_laws.specs.Lemmas.Books.{is_other, is_the_end}
 use Rattle.schedule_laws.specs.Lemmas.Entries.{AdapterStays, own_later, Later, scanner_later, node_later, has_later, over_later, Waits, IsKnown, known_later, AdapterIsNamed, successes_more}
+use Rattle.schedule_laws.specs.Lives.{HasNumber}
+use Rattle.schedule_laws.specs.Lemmas.Numbers.{id_later, number_later}
 use Rattle.schedule_laws.specs.Lemmas.Found.{find_last, found_holds, all_contains, seen_at}
 use Rattle.schedule_laws.specs.Lemmas.StreamActs.{SentOver, FrameSent, FrameArrives, OpeningArrives, EventArrives}
 
@@ -102,14 +103,15 @@ Opens w device t u n bytes other more = OpensNone t u more ⊎ OpensOne w device
 opening_below : (profile_rows : List Row) (next : ℕ) (row : Row) → AllByRecursion (λ (r : Row). r.opening < next) profile_rows → Contains profile_rows row → row.opening < next
 opening_below rows next row all there = all_contains (λ (r : Row). r.opening < next) rows row all there
 
-pub drawn_below : (t : AdapterTable) → IdsAreDrawn t.profile t.next_id t.rows → AllByRecursion (λ (r : Row). r.opening < t.next_id) t.rows
-drawn_below t drawn = below t.rows drawn where
-  below : (rows : List Row) → IdsAreDrawn t.profile t.next_id rows → AllByRecursion (λ (r : Row). r.opening < t.next_id) rows
-  below [] drawn = tt
-  below (row ∷ rows) drawn = (drawn.1, below rows drawn.2)
+each_all : (P : Row → Type 0) (rows : List Row) → Each P rows → AllByRecursion P rows
+each_all P [] all = tt
+each_all P (row ∷ rows) all = (all.0, each_all P rows all.1)
+
+pub drawn_below : (t : AdapterTable) → IdsAreDrawn t.ids t.next_id t.rows → AllByRecursion (λ (r : Row). r.opening < t.next_id) t.rows
+drawn_below t drawn = all_more (IsDrawn t.ids t.next_id) (λ (r : Row). r.opening < t.next_id) (λ row is. is.below) t.rows (each_all (IsDrawn t.ids t.next_id) t.rows drawn)
 
 -- what is new was requested in the event's frame
-pub requested_by : (t u : AdapterTable) (n : ℕ) (bytes : List ℕ) (row : Row) → IdsAreDrawn t.profile t.next_id t.rows → was_opened_as t.next_id row ≡ true → RowCame t u (event.Frame n bytes) row → IsNewOver t u n bytes row
+pub requested_by : (t u : AdapterTable) (n : ℕ) (bytes : List ℕ) (row : Row) → IdsAreDrawn t.ids t.next_id t.rows → was_opened_as t.next_id row ≡ true → RowCame t u (event.Frame n bytes) row → IsNewOver t u n bytes row
 requested_by t u n bytes row drawn passes (inl was) =
     let below = opening_below t.rows t.next_id was.old (drawn_below t drawn) was.there in
     let same = was.same in
@@ -138,13 +140,13 @@ opens_read w device t u n bytes other s row (Ok m) reads is found new = record {
   produced = new.produced;
 }
 
-opens_found : (w : World) (device : ℕ) (t u : AdapterTable) (n : ℕ) (bytes : List ℕ) (other : ℕ) (s : Stream) (found : Option Row) → find (was_opened_as t.next_id) u.rows ≡ found → other_end device s ≡ other → IdsAreDrawn t.profile t.next_id t.rows → AllByRecursion (RowCame t u (event.Frame n bytes)) u.rows → Opens w device t u n bytes other (opened_for device found (requester device (Some s) (message_reading bytes)))
+opens_found : (w : World) (device : ℕ) (t u : AdapterTable) (n : ℕ) (bytes : List ℕ) (other : ℕ) (s : Stream) (found : Option Row) → find (was_opened_as t.next_id) u.rows ≡ found → other_end device s ≡ other → IdsAreDrawn t.ids t.next_id t.rows → AllByRecursion (RowCame t u (event.Frame n bytes)) u.rows → Opens w device t u n bytes other (opened_for device found (requester device (Some s) (message_reading bytes)))
 opens_found w device t u n bytes other s None is end drawn rows = inl (record { none = refl; found = is })
 opens_found w device t u n bytes other s (Some row) is end drawn rows =
     let new = requested_by t u n bytes row drawn (found_passes (was_opened_as t.next_id) u.rows row is) (found_holds (RowCame t u (event.Frame n bytes)) (was_opened_as t.next_id) u.rows row rows is) in
     inr (opens_read w device t u n bytes other s row (message_reading bytes) refl end is new)
 
-pub frame_opening : (w : World) (device : ℕ) (t u : AdapterTable) (n : ℕ) (bytes : List ℕ) (other : ℕ) → IsOver w device other n → IdsAreDrawn t.profile t.next_id t.rows → AllByRecursion (RowCame t u (event.Frame n bytes)) u.rows → Opens w device t u n bytes other (frame_opens w device (Adapter t) (event.Frame n bytes) (Adapter u))
+pub frame_opening : (w : World) (device : ℕ) (t u : AdapterTable) (n : ℕ) (bytes : List ℕ) (other : ℕ) → IsOver w device other n → IdsAreDrawn t.ids t.next_id t.rows → AllByRecursion (RowCame t u (event.Frame n bytes)) u.rows → Opens w device t u n bytes other (frame_opens w device (Adapter t) (event.Frame n bytes) (Adapter u))
 frame_opening w device t u n bytes other over drawn rows =
     let seen = seen_at ends_of w.streams n over.ends over.there in
     let s = seen.element in
@@ -182,17 +184,16 @@ pub record AdapterStep (w new : World) (opened : List Opened) (device : ℕ) (t 
   pub later : Later w new
   pub entries : AllByRecursion (IsEntry w opened) opened
   pub named : AdapterIsNamed w opened device t
-  pub drawn : IdsAreDrawn t.profile t.next_id t.rows
-  pub next_drawn : IdsAreDrawn u.profile u.next_id u.rows
+  pub drawn : IdsAreDrawn t.ids t.next_id t.rows
+  pub left : t.next_id ≤ end_number t.ids
+  pub next_drawn : IdsAreDrawn u.ids u.next_id u.rows
+  pub next_left : u.next_id ≤ end_number u.ids
   pub fits : AllByRecursion (λ (row : Row). (row.o_t_id.0 < 2 ^ 32) × (row.t_o_id.0 < 2 ^ 32)) u.rows
   pub stays : AdapterStays t u
-  pub groups : MulticastIdsAreDrawn t.profile t.next_id t.rows
+  pub groups : MulticastIdsAreDrawn t.ids t.next_id t.rows
 
-pub drawn_found : (u : AdapterTable) (p : Row → Bool) (row : Row) → find p u.rows ≡ Some row → IdsAreDrawn u.profile u.next_id u.rows → (row.o_t_id ≡ connection_id u.profile.incarnation row.opening) × (row.opening < u.next_id)
-drawn_found u p row found drawn = found_holds (λ (r : Row). (r.o_t_id ≡ connection_id u.profile.incarnation r.opening) × (r.opening < u.next_id)) p u.rows row (all u.rows drawn) found where
-  all : (rows : List Row) → IdsAreDrawn u.profile u.next_id rows → AllByRecursion (λ (r : Row). (r.o_t_id ≡ connection_id u.profile.incarnation r.opening) × (r.opening < u.next_id)) rows
-  all [] drawn = tt
-  all (r ∷ rows) drawn = ((drawn.0, drawn.1), all rows drawn.2)
+pub drawn_found : (u : AdapterTable) (p : Row → Bool) (row : Row) → find p u.rows ≡ Some row → IdsAreDrawn u.ids u.next_id u.rows → IsDrawn u.ids u.next_id row
+drawn_found u p row found drawn = found_holds (IsDrawn u.ids u.next_id) p u.rows row (each_all (IsDrawn u.ids u.next_id) u.rows drawn) found
 
 -- the bytes are no request and one
 never_opens : (bytes : List ℕ) (request : OpenFields) → IsNoOpening bytes → IsOpening bytes request → ⊥
@@ -202,13 +203,9 @@ pub requester_is : (w : World) (opened : List Opened) (other device : ℕ) (byte
 requester_is w opened other device bytes request (Adapter x) at waits requested = absurd (never_opens bytes request (waits.opens_nothing (record { table = x; is = at })) requested)
 requester_is w opened other device bytes request (Scanner x) at waits requested = record { table = x; is = at }
 
-each_all : (P : Row → Type 0) (rows : List Row) → Each P rows → AllByRecursion P rows
-each_all P [] all = tt
-each_all P (row ∷ rows) all = (all.0, each_all P rows all.1)
-
-own_id : (profile : ScannerProfile) (request : OpenFields) → is_multicast request.t_o_params.kind ≡ false → AsksOwnId profile request → IsDrawnId profile request.t_o_id.0
-own_id profile request single (inl many) = absurd (let e = sym single ∙ many in cc)
-own_id profile request single (inr own) = own
+own_id : (ids : List IdBlock) (request : OpenFields) → is_multicast request.t_o_params.kind ≡ false → AsksOwnId ids request → IsDrawnId ids request.t_o_id.0
+own_id ids request single (inl many) = absurd (let e = sym single ∙ many in cc)
+own_id ids request single (inr own) = own
 
 -- a point to point connection has the id that the scanner asked for
 pub single_own : (w : World) (opened : List Opened) (device : ℕ) (t u : AdapterTable) (n : ℕ) (bytes : List ℕ) (other : ℕ) (more : List Opened) → Waits w opened other device bytes → IsScannerIn w other → (one : OpensOne w device t u n bytes other more) → IsSingle t one.request one.row → IsOwn w one.entry
@@ -218,7 +215,7 @@ single_own w opened device t u n bytes other more waits scanner one single =
     let at : one.entry.slot.device ≡ other = ap (λ (x : End). x.device) one.slot_is in
     record {
       scanner = record { table = scanner.table; is = ap (slice_get w.tables) at ∙ scanner.is };
-      id = subst (λ (x : ConnId). IsDrawnId scanner.table.profile x.0) (sym (one.t_o ∙ single.t_o)) (own_id scanner.table.profile one.request single.single (waits.asks scanner.table scanner.is one.request one.requested));
+      id = subst (λ (x : ConnId). IsDrawnId scanner.table.ids x.0) (sym (one.t_o ∙ single.t_o)) (own_id scanner.table.ids one.request single.single (waits.asks scanner.table scanner.is one.request one.requested));
       producer = one.producer ∙ ap (end_at device) (single.producer ∙ sym opening) ∙ sym one.row_is;
     }
 
@@ -226,19 +223,26 @@ single_own w opened device t u n bytes other more waits scanner one single =
 new_t_o : (w new : World) (opened : List Opened) (device : ℕ) (t u : AdapterTable) (n : ℕ) (bytes : List ℕ) (other : ℕ) (more : List Opened) → AdapterStep w new opened device t u → Waits w opened other device bytes → IsScannerIn w other → (one : OpensOne w device t u n bytes other more) → IsProduced t u one.request one.row → IsOfGroup u one.entry ⊎ IsOwn new one.entry
 new_t_o w new opened device t u n bytes other more step waits scanner one (inl joins) =
     let stays = step.stays in
-    let ids : MulticastIdIsDrawn t.profile t.next_id joins.member = all_contains (MulticastIdIsDrawn t.profile t.next_id) t.rows joins.member (each_all (MulticastIdIsDrawn t.profile t.next_id) t.rows step.groups) joins.there in
+    let left = step.left in
+    let ids : MulticastIdIsDrawn t.ids t.next_id joins.member = all_contains (MulticastIdIsDrawn t.ids t.next_id) t.rows joins.member (each_all (MulticastIdIsDrawn t.ids t.next_id) t.rows step.groups) joins.there in
     let id = ids joins.established joins.multicast in
+    let below = id.1 in
+    let was : HasNumber (Adapter t) (producer_of joins.member.state + 1) = record { begins = omega arith; ends = omega (arith, below, left) } in
     let number : one.entry.producer.number ≡ producer_of joins.member.state = ap (λ (x : End). x.number) one.producer ∙ joins.producer in
     inl (record {
-      id = one.t_o ∙ joins.t_o ∙ id.0 ∙ ap (λ (p : Profile). connection_id p.incarnation (producer_of joins.member.state + 1)) (sym stays.profile) ∙ ap (λ (k : ℕ). connection_id u.profile.incarnation (k + 1)) (sym number);
-      drawn = omega (arith, number, id.1, stays.ids);
+      has = subst (λ (k : ℕ). HasNumber (Adapter u) (k + 1)) (sym number) (number_later (Adapter t) (Adapter u) (producer_of joins.member.state + 1) stays.blocks was);
+      id = one.t_o ∙ joins.t_o ∙ id.0 ∙ sym (id_later (Adapter t) (Adapter u) (producer_of joins.member.state + 1) stays.blocks was) ∙ ap (λ (k : ℕ). id_at u.ids (k + 1)) (sym number);
+      drawn = omega (arith, number, below, stays.ids);
     })
 new_t_o w new opened device t u n bytes other more step waits scanner one (inr (inl starts)) =
-    let stays = step.stays in
+    let left = step.next_left in
+    let below = starts.drawn in
     let number : one.entry.producer.number ≡ t.next_id = ap (λ (x : End). x.number) one.producer ∙ starts.producer in
+    let now : HasNumber (Adapter u) (t.next_id + 1) = record { begins = omega arith; ends = omega (arith, below, left) } in
     inl (record {
-      id = one.t_o ∙ starts.t_o ∙ ap (λ (p : Profile). connection_id p.incarnation (t.next_id + 1)) (sym stays.profile) ∙ ap (λ (k : ℕ). connection_id u.profile.incarnation (k + 1)) (sym number);
-      drawn = omega (arith, number, starts.drawn);
+      has = subst (λ (k : ℕ). HasNumber (Adapter u) (k + 1)) (sym number) now;
+      id = one.t_o ∙ starts.t_o ∙ ap (λ (k : ℕ). id_at u.ids (k + 1)) (sym number);
+      drawn = omega (arith, number, below);
     })
 new_t_o w new opened device t u n bytes other more step waits scanner one (inr (inr single)) =
     inr (own_later w new one.entry step.later (single_own w opened device t u n bytes other more waits scanner one single))
@@ -248,6 +252,8 @@ new_entry w new opened device t u n bytes other more step waits one =
     let row = one.row in
     let is : row.opening ≡ t.next_id = eqb-true row.opening t.next_id (found_passes (was_opened_as t.next_id) u.rows row one.found) in
     let drawn = drawn_found u (was_opened_as t.next_id) row one.found step.next_drawn in
+    let below = drawn.below in
+    let left = step.next_left in
     let own : one.entry.row.device ≡ device = ap (λ (x : End). x.device) one.row_is in
     let number : one.entry.row.number ≡ row.opening = ap (λ (x : End). x.number) one.row_is in
     let sender = waits.sender in
@@ -255,8 +261,9 @@ new_entry w new opened device t u n bytes other more step waits one =
     record {
       table = u;
       there = ap (slice_get new.tables) own ∙ step.after;
-      drawn = omega (arith, drawn.1, number);
-      id = one.o_t ∙ drawn.0 ∙ ap (connection_id u.profile.incarnation) (sym number);
+      has = subst (HasNumber (Adapter u)) (sym number) (record { begins = drawn.begins; ends = omega (arith, below, left) });
+      drawn = omega (arith, below, number);
+      id = one.o_t ∙ drawn.id ∙ ap (id_at u.ids) (sym number);
       scanner = subst (IsScannerIn new) (sym (ap (λ (x : End). x.device) one.slot_is)) (scanner_later w new other step.later scanner);
       first = subst (λ (l : List Opened). find (opens_row one.entry.row) (opened ++ l) ≡ Some one.entry) (sym one.more_is)
           (subst (λ (x : End). find (opens_row x) (opened ++ one.entry ∷ []) ≡ Some one.entry) (sym one.row_is)

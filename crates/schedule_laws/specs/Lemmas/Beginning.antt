@@ -27,7 +27,7 @@ all_opening (made ∷ configs) (suc n) device t at = all_opening configs n devic
 
 pub blank_produced : OpeningWorldsHaveIdsDrawn → (configs : List Config) (acts : List Act) (c : Chronicle) → IsChronicle configs acts c → Produced (blank (opening_world configs))
 blank_produced opens configs acts c is = record {
-  drawn = opens configs is.lives is.bytes;
+  drawn = opens configs is.lives;
   books = λ device t at. all_opening configs device device t at;
   well = record { numbered = tt; agree = λ p q one two same at. absurd one };
   sent = refl;

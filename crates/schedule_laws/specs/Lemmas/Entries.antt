@@ -1,10 +1,15 @@
--- Entries of the chronicle stay true as it goes on: tables keep their kind and their profile, and entries are added behind.
+-- Entries of the chronicle stay true as it goes on: tables keep their kind, their profile and the ids of their blocks, and
+-- entries are added behind.
 use Rattle.std.proofs.Common.{◌≡◌, ◌≢◌, ◌≤◌, ◌⊎◌, inl, inr, ℕ, ◌+◌, ◌==◌, Bool, true, false, List, ◌++◌, set, slice_get, slice_index_or, Some, Result, Ok, Err, refl, sym, ◌∙◌, ap, subst, arith, eqb-true}
 use Rattle.std.specs.List.{AllByRecursion}
 use Rattle.std.proofs.lemmas.List.Elements.{Contains-append_left}
 use Rattle.std.proofs.lemmas.Option.{same_Some}
 use Rattle.std.proofs.lemmas.Bool.{eqb-false}
 use Rattle.base_lemmas.specs.Lists.{set_own, set_other}
+use Rattle.cip_types.specs.IdLaws.{extends_ends, extends_itself}
+use Rattle.cip_types.specs.Ids.{Extends}
+use Rattle.cip_types.specs.declared.ids.IdBlock.{IdBlock}
+use Rattle.cip_types.specs.declared.names.ConnId.{ConnId}
 use Rattle.cip_types.specs.declared.names.Node.{Node}
 use Rattle.cip_events.specs.declared.event.Answer.{Answer}
 use Rattle.cip_events.specs.declared.event.Event.{Event}
@@ -13,7 +18,6 @@ use Rattle.adapter_table.specs.declared.profile.Profile.{Profile}
 use Rattle.adapter_table.specs.Connections.{Row}
 use Rattle.adapter_table.specs.declared.table.AdapterTable.{AdapterTable}
 use Rattle.adapter_table.specs.declared.table.Stream as adapter_stream
-use Rattle.cip_types.specs.Ids.{connection_id}
 use Rattle.adapter_table.specs.Requests.{Next}
 use Rattle.adapter_table.specs.Step.{adapter_step}
 use Rattle.scanner_table.specs.declared.profile.ScannerProfile.{ScannerProfile}
@@ -30,9 +34,11 @@ use Rattle.segment_world.specs.World.{World, node_at}
 use Rattle.device_laws.specs.Lemmas.Lists.{all_more}
 use Rattle.device_laws.specs.Plain.{IsPlainFrame}
 use Rattle.schedule_laws.specs.Lemmas.Drawing.{StepLaws}
+use Rattle.schedule_laws.specs.Lemmas.Numbers.{id_later, number_later}
 use Rattle.schedule_laws.specs.Lemmas.Tests.{set_cases}
-use Rattle.cip_tables.specs.Whole.{next_id_of}
+use Rattle.cip_tables.specs.Whole.{ids_of, next_id_of}
 use Rattle.cip_events.specs.declared.event.Reason.{Reason}
+use Rattle.cip_fwdopen.specs.Open.{OpenFields}
 use Rattle.cip_fwdopen.specs.declared.reply.Opened as made
 use Rattle.cip_fwdopen.specs.declared.reply.OpenAnswer.{OpenAnswer}
 use Rattle.cip_fwdopen.specs.declared.reply.OpenAnswer.TheVariants as answer
@@ -51,24 +57,33 @@ use Rattle.schedule_laws.specs.Lemmas.StreamActs.{EndsStay}
 
 pub record AdapterStays (t u : AdapterTable) : Type 0 where
   pub profile : u.profile ≡ t.profile
+  pub blocks : Extends t.ids u.ids
   pub ids : t.next_id ≤ u.next_id
 
--- a device's table later on: of the same kind, with the same profile
+pub record ScannerStays (t u : ScannerTable) : Type 0 where
+  pub profile : u.profile ≡ t.profile
+  pub blocks : Extends t.ids u.ids
+
+-- a device's table later on: of the same kind, with the same profile, and its blocks go on from those that it had
 abbrev pub DeviceStays : DeviceTable → DeviceTable → Type 0
 DeviceStays (Adapter t) (Adapter u) = AdapterStays t u
 DeviceStays (Adapter t) (Scanner u) = ⊥
 DeviceStays (Scanner t) (Adapter u) = ⊥
-DeviceStays (Scanner t) (Scanner u) = u.profile ≡ t.profile
+DeviceStays (Scanner t) (Scanner u) = ScannerStays t u
 
 device_same : (t : DeviceTable) → DeviceStays t t
-device_same (Adapter t) = record { profile = refl; ids = omega arith }
-device_same (Scanner t) = refl
+device_same (Adapter t) = record { profile = refl; blocks = extends_itself t.ids; ids = omega arith }
+device_same (Scanner t) = record { profile = refl; blocks = extends_itself t.ids }
 
-adapter_stays : StepLaws → (t : AdapterTable) (happens : Event) (said : Result Next StepFault) (a : Answer) (u : DeviceTable) → adapter_step t happens ≡ said → as_adapter said ≡ Ok (a, u) → next_id_of (Adapter t) ≤ next_id_of u → DeviceStays (Adapter t) u
-adapter_stays laws t happens (Err why) a u stepped is up = absurd (let e = is in cc)
-adapter_stays laws t happens (Ok n) a u stepped is up =
+adapter_stays : StepLaws → (t : AdapterTable) (happens : Event) (said : Result Next StepFault) (a : Answer) (u : DeviceTable) → adapter_step t happens ≡ said → as_adapter said ≡ Ok (a, u) → Extends t.ids (ids_of u) → next_id_of (Adapter t) ≤ next_id_of u → DeviceStays (Adapter t) u
+adapter_stays laws t happens (Err why) a u stepped is grows up = absurd (let e = is in cc)
+adapter_stays laws t happens (Ok n) a u stepped is grows up =
     let same : u ≡ Adapter n.1 = next_of n.0 a (Adapter n.1) u is in
-    subst (DeviceStays (Adapter t)) (sym same) (record { profile = laws.adapters t.profile t happens n stepped refl; ids = let e = ap next_id_of same in omega (arith, up, e) })
+    subst (DeviceStays (Adapter t)) (sym same) (record {
+      profile = laws.adapters t.profile t happens n stepped refl;
+      blocks = subst (λ (x : DeviceTable). Extends t.ids (ids_of x)) same grows;
+      ids = let e = ap next_id_of same in omega (arith, up, e);
+    })
   where
     ok_of : DeviceNext → Result DeviceNext StepFault
     ok_of n = Ok n
@@ -84,7 +99,7 @@ scanner_stays laws t happens (Err why) a u stepped is = absurd (let e = is in cc
 scanner_stays laws t happens (Ok n) a u stepped is =
     let same : u ≡ Scanner n.1 = next_of n.0 a (Scanner n.1) u is in
     let counts = laws.scanners t happens n stepped in
-    subst (DeviceStays (Scanner t)) (sym same) (counts.profile)
+    subst (DeviceStays (Scanner t)) (sym same) (record { profile = counts.profile; blocks = counts.blocks })
   where
     ok_of : DeviceNext → Result DeviceNext StepFault
     ok_of n = Ok n
@@ -97,14 +112,20 @@ scanner_stays laws t happens (Ok n) a u stepped is =
 
 pub step_stays : StepLaws → (t : DeviceTable) (happens : Event) (a : Answer) (u : DeviceTable) → step t happens ≡ Ok (a, u) → DeviceStays t u
 unfolding step
-step_stays laws (Adapter t) happens a u is = adapter_stays laws t happens (adapter_step t happens) a u refl is (laws.counts (Adapter t) happens (a, u) is)
+step_stays laws (Adapter t) happens a u is = adapter_stays laws t happens (adapter_step t happens) a u refl is (laws.blocks (Adapter t) happens (a, u) is) (laws.counts (Adapter t) happens (a, u) is)
 step_stays laws (Scanner t) happens a u is = scanner_stays laws t happens (scanner_step t happens) a u refl is
 
 pub nodes_same : (t u : DeviceTable) → DeviceStays t u → node_of u ≡ node_of t
 nodes_same (Adapter t) (Adapter u) stays = ap (λ (p : Profile). p.node) stays.profile
 nodes_same (Adapter t) (Scanner u) stays = absurd stays
 nodes_same (Scanner t) (Adapter u) stays = absurd stays
-nodes_same (Scanner t) (Scanner u) stays = ap (λ (p : ScannerProfile). p.node) stays
+nodes_same (Scanner t) (Scanner u) stays = ap (λ (p : ScannerProfile). p.node) stays.profile
+
+pub stays_blocks : (t u : DeviceTable) → DeviceStays t u → Extends (ids_of t) (ids_of u)
+stays_blocks (Adapter t) (Adapter u) stays = stays.blocks
+stays_blocks (Adapter t) (Scanner u) stays = absurd stays
+stays_blocks (Scanner t) (Adapter u) stays = absurd stays
+stays_blocks (Scanner t) (Scanner u) stays = stays.blocks
 
 -- ---- a world later on
 
@@ -172,31 +193,43 @@ adapter_off w device u (Scanner t) at stays = absurd stays
 pub adapter_back : (w new : World) (device : ℕ) → Later w new → IsAdapterIn new device → IsAdapterIn w device
 adapter_back w new device later is = let before = later.back device (Adapter is.table) is.is in adapter_off w device is.table before.0 before.1 before.2
 
--- a scanner of a later world, with the profile that it had
+-- a scanner of a later world: its blocks go on from those that it had
 pub record ScannerNow (new : World) (device : ℕ) (t : ScannerTable) : Type 0 where
   pub table : ScannerTable
   pub is : slice_get new.tables device ≡ Some (Scanner table)
-  pub profile : table.profile ≡ t.profile
+  pub blocks : Extends t.ids table.ids
 
 scanner_now_on : (new : World) (device : ℕ) (t : ScannerTable) (u : DeviceTable) → slice_get new.tables device ≡ Some u → DeviceStays (Scanner t) u → ScannerNow new device t
 scanner_now_on new device t (Adapter u) at stays = absurd stays
-scanner_now_on new device t (Scanner u) at stays = record { table = u; is = at; profile = stays }
+scanner_now_on new device t (Scanner u) at stays = record { table = u; is = at; blocks = stays.blocks }
 
 pub scanner_now : (w new : World) (device : ℕ) (t : ScannerTable) → Later w new → slice_get w.tables device ≡ Some (Scanner t) → ScannerNow new device t
 scanner_now w new device t later at = let after = later.tables device (Scanner t) at in scanner_now_on new device t after.table after.there after.stays
 
-drawn_later : (a b : ScannerProfile) (id : ℕ) → b ≡ a → IsDrawnId a id → IsDrawnId b id
-drawn_later a b id same is = subst (λ (p : ScannerProfile). IsDrawnId p id) (sym same) is
+drawn_later : (a b : List IdBlock) (id : ℕ) → Extends a b → IsDrawnId a id → IsDrawnId b id
+drawn_later a b id grows is =
+    let ends = is.ends in
+    let more = extends_ends a b grows in
+    record {
+      number = is.number;
+      is = is.is ∙ ap (λ (x : ConnId). x.0) (sym (grows.same is.number is.begins (omega (arith, ends))));
+      begins = is.begins;
+      ends = omega (arith, ends, more);
+    }
 
 pub own_later : (w new : World) (e : Opened) → Later w new → IsOwn w e → IsOwn new e
 own_later w new e later own =
     let was = own.scanner in
     let now = scanner_now w new e.slot.device was.table later was.is in
-    record { scanner = record { table = now.table; is = now.is }; id = drawn_later was.table.profile now.table.profile e.t_o_id.0 now.profile own.id; producer = own.producer }
+    record { scanner = record { table = now.table; is = now.is }; id = drawn_later was.table.ids now.table.ids e.t_o_id.0 now.blocks own.id; producer = own.producer }
 
 t_o_later : (w new : World) (t u : AdapterTable) (e : Opened) → Later w new → AdapterStays t u → IsOfGroup t e ⊎ IsOwn w e → IsOfGroup u e ⊎ IsOwn new e
 t_o_later w new t u e later stays (inl group) =
-    inl (record { id = group.id ∙ ap (λ (p : Profile). connection_id p.incarnation (e.producer.number + 1)) (sym stays.profile); drawn = omega (arith, group.drawn, stays.ids) })
+    inl (record {
+      has = number_later (Adapter t) (Adapter u) (e.producer.number + 1) stays.blocks group.has;
+      id = group.id ∙ sym (id_later (Adapter t) (Adapter u) (e.producer.number + 1) stays.blocks group.has);
+      drawn = omega (arith, group.drawn, stays.ids);
+    })
 t_o_later w new t u e later stays (inr own) = inr (own_later w new e later own)
 
 entry_on : (w new : World) (opened more : List Opened) (e : Opened) (u : DeviceTable) → Later w new → (is : IsEntry w opened e) → slice_get new.tables e.row.device ≡ Some u → DeviceStays (Adapter is.table) u → IsEntry new (opened ++ more) e
@@ -204,8 +237,9 @@ entry_on w new opened more e (Scanner u) later is at stays = absurd stays
 entry_on w new opened more e (Adapter u) later is at stays = record {
   table = u;
   there = at;
+  has = number_later (Adapter is.table) (Adapter u) e.row.number stays.blocks is.has;
   drawn = omega (arith, is.drawn, stays.ids);
-  id = is.id ∙ ap (λ (p : Profile). connection_id p.incarnation e.row.number) (sym stays.profile);
+  id = is.id ∙ sym (id_later (Adapter is.table) (Adapter u) e.row.number stays.blocks is.has);
   scanner = scanner_later w new e.slot.device later is.scanner;
   first = find_more (opens_row e.row) opened more e is.first;
   maker = is.maker;
@@ -270,7 +304,7 @@ pub record Waits (w : World) (opened : List Opened) (giver taker : ℕ) (bytes :
   pub context : ContextFits bytes
   pub successes : SuccessesAre (λ number o. IsOpenedWith opened giver (end_at taker number) o.o_t_id.0 o.t_o_id.0) bytes
   pub opens_nothing : IsAdapterIn w giver → IsNoOpening bytes
-  pub asks : (s : ScannerTable) → slice_get w.tables giver ≡ Some (Scanner s) → OpeningsAre (AsksOwnId s.profile) bytes
+  pub asks : (s : ScannerTable) → slice_get w.tables giver ≡ Some (Scanner s) → OpeningsAre (AsksOwnId s.ids) bytes
   pub plain : IsPlainFrame bytes
 
 pub device_later : (w new : World) (device : ℕ) → Later w new → IsDeviceIn w device → IsDeviceIn new device
@@ -328,11 +362,15 @@ success_more P Q more (Ok (answer.Opened o)) is = more o is
 pub successes_more : (P Q : ℕ → made.Opened → Type 0) → ((number : ℕ) (o : made.Opened) → P number o → Q number o) → (bytes : List ℕ) → SuccessesAre P bytes → SuccessesAre Q bytes
 successes_more P Q more bytes are = λ m is large. success_more (P m.context) (Q m.context) (more m.context) (open_answer large m) (are m is large)
 
-asks_on : (new : World) (giver : ℕ) (bytes : List ℕ) (s : ScannerTable) (t : DeviceTable) → ((x : ScannerTable) → t ≡ Scanner x → OpeningsAre (AsksOwnId x.profile) bytes) → DeviceStays t (Scanner s) → OpeningsAre (AsksOwnId s.profile) bytes
-asks_on new giver bytes s (Adapter t) asks stays = absurd stays
-asks_on new giver bytes s (Scanner t) asks stays = subst (λ (p : ScannerProfile). OpeningsAre (AsksOwnId p) bytes) (sym stays) (asks t refl)
+pub asks_more : (a b : List IdBlock) (request : OpenFields) → Extends a b → AsksOwnId a request → AsksOwnId b request
+asks_more a b request grows (inl many) = inl many
+asks_more a b request grows (inr own) = inr (drawn_later a b request.t_o_id.0 grows own)
 
-asks_later : (w new : World) (giver : ℕ) (bytes : List ℕ) → Later w new → ((s : ScannerTable) → slice_get w.tables giver ≡ Some (Scanner s) → OpeningsAre (AsksOwnId s.profile) bytes) → (s : ScannerTable) → slice_get new.tables giver ≡ Some (Scanner s) → OpeningsAre (AsksOwnId s.profile) bytes
+asks_on : (new : World) (giver : ℕ) (bytes : List ℕ) (s : ScannerTable) (t : DeviceTable) → ((x : ScannerTable) → t ≡ Scanner x → OpeningsAre (AsksOwnId x.ids) bytes) → DeviceStays t (Scanner s) → OpeningsAre (AsksOwnId s.ids) bytes
+asks_on new giver bytes s (Adapter t) asks stays = absurd stays
+asks_on new giver bytes s (Scanner t) asks stays = λ request is. asks_more t.ids s.ids request stays.blocks (asks t refl request is)
+
+asks_later : (w new : World) (giver : ℕ) (bytes : List ℕ) → Later w new → ((s : ScannerTable) → slice_get w.tables giver ≡ Some (Scanner s) → OpeningsAre (AsksOwnId s.ids) bytes) → (s : ScannerTable) → slice_get new.tables giver ≡ Some (Scanner s) → OpeningsAre (AsksOwnId s.ids) bytes
 asks_later w new giver bytes later asks s at =
     let before = later.back giver (Scanner s) at in
     asks_on new giver bytes s before.0 (λ x is. asks x (before.1 ∙ ap Some is)) before.2

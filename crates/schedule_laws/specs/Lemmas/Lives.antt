@@ -15,7 +15,7 @@ no_fault (Some fault) is = absurd (let e = is in cc)
 lives_step : (a b : Bool) (configs : List Config) (wrong : Option WorldFault) → any_twice Incarnation configs ≡ a → (wrong ≡ None → first_fault configs ≡ None) → cond a (Some SameIncarnation) (cond b (Some SameNode) wrong) ≡ None → AreLives configs
 lives_step true b configs wrong is more none = absurd (let e = none in cc)
 lives_step false true configs wrong is more none = absurd (let e = none in cc)
-lives_step false false configs wrong is more none = record { incarnations = is; profiles = more none }
+lives_step false false configs wrong is more none = record { profiles = more none }
 
 pub worlds_are_lives : (configs : List Config) → world_fault configs ≡ None → AreLives configs
 worlds_are_lives configs none =

@@ -12,7 +12,6 @@ use Rattle.adapter_table.specs.Connections.{Row}
 use Rattle.adapter_table.specs.declared.table.AdapterTable.{AdapterTable}
 use Rattle.adapter_table.specs.Requests.{Next}
 use Rattle.adapter_table.specs.Step.{adapter_step}
-use Rattle.scanner_table.specs.declared.profile.ScannerProfile.{ScannerProfile}
 use Rattle.scanner_table.specs.declared.table.ScannerTable.{ScannerTable}
 use Rattle.scanner_table.specs.Effects.{Next as ScannerNext}
 use Rattle.scanner_table.specs.Slots.{indexed_slots}
@@ -20,6 +19,7 @@ use Rattle.scanner_table.specs.Step.{scanner_step}
 use Rattle.cip_tables.specs.declared.table.DeviceTable.{DeviceTable}
 use Rattle.cip_tables.specs.declared.table.DeviceTable.TheVariants.{Adapter, Scanner}
 use Rattle.cip_tables.specs.Step.{DeviceNext, as_adapter, as_scanner, step}
+use Rattle.cip_tables.specs.Whole.{IsWholeDevice}
 use Rattle.segment_world.specs.World.{World, ReportedEvent, happens}
 use Rattle.segment_world.specs.Transit.Streams.{Stream, answered}
 use Rattle.device_laws.specs.Ids.{RowIds}
@@ -31,9 +31,9 @@ use Rattle.device_laws.specs.Replies.{RepliesCarryOpenedIds, ScannersSendNoSucce
 use Rattle.device_laws.specs.RowIds.{ConnectionsKeepTheirIds}
 use Rattle.device_laws.specs.SlotIds.{SlotsHaveTheIdsOfTheirSuccess}
 use Rattle.device_laws.specs.TargetStreams.{StreamsComeWithEvents}
-use Rattle.schedule_laws.specs.Ids.{is_drawn, any_opening, any_stream, IdsAreDrawn}
+use Rattle.schedule_laws.specs.Ids.{is_drawn, any_opening, any_stream, AreDrawnApart, IdsAreDrawn}
 use Rattle.schedule_laws.specs.Lemmas.Drawing.{StepLaws}
-use Rattle.schedule_laws.specs.Lemmas.Tests.{drawn_parts, set_cases}
+use Rattle.schedule_laws.specs.Lemmas.Tests.{drawn_fits, set_cases}
 use Rattle.device_laws.specs.Made.{Made, makes, adapter_makes}
 use Rattle.device_laws.specs.Productions.{Production, numbered, produced_more}
 use Rattle.schedule_laws.specs.Chronicle.{Opened, frame_opens}
@@ -42,7 +42,7 @@ use Rattle.schedule_laws.specs.Streams.{Ends, ends_of, Waiting, StreamsWait}
 use Rattle.schedule_laws.specs.Lemmas.AdapterNames.{AdapterStep, adapter_named}
 use Rattle.schedule_laws.specs.Lemmas.ApartIds.{IdsAreApart, adapter_apart}
 use Rattle.schedule_laws.specs.Lemmas.AdapterProducers.{MadeByEntry, adapter_makes_named, producer_later, made_later}
-use Rattle.schedule_laws.specs.Lemmas.Entries.{AdapterIsNamed, DeviceStays, step_stays, Later, same_later, set_later, entry_later, production_later, Waits, waits_later, IsKnownTo, known_to_later, slots_later, TableIsNamed, table_later}
+use Rattle.schedule_laws.specs.Lemmas.Entries.{AdapterIsNamed, DeviceStays, asks_more, step_stays, Later, same_later, set_later, entry_later, production_later, Waits, waits_later, IsKnownTo, known_to_later, slots_later, TableIsNamed, table_later}
 use Rattle.schedule_laws.specs.Lemmas.ScannerNames.{slots_named, streams_named as scanner_streams, frames_named, MadeHasEntry, makes_named, no_adapter}
 use Rattle.schedule_laws.specs.Lemmas.StreamActs.{same_ends, FrameSent, EventArrives, OneEvent, StreamsOnly, AfterAnswer, answered_waits, streams_more}
 
@@ -104,10 +104,10 @@ pub record EventLeaves (w new : World) (opened more : List Opened) (device : ℕ
   pub made : IsScannerIn new device → AllByRecursion (MadeHasEntry (opened ++ more) device) (makes t happens)
   pub made_by : IsAdapterIn new device → AllByRecursion (MadeByEntry (opened ++ more) device) (makes t happens)
 
-ids_fit : (tables : List DeviceTable) (rows : List Row) → AllByRecursion (RowIds (Passing (is_drawn tables)) (Passing any_opening)) rows → AllByRecursion (λ (row : Row). (row.o_t_id.0 < 2 ^ 32) × (row.t_o_id.0 < 2 ^ 32)) rows
-ids_fit tables rows all =
+ids_fit : (tables : List DeviceTable) (rows : List Row) → ((device : ℕ) (t : DeviceTable) → slice_get tables device ≡ Some t → IsWholeDevice t) → AllByRecursion (RowIds (Passing (is_drawn tables)) (Passing any_opening)) rows → AllByRecursion (λ (row : Row). (row.o_t_id.0 < 2 ^ 32) × (row.t_o_id.0 < 2 ^ 32)) rows
+ids_fit tables rows whole all =
     all_more (RowIds (Passing (is_drawn tables)) (Passing any_opening)) (λ (row : Row). (row.o_t_id.0 < 2 ^ 32) × (row.t_o_id.0 < 2 ^ 32))
-    (λ row ids. ((drawn_parts tables row.o_t_id.0 ids.o_t).0, (drawn_parts tables row.t_o_id.0 ids.t_o).0)) rows all
+    (λ row ids. (drawn_fits tables row.o_t_id.0 whole ids.o_t, drawn_fits tables row.t_o_id.0 whole ids.t_o)) rows all
 
 pub adapter_result : (said : Result Next StepFault) (a : Answer) (u : AdapterTable) → as_adapter said ≡ Ok (a, Adapter u) → said ≡ Ok (a, u)
 adapter_result (Err why) a u is = absurd (let e = is in cc)
@@ -160,18 +160,19 @@ arrived_plain w opened device (event.Request peer bytes) comes = comes
 arrived_plain w opened device (event.Frame n bytes) comes = λ over. let waits = comes.holds in waits.plain
 arrived_plain w opened device other comes = tt
 
-event_leaves : NameLaws → (w new : World) (opened : List Opened) (device : ℕ) (t u : DeviceTable) (happens : Event) (answer : Answer) → step t happens ≡ Ok (answer, u) → DeviceStays t u → slice_get w.tables device ≡ Some t → slice_get new.tables device ≡ Some u → Later w new → IdsAreDrawn w → IdsAreDrawn new → AllByRecursion (IsEntry w opened) opened → IdsAreApart opened → TableIsNamed w opened device t → EventArrives (Waits w opened) w device happens → EventLeaves w new opened (frame_opens w device t happens u) device t u happens answer
+event_leaves : NameLaws → (w new : World) (opened : List Opened) (device : ℕ) (t u : DeviceTable) (happens : Event) (answer : Answer) → step t happens ≡ Ok (answer, u) → DeviceStays t u → slice_get w.tables device ≡ Some t → slice_get new.tables device ≡ Some u → Later w new → IdsAreDrawn w → AreDrawnApart new → AllByRecursion (IsEntry w opened) opened → IdsAreApart opened → TableIsNamed w opened device t → EventArrives (Waits w opened) w device happens → EventLeaves w new opened (frame_opens w device t happens u) device t u happens answer
 unfolding step
 event_leaves laws w new opened device (Adapter t) (Adapter u) happens answer is stays at after later drawn next_drawn entries apart named comes =
     let stepped = adapter_result (adapter_step t happens) answer u is in
     let whole = drawn.whole device (Adapter t) at in
-    let next_whole = next_drawn.whole device (Adapter u) after in
-    let info : AdapterStep w new opened device t u = record { at = at; after = after; later = later; entries = entries; named = named; drawn = whole.sound.ids_are_drawn; next_drawn = next_whole.sound.ids_are_drawn; fits = ids_fit new.tables u.rows (next_drawn.tables device (Adapter u) after); stays = stays; groups = whole.sound.producers.multicast } in
+    let next_ids = next_drawn.ids in
+    let next_whole = next_ids.whole device (Adapter u) after in
+    let info : AdapterStep w new opened device t u = record { at = at; after = after; later = later; entries = entries; named = named; drawn = whole.sound.ids_are_drawn; left = whole.sound.ids_are_left; next_drawn = next_whole.sound.ids_are_drawn; next_left = next_whole.sound.ids_are_left; fits = ids_fit new.tables u.rows next_ids.whole (next_ids.tables device (Adapter u) after); stays = stays; groups = whole.sound.producers.multicast } in
     let came = laws.rows t happens answer u stepped whole in
     let referred = drawn.plain device (Adapter t) at in
     let plain = laws.steps.plain any_stream (Adapter t) happens answer (Adapter u) is whole (arrived_plain w opened device happens comes) referred in
     let leaves = adapter_named w new opened device t u happens answer info comes referred came (laws.replies t happens answer u stepped whole) plain.1 in
-    record { entries = leaves.entries; apart = adapter_apart w new opened device t u happens drawn next_whole.sound.ids_are_left info apart comes came; table = leaves.table; frames = leaves.frames; made = λ scanner. absurd (never_scanner new device u after scanner); made_by = λ adapter. adapter_makes_later w opened (frame_opens w device (Adapter t) happens (Adapter u)) device t happens named }
+    record { entries = leaves.entries; apart = adapter_apart w new opened device t u happens next_drawn info apart comes came; table = leaves.table; frames = leaves.frames; made = λ scanner. absurd (never_scanner new device u after scanner); made_by = λ adapter. adapter_makes_later w opened (frame_opens w device (Adapter t) happens (Adapter u)) device t happens named }
 event_leaves laws w new opened device (Scanner t) (Scanner u) happens answer is stays at after later drawn next_drawn entries apart named comes =
     let stepped = scanner_result (scanner_step t happens) answer u is in
     let whole = drawn.whole device (Scanner t) at in
@@ -186,7 +187,7 @@ event_leaves laws w new opened device (Scanner t) (Scanner u) happens answer is 
             (scanner_streams w opened device t happens u.streams named.streams comes (laws.streams t happens answer u stepped whole));
       };
       frames = frames_named w new (opened ++ []) device u answer.frames after (laws.requests t happens answer u stepped whole)
-          (subst (λ (p : ScannerProfile). AllByRecursion (FrameAsks p) answer.frames) (sym stays) (laws.asks t happens answer u stepped whole (drawn.apart.ends device (Scanner t) at)))
+          (all_more (FrameAsks t.ids) (FrameAsks u.ids) (λ frame asks request is. asks_more t.ids u.ids request stays.blocks (asks request is)) answer.frames (laws.asks t happens answer u stepped whole))
           plain.1;
       made = λ scanner. subst (λ (l : List Opened). AllByRecursion (MadeHasEntry l device) (makes (Scanner t) happens)) (sym (append-nil opened)) (makes_named w opened device t happens named);
       made_by = λ adapter. absurd (no_adapter new device u after adapter);
@@ -224,7 +225,7 @@ event_later laws Q w new reported m =
     let ends : map ends_of new.streams ≡ map ends_of w.streams = ap (map ends_of) streams ∙ answered_ends Q reported.device reported.answer m.streams m.waits ∙ m.ends in
     set_later w new reported.device m.before m.after m.is stays tables (ap (λ (x : World). x.nodes) m.leaves) (same_ends w.streams new.streams ends)
 
-pub event_named : NameLaws → (w new : World) (opened : List Opened) (produced : List Production) (reported : ReportedEvent) (m : OneEvent (Waits w opened) w reported new) → IdsAreDrawn w → IdsAreDrawn new → NamedAt w opened produced → NamedAt new (opened ++ frame_opens w reported.device m.before reported.event m.after) (produced_more reported.device produced (makes m.before reported.event))
+pub event_named : NameLaws → (w new : World) (opened : List Opened) (produced : List Production) (reported : ReportedEvent) (m : OneEvent (Waits w opened) w reported new) → IdsAreDrawn w → AreDrawnApart new → NamedAt w opened produced → NamedAt new (opened ++ frame_opens w reported.device m.before reported.event m.after) (produced_more reported.device produced (makes m.before reported.event))
 event_named laws w new opened produced reported m drawn next_drawn named =
     let d = reported.device in
     let t = m.before in

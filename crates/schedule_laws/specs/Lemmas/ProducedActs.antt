@@ -17,7 +17,12 @@ use Rattle.segment_world.specs.Story.{Story, runs, begins, goes_on as story_goes
 use Rattle.segment_world.specs.Transit.Streams.{Stream, QueueItem}
 use Rattle.segment_world.specs.Transit.Streams as item
 use Rattle.schedule_laws.specs.Ids.{IdsAreDrawn, SchedulesKeepIdsDrawn, StreamsHold, ItemHolds}
+use Rattle.schedule_laws.specs.Lives.{AreApart}
+use Rattle.schedule_laws.specs.Lemmas.Acts.{Reached, WhereApart, reached_after}
+use Rattle.schedule_laws.specs.Lemmas.Drawing.{moved_apart}
+use Rattle.cip_tables.specs.Sound.{StepsGrow}
 use Rattle.schedule_laws.specs.Lemmas.Moves.{Came, Rests, Moves, act_moves}
+use Rattle.cip_tables.specs.declared.table.Config.{Config}
 use Rattle.device_laws.specs.Made.{AnswersSendWhatIsMade, makes}
 use Rattle.device_laws.specs.Productions.{Production, produced_more}
 use Rattle.schedule_laws.specs.Chronicle.{Chronicle, with_event, with_event_at, recorded, after_act, then_act, chronicles}
@@ -68,6 +73,47 @@ by_case I cases c act (Ok (Some reported, new)) is moves holds =
 
 pub cases_keep : (I : Chronicle → Type 0) → Cases I → ActsKeep I
 cases_keep I cases c act holds = by_case I cases c act (happens c.story.world act) refl (act_moves Any c.story.world act (any_streams c.story.world.streams)) holds
+
+-- ---- where no two devices have blocks with one id
+
+-- an act keeps it, where no two devices have blocks with one id after the act
+abbrev pub ApartActsKeep : (Chronicle → Type 0) → Type 0
+ApartActsKeep I = (c : Chronicle) (act : Act) → I c → IfOk (after_act c act) (WhereApart I)
+
+-- so they had none before
+abbrev WasApart : Chronicle → Chronicle → Type 0
+WasApart c next = AreApart next.story.world.tables → AreApart c.story.world.tables
+
+recorded_apart : StepsGrow → (c : Chronicle) (act : Act) (said : Happened) → IfOk said (Moves Any c.story.world) → IfOk (recorded c act said) (WasApart c)
+recorded_apart blocks c act (Err fault) moves = tt
+recorded_apart blocks c act (Ok (None, new)) moves = λ apart. moved_apart blocks c.story.world Any (None, new) moves apart
+recorded_apart blocks c act (Ok (Some reported, new)) moves =
+    subst (λ (o : Option DeviceTable). WasApart c (with_event_at c act reported new o)) (sym moves.is) (λ apart. moved_apart blocks c.story.world Any (Some reported, new) moves apart)
+
+after_apart : StepsGrow → (c : Chronicle) (act : Act) → IfOk (after_act c act) (WasApart c)
+after_apart blocks c act = recorded_apart blocks c act (happens c.story.world act) (act_moves Any c.story.world act (any_streams c.story.world.streams))
+
+joined : (I : Chronicle → Type 0) (c : Chronicle) (said : Result Chronicle ActFault) → IfOk said (WasApart c) → (AreApart c.story.world.tables → IfOk said (WhereApart I)) → IfOk said (WhereApart I)
+joined I c (Err fault) was keeps = tt
+joined I c (Ok next) was keeps = λ apart. keeps (was apart) apart
+
+pub apart_keeps : StepsGrow → (I : Chronicle → Type 0) → ApartActsKeep I → ActsKeep (WhereApart I)
+apart_keeps blocks I keeps c act held = joined I c (after_act c act) (after_apart blocks c act) (λ apart. keeps c act (held apart))
+
+went_back : (start c : Chronicle) (said : Result Chronicle ActFault) → IfOk said (WasApart c) → WasApart start c → IfOk said (WasApart start)
+went_back start c (Err fault) was back = tt
+went_back start c (Ok next) was back = λ apart. back (was apart)
+
+-- they had none at the beginning
+pub begins_apart : StepsGrow → (start c : Chronicle) (acts : List Act) → chronicles (Ok start) acts ≡ Ok c → AreApart c.story.world.tables → AreApart start.story.world.tables
+begins_apart blocks start c acts ran apart =
+    let back : WasApart start c = subst (λ (r : Result Chronicle ActFault). IfOk r (WasApart start)) ran
+    (chronicles_keep (WasApart start) (λ before act was. went_back start before (after_act before act) (after_apart blocks before act) was) acts (Ok start) (λ own. own)) in
+    back apart
+
+pub reached_keeps : StepsGrow → (configs : List Config) (so_far : Result Chronicle ActFault) (act : Act) → IfOk so_far (WhereApart (Reached configs)) → IfOk (then_act so_far act) (WhereApart (Reached configs))
+reached_keeps blocks configs so_far act reached =
+    act_keeps (WhereApart (Reached configs)) (apart_keeps blocks (Reached configs) (λ c act r. reached_after configs c act r)) so_far act reached
 
 -- ---- ids drawn and whole tables, at each moment
 

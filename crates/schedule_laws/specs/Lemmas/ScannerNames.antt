@@ -3,6 +3,7 @@ use Rattle.std.proofs.Common.{◌≡◌, ◌⊎◌, inl, inr, ℕ, Bool, List, [
 use Rattle.std.specs.List.{AllByRecursion}
 use Rattle.std.specs.Option.{IfSome}
 use Rattle.base_lemmas.specs.Lists.{found_passes}
+use Rattle.cip_types.specs.declared.ids.IdBlock.{IdBlock}
 use Rattle.cip_types.specs.declared.names.ConnId.{ConnId}
 use Rattle.cip_types.specs.declared.names.Node.{Node}
 use Rattle.cip_events.specs.declared.event.Event.{Event}
@@ -10,7 +11,6 @@ use Rattle.cip_events.specs.declared.event.Event.TheVariants as event
 use Rattle.cip_events.specs.declared.event.Frame.{Frame}
 use Rattle.cip_fwdopen.specs.declared.reply.Opened as made
 use Rattle.conn_state.specs.declared.names.Link.{Link}
-use Rattle.scanner_table.specs.declared.profile.ScannerProfile.{ScannerProfile}
 use Rattle.scanner_table.specs.declared.profile.SlotConfig.{SlotConfig}
 use Rattle.scanner_table.specs.declared.slot.SlotConnection.{SlotConnection}
 use Rattle.scanner_table.specs.declared.slot.SlotState.{SlotState}
@@ -111,15 +111,15 @@ streams_named w opened device t happens streams known comes came =
 pub no_adapter : (new : World) (device : ℕ) (u : ScannerTable) → slice_get new.tables device ≡ Some (Scanner u) → IsAdapterIn new device → ⊥
 no_adapter new device u at is = absurd (let e = sym is.is ∙ at in cc)
 
--- the frame is no success, and asks for ids of the profile
-abbrev IsRequest : ScannerProfile → Frame → Type 0
-IsRequest profile frame = IsNoSuccess frame × (FrameAsks profile frame × SendsPlainly frame)
+-- the frame is no success, and asks for ids of the blocks
+abbrev IsRequest : List IdBlock → Frame → Type 0
+IsRequest ids frame = IsNoSuccess frame × (FrameAsks ids frame × SendsPlainly frame)
 
-all_two : (profile : ScannerProfile) (frames : List Frame) → AllByRecursion IsNoSuccess frames → AllByRecursion (FrameAsks profile) frames → AllByRecursion SendsPlainly frames → AllByRecursion (IsRequest profile) frames
-all_two profile [] none asks plain = tt
-all_two profile (frame ∷ frames) none asks plain = ((none.0, (asks.0, plain.0)), all_two profile frames none.1 asks.1 plain.1)
+all_two : (ids : List IdBlock) (frames : List Frame) → AllByRecursion IsNoSuccess frames → AllByRecursion (FrameAsks ids) frames → AllByRecursion SendsPlainly frames → AllByRecursion (IsRequest ids) frames
+all_two ids [] none asks plain = tt
+all_two ids (frame ∷ frames) none asks plain = ((none.0, (asks.0, plain.0)), all_two ids frames none.1 asks.1 plain.1)
 
-frame_from : (new : World) (opened : List Opened) (device : ℕ) (u : ScannerTable) (giver taker : ℕ) (frame : Frame) → slice_get new.tables device ≡ Some (Scanner u) → giver ≡ device → IsNoSuccess frame → FrameAsks u.profile frame → SendsPlainly frame → Waits new opened giver taker frame.bytes
+frame_from : (new : World) (opened : List Opened) (device : ℕ) (u : ScannerTable) (giver taker : ℕ) (frame : Frame) → slice_get new.tables device ≡ Some (Scanner u) → giver ≡ device → IsNoSuccess frame → FrameAsks u.ids frame → SendsPlainly frame → Waits new opened giver taker frame.bytes
 frame_from new opened device u giver taker frame at is none asks plain =
     let there : slice_get new.tables giver ≡ Some (Scanner u) = ap (slice_get new.tables) is ∙ at in
     record {
@@ -127,17 +127,17 @@ frame_from new opened device u giver taker frame at is none asks plain =
       context = none.context;
       successes = successes_more (λ number o. ⊥) (λ number o. IsOpenedWith opened giver (end_at taker number) o.o_t_id.0 o.t_o_id.0) (λ number o never. absurd never) frame.bytes none.successes;
       opens_nothing = λ adapter. absurd (no_adapter new giver u there adapter);
-      asks = λ s so. subst (λ (x : ScannerTable). FrameAsks x.profile frame) (table_is u s (sym there ∙ so)) asks;
+      asks = λ s so. subst (λ (x : ScannerTable). FrameAsks x.ids frame) (table_is u s (sym there ∙ so)) asks;
       plain = plain;
     }
 
-pub frames_named : (w new : World) (opened : List Opened) (device : ℕ) (u : ScannerTable) (frames : List Frame) → slice_get new.tables device ≡ Some (Scanner u) → AllByRecursion IsNoSuccess frames → AllByRecursion (FrameAsks u.profile) frames → AllByRecursion SendsPlainly frames → AllByRecursion (FrameSent (Waits new opened) (map ends_of w.streams) device) frames
+pub frames_named : (w new : World) (opened : List Opened) (device : ℕ) (u : ScannerTable) (frames : List Frame) → slice_get new.tables device ≡ Some (Scanner u) → AllByRecursion IsNoSuccess frames → AllByRecursion (FrameAsks u.ids) frames → AllByRecursion SendsPlainly frames → AllByRecursion (FrameSent (Waits new opened) (map ends_of w.streams) device) frames
 frames_named w new opened device u frames at none asks plain =
-    all_more (IsRequest u.profile) (FrameSent (Waits new opened) (map ends_of w.streams) device)
+    all_more (IsRequest u.ids) (FrameSent (Waits new opened) (map ends_of w.streams) device)
     (λ frame is n e to there. record {
       forth = λ from. frame_from new opened device u e.from e.to frame at from is.0 is.1.0 is.1.1;
       back = λ to_is. frame_from new opened device u e.to e.from frame at to_is is.0 is.1.0 is.1.1;
-    }) frames (all_two u.profile frames none asks plain)
+    }) frames (all_two u.ids frames none asks plain)
 
 -- ---- what is produced
 
@@ -164,7 +164,7 @@ Anything id = Unit {0}
 advanced_ids : (t : ScannerTable) (ms : ℕ) → AllByRecursion (SlotHasItsIds t (event.Tick ms)) (indexed_slots (advanced (clocked_table t ms)).table)
 advanced_ids t ms =
     let now = clocked_table t ms in
-    let h = advanced_holds (HasItsIds t (event.Tick ms)) Anything t (advanced now).table.next_id (event.Tick ms) (ids_kept t (advanced now).table.next_id (event.Tick ms)) (λ now config can. tt) now (record { profile = refl; ids = omega arith; requests = omega arith }) (omega arith) (were_so t (event.Tick ms)) in
+    let h = advanced_holds (HasItsIds t (event.Tick ms)) Anything t (advanced now).table.next_id (event.Tick ms) (ids_kept t (advanced now).table.next_id (event.Tick ms)) (λ now config can. tt) now (record { profile = refl; blocks = refl; ids = omega arith; requests = omega arith }) (omega arith) (were_so t (event.Tick ms)) in
     h.slots
 
 pub makes_named : (w : World) (opened : List Opened) (device : ℕ) (t : ScannerTable) (happens : Event) → ScannerIsNamed w opened device t → AllByRecursion (MadeHasEntry opened device) (scanner_makes t happens)

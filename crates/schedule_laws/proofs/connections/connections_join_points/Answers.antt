@@ -15,6 +15,7 @@ returns c = join_points (record {
       whole = c.tables_are_whole.ensures.run;
       counts = c.next_id_never_falls.ensures.step;
       adapters = c.profiles_stay.ensures;
+      blocks = c.blocks_grow.ensures;
       scanners = c.counters_never_fall.ensures.step;
     };
     replies = c.replies_carry_opened_ids.ensures;

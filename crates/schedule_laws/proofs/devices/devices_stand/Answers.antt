@@ -10,6 +10,7 @@ returns c = devices_stand c.answers_send_what_is_made.ensures c.ids_are_drawn.en
     whole = c.tables_are_whole.ensures.run;
     counts = c.next_id_never_falls.ensures.step;
     adapters = c.profiles_stay.ensures;
+    blocks = c.blocks_grow.ensures;
     scanners = c.counters_never_fall.ensures.step;
   };
   replies = c.replies_carry_opened_ids.ensures;

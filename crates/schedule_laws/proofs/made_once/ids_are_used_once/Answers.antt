@@ -10,6 +10,7 @@ returns c = ids_used_once (record {
     whole = c.tables_are_whole.ensures.run;
     counts = c.next_id_never_falls.ensures.step;
     adapters = c.profiles_stay.ensures;
+    blocks = c.blocks_grow.ensures;
     scanners = c.counters_never_fall.ensures.step;
   };
   asks = c.scanners_ask_once.ensures;

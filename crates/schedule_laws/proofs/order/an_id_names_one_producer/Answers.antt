@@ -10,6 +10,7 @@ returns-clause-one_producer c = name_one_producer c.answers_send_what_is_made.en
     whole = c.tables_are_whole.ensures.run;
     counts = c.next_id_never_falls.ensures.step;
     adapters = c.profiles_stay.ensures;
+    blocks = c.blocks_grow.ensures;
     scanners = c.counters_never_fall.ensures.step;
   };
   replies = c.replies_carry_opened_ids.ensures;
@@ -29,6 +30,7 @@ returns-clause-later c = later_accept c.answers_send_what_is_made.ensures c.ids_
     whole = c.tables_are_whole.ensures.run;
     counts = c.next_id_never_falls.ensures.step;
     adapters = c.profiles_stay.ensures;
+    blocks = c.blocks_grow.ensures;
     scanners = c.counters_never_fall.ensures.step;
   };
   replies = c.replies_carry_opened_ids.ensures;

@@ -3,6 +3,7 @@ use Rattle.schedule_laws.proofs.points.applied_outputs_are_in_order.Goals as goa
 
 pub returns : goal.returns
 returns c = applied_in_order (record {
+  blocks = c.blocks_grow.ensures;
   leaves = c.outputs_hold_what_is_left.ensures.steps;
   reads = c.reads_back.ensures.header;
   sends = c.answers_send_what_is_made.ensures;
