@@ -19,9 +19,10 @@ use plant_rim::SharedPlant;
 use program::Surroundings;
 use station_port::Alarm;
 use station_rim::{Rim, begin_output};
+use std::fs::File;
 use std::io::Write;
 use std::process::ExitCode;
-use std::rt::Clock;
+use std::rt::{Clock, Files};
 use std::sync::Wait;
 use std::thread::{self, Threads};
 
@@ -53,6 +54,9 @@ fn main(rt: HostRuntime) -> ExitCode {
     if needs.record && thread::spawn(&rt, move || record.write_files(&rt)).is_err() {
         return no_thread(rt.stderr());
     }
+    if needs.state && !begin_state(rt, &rim) {
+        return no_thread(rt.stderr());
+    }
     if needs.input && thread::spawn(&rt, move || input.fill(&rt, rt.reader())).is_err() {
         return no_thread(rt.stderr());
     }
@@ -79,6 +83,17 @@ fn main(rt: HostRuntime) -> ExitCode {
         plant,
     };
     program::run(rt, shared, rt.stdout(), rt.stderr())
+}
+
+/// Begins the thread that reserves connection ids in a station's state. Whether it could begin.
+fn begin_state<R>(rt: R, rim: &Rim) -> bool
+where
+    R: AllocGlobal + Threads + Files<File = File> + Wait + Clock + Copy + Send + Drop + 'static,
+{
+    match (rim.ids.share(), rim.err.share()) {
+        (Ok(ids), Ok(err)) => thread::spawn(&rt, move || ids.keep(&rt, &err)).is_ok(),
+        _ => false,
+    }
 }
 
 /// Begins the thread that rings the alarm of a station. Whether it could begin.

@@ -17,6 +17,8 @@ pub struct Needs {
     pub input: bool,
     /// That of its record.
     pub record: bool,
+    /// That of its state's file.
+    pub state: bool,
     /// Those of its page.
     pub page: bool,
     /// Two for each device of a plant, which take its jobs.
@@ -45,6 +47,7 @@ fn station_needs(options: &Options) -> Needs
         alarm: true,
         input: !options.no_input,
         record: options.record_from_end.is_some(),
+        state: options.incarnation.is_none() || options.state_from_end.is_some(),
         page: options.page.is_some(),
         plant: 0,
         devices: 1,
@@ -60,6 +63,7 @@ fn plant_needs(options: &Options, devices: usize) -> Needs
         alarm: false,
         input: !options.no_input,
         record: false,
+        state: false,
         page: options.page.is_some(),
         plant: devices.saturating_mul(2),
         devices,
@@ -75,6 +79,7 @@ fn no_needs() -> Needs
         alarm: false,
         input: false,
         record: false,
+        state: false,
         page: false,
         plant: 0,
         devices: 0,

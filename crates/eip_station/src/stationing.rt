@@ -10,18 +10,19 @@ use cip_tables::Config;
 use cip_types::OutOfMemory;
 use command_lines::{Options, StationTask, file_of, word_from_end};
 use page_feed::PageFeed;
-use station::{CountedSteps, DeviceSteps, EarlyEnd, InputSteps, LifeEnd};
+use station::{CountedSteps, DeviceSteps, EarlyEnd, InputSteps, LifeEnd, SuppliedSteps};
 use station_lines::{CallLines, LineSink, NoLines};
 use station_port::{StationPlace, StationPort};
 use station_record::{Recorder, Start, StateFault, forget_record, name_of, stem_of};
 use station_rim::{
-    Entries, LabelledLines, LineEntrance, Rim, SharedDevices, drain_lines, drain_record,
-    report_line,
+    CIRCLE_ENDS, Entries, LabelledLines, LineEntrance, Rim, SharedDevices, drain_lines,
+    drain_record, report_line,
 };
 use station_setup::{
     HostCounters, MOST_LIVES, OpenStation, OpenedPort, StationOutputs, described, host_of,
     incarnation_of, is_scanner, names_in, open_life_port, passed_ms, recorder_in, rest_before_life,
-    socket_place, start_in, station_of, with_incarnation, with_serials,
+    socket_place, start_in, station_of, with_block,
+    with_incarnation, with_serials,
 };
 use std::fs::File;
 use std::random::RandomSource;
@@ -173,6 +174,7 @@ where
     let state = start.state();
     let config = with_incarnation(config, state.incarnation);
     let config = with_serials(config, state.serial, state.serials);
+    let config = with_block(config, start.block());
     let ran = open(setting, config, &start);
     if ran.is_err() {
         start.discard(&setting.rt);
@@ -321,13 +323,37 @@ where
     };
     let mut station = station_of(rt, setting.options, config, opened, outputs)?;
     keep(setting, start)?;
+    begin_ids(setting, start)?;
     let end = if reads_lines(setting.options) {
         let lines = setting.rim.input.share()?.lines(rt, waker);
         live(setting, &mut station, lines, host, slots)?
     } else {
         live(setting, &mut station, NoLines, host, slots)?
     };
-    life_end(end, station.record_fault())
+    let end = life_end(end, station.record_fault())?;
+    // (what the state's file still takes could be older than what the next life writes there)
+    if !setting.rim.ids.end(&setting.rt, station.ids_left()) && has_next_life(end) {
+        return Err(reported(setting, start.path(), StateFault::Unwritten));
+    }
+    Ok(end)
+}
+
+/// Has the connection ids of a life that is counted come from the state's file. A line tells where ids come again.
+fn begin_ids<R>(setting: &Stationed<'_, R>, start: &Start) -> Result<(), OutOfMemory>
+where
+    R: AllocGlobal + Files<File = File> + Wait + Copy + Drop,
+{
+    let (Some(block), Some(file)) = (start.block(), start.file()?) else {
+        return Ok(());
+    };
+    setting
+        .rim
+        .ids
+        .begin(&setting.rt, file, start.state(), block);
+    if start.ends_circle() {
+        report_line(setting.rt, setting.rim, CIRCLE_ENDS);
+    }
+    Ok(())
 }
 
 /// A life of a station, whose device has no script.
@@ -347,7 +373,8 @@ where
     let alloc = setting.rt.alloc();
     let end_ms = left_ms(setting.options.seconds, setting.begun_ms);
     let steps = DeviceSteps::unscripted(alloc, InputSteps::new(alloc, lines), end_ms);
-    let mut steps = CountedSteps::new(steps, host);
+    let steps = CountedSteps::new(steps, host);
+    let mut steps = SuppliedSteps::new(steps, setting.rim.ids.blocks(setting.rt)?);
     Ok(station.live(&mut steps, slots)?)
 }
 

@@ -1,5 +1,6 @@
 -- What a station does next: what its input says, and what the script of its device has due.
 use Rattle.std.specs.Prelude.{◌≡◌, ◌⊎◌, ℕ, ◌+◌, ◌-◌, ◌^◌, min, Bool, true, false, List, slice_get, Option, Some, None}
+use Rattle.cip_types.specs.declared.ids.IdBlock.{IdBlock}
 use Rattle.cip_events.specs.declared.event.Event.TheVariants as event
 use Rattle.station.specs.declared.counted.CountedSteps.{CountedSteps}
 use Rattle.station.specs.declared.script.run.DueLine.{DueLine}
@@ -16,6 +17,7 @@ use Rattle.station_lines.specs.declared.lines.NextLine.{NextLine}
 use Rattle.station_lines.specs.declared.lines.NextLine.TheVariants as next
 use Rattle.station.specs.declared.sources.DeviceSteps.{DeviceSteps}
 use Rattle.station.specs.declared.sources.InputSteps.{InputSteps}
+use Rattle.station.specs.declared.sources.SuppliedSteps.{SuppliedSteps}
 use Rattle.station.specs.Times.{is_over, pause_ms}
 
 -- THE INPUT
@@ -99,6 +101,19 @@ Gives types old now given new = GivesWithin (is_over now old.end_ms) types old n
 -- WHAT THE HOST COUNTS
 
 -- Either the device is told what its host has counted, and the source of its steps stays, or that source gives the step.
-abbrev pub Counts : {S H : Type 0} (gives : S → ℕ → StationStep → S → Type 0) → CountedSteps S H → ℕ → StationStep → CountedSteps S H → Type 0
-Counts gives old now given new =
-    ((bytes : List ℕ) × (given ≡ step.Call (event.Counters bytes)) × (new.steps ≡ old.steps)) ⊎ gives old.steps now given new.steps
+abbrev pub Counts : {S H : Type 0} (gives : S → ℕ → ℕ → StationStep → S → Type 0) → CountedSteps S H → (now left : ℕ) → StationStep → CountedSteps S H → Type 0
+Counts gives old now left given new =
+    ((bytes : List ℕ) × (given ≡ step.Call (event.Counters bytes)) × (new.steps ≡ old.steps)) ⊎ gives old.steps now left given new.steps
+
+-- WITH A SUPPLY OF CONNECTION IDS
+
+-- the device takes a block that the supply has, or the source gives its step
+abbrev pub step_of_supply : {S : Type 0} (gives : S → ℕ → ℕ → StationStep → S → Type 0) → S → ℕ → ℕ → Option IdBlock → StationStep → S → Type 0
+step_of_supply gives old now left None given new = gives old now left given new
+step_of_supply gives old now left (Some block) given new = (given ≡ step.Call (event.Ids block)) × (new ≡ old)
+
+-- What a source with a supply gives, where the device has so many ids left.
+pub record GivesSupplied {S I : Type 0} (gives : S → ℕ → ℕ → StationStep → S → Type 0) (supplies : I → ℕ → Option IdBlock → I → Type 0) (old : SuppliedSteps S I) (now left : ℕ) (given : StationStep) (new : SuppliedSteps S I) : Type 0 where
+  pub block : Option IdBlock
+  pub supplied : supplies old.supply left block new.supply
+  pub is_step : step_of_supply gives old.source now left block given new.source

@@ -41,12 +41,12 @@ impl<S: StepSource, H: HostCounts> CountedSteps<S, H> {
 }
 
 impl<S: StepSource, H: HostCounts> StepSource for CountedSteps<S, H> {
-    ghost gives = { λ old now step new. Counts S.gives old now step new };
+    ghost gives = { λ old now left step new. Counts S.gives old now left step new };
 
-    fn next_step(&mut self, now_ms: u64) -> Result<StationStep, OutOfMemory> {
+    fn next_step(&mut self, now_ms: u64, ids_left: u32) -> Result<StationStep, OutOfMemory> {
         match self.host.next_counters(now_ms)? {
             Some(bytes) => Ok(StationStep::Call(Event::Counters { bytes })),
-            None => self.steps.next_step(now_ms),
+            None => self.steps.next_step(now_ms, ids_left),
         }
     }
 }

@@ -23,5 +23,5 @@ pub use fault::EarlyEnd;
 pub use observer::StationObserver;
 pub use script::{DueLine, DueTime, ScriptLine, ScriptRun, times_are_exact, waits_are_exact};
 pub use serving::{Reporting, Station};
-pub use sources::{DeviceSteps, InputSteps, StepSource, TypedSteps};
+pub use sources::{DeviceSteps, InputSteps, StepSource, SuppliedSteps, TypedSteps};
 pub use step::{LifeEnd, StationStep};

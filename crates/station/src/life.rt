@@ -5,6 +5,7 @@ ghost use Rattle.std.specs.List.{list_any};
 ghost use Rattle.station.specs.Lives.{Closed, EndsLife, Lived, Takes, Took, TookAll, TurnsMade, end_of, number_of, reset_end, tasks_of, wait_behind};
 ghost use Rattle.station.specs.Recorded.{Does, Recorded};
 ghost use Rattle.station.specs.Rests.{Rests};
+ghost use Rattle.cip_tables.specs.States.{totals_of};
 ghost use Rattle.station_lines.specs.Watch.Closing.{close_end, is_marked, waits_on};
 
 use crate::fault::EarlyEnd;
@@ -78,7 +79,7 @@ impl<
         ensures taken { IfOk result (λ end. Took W.contents P.is_scripted C.is_scripted C.coming P.tape P.failed
             D.table S.gives end source.old self.old source.new self.new) }
     {
-        let step = source.next_step(self.now_ms())?;
+        let step = source.next_step(self.now_ms(), self.ids_left())?;
         let (end, wait_ms) = (end_of(&step), wait_behind(&step));
         self.perform(step)?;
         match end {
@@ -88,6 +89,13 @@ impl<
                 Ok(self.reset_end())
             }
         }
+    }
+
+    /// How many connection ids the device has left.
+    pub fn ids_left(&self) -> u32
+        ensures { result ≡ (totals_of (D.table self.now.device)).ids_left }
+    {
+        self.device.totals().ids_left
     }
 
     /// Does what a step says, but for the turn behind it.

@@ -7,24 +7,27 @@ ghost use Rattle.station.specs.Times.{is_over, pause_ms};
 
 use crate::script::{ScriptLine, ScriptRun};
 use crate::step::{LifeEnd, StationStep};
+use cip_events::Event;
 use cip_types::OutOfMemory;
 use station_lines::{CallLines, InputLine, NextLine, read_line};
+use station_record::IdSupply;
 use std::alloc::Global;
 
 /// A station looks for what is typed at least so often, in milliseconds, and earlier if its source wakes the port.
 const LOOK_MS: u64 = 1_000;
 
-/// The steps of a station. Contracts see them as a relation: from the source, at a time of the station's clock, by the step that it
-/// gives, to the source behind it.
+/// The steps of a station. Contracts see them as a relation: from the source, at a time of the station's clock and with so many ids
+/// left, by the step that it gives, to the source behind it.
 pub trait StepSource {
     ghost use Rattle.std.specs.Prelude.{ℕ};
     ghost use Rattle.station.specs.declared.step.StationStep.{StationStep};
 
-    ghost gives: { Self → ℕ → StationStep → Self → Type 0 };
+    ghost gives: { Self → ℕ → ℕ → StationStep → Self → Type 0 };
 
-    /// What the station does next, so many milliseconds after its life began. Never waits. The fault: an allocation was refused.
-    fn next_step(&mut self, now_ms: u64) -> Result<StationStep, OutOfMemory>
-        ensures { IfOk result (λ step. gives self.old now_ms step self.new) };
+    /// What the station does next, so many milliseconds after its life began, where its device has so many connection ids left.
+    /// Never waits. The fault: an allocation was refused.
+    fn next_step(&mut self, now_ms: u64, ids_left: u32) -> Result<StationStep, OutOfMemory>
+        ensures { IfOk result (λ step. gives self.old now_ms ids_left step self.new) };
 }
 
 /// The steps that are typed. Contracts see them as a relation, as those of a `StepSource`.
@@ -189,15 +192,46 @@ impl<'a, T: TypedSteps> DeviceSteps<'a, T> {
 impl<'a, T: TypedSteps> StepSource for DeviceSteps<'a, T> {
     ghost use Rattle.station.specs.Sources.{Gives};
 
-    ghost gives = { λ old now step new. Gives T.types old now step new };
+    ghost gives = { λ old now left step new. Gives T.types old now step new };
 
-    fn next_step(&mut self, now_ms: u64) -> Result<StationStep, OutOfMemory> {
+    fn next_step(&mut self, now_ms: u64, _ids_left: u32) -> Result<StationStep, OutOfMemory> {
         if is_over(now_ms, self.end_ms) {
             return Ok(StationStep::End(LifeEnd::Over));
         }
         match self.typed.next_typed()? {
             Some(step) => Ok(step),
             None => self.script_step(now_ms),
+        }
+    }
+}
+
+/// The steps of a source, before which the device takes each further block of connection ids that its supply has.
+#[derive(Drop)]
+pub struct SuppliedSteps<S, I> {
+    source: S,
+    supply: I,
+}
+
+impl<S: StepSource, I: IdSupply> SuppliedSteps<S, I> {
+    /// The steps of this source, with this supply.
+    pub fn new(source: S, supply: I) -> SuppliedSteps<S, I>
+    where
+        S: Drop,
+        I: Drop,
+    {
+        SuppliedSteps { source, supply }
+    }
+}
+
+impl<S: StepSource, I: IdSupply> StepSource for SuppliedSteps<S, I> {
+    ghost use Rattle.station.specs.Sources.{GivesSupplied};
+
+    ghost gives = { λ old now left step new. GivesSupplied S.gives I.supplies old now left step new };
+
+    fn next_step(&mut self, now_ms: u64, ids_left: u32) -> Result<StationStep, OutOfMemory> {
+        match self.supply.next_block(ids_left) {
+            Some(block) => Ok(StationStep::Call(Event::Ids { block })),
+            None => self.source.next_step(now_ms, ids_left),
         }
     }
 }

@@ -8,5 +8,5 @@ mod timestamp;
 
 pub use file_words::{name_of, stem_of};
 pub use record_file::{RecordFile, RecordPlace, forget_record, place_of_record};
-pub use state_file::{Start, StateFault};
+pub use state_file::{Start, StateFault, StateFile};
 pub use timestamp::push_timestamp;

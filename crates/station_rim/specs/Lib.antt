@@ -1,3 +1,4 @@
+pub mod IdWays
 pub mod Reads
 pub mod Queue
 pub mod UnreadCalls

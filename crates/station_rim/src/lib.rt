@@ -3,6 +3,8 @@
 #![tactic(auto)]
 
 mod draining;
+mod id_supply;
+mod id_way;
 mod inbox;
 mod labelled;
 mod line_way;
@@ -17,6 +19,7 @@ mod unread_calls;
 mod written;
 
 pub use draining::{drain_lines, drain_record, report_line};
+pub use id_supply::{CIRCLE_ENDS, IdBlocks, SharedIds};
 pub use inbox::{InputLines, SharedInput};
 pub use labelled::{LabelledLines, SharedDevices};
 pub use outlets::{LineEntrance, SharedLines};

@@ -1,5 +1,6 @@
 //! What a station's loop shares with the threads around it.
 
+use crate::id_supply::SharedIds;
 use crate::inbox::SharedInput;
 use crate::outlets::SharedLines;
 use crate::queue::NoticeForm;
@@ -7,13 +8,14 @@ use crate::record_queue::SharedRecord;
 use cip_types::OutOfMemory;
 use std::alloc::Global;
 
-/// The input, the outputs and the record of a station.
+/// The input, the outputs, the record and the connection ids of a station.
 #[derive(Drop)]
 pub struct Rim {
     pub input: SharedInput,
     pub out: SharedLines,
     pub err: SharedLines,
     pub record: SharedRecord,
+    pub ids: SharedIds,
 }
 
 impl Rim {
@@ -24,6 +26,7 @@ impl Rim {
             out: SharedLines::new(alloc, NoticeForm::Comment)?,
             err: SharedLines::new(alloc, NoticeForm::Report)?,
             record: SharedRecord::new(alloc)?,
+            ids: SharedIds::new(alloc)?,
         })
     }
 }

@@ -12,7 +12,7 @@ pub use opening::{
     HostCounters, MOST_LIVES, OpenPort, OpenStation, OpenedPort, SocketPlace, StationOutputs,
     UnusableProfile, head_of, host_of, incarnation_of, is_scanner, names_in, open_life_port,
     open_port, passed_ms, profile_in, recorder_in, rest_before_life, socket_place, start_in,
-    station_of, unread_profile, with_incarnation, with_serials,
+    station_of, unread_profile, with_block, with_incarnation, with_serials,
 };
 pub use place::{adapter_place, end_of, rates_of, scanner_place};
 pub use targets::targets_of;

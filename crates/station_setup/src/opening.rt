@@ -11,7 +11,7 @@ mod starts;
 mod stations;
 mod unserved;
 
-pub use devices::{incarnation_of, is_scanner, with_incarnation, with_serials};
+pub use devices::{incarnation_of, is_scanner, with_block, with_incarnation, with_serials};
 pub use host_counters::{HostCounters, host_of};
 pub use lives::{MOST_LIVES, open_life_port, passed_ms, rest_before_life};
 pub use places::{SocketPlace, socket_place};

@@ -5,11 +5,14 @@ ghost use Rattle.station_record.specs.KeptState.States.{state_of};
 ghost use Rattle.station_record.specs.KeptFiles.StateFiles.{drawn_number, held_state, unread_state};
 
 use crate::kept_files::fresh::fresh_file;
-use crate::kept_state::{StationState, begin_state, drawn_serials, push_state, read_state};
-use cip_types::OutOfMemory;
-use std::alloc::{AllocError, AllocFailed};
+use crate::kept_state::{
+    StationState, begin_state, drawn_serials, kept_ids, life_block, push_state, read_state,
+    with_ids,
+};
+use cip_types::{IdBlock, OutOfMemory};
+use std::alloc::{AllocError, AllocFailed, Global};
 use std::fs::{self, File, OpenFile};
-use std::io::{self, Write};
+use std::io::{self, ErrorKind, Write};
 use std::random::RandomSource;
 use std::rt::Files;
 use thiserror::Error;
@@ -60,14 +63,18 @@ const LONGEST_STATE: u64 = 4_096;
 #[derive(Drop)]
 pub struct Start {
     state: StationState,
+    /// The block of connection ids that the start has reserved, if it is counted.
+    block: Option<IdBlock>,
+    /// Whether ids of the block were given before: all others have been given since.
+    ends_circle: bool,
     /// Where the state is kept, if the start is counted.
-    kept: Option<NewState>,
+    file: Option<StateFile>,
 }
 
-/// The text of a state, the file of the last one, and that beside it.
+/// The file of a station's state, and that beside it, in which a new state is before it takes the place of the last one.
 #[derive(Drop)]
-struct NewState {
-    text: String,
+pub struct StateFile {
+    alloc: Global,
     path: String,
     new: String,
 }
@@ -81,13 +88,17 @@ impl Start {
                 incarnation,
                 serial: 0,
                 serials: Some(drawn_serials(drawn(rt))),
+                ids: None,
             },
-            kept: None,
+            block: None,
+            ends_circle: false,
+            file: None,
         }
     }
 
     /// A start that is counted in a file, and whose incarnation may be given. Its state is on the medium before this returns,
-    /// in a file of its own: that of the last start stays until `keep`, so that a start that fails uses no incarnation up.
+    /// in a file of its own: that of the last start stays until `keep`, so that a start that fails uses no incarnation up. It has
+    /// the block of connection ids that the start reserves.
     ///
     /// The faults: `Unread` if the file is not read, `NoState` if it holds none, `Unwritten` if the new one cannot be written,
     /// `OutOfMemory`.
@@ -97,20 +108,20 @@ impl Start {
     {
         let alloc = rt.alloc();
         let state = begin_state(last_state(rt, path)?, given, own, drawn(rt));
-        let mut text = String::new(alloc);
-        push_state(&mut text, state)?;
-        let new = NewState {
-            text,
+        let ids = kept_ids(&state, drawn(rt));
+        let state = with_ids(state, ids.with_reserved());
+        let file = StateFile {
+            alloc,
             path: format!(in alloc; "{path}")?,
             new: format!(in alloc; "{path}.new")?,
         };
-        match new.write(rt) {
-            Ok(()) => Ok(Start {
-                state,
-                kept: Some(new),
-            }),
-            Err(_) => Err(StateFault::Unwritten),
-        }
+        file.write(rt, state)?;
+        Ok(Start {
+            state,
+            block: Some(life_block(ids.next_block(), drawn(rt))),
+            ends_circle: ids.ends_circle(),
+            file: Some(file),
+        })
     }
 
     /// The state of the start.
@@ -118,10 +129,21 @@ impl Start {
         self.state
     }
 
+    /// The block of connection ids that the life begins with. None if the start is not counted: its ids are those of its
+    /// incarnation.
+    pub fn block(&self) -> Option<IdBlock> {
+        self.block
+    }
+
+    /// Whether ids of the block were given before: all others have been given since.
+    pub fn ends_circle(&self) -> bool {
+        self.ends_circle
+    }
+
     /// The file in which the start is counted; empty if it is not counted.
     pub fn path(&self) -> &str {
-        match &self.kept {
-            Some(new) => new.path.as_str(),
+        match &self.file {
+            Some(file) => file.path.as_str(),
             None => "",
         }
     }
@@ -129,42 +151,114 @@ impl Start {
     /// The start is counted from now on: its state takes the place of the last one, at once and on the medium. No connection
     /// id is given before. The only fault is `Unwritten`.
     pub fn keep<R: Files<File = File>>(&self, rt: &R) -> Result<(), StateFault> {
-        match &self.kept {
-            Some(new) if new.replace(rt).is_err() => Err(StateFault::Unwritten),
-            _ => Ok(()),
+        match &self.file {
+            Some(file) => file.replace(rt, self.state),
+            None => Ok(()),
+        }
+    }
+
+    /// The file in which the start is counted, for what is reserved in the life and given back at its end. None if it is not
+    /// counted. OutOfMemory is the only fault.
+    pub fn file(&self) -> Result<Option<StateFile>, OutOfMemory> {
+        match &self.file {
+            Some(file) => Ok(Some(file.copy()?)),
+            None => Ok(None),
         }
     }
 
     /// The start has failed and is not counted: the last state stays, and nothing is left beside it, as far as the system
     /// allows.
     pub fn discard<R: Files<File = File>>(&self, rt: &R) {
-        if let Some(new) = &self.kept {
-            let _ = fs::remove_file(rt, new.new.as_str());
+        if let Some(file) = &self.file {
+            let _ = fs::remove_file(rt, file.new.as_str());
         }
     }
 }
 
-impl NewState {
-    /// Writes the text to the file beside the last state, on the medium.
-    fn write<R: Files<File = File>>(&self, rt: &R) -> io::Result<()> {
+impl StateFile {
+    /// The same file. OutOfMemory is the only fault.
+    fn copy(&self) -> Result<StateFile, OutOfMemory> {
+        let (alloc, path, new) = (self.alloc, self.path.as_str(), self.new.as_str());
+        Ok(StateFile {
+            alloc,
+            path: format!(in alloc; "{path}")?,
+            new: format!(in alloc; "{new}")?,
+        })
+    }
+
+    /// Has a state take the place of the last one, on the medium. The only fault is `Unwritten`: the last state stays, or this
+    /// one is in its place and perhaps not on the medium.
+    pub fn put<R: Files<File = File>>(
+        &self,
+        rt: &R,
+        state: StationState,
+    ) -> Result<(), StateFault> {
+        self.write(rt, state)?;
+        self.replace(rt, state)
+    }
+
+    /// The path of the file.
+    pub fn path(&self) -> &str {
+        self.path.as_str()
+    }
+
+    /// Writes a state to the file beside the last one, on the medium. The only fault is `Unwritten`.
+    fn write<R: Files<File = File>>(&self, rt: &R, state: StationState) -> Result<(), StateFault> {
+        match self.write_new(rt, state) {
+            Ok(()) => Ok(()),
+            Err(_) => Err(StateFault::Unwritten),
+        }
+    }
+
+    fn write_new<R: Files<File = File>>(&self, rt: &R, state: StationState) -> io::Result<()> {
+        let mut text = String::new(self.alloc);
+        if push_state(&mut text, state).is_err() {
+            return Err(io::Error::from(ErrorKind::OutOfMemory));
+        }
         let mut file = fresh_file(rt, self.new.as_str())?;
-        file.write_all(self.text.as_bytes())?;
+        file.write_all(text.as_bytes())?;
         file.sync_all()
     }
 
-    /// Has the file beside the last state take its place. (Another start of this state, which has failed meanwhile, may have
+    /// Has the file beside the last state take its place. The only fault is `Unwritten`.
+    fn replace<R: Files<File = File>>(
+        &self,
+        rt: &R,
+        state: StationState,
+    ) -> Result<(), StateFault> {
+        match self.move_new(rt, state) {
+            Ok(()) => Ok(()),
+            Err(_) => Err(StateFault::Unwritten),
+        }
+    }
+
+    /// Moves the file beside the last state to its place. (Another start of this state, which has failed meanwhile, may have
     /// removed it.)
-    fn replace<R: Files<File = File>>(&self, rt: &R) -> io::Result<()> {
+    fn move_new<R: Files<File = File>>(&self, rt: &R, state: StationState) -> io::Result<()> {
         let (path, new) = (self.path.as_str(), self.new.as_str());
         if fs::rename(rt, new, path).is_err() {
-            self.write(rt)?;
+            self.write_new(rt, state)?;
             fs::rename(rt, new, path)?;
         }
-        // (the new name is on the medium too once the folder is; not every file system takes that request)
-        if let Ok(folder) = File::open(rt, folder_of(path)) {
-            let _ = folder.sync_all();
-        }
-        Ok(())
+        sync_folder(rt, folder_of(path))
+    }
+}
+
+/// Has the names of a folder written to the medium. A file system that does not take this request keeps the order of renames
+/// itself.
+fn sync_folder<R: Files<File = File>>(rt: &R, path: &str) -> io::Result<()> {
+    let folder = File::open(rt, path)?;
+    match folder.sync_all() {
+        Err(error) if is_unknown(error.kind()) => Ok(()),
+        done => done,
+    }
+}
+
+/// Whether an error says that a file system does not take a request.
+fn is_unknown(kind: ErrorKind) -> bool {
+    match kind {
+        ErrorKind::InvalidInput | ErrorKind::Unsupported => true,
+        _ => false,
     }
 }
 

@@ -1,5 +1,7 @@
 -- What is read of a profile as its device begins, and what is put in its place.
-use Rattle.std.specs.Prelude.{ℕ, ◌-◌, ◌^◌, ◌==◌, if◌then◌else◌, min, length, Bool, true, false, Option}
+use Rattle.std.specs.Prelude.{ℕ, ◌-◌, ◌^◌, ◌==◌, if◌then◌else◌, min, length, Bool, true, false, Option, Some, None}
+use Rattle.cip_types.specs.declared.ids.IdBlock.{IdBlock}
+use Rattle.cip_tables.specs.Ids.{with_ids}
 use Rattle.cip_tables.specs.declared.table.Config.{Config}
 use Rattle.cip_tables.specs.declared.table.Config.TheVariants.{Adapter, Scanner}
 
@@ -29,3 +31,8 @@ with_serials (Scanner profile) kept serials = Scanner (record profile { serial =
 abbrev pub slots_of : Config → ℕ
 slots_of (Adapter profile) = 0
 slots_of (Scanner profile) = min (length profile.slots) (2 ^ 32 - 1)
+
+-- the profile of a start that has reserved a block of connection ids
+abbrev pub with_block : Config → Option IdBlock → Config
+with_block config None = config
+with_block config (Some block) = with_ids (Some block) config

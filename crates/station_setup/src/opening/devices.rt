@@ -1,9 +1,10 @@
 //! The device of a profile.
 
 ghost use Rattle.std.specs.Prelude.{◌≡◌};
-ghost use Rattle.station_setup.specs.Opening.Devices.{incarnation_of, is_scanner, own_serial, slots_of, with_incarnation, with_serials};
+ghost use Rattle.station_setup.specs.Opening.Devices.{incarnation_of, is_scanner, own_serial, slots_of, with_block, with_incarnation, with_serials};
 
 use cip_tables::Config;
+use cip_types::IdBlock;
 
 /// Whether a configuration is that of a scanner.
 pub fn is_scanner(config: &Config) -> bool
@@ -74,5 +75,15 @@ pub fn with_serials(config: Config, kept: u32, serials: Option<u16>) -> Config
             profile.serials = serials;
             Config::Scanner(profile)
         }
+    }
+}
+
+/// A profile with the block of connection ids of a start in place of its own; with its own one where the start has none.
+pub fn with_block(config: Config, block: Option<IdBlock>) -> Config
+    ensures { result ≡ with_block config block }
+{
+    match block {
+        Some(block) => config.with_ids(Some(block)),
+        None => config,
     }
 }
