@@ -1,12 +1,13 @@
 -- The lives of a plant's devices, worked by hand.
-use Rattle.std.specs.Prelude.{◌≡◌, ◌∷◌, [], ◌++◌, codes, decimal, true, false, Some, None, Err, refl}
+use Rattle.std.specs.Prelude.{ℕ, ◌≡◌, ◌∷◌, [], ◌++◌, codes, decimal, true, false, Some, None, Err, refl}
 use Rattle.plant_rim.specs.declared.failure.DeviceFailure.TheVariants.{RecordEnd}
 use Rattle.station.specs.declared.step.LifeEnd.TheVariants.{Over, Restart}
 use Rattle.station_port.specs.declared.place.StationPlace.{StationPlace}
 use Rattle.station_record.specs.declared.fault.RecordFault.TheVariants.{Refused}
 use Rattle.trace_words.specs.Words.{node_word}
+use Rattle.plant_command.specs.declared.endings.LifeNames.{LifeNames}
 use Rattle.plant_command.specs.DeviceLines.{device_line, device_lines}
-use Rattle.plant_command.specs.Endings.{is_over, is_stillborn, life_end, next_incarnation, seconds_of}
+use Rattle.plant_command.specs.Endings.{is_over, is_stillborn, life_end, next_names, seconds_of}
 use Rattle.plant_command.specs.Lives.{life_text, start_text}
 use Rattle.plant_command.specs.Paths.{path_in}
 
@@ -22,10 +23,18 @@ stillborn = (refl, (refl, refl))
 record_ends : life_end Over (Some Refused) ≡ Err RecordEnd
 record_ends = refl
 
--- a device with the incarnations 1 to 127
-next_lives : (next_incarnation (record { first = 1; last = 127 }) 5 (Restart true) ≡ Some 5) × ((next_incarnation (record { first = 1; last = 127 }) 127 (Restart false) ≡ Some 1)
-    × (next_incarnation (record { first = 1; last = 127 }) 5 Over ≡ None))
-next_lives = (refl, (refl, refl))
+-- A device with the incarnations 1 to 127 and the ids 100 to 149. Where a life has left 20 of them, the next one has these; where
+-- it has left all, the next one has all but the first. The same ones again are left as few as they were.
+names : (incarnation first count left : ℕ) → LifeNames
+names incarnation first count left = record { incarnation = incarnation; ids = record { first = first; count = count }; left = left }
+
+next_lives : (next_names (record { first = 1; last = 127 }) (names 5 100 50 50) (Restart false) 20 ≡ Some (names 6 130 20 20))
+    × ((next_names (record { first = 1; last = 127 }) (names 127 100 50 50) (Restart false) 50 ≡ Some (names 1 101 49 49))
+    × ((next_names (record { first = 1; last = 127 }) (names 5 100 50 50) (Restart true) 20 ≡ Some (names 5 100 50 20))
+    × ((next_names (record { first = 1; last = 127 }) (names 5 100 50 20) (Restart false) 50 ≡ Some (names 6 130 20 20))
+    × (next_names (record { first = 1; last = 127 }) (names 5 100 50 50) Over 50 ≡ None))))
+unfolding names
+next_lives = (refl, (refl, (refl, (refl, refl))))
 
 paths : (path_in (Some (codes "/a")) (codes "b/c") ≡ codes "/a/b/c") × ((path_in (Some (codes "/a")) (codes "/b") ≡ codes "/b") × (path_in None (codes "b") ≡ codes "b"))
 paths = (refl, (refl, refl))

@@ -1,6 +1,9 @@
 -- When a plant and the lives of its devices are over, and which devices a phase of its end ends. Times are in milliseconds since the plant began.
-use Rattle.std.specs.Prelude.{ℕ, nat_le, ◌==◌, ◌&&◌, ◌||◌, is_some, Bool, true, false, Option, Some, None, Result, Ok, Err}
-use Rattle.plant_rim.specs.Incarnations.{incarnation_behind}
+use Rattle.std.specs.Prelude.{ℕ, nat_le, min, ◌==◌, ◌&&◌, ◌||◌, is_some, Bool, true, false, Option, Some, None, Result, Ok, Err}
+use Rattle.cip_types.specs.declared.ids.IdBlock.{IdBlock}
+use Rattle.cip_types.specs.Ids.{ids_behind}
+use Rattle.plant_command.specs.declared.endings.LifeNames.{LifeNames}
+use Rattle.plant_rim.specs.Incarnations.{next_of}
 use Rattle.plant_rim.specs.declared.failure.DeviceFailure.{DeviceFailure}
 use Rattle.plant_rim.specs.declared.failure.DeviceFailure.TheVariants.{RecordEnd}
 use Rattle.plant_rim.specs.declared.incarnations.IncarnationSpan.{IncarnationSpan}
@@ -39,7 +42,12 @@ abbrev pub life_end : LifeEnd → Option RecordFault → Result LifeEnd DeviceFa
 life_end end None = Ok end
 life_end end (Some fault) = Err RecordEnd
 
--- a life follows a restart, and nothing else
-abbrev pub next_incarnation : IncarnationSpan → ℕ → LifeEnd → Option ℕ
-next_incarnation span incarnation (Restart same) = Some (incarnation_behind span incarnation same)
-next_incarnation span incarnation other = None
+-- a life whose ids no earlier life had
+abbrev pub new_names : ℕ → IdBlock → LifeNames
+new_names incarnation ids = record { incarnation = incarnation; ids = ids; left = ids.count }
+
+-- A life follows a restart, and nothing else. It has the ids that no life before it has given, unless it is to have the same ones.
+abbrev pub next_names : IncarnationSpan → LifeNames → LifeEnd → ℕ → Option LifeNames
+next_names span names (Restart true) left = Some (record names { left = min left names.left })
+next_names span names (Restart false) left = Some (new_names (next_of span names.incarnation) (ids_behind names.ids (min left names.left)))
+next_names span names other left = None

@@ -1,5 +1,7 @@
 -- The configuration of a device's life, and the line that says that it begins.
-use Rattle.std.specs.Prelude.{ℕ, if◌then◌else◌, Bool, List, ◌++◌, codes, decimal}
+use Rattle.std.specs.Prelude.{ℕ, if◌then◌else◌, Bool, List, ◌++◌, codes, decimal, Some}
+use Rattle.cip_tables.specs.Ids.{with_ids}
+use Rattle.plant_command.specs.declared.endings.LifeNames.{LifeNames}
 use Rattle.cip_tables.specs.declared.table.Config.{Config}
 use Rattle.command_lines.specs.declared.station_options.Options.{Options}
 use Rattle.station_setup.specs.Opening.Devices.{with_incarnation}
@@ -8,10 +10,13 @@ use Rattle.station_port.specs.declared.place.StationPlace.{StationPlace}
 use Rattle.trace_words.specs.Words.{node_word}
 use Rattle.plant_command.specs.Setups.{node_of}
 
--- the configuration of a device, with the incarnation of a life; an adapter without a description has the name of its device, and
--- its address as its serial number
-abbrev pub life_config : Config → Options → List ℕ → ℕ → Config
-life_config config options name incarnation = described (with_incarnation config incarnation) options (node_of (with_incarnation config incarnation)).0 name
+-- the configuration of a device, with the incarnation and the connection ids of a life
+abbrev pub named_config : Config → LifeNames → Config
+named_config config names = with_ids (Some names.ids) (with_incarnation config names.incarnation)
+
+-- an adapter without a description has the name of its device, and its address as its serial number
+abbrev pub life_config : Config → Options → List ℕ → LifeNames → Config
+life_config config options name names = described (named_config config names) options (node_of (named_config config names)).0 name
 
 abbrev pub kind_word : (scanner : Bool) → List ℕ
 kind_word scanner = if scanner then codes "scanner" else codes "adapter"

@@ -5,6 +5,8 @@ use Rattle.cip_tables.specs.declared.table.Config.TheVariants.{Adapter, Scanner}
 use Rattle.cip_types.specs.declared.names.Node.{Node}
 use Rattle.command_lines.specs.declared.station_options.Options.{Options}
 use Rattle.plant_rim.specs.declared.incarnations.IncarnationSpan.{IncarnationSpan}
+use Rattle.cip_types.specs.declared.ids.IdBlock.{IdBlock}
+use Rattle.cip_types.specs.Ids.{part_of_ids}
 use Rattle.plant_rim.specs.Incarnations.{span_of}
 use Rattle.plant_rim.specs.declared.file.plant.FaultOptions.{FaultOptions}
 use Rattle.trace_words.specs.Words.{node_word}
@@ -39,6 +41,10 @@ with_node (Scanner profile) node = Scanner (record profile { node = node })
 -- the incarnations of a device of at most 127
 abbrev pub span_at : ℕ → ℕ → IncarnationSpan
 span_at device devices = if nat_lt device devices && nat_le devices 127 then span_of device devices else record { first = 1; last = 255 }
+
+-- the connection ids of the device of this number of so many; one of more than 127 has none
+abbrev pub ids_at : ℕ → ℕ → IdBlock
+ids_at device devices = if nat_lt device devices && nat_le devices 127 then part_of_ids device devices else record { first = 1; count = 0 }
 
 -- a device has this address
 abbrev pub is_at : Node → MemberSetup → Bool

@@ -1,8 +1,10 @@
 //! When a plant and the lives of its devices are over, and which devices a phase of its end ends.
 
-ghost use Rattle.std.specs.Prelude.{◌≡◌};
-ghost use Rattle.plant_command.specs.Endings.{ends, is_late, is_over, is_stillborn, life_end, next_incarnation, seconds_of};
+ghost use Rattle.std.specs.Prelude.{◌≡◌, true};
+ghost use Rattle.cip_types.specs.Ids.{is_block};
+ghost use Rattle.plant_command.specs.Endings.{ends, is_late, is_over, is_stillborn, life_end, new_names, next_names, seconds_of};
 
+use cip_types::{IdBlock, ids_behind};
 use plant_rim::{DeviceFailure, IncarnationSpan, PlantPhase};
 use station::LifeEnd;
 use station_record::RecordFault;
@@ -62,12 +64,48 @@ pub(crate) fn life_end(end: LifeEnd, fault: Option<RecordFault>) -> Result<LifeE
     }
 }
 
-/// The incarnation of the life behind one of this incarnation that ends so, if there is one.
-pub(crate) fn next_incarnation(span: IncarnationSpan, incarnation: u8, end: LifeEnd) -> Option<u8>
-    ensures { result ≡ next_incarnation span incarnation end }
+/// What a life of a device has for itself: its incarnation, and its connection ids.
+#[derive(Clone, Copy, PartialEq, Eq)]
+pub(crate) struct LifeNames {
+    pub(crate) incarnation: u8,
+    pub(crate) ids: IdBlock,
+    /// The fewest that an earlier life with the same ids has left.
+    pub(crate) left: u32,
+}
+
+impl LifeNames {
+    /// Those of a life whose ids no earlier life had.
+    pub(crate) fn new(incarnation: u8, ids: IdBlock) -> LifeNames
+        ensures { result ≡ new_names incarnation ids }
+    {
+        LifeNames {
+            incarnation,
+            ids,
+            left: ids.count,
+        }
+    }
+}
+
+/// The names of the life behind one that ends so, whose device has so many ids left, if there is one: the next incarnation, and
+/// the ids that no life has given, or both once more.
+pub(crate) fn next_names(
+    span: IncarnationSpan,
+    names: LifeNames,
+    end: LifeEnd,
+    left: u32,
+) -> Option<LifeNames>
+    requires { is_block names.ids ≡ true }
+    ensures { result ≡ next_names span names end left }
 {
     match end {
-        LifeEnd::Restart { same } => Some(span.behind(incarnation, same)),
+        LifeEnd::Restart { same: true } => Some(LifeNames {
+            left: left.min(names.left),
+            ..names
+        }),
+        LifeEnd::Restart { same: false } => {
+            let ids = ids_behind(names.ids, left.min(names.left));
+            Some(LifeNames::new(span.next(names.incarnation), ids))
+        }
         _ => None,
     }
 }

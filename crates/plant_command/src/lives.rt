@@ -3,7 +3,7 @@
 ghost use Rattle.std.specs.Prelude.{◌≡◌, ◌++◌, IfOk, OnOk, string_bytes};
 ghost use Rattle.plant_command.specs.Lives.{life_config, life_text, start_text};
 
-use crate::endings::{is_stillborn, life_end, next_incarnation};
+use crate::endings::{LifeNames, is_stillborn, life_end, next_names};
 use crate::paths::record_path;
 use crate::setups::node_of;
 use cip_tables::Config;
@@ -92,9 +92,9 @@ where
     let origin = now(&rt)?;
     forget_lives(&rt, setup)?;
     let mut run = ScriptRun::new();
-    let mut incarnation = setup.span.first;
+    let mut names = LifeNames::new(setup.span.first, setup.ids);
     for life in 1..MOST_LIVES {
-        let config = config_of(rt.alloc(), setup, incarnation)?;
+        let config = config_of(rt.alloc(), setup, names)?;
         let opened = open_life_port(rt, &setup.options, &config, life)?;
         let begun_ms = passed_ms(&rt, origin);
         let life = Life {
@@ -104,9 +104,9 @@ where
             number: life,
             begun_ms,
         };
-        let end = life.live(rt, opened, &mut run, lives)?;
-        match next_incarnation(setup.span, incarnation, end) {
-            Some(next) => incarnation = next,
+        let lived = life.live(rt, opened, &mut run, lives)?;
+        match next_names(setup.span, names, lived.end, lived.ids_left) {
+            Some(next) => names = next,
             None => return Ok(()),
         }
         rest_before_life(&rt, origin, begun_ms, None);
@@ -139,13 +139,14 @@ where
     Ok(())
 }
 
-/// The configuration of a life with this incarnation. Without a description of its own an adapter has the name of its device,
-/// and its address as its serial number. OutOfMemory is the only fault.
-fn config_of(alloc: Global, setup: &DeviceSetup, incarnation: u8) -> Result<Config, OutOfMemory>
+/// The configuration of a life with this incarnation and these connection ids. Without a description of its own an adapter has the
+/// name of its device, and its address as its serial number. OutOfMemory is the only fault.
+fn config_of(alloc: Global, setup: &DeviceSetup, names: LifeNames) -> Result<Config, OutOfMemory>
     ensures { IfOk result (λ config.
-        config ≡ life_config setup.now.config setup.now.options (string_bytes setup.now.name) incarnation) }
+        config ≡ life_config setup.now.config setup.now.options (string_bytes setup.now.name) names) }
 {
-    let config = with_incarnation(setup.config.copy(alloc)?, incarnation);
+    let config = with_incarnation(setup.config.copy(alloc)?, names.incarnation);
+    let config = config.with_ids(Some(names.ids));
     let Node(serial) = node_of(&config);
     described(alloc, config, &setup.options, serial, setup.name.as_bytes())
 }
@@ -170,6 +171,13 @@ fn push_life(line: &mut String, life: u32, incarnation: u8) -> Result<(), OutOfM
     Ok(())
 }
 
+/// How a life has ended, and how many connection ids its device had left.
+#[derive(Clone, Copy)]
+struct LivedLife {
+    end: LifeEnd,
+    ids_left: u32,
+}
+
 /// A life of a device.
 #[derive(Clone, Copy)]
 struct Life<'a> {
@@ -189,7 +197,7 @@ impl Life<'_> {
         opened: OpenedPort<R>,
         run: &mut ScriptRun,
         lives: &mut u32,
-    ) -> Result<LifeEnd, DeviceFailure>
+    ) -> Result<LivedLife, DeviceFailure>
     where
         R: AllocGlobal + Files<File = File> + Net + Clock + Wait + Copy + Drop,
     {
@@ -270,7 +278,7 @@ impl Life<'_> {
         run: &mut ScriptRun,
         record: &SharedRecord,
         lives: &mut u32,
-    ) -> Result<LifeEnd, DeviceFailure>
+    ) -> Result<LivedLife, DeviceFailure>
     where
         R: AllocGlobal + Files<File = File> + Net + Clock + Wait + Copy + Drop,
     {
@@ -293,6 +301,10 @@ impl Life<'_> {
         let mut steps = CountedSteps::new(steps, host);
         let lived = station.live(&mut steps, slots);
         *run = steps.steps().run();
-        life_end(lived?, station.record_fault())
+        let end = life_end(lived?, station.record_fault())?;
+        Ok(LivedLife {
+            end,
+            ids_left: station.ids_left(),
+        })
     }
 }

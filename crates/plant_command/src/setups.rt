@@ -3,13 +3,13 @@
 ghost use Rattle.std.specs.Prelude.{◌≡◌, ◌<◌, None, length, map, position, IfOk, IfSome};
 ghost use Rattle.trace_words.specs.PointNames.Things.{devices_in};
 ghost use Rattle.plant_command.specs.DeviceLines.{device_line};
-ghost use Rattle.plant_command.specs.Setups.{AreApart, address_word, device_entry, is_at, node_of, options_of, span_at, with_node};
+ghost use Rattle.plant_command.specs.Setups.{AreApart, address_word, device_entry, ids_at, is_at, node_of, options_of, span_at, with_node};
 
 use crate::failure::PlantFailure;
 use crate::opening::PlantSetting;
 use crate::paths::path_beside;
 use cip_tables::Config;
-use cip_types::{Node, OutOfMemory};
+use cip_types::{IdBlock, Node, OutOfMemory, part_of_ids};
 use command_lines::Options;
 use page_feed::FeedEnd;
 use plant_rim::{
@@ -132,6 +132,17 @@ fn span_at(device: usize, devices: usize) -> IncarnationSpan
     }
 }
 
+/// The connection ids of the device of this number of so many. A plant has at most 127; one of more has none.
+fn ids_at(device: usize, devices: usize) -> IdBlock
+    ensures { result ≡ ids_at device devices }
+{
+    if device < devices && devices <= MOST_SPANS {
+        part_of_ids(device as u32, devices as u32)
+    } else {
+        IdBlock { first: 1, count: 0 }
+    }
+}
+
 /// A device of a plant with its profile.
 fn setup_of<R>(
     rt: R,
@@ -171,6 +182,7 @@ where
         options,
         script: device.script,
         span: span_at(rank.place, rank.devices),
+        ids: ids_at(rank.place, rank.devices),
         typed,
         folder,
         page: feed_of(setting, rank.place)?,

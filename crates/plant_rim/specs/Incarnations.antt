@@ -1,5 +1,5 @@
 -- The incarnations of the lives of a plant's devices: each device has some of 1 to 255 as its own.
-use Rattle.std.specs.Prelude.{ℕ, ◌+◌, ◌*◌, ◌/◌, ◌<◌, ◌≤◌, ◌≢◌, ◌||◌, nat_lt, nat_le, if◌then◌else◌, Bool}
+use Rattle.std.specs.Prelude.{ℕ, ◌+◌, ◌*◌, ◌/◌, ◌<◌, ◌≤◌, ◌≢◌, ◌||◌, nat_lt, nat_le, if◌then◌else◌}
 use Rattle.plant_rim.specs.declared.incarnations.IncarnationSpan.{IncarnationSpan}
 
 -- those of a device of so many: 1 to 255 in equal parts, as near as can be
@@ -9,10 +9,6 @@ span_of device devices = record { first = device * 255 / devices + 1; last = (de
 -- the incarnation of the next life: the last one is followed by the first one
 abbrev pub next_of : IncarnationSpan → ℕ → ℕ
 next_of span incarnation = if nat_lt incarnation span.first || nat_le span.last incarnation then span.first else incarnation + 1
-
--- the incarnation of the life behind one with this incarnation
-abbrev pub incarnation_behind : IncarnationSpan → ℕ → Bool → ℕ
-incarnation_behind span incarnation same = if same then incarnation else next_of span incarnation
 
 -- the next incarnation is another one of the span, and within it the next number
 abbrev pub GoesRound : IncarnationSpan → Type 0

@@ -1,7 +1,7 @@
 //! The incarnations of the lives of a plant's devices.
 
 ghost use Rattle.std.specs.Prelude.{◌≡◌, ◌<◌, ◌≤◌};
-ghost use Rattle.plant_rim.specs.Incarnations.{AreSpans, incarnation_behind, next_of, span_of};
+ghost use Rattle.plant_rim.specs.Incarnations.{AreSpans, next_of, span_of};
 
 /// The most devices of which each has at least two incarnations of its own.
 pub const MOST_SPANS: usize = 127;
@@ -34,17 +34,6 @@ impl IncarnationSpan {
             self.first
         } else {
             incarnation + 1
-        }
-    }
-
-    /// The incarnation of the life behind one with this incarnation: the next one, unless it is to be the same.
-    pub fn behind(&self, incarnation: u8, same: bool) -> u8
-        ensures { result ≡ incarnation_behind self.now incarnation same }
-    {
-        if same {
-            incarnation
-        } else {
-            self.next(incarnation)
         }
     }
 }

@@ -5,7 +5,7 @@ use crate::failure::DeviceFailure;
 use crate::incarnations::IncarnationSpan;
 use crate::typed_steps::SharedSteps;
 use cip_tables::Config;
-use cip_types::{Items, OutOfMemory};
+use cip_types::{IdBlock, Items, OutOfMemory};
 use command_lines::Options;
 use page_feed::FeedEnd;
 use station::ScriptLine;
@@ -26,6 +26,8 @@ pub struct DeviceSetup {
     pub options: Options,
     pub script: Items<ScriptLine>,
     pub span: IncarnationSpan,
+    /// The connection ids of all its lives, which no other device of the plant has.
+    pub ids: IdBlock,
     pub typed: SharedSteps,
     /// The folder of its records, if it is recorded.
     pub folder: Option<String>,
