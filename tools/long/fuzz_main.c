@@ -9,7 +9,7 @@ void eip_fuzz_readers(const uint8_t *bytes, size_t len);
 void eip_fuzz_splitter(const uint8_t *bytes, size_t len);
 int LLVMFuzzerTestOneInput(const uint8_t *bytes, size_t len);
 
-enum { ROOM = 1 << 18, KINDS = 15 };
+enum { ROOM = 1 << 18, KINDS = 16 };
 
 /* Two outputs, three inputs of which one is long, a configuration, two own classes. */
 static const char adapter[] = "adapter 16 192.168.1.10 255.255.255.0 1 12 7 2 3\noutput 150 4 zero hold\noutput 149 4 hold zero\n"
@@ -39,7 +39,7 @@ static event event_of(uint8_t kind, uint8_t small, const uint8_t *bytes, size_t 
 {
     static const enum event_kind kinds[KINDS] = {REQUEST, STREAM, FRAME, DATAGRAM, WRITE, READ,    TICK,
                                                  TICK,    START,  STOP,  CUT,      RESPOND, INQUIRY, EXPLICIT,
-                                                 COUNTERS};
+                                                 COUNTERS, IDS};
     event it = {.kind = kinds[kind % KINDS], .node = near_node(small), .number = small % 4, .bytes = bytes, .len = len};
     switch (it.kind) {
     case STREAM: it.node = near_node(small / 4); break;
@@ -53,6 +53,10 @@ static event event_of(uint8_t kind, uint8_t small, const uint8_t *bytes, size_t 
         it.number = small < 128 ? small % 4 : small % 2;
         break;
     case EXPLICIT: it.number = small / 4; break;
+    case IDS:
+        it.number = 500u * (small % 16);
+        it.count = 300u * (small / 16);
+        break;
     case RESPOND:
         it.asked = small % 32;
         it.status = small % 64 < 32 ? 0 : 0x14;
@@ -161,7 +165,7 @@ static void print_bytes(const event *it)
 static void print_event(const event *it)
 {
     static const char *const words[] = {"", "request", "stream", "frame", "cut", "datagram", "inquiry", "write",
-                                        "read", "tick", "mode", "start", "stop", "explicit", "answer", "counters"};
+                                        "read", "tick", "mode", "start", "stop", "explicit", "answer", "counters", "ids"};
     fputs(words[it->kind], trace);
     if (it->kind == STREAM || it->kind == FRAME || it->kind == CUT || (it->kind >= WRITE && it->kind <= STOP && it->kind != MODE))
         fprintf(trace, " %u", it->number);
@@ -173,8 +177,10 @@ static void print_event(const event *it)
         fprintf(trace, " %u", it->number);
     if (it->kind == RESPOND)
         fprintf(trace, " %llu %02x", (unsigned long long)it->asked, it->status);
-    if (it->kind == REQUEST || it->kind == FRAME || it->kind == DATAGRAM || it->kind == INQUIRY || it->kind == WRITE ||
-        it->kind >= EXPLICIT)
+    if (it->kind == IDS)
+        fprintf(trace, " %u %u", it->number, it->count);
+    else if (it->kind == REQUEST || it->kind == FRAME || it->kind == DATAGRAM || it->kind == INQUIRY || it->kind == WRITE ||
+             it->kind >= EXPLICIT)
         print_bytes(it);
     fputc('\n', trace);
 }

@@ -58,6 +58,7 @@ FORMS = [
     ("tidy", []),
     ("openings 1", [U8]),
     ("serials 1", [U16]),
+    ("ids 16 4096", [U32, U32]),
     ("slot 10.0.0.1 exclusive 151 150 100 4 4 10000 10000 2 p2p 0100020003008104 0102",
      [ADDRESS, NAME, U32, U32, U32, U64, U64, U32, U32, U8, NAME, KEY, HEX]),
     ("slot 10.0.0.1 listen - 153 100 0 4 10000 10000 2 multicast - - change 5", [NAME, U8]),

@@ -115,9 +115,25 @@ BAD_PROFILES = [
      "bad profile 10: line 5: word 2: class 101 is named twice"),
     (adapter(points=POINTS + "".join(f"object {100 + n}\n" for n in range(17))),
      "bad profile 10: line 20: word 2: class 116 is one too many, and an adapter has at most 16 own classes"),
-    # a scanner: incarnation and slots
+    # an adapter: its connection ids
+    (adapter(points=POINTS + "ids 0 4096\n"),
+     "bad profile 1: line 4: word 2: the first connection id is 0, and a connection id is 1 to 4,294,967,295"),
+    (adapter(points=POINTS + "ids 4294967295 2\n"),
+     "bad profile 1: line 4: word 3: 2 connection ids from 4294967295 on end behind 4,294,967,295, and a connection id is 1 to "
+     "4,294,967,295"),
+    (adapter("adapter 0 10.0.0.0 255.0.0.0 1 12 1 1 1\n", points=POINTS + "ids 0 0\n"),
+     "bad profile 1: line 1: word 2: the incarnation is 0, and an incarnation is 1 to 255"),
+    (adapter("adapter 7 10.0.0.0 255.0.0.0 1 12 1 1 1\n", points=POINTS + "ids 2 4294967295\n"),
+     "bad profile 1: line 4: word 3: 4294967295 connection ids from 2 on end behind 4,294,967,295, and a connection id is 1 to "
+     "4,294,967,295"),
+    # a scanner: incarnation, connection ids and slots
     (scanner(slot(), first="scanner 0 10.0.0.2 1 77 1000 500\n"),
      "bad profile 1: line 1: word 2: the incarnation is 0, and an incarnation is 1 to 255"),
+    (scanner("serials 0\n", "ids 0 1\n", slot()),
+     "bad profile 1: line 3: word 2: the first connection id is 0, and a connection id is 1 to 4,294,967,295"),
+    (scanner("ids 4294963201 4096\n"),
+     "bad profile 1: line 2: word 3: 4096 connection ids from 4294963201 on end behind 4,294,967,295, and a connection id is 1 to "
+     "4,294,967,295"),
     (scanner(),
      "bad profile 3: line 1: the scanner has no slot, and a scanner has 1 to 64 slots"),
     (scanner(*[slot()] * 65),
@@ -223,6 +239,11 @@ BAD_PROFILE_LINES = [
     (scanner("serials 1\n", "serials 2\n", slot()), f"bad line 3: {NOT_HERE}"),
     (scanner("serials 1\n", "newer 8\n", slot()), f"bad line 3: {NOT_HERE}"),
     (scanner(slot(), "serials 1\n"), f"bad line 3: {NOT_HERE}"),
+    (scanner("ids 1 1\n", "ids 2 1\n", slot()), f"bad line 3: {NOT_HERE}"),
+    (scanner("ids 1 1\n", "serials 1\n", slot()), f"bad line 3: {NOT_HERE}"),
+    (adapter(points=POINTS + "ids 1 1\nobject 100\n"), f"bad line 5: {NOT_HERE}"),
+    (adapter(points=POINTS + "ids 1 1\nids 2 1\n"), f"bad line 5: {NOT_HERE}"),
+    (adapter(points="ids 1 1\n" + POINTS), f"bad line 2: {NOT_HERE}"),
     (scanner("openings 256\n", slot()), "bad line 2: word 2 is a number that is too large: 256 is above 255"),
     (scanner("serials 65536\n", slot()), "bad line 2: word 2 is a number that is too large: 65536 is above 65535"),
     (adapter(points=POINTS + "openings 1\n"), f"bad line 4: {NOT_HERE}"),

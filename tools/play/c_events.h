@@ -11,14 +11,15 @@
 
 enum event_kind {
     NO_EVENT, REQUEST, STREAM, FRAME, CUT, DATAGRAM, INQUIRY, WRITE, READ, TICK, MODE, START, STOP, EXPLICIT, RESPOND,
-    COUNTERS
+    COUNTERS, IDS
 };
 
 /* An event. What its kind has no use for is 0. */
 typedef struct event {
     enum event_kind kind;
     uint32_t node;      /* the peer, or the target */
-    uint32_t number;    /* the stream, point or slot, the milliseconds, the mode, or the number of an explicit request */
+    uint32_t number;    /* the stream, point or slot, the milliseconds, the mode, the number of an explicit request, or an id */
+    uint32_t count;     /* how many ids */
     uint64_t asked;     /* the number of the request that is answered */
     uint8_t status;     /* its general status */
     const uint8_t *bytes;
@@ -42,6 +43,7 @@ static inline uint32_t perform(eip_device *device, const event *it, uint8_t *out
     case MODE: return eip_mode(device, it->number != 0, out, room, size);
     case START: return eip_start(device, it->number, out, room, size);
     case STOP: return eip_stop(device, it->number, out, room, size);
+    case IDS: return eip_ids(device, it->number, it->count, out, room, size);
     case EXPLICIT: return eip_explicit(device, it->node, it->number, it->bytes, it->len, out, room, size);
     case RESPOND: return eip_respond(device, it->asked, it->status, it->bytes, it->len, out, room, size);
     case COUNTERS: return eip_counters(device, it->bytes, it->len, out, room, size);
@@ -84,7 +86,7 @@ static inline enum event_kind kind_of(const char *word, int *behind)
     } kinds[] = {{"request", REQUEST, 2}, {"stream", STREAM, 2}, {"frame", FRAME, 2},       {"cut", CUT, 1},
                  {"datagram", DATAGRAM, 2}, {"inquiry", INQUIRY, 2}, {"write", WRITE, 2},   {"read", READ, 1},
                  {"tick", TICK, 1},       {"mode", MODE, 1},     {"start", START, 1},       {"stop", STOP, 1},
-                 {"explicit", EXPLICIT, 3}, {"answer", RESPOND, 3}, {"counters", COUNTERS, 1}};
+                 {"explicit", EXPLICIT, 3}, {"answer", RESPOND, 3}, {"counters", COUNTERS, 1}, {"ids", IDS, 2}};
     size_t i;
     for (i = 0; i < sizeof kinds / sizeof *kinds; i++)
         if (!strcmp(word, kinds[i].word)) {
@@ -117,11 +119,13 @@ static inline bool read_event(char *line, event *it)
     }
     if (it->kind == STREAM)
         it->node = node_of(words[1]);
+    else if (it->kind == IDS)
+        it->count = (uint32_t)strtoul(words[1], NULL, 10);
     else if (it->kind == EXPLICIT)
         it->number = (uint32_t)strtoul(words[1], NULL, 10);
     else if (it->kind == RESPOND)
         it->status = (uint8_t)strtoul(words[1], NULL, 16);
-    if (it->kind == COUNTERS || (it->kind != STREAM && behind > 1))
+    if (it->kind == COUNTERS || (it->kind != STREAM && it->kind != IDS && behind > 1))
         take_bytes(it, words[behind - 1]);
     return true;
 }

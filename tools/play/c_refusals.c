@@ -95,6 +95,8 @@ static void check_refusals(eip_device *device)
     check(eip_frame(device, 3, four, 4, out, sizeof out, &size) == EIP_NOT_ALLOWED_NOW, "a frame of no stream");
     check(eip_respond(device, 1, 0, four, 4, out, sizeof out, &size) == EIP_NOT_ALLOWED_NOW, "an answer to no request");
     check(eip_counters(device, four, 4, out, sizeof out, &size) == EIP_NOT_ALLOWED_NOW, "counters of a device that is not described");
+    check(eip_ids(device, 0, 1, out, sizeof out, &size) == EIP_NOT_ALLOWED_NOW, "ids from 0 on");
+    check(eip_ids(device, 4294967295u, 2, out, sizeof out, &size) == EIP_NOT_ALLOWED_NOW, "ids behind the last one");
     check(eip_tick(device, 1, NULL, 1, &size) == EIP_NULL, "room NULL");
     check(eip_tick(device, 1, out, sizeof out, NULL) == EIP_NULL, "a size NULL");
     check(eip_request(device, 1, NULL, 1, out, sizeof out, &size) == EIP_NULL, "bytes NULL");

@@ -103,7 +103,7 @@ def run_counting(bench):
         adapter.kill()
     with open(state) as file:
         text = file.read()
-    found = re.fullmatch(r"incarnation (\d+)\nserial (\d+)\nserials (\d+)\n", text)
+    found = re.fullmatch(r"incarnation (\d+)\nserial (\d+)\nserials (\d+)\nids (\d+) (\d+)\n", text)
     need(found and int(found[1]) == seen[-1] and int(found[2]) > 0, f"the state file: {text!r}")
     need(seen == [seen[0], seen[0] + 1, seen[0] + 2], f"three starts: {seen}")
     sure(not os.path.exists(state + ".new"), f"three starts that were killed have the incarnations {seen}")
@@ -112,7 +112,8 @@ def run_counting(bench):
     need(adapter.end() == 0, "the adapter ends with status 0")
     with open(state) as file:
         text = file.read()
-    sure((incarnation_of(bench.file("count.trace")), text) == (1, f"incarnation 1\nserial {found[2]}\nserials 1\n"), "255 is followed by 1")
+    begins = f"incarnation 1\nserial {found[2]}\nserials 1\nids "
+    sure(incarnation_of(bench.file("count.trace")) == 1 and text.startswith(begins), f"255 is followed by 1: {text!r}")
     elsewhere = bench.file("elsewhere.state")
     adapter = bench.adapter("--state", elsewhere, log="count")
     need(adapter.end() == 0, "the adapter ends with status 0")
@@ -130,7 +131,11 @@ def run_bad_states(bench):
     bad = {"a folder": (bench.file("folder.state"), 3), "no folder": (bench.file("none/a.state"), 6)}
     for what, text in [("an empty file", ""), ("incarnation 0", "incarnation 0\nserial 1\n"), ("256", "incarnation 256\nserial 1\n"),
                        ("half a file", "incarnation 7\n"), ("other words", "count 3\n"), ("more lines", "incarnation 7\nserial 1\nx\n"),
-                       ("serials 0", "incarnation 7\nserial 1\nserials 0\n"), ("65536", "incarnation 7\nserial 1\nserials 65536\n")]:
+                       ("serials 0", "incarnation 7\nserial 1\nserials 0\n"), ("65536", "incarnation 7\nserial 1\nserials 65536\n"),
+                       ("ids 0", "incarnation 7\nserial 1\nserials 1\nids 0 5\n"), ("one number", "incarnation 7\nserial 1\nserials 1\nids 5\n"),
+                       ("an id too large", "incarnation 7\nserial 1\nserials 1\nids 4294967296 5\n"),
+                       ("ids before serials", "incarnation 7\nserial 1\nids 1 5\nserials 1\n"),
+                       ("lines behind ids", "incarnation 7\nserial 1\nserials 1\nids 1 5\nx\n")]:
         bad[what] = (bench.write(f"bad{len(bad)}.state", text), 3)
     for what, (path, status) in bad.items():
         words = [bench.program, "adapter", bench.file("adapter.profile"), "--state", path, "--seconds", "1"]

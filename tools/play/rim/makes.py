@@ -508,7 +508,7 @@ def run_makes_serials(bench):
     lives(bench, made, "old", 1, ("--state", bench.file("old.state")))
     with open(bench.file("old.state")) as file:
         text = file.read()
-    need(re.fullmatch(r"incarnation 32\nserial 9\nserials \d+\n", text), f"a state without the line goes on with one: {text!r}")
+    need(re.fullmatch(r"incarnation 32\nserial 9\nserials \d+\nids \d+ \d+\n", text), f"a state without these lines goes on with them: {text!r}")
     holds(f"lives that were killed go on with other serial numbers: {serials}; {drawn}")
     bench.clear()
 
