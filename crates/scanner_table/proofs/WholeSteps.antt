@@ -1,5 +1,5 @@
 -- Each effect of an event keeps a scanner's table whole, and so does each step.
-use Rattle.std.proofs.Common.{◌∙◌, ◌&&◌, replicate, sym, ◌≡◌, ◌≤◌, ◌<◌, ℕ, ◌+◌, ◌^◌, Bool, true, false, not, cond, ◌||◌, ◌==◌, nat_le, List, [], ◌∷◌, length, filter, find, slice_get, slice_set, Option, Some, None, Result, Ok, Err, IfOk, IsTrue, refl, ap, subst, arith, eqb-true}
+use Rattle.std.proofs.Common.{◌∙◌, ◌&&◌, replicate, sym, ◌≡◌, ◌≤◌, ◌<◌, ℕ, ◌+◌, ◌^◌, Bool, true, false, not, cond, ◌||◌, ◌==◌, nat_le, nat_lt, List, [], ◌∷◌, length, filter, find, slice_get, slice_set, Option, Some, None, Result, Ok, Err, IfOk, IsTrue, refl, ap, subst, arith, eqb-true}
 use Rattle.std.specs.List.{list_any}
 use Rattle.std.proofs.lemmas.Bool.{and_parts, or_parts, not-true}
 use Rattle.std.proofs.lemmas.Bool.Decides.{nat_tests}
