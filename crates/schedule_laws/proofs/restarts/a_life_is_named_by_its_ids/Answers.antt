@@ -1,5 +1,5 @@
 use Rattle.schedule_laws.proofs.LifeIds.{lives_are_named}
-use Rattle.schedule_laws.proofs.restarts.a_life_is_named_by_its_byte.Goals as goal
+use Rattle.schedule_laws.proofs.restarts.a_life_is_named_by_its_ids.Goals as goal
 
 pub returns : goal.returns
 returns c = lives_are_named c.answers_send_what_is_made.ensures c.ids_are_drawn.ensures.schedule c.ids_are_drawn.ensures.opened c.an_id_opens_one_connection.ensures (record {
@@ -10,6 +10,7 @@ returns c = lives_are_named c.answers_send_what_is_made.ensures c.ids_are_drawn.
     whole = c.tables_are_whole.ensures.run;
     counts = c.next_id_never_falls.ensures.step;
     adapters = c.profiles_stay.ensures;
+    blocks = c.blocks_grow.ensures;
     scanners = c.counters_never_fall.ensures.step;
   };
   replies = c.replies_carry_opened_ids.ensures;
