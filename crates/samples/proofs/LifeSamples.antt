@@ -1,6 +1,6 @@
 -- Lives of one adapter: with incarnations that differ, what was sent to the first life is not accepted by the second; with one
 -- incarnation it is, at the other output. And the laws of lives refuse what was bent against them.
-use Rattle.std.proofs.Common.{◌≡◌, ◌⊎◌, inl, inr, ◌<◌, ◌+◌, ◌*◌, ◌^◌, ℕ, true, false, [], ◌∷◌, replicate, Some, refl}
+use Rattle.std.proofs.Common.{◌≡◌, ◌⊎◌, inl, inr, ℕ, true, false, [], ◌∷◌, replicate, Some, refl}
 use Rattle.std.specs.List.{Contains}
 use Rattle.cip_events.specs.declared.event.Delivery.TheVariants.{Applied}
 use Rattle.adapter_table.specs.declared.table.AdapterTable.{AdapterTable}

@@ -1,5 +1,5 @@
 -- The laws of one device's step pass their tests.
-use Rattle.std.proofs.Common.{subst, ◌≡◌, ℕ, ◌+◌, ◌*◌, ◌^◌, ◌==◌, ◌&&◌, not, Bool, true, false, List, inl, inr, Result, Ok, Err, refl, sym, ap, arith}
+use Rattle.std.proofs.Common.{subst, ◌≡◌, ℕ, ◌==◌, ◌&&◌, not, Bool, true, false, List, inl, inr, Result, Ok, Err, refl, sym, ap, arith}
 use Rattle.std.specs.List.{list_any, AllByRecursion, list_all}
 use Rattle.std.proofs.lemmas.Bool.{and_parts}
 use Rattle.cip_types.specs.declared.names.Node.{Node}

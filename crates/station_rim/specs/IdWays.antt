@@ -1,5 +1,5 @@
 -- The blocks of connection ids on their way from the state's file to a device.
-use Rattle.std.specs.Prelude.{ℕ, ◌+◌, ◌-◌, ◌^◌, ◌||◌, not, min, if◌then◌else◌, Bool, true, false, Option, Some, None, is_some, unwrap_or}
+use Rattle.std.specs.Prelude.{ℕ, ◌+◌, ◌-◌, ◌^◌, ◌||◌, not, min, Bool, true, false, Option, Some, None, is_some, unwrap_or}
 use Rattle.cip_types.specs.declared.ids.IdBlock.{IdBlock}
 use Rattle.station_record.specs.declared.kept_state.ids.KeptIds.{KeptIds}
 use Rattle.station_record.specs.declared.kept_state.state.StationState.{StationState}

@@ -1,5 +1,5 @@
 -- An event that is written is read as itself.
-use Rattle.std.proofs.Common.{◌≡◌, ℕ, ◌<◌, ◌^◌, ◌+◌, ◌==◌, Bool, true, false, List, [], ◌∷◌, ◌++◌, length, Option, Some, None, refl, ap, ◌∙◌, arith, eqb}
+use Rattle.std.proofs.Common.{◌≡◌, ℕ, ◌<◌, ◌^◌, ◌+◌, ◌==◌, Bool, true, false, cond, List, [], ◌∷◌, ◌++◌, length, Option, Some, None, refl, ap, ◌∙◌, arith, eqb}
 use Rattle.std.specs.Prelude.{decimal, codes, option_and_then, option_to_list}
 use Rattle.std.specs.List.{join_with_byte}
 use Rattle.std.proofs.lemmas.Bool.Decides.{nat_tests}
@@ -24,7 +24,7 @@ use Rattle.trace_text.specs.declared.forms.TraceLine.{TraceLine}
 use Rattle.trace_text.specs.declared.forms.TraceLine.TheVariants as line
 use Rattle.trace_text.specs.Forms.{line_reader, line_meanings, numbered, of_limit, limit_or_part, event_only, event_of}
 use Rattle.trace_lines.specs.Limits.{limit_meanings}
-use Rattle.trace_text.specs.Reading.{Entry, builder_with}
+use Rattle.trace_text.specs.Reading.{Entry, given_block, with_event, builder_with}
 use Rattle.trace_text.specs.Written.{event_words}
 use Rattle.trace_laws.specs.TraceBack.{EventFits}
 use Rattle.trace_laws.proofs.WordLaws.{node_back, bytes_back, general_back}
@@ -42,13 +42,8 @@ mode_clean : (run : Bool) → is_clean (mode_word run) ≡ true
 mode_clean true = refl
 mode_clean false = refl
 
--- What an event is read as. A block of connection ids has a line of its own, since a profile states one too.
-abbrev pub line_of : Event → TraceLine
-line_of (event.Ids block) = line.Ids block
-line_of other = line.Event other
-
 -- the line of an event
-pub event_is : (given : Event) → EventFits given → IsLine (event_words given) (line_of given)
+pub event_is : (given : Event) → EventFits given → IsLine (event_words given) (line.Event given)
 event_is (event.Request peer bytes) fits = line_is (codes "request") (node_word peer ∷ bytes_word bytes ∷ []) (line.Event (event.Request peer bytes)) refl refl (rw (node_clean peer, bytes_clean bytes fits.1) refl) (rw (node_back peer fits.0, bytes_back bytes fits.1) refl)
 event_is (event.StreamOpened stream peer) fits = line_is (codes "stream") (decimal stream ∷ node_word peer ∷ []) (line.Event (event.StreamOpened stream peer)) refl refl (rw (c16 stream fits.0, node_clean peer) refl) (rw (n16 stream fits.0, node_back peer fits.1) refl)
 event_is (event.Frame stream bytes) fits = line_is (codes "frame") (decimal stream ∷ bytes_word bytes ∷ []) (line.Event (event.Frame stream bytes)) refl refl (rw (c16 stream fits.0, bytes_clean bytes fits.1) refl) (rw (n16 stream fits.0, bytes_back bytes fits.1) refl)
@@ -64,33 +59,24 @@ event_is (event.Stop slot) fits = line_is (codes "stop") (decimal slot ∷ []) (
 event_is (event.Explicit target number bytes) fits = line_is (codes "explicit") (node_word target ∷ decimal number ∷ bytes_word bytes ∷ []) (line.Event (event.Explicit target number bytes)) refl refl (rw (node_clean target, c32 number fits.1, bytes_clean bytes fits.2) refl) (rw (node_back target fits.0, n32 number fits.1, bytes_back bytes fits.2) refl)
 event_is (event.Respond number status bytes) fits = line_is (codes "answer") (decimal number ∷ general_word status ∷ bytes_word bytes ∷ []) (line.Event (event.Respond number status bytes)) refl refl (rw (decimal_clean number fits.0, general_clean status fits.1, bytes_clean bytes fits.2) refl) (rw (n64 number fits.0, general_back status fits.1, bytes_back bytes fits.2) refl)
 event_is (event.Counters bytes) fits = line_is (codes "counters") (bytes_word bytes ∷ []) (line.Event (event.Counters bytes)) refl refl (rw (bytes_clean bytes fits) refl) (rw (bytes_back bytes fits) refl)
-event_is (event.Ids block) fits = line_is (codes "ids") (decimal block.first ∷ decimal block.count ∷ []) (line.Ids block) refl refl (ids_clean block fits) (ids_read block fits)
+event_is (event.Ids block) fits = line_is (codes "ids") (decimal block.first ∷ decimal block.count ∷ []) (line.Event (event.Ids block)) refl refl (ids_clean block fits) (ids_read block fits)
 
 -- an event, wherever it is allowed
-pub event_reads : (builder builder' : TraceBuilder) (given : Event) → EventFits given → builder_with builder (line_of given) ≡ Some builder' → Reads builder (line_text (event_words given)) builder'
+pub event_reads : (builder builder' : TraceBuilder) (given : Event) → EventFits given → builder_with builder (line.Event given) ≡ Some builder' → Reads builder (line_text (event_words given)) builder'
 event_reads builder builder' given fits built = (event_is given fits).reads builder builder' built
-
-only_event : (given : Event) → event_only (line_of given) ≡ Some given
-only_event (event.Ids block) = refl
-only_event other = refl
 
 -- the line of an event, alone
 pub event_back : (given : Event) → EventFits given → event_of (join_with_byte 32 (event_words given)) ≡ Some given
 unfolding event_of
-event_back given fits = ap (option_and_then event_only) (event_is given fits).found ∙ only_event given
-
-taken_behind : (made_of : Config) (entries : List Entry) (last : Option Entry) (given : Event) → builder_with (Events made_of entries last) (line_of given) ≡ Some (Events made_of (entries ++ option_to_list last) (Some (given, None)))
-taken_behind made_of entries last (event.Ids block) = refl
-taken_behind made_of entries last other = refl
+event_back given fits = ap (option_and_then event_only) (event_is given fits).found
 
 -- an event behind those before it
 pub event_read : (made_of : Config) (entries : List Entry) (last : Option Entry) (given : Event) → EventFits given → Reads (Events made_of entries last) (line_text (event_words given)) (Events made_of (entries ++ option_to_list last) (Some (given, None)))
-event_read made_of entries last given fits = event_reads (Events made_of entries last) _ given fits (taken_behind made_of entries last given)
+event_read made_of entries last given fits = event_reads (Events made_of entries last) _ given fits refl
 
 -- the first event of a scanner, behind its slots
-pub taken_first : (scanner : ScannerLine) (newer : Option ℕ) (terms : ScannerTerms) (slots : List SlotConfig) (given : Event) → (length slots == 0) ≡ false → builder_with (Slots scanner newer terms slots) (line_of given) ≡ Some (Events (config.Scanner (scanner_with scanner newer terms slots)) [] (Some (given, None)))
-taken_first scanner newer terms slots (event.Ids block) some = rw some refl
-taken_first scanner newer terms slots other some = refl
+pub taken_first : (scanner : ScannerLine) (newer : Option ℕ) (terms : ScannerTerms) (slots : List SlotConfig) (given : Event) → (length slots == 0) ≡ false → builder_with (Slots scanner newer terms slots) (line.Event given) ≡ Some (Events (config.Scanner (scanner_with scanner newer terms slots)) [] (Some (given, None)))
+taken_first scanner newer terms slots given some = ap (λ (b : Bool). with_event scanner newer terms slots given (cond b (given_block given) None)) some
 
 -- PARTS OF OUTCOMES
 

@@ -4,6 +4,7 @@ use Rattle.std.specs.Prelude.{decimal, codes, drop, flat_map, option_map, option
 use Rattle.std.specs.List.{All}
 use Rattle.std.proofs.lemmas.List.{append-nil}
 use Rattle.cip_types.specs.declared.ids.IdBlock.{IdBlock}
+use Rattle.cip_events.specs.declared.event.Event.TheVariants as event
 use Rattle.adapter_table.specs.declared.profile.Action.{Action}
 use Rattle.adapter_table.specs.declared.profile.Action.TheVariants.{Zero, Hold}
 use Rattle.adapter_table.specs.declared.maker_limits.MakerLimits.{MakerLimits}
@@ -75,7 +76,7 @@ heartbeat_line profile = record { input_only = profile.input_only; listen_only =
 heartbeat_read : (profile : Profile) → ProfileFits profile → line_reader (heartbeat_words profile) ≡ Some (line.Heartbeat (heartbeat_line profile), [])
 heartbeat_read profile fits = rw (n32 profile.input_only fits.input_only_fits, n32 profile.listen_only fits.listen_only_fits) refl
 
-pub ids_read : (block : IdBlock) → IdsFit block → line_reader (ids_words block) ≡ Some (line.Ids block, [])
+pub ids_read : (block : IdBlock) → IdsFit block → line_reader (ids_words block) ≡ Some (line.Event (event.Ids block), [])
 ids_read block fits = rw (n32 block.first fits.0, n32 block.count fits.1) refl
 
 object_read : (class : ℕ) → ClassFits class → line_reader (object_words class) ≡ Some (line.Object class, [])
@@ -156,8 +157,8 @@ heartbeats_read profile fits builder settings described limits objects ids built
 
 -- BLOCKS OF CONNECTION IDS
 
-pub ids_reads : (builder builder' : TraceBuilder) (block : IdBlock) → IdsFit block → builder_with builder (line.Ids block) ≡ Some builder' → Reads builder (line_text (ids_words block)) builder'
-ids_reads builder builder' block fits built = line_reads builder builder' (codes "ids") (decimal block.first ∷ decimal block.count ∷ []) (line.Ids block) refl refl (ids_clean block fits) (ids_read block fits) built
+pub ids_reads : (builder builder' : TraceBuilder) (block : IdBlock) → IdsFit block → builder_with builder (line.Event (event.Ids block)) ≡ Some builder' → Reads builder (line_text (ids_words block)) builder'
+ids_reads builder builder' block fits built = line_reads builder builder' (codes "ids") (decimal block.first ∷ decimal block.count ∷ []) (line.Event (event.Ids block)) refl refl (ids_clean block fits) (ids_read block fits) built
 
 -- the block of connection ids, if it is stated, and the points without data
 abbrev last_text : Profile → List ℕ
@@ -166,7 +167,7 @@ last_text profile = ids_text profile.ids ++ line_text (heartbeat_words profile)
 -- what was read goes on behind these classes of own objects
 record Ends (profile : Profile) (settings : Option InputPoint) (described : Option Description) (limits : MakerLimits) (objects : List ℕ) (builder : TraceBuilder) : Type 0 where
   points : (points : HeartbeatLine) → builder_with builder (line.Heartbeat points) ≡ with_profile (front_with profile settings described limits) objects None points
-  ids : (block : IdBlock) → builder_with builder (line.Ids block) ≡ Some (Counted (front_with profile settings described limits) objects block)
+  ids : (block : IdBlock) → builder_with builder (line.Event (event.Ids block)) ≡ Some (Counted (front_with profile settings described limits) objects block)
 
 ids_end : (profile : Profile) → ProfileFits profile → (builder : TraceBuilder) (settings : Option InputPoint) (described : Option Description) (limits : MakerLimits) (objects : List ℕ) (ids : Option IdBlock) → IfSome ids IdsFit → Ends profile settings described limits objects builder → Reads builder (ids_text ids ++ line_text (heartbeat_words profile)) (with_counted profile settings described limits objects ids)
 ids_end profile fits builder settings described limits objects None fit end = heartbeats_read profile fits builder settings described limits objects None (end.points (heartbeat_line profile))
@@ -238,7 +239,7 @@ GoesOn profile settings described limits builder =
     ((given : LimitLine) → builder_with builder (line.Limit given) ≡ with_stated (front_with profile settings described limits) given)
     × ((points : HeartbeatLine) → builder_with builder (line.Heartbeat points) ≡ with_profile (front_with profile settings described limits) [] None points)
     × ((class : ℕ) → builder_with builder (line.Object class) ≡ with_object (front_with profile settings described limits) [] class)
-    × ((block : IdBlock) → builder_with builder (line.Ids block) ≡ Some (Counted (front_with profile settings described limits) [] block))
+    × ((block : IdBlock) → builder_with builder (line.Event (event.Ids block)) ≡ Some (Counted (front_with profile settings described limits) [] block))
 
 -- the classes of own objects and the points without data, behind limits
 behind_limits : (profile : Profile) → ProfileFits profile → (builder : TraceBuilder) (settings : Option InputPoint) (described : Option Description) (limits : MakerLimits) (objects : List ℕ) → GoesOn profile settings described limits builder → All ClassFits objects → Reads builder (objects_text objects ++ last_text profile) (with_ends profile settings described limits objects)

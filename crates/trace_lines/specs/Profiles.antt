@@ -8,7 +8,7 @@ use Rattle.adapter_table.specs.declared.maker_limits.MakerLimits.{MakerLimits}
 use Rattle.adapter_table.specs.declared.profile.Profile.{Profile}
 use Rattle.trace_lines.specs.declared.forms.AdapterLine.{AdapterLine}
 use Rattle.trace_lines.specs.declared.forms.HeartbeatLine.{HeartbeatLine}
-use Rattle.trace_lines.specs.declared.shapes.TheConstants.{ADAPTER, OUTPUT, POINT, DESCRIBE, NUMBER, IDS, HEARTBEAT}
+use Rattle.trace_lines.specs.declared.shapes.TheConstants.{ADAPTER, OUTPUT, POINT, DESCRIBE, NUMBER, HEARTBEAT}
 use Rattle.trace_words.specs.Reader.{Reader, ends}
 use Rattle.trace_lines.specs.Shapes.{shaped}
 
@@ -45,10 +45,6 @@ description_reader = shaped DESCRIBE (λ serial name port speed flags mac inacti
 -- a class of the maker's own objects
 abbrev pub object_reader : Reader ℕ
 object_reader = shaped NUMBER (λ class. ends class)
-
--- the first of a block of connection ids, and how many they are
-abbrev pub ids_reader : Reader IdBlock
-ids_reader = shaped IDS (λ first count. ends (record { first = first; count = count }))
 
 -- the points of input-only and of listen-only connections
 abbrev pub heartbeat_reader : Reader HeartbeatLine

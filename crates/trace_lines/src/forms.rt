@@ -55,7 +55,6 @@ pub enum TermLine {
     Tidy,
     Openings(u8),
     Serials(u16),
-    Ids(IdBlock),
 }
 
 /// The trigger of a target's productions, and the least number of milliseconds between two of them at a change.

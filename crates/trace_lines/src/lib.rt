@@ -20,7 +20,7 @@ pub use limit_lines::{
 };
 pub use names::{kind_name, read_mode};
 pub use profile_lines::{
-    read_adapter, read_description, read_heartbeat, read_ids, read_object, read_output, read_point,
+    read_adapter, read_description, read_heartbeat, read_object, read_output, read_point,
 };
 pub use shapes::{
     ADAPTER, ANSWER, CLASS3_PLACES, CLOSERS, COUNTERS, CUT, DESCRIBE, EXPLICIT, FRAME, FROM_NODE,

@@ -1,12 +1,12 @@
 //! The lines of an adapter's profile.
 
 ghost use Rattle.trace_words.specs.Reader.{unread_words, Takes};
-ghost use Rattle.trace_lines.specs.Profiles.{adapter_reader, output_reader, point_reader, description_reader, object_reader, ids_reader, heartbeat_reader};
+ghost use Rattle.trace_lines.specs.Profiles.{adapter_reader, output_reader, point_reader, description_reader, object_reader, heartbeat_reader};
 
 use crate::forms::{AdapterLine, HeartbeatLine};
 use crate::names::read_action;
 use adapter_table::{Description, InputPoint, OutputPoint};
-use cip_types::{IdBlock, Identity};
+use cip_types::Identity;
 use std::alloc::Global;
 use trace_words::{TextFault, Words};
 
@@ -73,15 +73,6 @@ pub fn read_object(words: &mut Words<'_>) -> Result<u32, TextFault>
 {
     let class = words.u32()?;
     words.last(class)
-}
-
-/// What follows `ids`: `FROM COUNT`.
-pub fn read_ids(words: &mut Words<'_>) -> Result<IdBlock, TextFault>
-    ensures { Takes (ids_reader (unread_words words.old)) result (unread_words words.new) }
-{
-    let first = words.u32()?;
-    let count = words.u32()?;
-    words.last(IdBlock { first, count })
 }
 
 /// What follows `heartbeat`: `INPUTONLY LISTENONLY`.

@@ -34,7 +34,7 @@ gatherer = record {
 }
 
 abbrev profile : ScannerProfile
-profile = record { incarnation = 32; node = record { 0 = 0xC0A80114 }; vendor = 1; serial = 2; open_timeout = 2000; retry = 3000; newer = None; tidy = false; openings = None; serials = None; slots = gatherer ∷ [] }
+profile = record { incarnation = 32; node = record { 0 = 0xC0A80114 }; vendor = 1; serial = 2; open_timeout = 2000; retry = 3000; newer = None; tidy = false; openings = None; serials = None; ids = None; slots = gatherer ∷ [] }
 
 scanners_trace : trace_reading (codes "scanner 32 192.168.1.20 1 2 2000 3000\nslot 192.168.1.10 input - 152 100 0 4 10000 10000 2 p2p - -\n# it begins\nstart 0\n") ≡ Ok (record { config = Scanner profile; events = (Start 0, None) ∷ [] })
 unfolding trace_reading builder_after line_of profile_fault kind_of multicast_of instance_of number_of node_of bytes_of key_of_bytes read_ipv4 read_octet read_number

@@ -12,16 +12,16 @@ use Rattle.cip_tables.specs.declared.table.Config.TheVariants as config
 use Rattle.cip_tables.specs.Step.{config_fault}
 use Rattle.trace_lines.specs.Slots.{scanner_with}
 use Rattle.trace_text.specs.declared.builder.TraceBuilder.{TraceBuilder}
-use Rattle.trace_text.specs.declared.builder.TraceBuilder.TheVariants.{Empty, Points, Configured, Stated, Objects, Slots, Events}
+use Rattle.trace_text.specs.declared.builder.TraceBuilder.TheVariants.{Empty, Points, Configured, Stated, Objects, Counted, Slots, Events}
 use Rattle.trace_text.specs.declared.forms.TraceLine.{TraceLine}
 use Rattle.trace_text.specs.declared.trace.Trace.{Trace}
 use Rattle.trace_text.specs.declared.trace.TraceFault.{TraceFault}
 use Rattle.trace_text.specs.declared.trace.TraceFault.TheVariants as fault
 use Rattle.trace_text.specs.Forms.{line_of}
 use Rattle.trace_text.specs.Reading.{is_line_feed, is_skipped, parts_of, builder_with, builder_after, parsed_from, parsed, judged, judged_by, ended, trace_reading}
-use Rattle.trace_text.specs.Texts.{trace_values, IsOneLine, ended_lines, said_by, WriteTrace, BeginTrace, IsTraceText, IsBadNext, IsBadEnd, IsBadLine, IsTraceReading}
+use Rattle.trace_text.specs.Texts.{trace_values, may_follow, IsOneLine, ended_lines, said_by, WriteTrace, BeginTrace, IsTraceText, IsBadNext, IsBadEnd, IsBadLine, IsTraceReading}
 use Rattle.trace_text.proofs.TextLines.{good_line, bad_line, open_line, text_ends}
-use Rattle.trace_text.proofs.TraceValues.{some_is, found_in, so_far, run, run_both, run_adds, completed, trace_run}
+use Rattle.trace_text.proofs.TraceValues.{some_is, found_in, so_far, run, run_both, run_adds, completed, trace_run, is_told, run_told, told_follows}
 
 abbrev Lines : Type 0
 Lines = List (List ℕ)
@@ -97,12 +97,23 @@ text_parsed text end lines rest is are runs = read_as text ∙ ap (λ t. parsed_
 
 -- BEGINNINGS
 
+completed_follows : (end : TraceBuilder) → is_told end ≡ true → may_follow (completed end).0.config (completed end).0.events ≡ true
+completed_follows Empty told = refl
+completed_follows (Points adapter outputs inputs) told = refl
+completed_follows (Configured adapter outputs inputs point) told = refl
+completed_follows (Stated front) told = refl
+completed_follows (Objects front objects) told = refl
+completed_follows (Counted front objects block) told = refl
+completed_follows (Slots scanner newer terms slots) told = refl
+completed_follows (Events made_of entries last) told = told_follows made_of entries last told
+
 -- lines that are read begin a trace
 begins : (lines : Lines) (end : TraceBuilder) → run Empty (said_by lines) ≡ Some end → BeginTrace lines
 begins lines end runs =
     let (trace, (more, is)) = completed end in
     record {
       trace = trace;
+      follow = completed_follows end (run_told Empty (said_by lines) end refl runs);
       more = more;
       is = ap (λ t. t ++ map Some more) (run_adds Empty (said_by lines) end runs) ∙ maps (so_far end) more ∙ ap (map Some) is;
     }
@@ -114,27 +125,36 @@ begins lines end runs =
 -- and lines that begin a trace are read
 begun : (lines : Lines) → BeginTrace lines → (end : TraceBuilder) × (run Empty (said_by lines) ≡ Some end)
 begun lines front =
-    let (last, (runs, ends)) = trace_run front.trace.config front.trace.events in
+    let (last, (runs, ends)) = trace_run front.trace.config front.trace.events front.follow in
     let whole : run Empty (said_by lines ++ map Some front.more) ≡ Some last = ap (run Empty) front.is ∙ runs in
     let (end, (first, rest)) = found_in (λ b. run b (map Some front.more)) (run Empty (said_by lines)) last (sym (run_both Empty (said_by lines) (map Some front.more)) ∙ whole) in
     (end, first)
 
--- what was read is no whole trace, or it is this one
-whole_or_not : (end : TraceBuilder) → ((number : ℕ) → parsed number end ≡ Err (fault.BadLine number)) ⊎ ((trace : Trace) × ((so_far end ≡ trace_values trace) × ((number : ℕ) → parsed number end ≡ judged_by trace.config trace.events)))
-whole_or_not Empty = inl (λ number. refl)
-whole_or_not (Points adapter outputs inputs) = inl (λ number. refl)
-whole_or_not (Configured adapter outputs inputs point) = inl (λ number. refl)
-whole_or_not (Stated front) = inl (λ number. refl)
-whole_or_not (Objects front objects) = inl (λ number. refl)
-whole_or_not (Slots scanner newer terms slots) = inr (record { config = config.Scanner (scanner_with scanner newer terms slots); events = [] }, (sym (append-nil _), λ number. refl))
-whole_or_not (Events made_of entries None) = inr (record { config = made_of; events = entries ++ [] }, (refl, λ number. refl))
-whole_or_not (Events made_of entries (Some last)) = inr (record { config = made_of; events = entries ++ last ∷ [] }, (refl, λ number. refl))
+-- what was read is this whole trace
+record IsWhole (end : TraceBuilder) : Type 0 where
+  trace : Trace
+  follow : may_follow trace.config trace.events ≡ true
+  all : so_far end ≡ trace_values trace
+  judges : (number : ℕ) → parsed number end ≡ judged_by trace.config trace.events
+
+-- or it is no whole one
+whole_or_not : (end : TraceBuilder) → is_told end ≡ true → ((number : ℕ) → parsed number end ≡ Err (fault.BadLine number)) ⊎ IsWhole end
+whole_or_not Empty told = inl (λ number. refl)
+whole_or_not (Points adapter outputs inputs) told = inl (λ number. refl)
+whole_or_not (Configured adapter outputs inputs point) told = inl (λ number. refl)
+whole_or_not (Stated front) told = inl (λ number. refl)
+whole_or_not (Objects front objects) told = inl (λ number. refl)
+whole_or_not (Counted front objects block) told = inl (λ number. refl)
+whole_or_not (Slots scanner newer terms slots) told = inr (record { trace = record { config = config.Scanner (scanner_with scanner newer terms slots); events = [] }; follow = refl; all = sym (append-nil _); judges = λ number. refl })
+whole_or_not (Events made_of entries None) told = inr (record { trace = record { config = made_of; events = entries ++ [] }; follow = told_follows made_of entries None told; all = refl; judges = λ number. refl })
+whole_or_not (Events made_of entries (Some last)) told = inr (record { trace = record { config = made_of; events = entries ++ last ∷ [] }; follow = told_follows made_of entries (Some last) told; all = refl; judges = λ number. refl })
 
 -- a trace that is written is judged by its profile
 written_judged : (text : List ℕ) (trace : Trace) → IsTraceText text trace → trace_reading text ≡ judged_by trace.config trace.events
 written_judged text trace is =
-    let (end, (runs, ends)) = trace_run trace.config trace.events in
-    let read : run Empty (said_by is.lines) ≡ Some end = ap (run Empty) is.write ∙ runs in
+    let writes = is.write in
+    let (end, (runs, ends)) = trace_run trace.config trace.events writes.follow in
+    let read : run Empty (said_by is.lines) ≡ Some end = ap (run Empty) writes.are ∙ runs in
     text_parsed text end is.lines [] (is.are_all ∙ sym (append-nil (ended_lines is.lines))) is.are_lines read ∙ ends (1 + length is.lines)
 
 judged_good : (trace : Trace) (wrong : Option ProfileFault) → wrong ≡ None → judged trace wrong ≡ Ok trace
@@ -162,11 +182,11 @@ open_or_ended text number (byte ∷ rest) end read one why = open_line _ number 
 
 ends_badly : (number : ℕ) (before : Lines) (rest : List ℕ) (end : TraceBuilder) → run Empty (said_by before) ≡ Some end → (rest ≢ []) ⊎ ((trace : Trace) → ¬ (WriteTrace before trace)) → (parsed number end ≡ Err (fault.BadLine number)) ⊎ (rest ≢ [])
 ends_badly number before rest end runs (inl some) = inr some
-ends_badly number before rest end runs (inr none) = go (whole_or_not end)
+ends_badly number before rest end runs (inr none) = go (whole_or_not end (run_told Empty (said_by before) end refl runs))
   where
-    go : ((number : ℕ) → parsed number end ≡ Err (fault.BadLine number)) ⊎ ((trace : Trace) × ((so_far end ≡ trace_values trace) × ((number : ℕ) → parsed number end ≡ judged_by trace.config trace.events))) → (parsed number end ≡ Err (fault.BadLine number)) ⊎ (rest ≢ [])
+    go : ((number : ℕ) → parsed number end ≡ Err (fault.BadLine number)) ⊎ IsWhole end → (parsed number end ≡ Err (fault.BadLine number)) ⊎ (rest ≢ [])
     go (inl bad) = inl (bad number)
-    go (inr (trace, (all, judges))) = absurd (none trace (run_adds Empty (said_by before) end runs ∙ ap (map Some) all))
+    go (inr whole) = absurd (none whole.trace (record { follow = whole.follow; are = run_adds Empty (said_by before) end runs ∙ ap (map Some) whole.all }))
 
 bad_read : (text : List ℕ) (number : ℕ) → IsBadLine text number → trace_reading text ≡ Err (fault.BadLine number)
 bad_read text number is =
@@ -240,8 +260,8 @@ judged_reading text trace (Some first) is written = record { trace = trace; firs
 
 bad_whole : (before : Lines) (end : TraceBuilder) (number : ℕ) → run Empty (said_by before) ≡ Some end → parsed number end ≡ Err (fault.BadLine number) → (trace : Trace) → ¬ (WriteTrace before trace)
 bad_whole before end number runs bad trace write =
-    let (last, (leads, ends)) = trace_run trace.config trace.events in
-    let same : end ≡ last = some_is end last (sym runs ∙ ap (run Empty) write ∙ leads) in
+    let (last, (leads, ends)) = trace_run trace.config trace.events write.follow in
+    let same : end ≡ last = some_is end last (sym runs ∙ ap (run Empty) write.are ∙ leads) in
     not_bad trace (config_fault trace.config) number (sym (ends number) ∙ ap (parsed number) (sym same) ∙ bad)
   where
     not_bad : (trace : Trace) (wrong : Option ProfileFault) (number : ℕ) → judged trace wrong ≡ Err (fault.BadLine number) → ⊥
@@ -262,9 +282,9 @@ end_reading text before (byte ∷ rest) end is are one runs = record {
   where
     some_byte : (byte : ℕ) (rest : List ℕ) → byte ∷ rest ≢ []
     some_byte byte rest none = absurd (cc)
-end_reading text before [] end is are one runs = go (whole_or_not end)
+end_reading text before [] end is are one runs = go (whole_or_not end (run_told Empty (said_by before) end refl runs))
   where
-    go : ((number : ℕ) → parsed number end ≡ Err (fault.BadLine number)) ⊎ ((trace : Trace) × ((so_far end ≡ trace_values trace) × ((number : ℕ) → parsed number end ≡ judged_by trace.config trace.events))) → IsTraceReading text (parsed (1 + length before) end)
+    go : ((number : ℕ) → parsed number end ≡ Err (fault.BadLine number)) ⊎ IsWhole end → IsTraceReading text (parsed (1 + length before) end)
     go (inl bad) = subst (IsTraceReading text) (sym (bad (1 + length before))) (record {
       before = before;
       rest = [];
@@ -274,11 +294,11 @@ end_reading text before [] end is are one runs = go (whole_or_not end)
       begin = begins before end runs;
       bad = inr (one, inr (bad_whole before end (1 + length before) runs (bad (1 + length before))));
     })
-    go (inr (trace, (all, judges))) = subst (IsTraceReading text) (sym (judges (1 + length before))) (judged_reading text trace (config_fault trace.config) refl (record {
+    go (inr whole) = subst (IsTraceReading text) (sym (whole.judges (1 + length before))) (judged_reading text whole.trace (config_fault whole.trace.config) refl (record {
       lines = before;
       are_lines = are;
       are_all = is ∙ append-nil (ended_lines before);
-      write = run_adds Empty (said_by before) end runs ∙ ap (map Some) all;
+      write = record { follow = whole.follow; are = run_adds Empty (said_by before) end runs ∙ ap (map Some) whole.all };
     }))
 
 some_none : (last : TraceBuilder) → Some last ≡ None → ⊥

@@ -1,9 +1,10 @@
 -- What was read so far, as the lines that were read: each line that is allowed adds itself, each beginning can be
 -- completed, and the lines of a trace lead to that trace.
 use Rattle.std.proofs.Common.{◌≡◌, ℕ, ◌+◌, Bool, true, false, cond, is_none, not, ◌&&◌, eqb, List, [], ◌∷◌, ◌++◌, length, map, Option, Some, None, Ok, Err, refl, sym, ap, ◌∙◌, arith, append_assoc}
-use Rattle.std.specs.Prelude.{option_to_list, option_map, option_and_then}
+use Rattle.std.specs.Prelude.{option_to_list, option_map, option_and_then, IfSome}
 use Rattle.std.proofs.lemmas.Bool.Decides.{nat_tests}
 use Rattle.std.proofs.lemmas.List.{append-nil, length-append, map-append}
+use Rattle.cip_types.specs.declared.ids.IdBlock.{IdBlock}
 use Rattle.adapter_table.specs.declared.profile.Description.{Description}
 use Rattle.adapter_table.specs.declared.maker_limits.MakerLimits.{MakerLimits}
 use Rattle.adapter_table.specs.Profiles.{no_limits}
@@ -14,6 +15,7 @@ use Rattle.scanner_table.specs.declared.profile.ScannerProfile.{ScannerProfile}
 use Rattle.scanner_table.specs.declared.profile.SlotConfig.{SlotConfig}
 use Rattle.cip_events.specs.declared.event.Answer.{Answer}
 use Rattle.cip_events.specs.declared.event.Event.{Event}
+use Rattle.cip_events.specs.declared.event.Event.TheVariants as event
 use Rattle.cip_events.specs.declared.event.Frame.{Frame}
 use Rattle.cip_events.specs.declared.event.Notice.{Notice}
 use Rattle.cip_events.specs.declared.event.OutgoingDatagram.{OutgoingDatagram}
@@ -38,12 +40,12 @@ use Rattle.trace_outcomes.specs.declared.part.Part.TheVariants as part
 use Rattle.trace_text.specs.Recorded.{recorded_with}
 use Rattle.trace_text.specs.declared.builder.ProfileFront.{ProfileFront}
 use Rattle.trace_text.specs.declared.builder.TraceBuilder.{TraceBuilder}
-use Rattle.trace_text.specs.declared.builder.TraceBuilder.TheVariants.{Empty, Points, Configured, Stated, Objects, Slots, Events}
+use Rattle.trace_text.specs.declared.builder.TraceBuilder.TheVariants.{Empty, Points, Configured, Stated, Objects, Counted, Slots, Events}
 use Rattle.trace_text.specs.declared.forms.TraceLine.{TraceLine}
 use Rattle.trace_text.specs.declared.forms.TraceLine.TheVariants as line
 use Rattle.trace_text.specs.declared.trace.Trace.{Trace}
-use Rattle.trace_text.specs.Reading.{Entry, front_of, with_stated, no_terms, none_stated, with_newer, with_line, with_term, builder_with, parsed, judged_by}
-use Rattle.trace_text.specs.Texts.{adapter_line_of, heartbeat_line_of, scanner_line_of, term_lines, config_values, outcome_parts, recorded_parts, entry_values, entries_values, trace_values}
+use Rattle.trace_text.specs.Reading.{Entry, front_of, with_stated, no_terms, none_stated, given_block, early_block, with_ids, with_block, with_event, with_newer, with_line, with_term, with_part, builder_with, parsed, judged_by}
+use Rattle.trace_text.specs.Texts.{adapter_line_of, heartbeat_line_of, scanner_line_of, term_lines, ids_line, ids_lines, may_begin, may_follow, config_values, outcome_parts, recorded_parts, entry_values, entries_values, trace_values}
 
 -- LISTS AND OPTIONS
 
@@ -84,7 +86,8 @@ so_far (Points adapter outputs inputs) = line.Adapter adapter ∷ (map line.Outp
 so_far (Configured adapter outputs inputs point) = line.Adapter adapter ∷ (map line.Output outputs ++ (map line.Input inputs ++ line.Config point ∷ []))
 so_far (Stated front) = line.Adapter front.adapter ∷ (map line.Output front.outputs ++ (map line.Input front.inputs ++ (map line.Config (option_to_list front.config) ++ (map line.Description (option_to_list front.description) ++ map line.Limit (limit_lines front.limits)))))
 so_far (Objects front objects) = line.Adapter front.adapter ∷ (map line.Output front.outputs ++ (map line.Input front.inputs ++ (map line.Config (option_to_list front.config) ++ (map line.Description (option_to_list front.description) ++ (map line.Limit (limit_lines front.limits) ++ map line.Object objects)))))
-so_far (Slots scanner newer terms slots) = line.Scanner scanner ∷ (map line.Limit (option_to_list (option_map limit.Newer newer)) ++ (map line.Term (term_lines terms) ++ map line.Slot slots))
+so_far (Counted front objects block) = line.Adapter front.adapter ∷ (map line.Output front.outputs ++ (map line.Input front.inputs ++ (map line.Config (option_to_list front.config) ++ (map line.Description (option_to_list front.description) ++ (map line.Limit (limit_lines front.limits) ++ (map line.Object objects ++ ids_line block ∷ []))))))
+so_far (Slots scanner newer terms slots) = line.Scanner scanner ∷ (map line.Limit (option_to_list (option_map limit.Newer newer)) ++ (map line.Term (term_lines terms) ++ (ids_lines terms.ids ++ map line.Slot slots)))
 so_far (Events made_of entries last) = config_values made_of ++ entries_values 1 (entries ++ option_to_list last)
 
 so_far_is : (one other : TraceBuilder) → Some one ≡ Some other → so_far other ≡ so_far one
@@ -206,38 +209,57 @@ behind_stated front last = stated_last front.adapter (map line.Output front.outp
 behind_objects : (front : ProfileFront) (objects : List ℕ) (last : TraceLine) → line.Adapter front.adapter ∷ (map line.Output front.outputs ++ (map line.Input front.inputs ++ (map line.Config (option_to_list front.config) ++ (map line.Description (option_to_list front.description) ++ (map line.Limit (limit_lines front.limits) ++ (map line.Object objects ++ last ∷ [])))))) ≡ so_far (Objects front objects) ++ last ∷ []
 behind_objects front objects last = objects_last front.adapter (map line.Output front.outputs) (map line.Input front.inputs) (map line.Config (option_to_list front.config)) (map line.Description (option_to_list front.description)) (map line.Limit (limit_lines front.limits)) (map line.Object objects) last
 
-newer_here : (scanner : ScannerLine) (newer : Option ℕ) (tidy : Bool) (openings serials : Option ℕ) (slots : List SlotConfig) (within : ℕ) → (is_none newer && (not tidy && ((is_none openings && is_none serials) && eqb (length slots) 0))) ≡ true → so_far (Slots scanner (Some within) (record { tidy = tidy; openings = openings; serials = serials; ids = None }) slots) ≡ so_far (Slots scanner newer (record { tidy = tidy; openings = openings; serials = serials; ids = None }) slots) ++ line.Limit (limit.Newer within) ∷ []
-newer_here scanner (Some other) tidy openings serials slots within first = absurd (cc)
-newer_here scanner None true openings serials slots within first = absurd (cc)
-newer_here scanner None false (Some most) serials slots within first = absurd (cc)
-newer_here scanner None false None (Some from) slots within first = absurd (cc)
-newer_here scanner None false None None [] within first = refl
-newer_here scanner None false None None (slot ∷ slots) within first = absurd (let none = no_elements (slot ∷ slots) (is_zero (length (slot ∷ slots)) first) in cc)
+-- a line behind a block of ids
+behind_ids : (front : ProfileFront) (objects : List ℕ) (block : IdBlock) (last : TraceLine) → line.Adapter front.adapter ∷ (map line.Output front.outputs ++ (map line.Input front.inputs ++ (map line.Config (option_to_list front.config) ++ (map line.Description (option_to_list front.description) ++ (map line.Limit (limit_lines front.limits) ++ (map line.Object objects ++ (ids_line block ∷ last ∷ []))))))) ≡ so_far (Counted front objects block) ++ last ∷ []
+behind_ids front objects block last =
+    ap (λ t. line.Adapter front.adapter ∷ (map line.Output front.outputs ++ (map line.Input front.inputs ++ (map line.Config (option_to_list front.config) ++ (map line.Description (option_to_list front.description) ++ (map line.Limit (limit_lines front.limits) ++ t)))))) (sym (append_assoc (map line.Object objects) (ids_line block ∷ []) (last ∷ [])))
+    ∙ objects_last front.adapter (map line.Output front.outputs) (map line.Input front.inputs) (map line.Config (option_to_list front.config)) (map line.Description (option_to_list front.description)) (map line.Limit (limit_lines front.limits)) (map line.Object objects ++ ids_line block ∷ []) last
+
+newer_here : (scanner : ScannerLine) (newer : Option ℕ) (tidy : Bool) (openings serials : Option ℕ) (ids : Option IdBlock) (slots : List SlotConfig) (within : ℕ) → (is_none newer && (not tidy && ((is_none openings && (is_none serials && is_none ids)) && eqb (length slots) 0))) ≡ true → so_far (Slots scanner (Some within) (record { tidy = tidy; openings = openings; serials = serials; ids = ids }) slots) ≡ so_far (Slots scanner newer (record { tidy = tidy; openings = openings; serials = serials; ids = ids }) slots) ++ line.Limit (limit.Newer within) ∷ []
+newer_here scanner (Some other) tidy openings serials ids slots within first = absurd (cc)
+newer_here scanner None true openings serials ids slots within first = absurd (cc)
+newer_here scanner None false (Some most) serials ids slots within first = absurd (cc)
+newer_here scanner None false None (Some from) ids slots within first = absurd (cc)
+newer_here scanner None false None None (Some block) slots within first = absurd (cc)
+newer_here scanner None false None None None [] within first = refl
+newer_here scanner None false None None None (slot ∷ slots) within first = absurd (let none = no_elements (slot ∷ slots) (is_zero (length (slot ∷ slots)) first) in cc)
 
 newer_added : (scanner : ScannerLine) (newer : Option ℕ) (terms : ScannerTerms) (slots : List SlotConfig) (value : LimitLine) (next : TraceBuilder) → with_newer scanner newer terms slots value ≡ Some next → so_far next ≡ so_far (Slots scanner newer terms slots) ++ line.Limit value ∷ []
 newer_added scanner newer terms slots (limit.Newer within) next is =
     let pair = passed (is_none newer && (not terms.tidy && (none_stated terms && eqb (length slots) 0))) (Some (Slots scanner (Some within) terms slots)) next is in
-    so_far_is _ _ pair.1 ∙ newer_here scanner newer terms.tidy terms.openings terms.serials slots within pair.0
+    so_far_is _ _ pair.1 ∙ newer_here scanner newer terms.tidy terms.openings terms.serials terms.ids slots within pair.0
 newer_added scanner newer terms slots other next is = absurd (cc)
 
--- what is said of openings, with one line more
-line_is : (one other : ScannerTerms) → Some one ≡ Some other → term_lines other ≡ term_lines one
-line_is one other is = ap term_lines (sym (some_is one other is))
+-- what is said of openings, with one line more, before a block of ids
+record OneMore (terms more : ScannerTerms) (said : TermLine) : Type 0 where
+  lines : term_lines more ≡ term_lines terms ++ said ∷ []
+  had : terms.ids ≡ None
+  has : more.ids ≡ None
 
-line_added : (tidy : Bool) (openings serials : Option ℕ) (said : TermLine) (more : ScannerTerms) → with_line (record { tidy = tidy; openings = openings; serials = serials; ids = None }) said ≡ Some more → term_lines more ≡ term_lines (record { tidy = tidy; openings = openings; serials = serials; ids = None }) ++ said ∷ []
-line_added false None None term.Tidy more is = line_is _ more is
-line_added true None None (term.Openings most) more is = line_is _ more is
-line_added false None None (term.Openings most) more is = line_is _ more is
-line_added true None None (term.Serials first) more is = line_is _ more is
-line_added false None None (term.Serials first) more is = line_is _ more is
-line_added true (Some most) None (term.Serials first) more is = line_is _ more is
-line_added false (Some most) None (term.Serials first) more is = line_is _ more is
-line_added true openings serials term.Tidy more is = absurd (cc)
-line_added false (Some other) serials term.Tidy more is = absurd (cc)
-line_added false None (Some other) term.Tidy more is = absurd (cc)
-line_added tidy (Some other) serials (term.Openings most) more is = absurd (cc)
-line_added tidy None (Some other) (term.Openings most) more is = absurd (cc)
-line_added tidy openings (Some other) (term.Serials first) more is = absurd (cc)
+line_is : (terms one other : ScannerTerms) (said : TermLine) → term_lines one ≡ term_lines terms ++ said ∷ [] → terms.ids ≡ None → one.ids ≡ None → Some one ≡ Some other → OneMore terms other said
+line_is terms one other said lines had has is = record {
+  lines = ap term_lines (sym (some_is one other is)) ∙ lines;
+  had = had;
+  has = ap (λ (t : ScannerTerms). t.ids) (sym (some_is one other is)) ∙ has;
+}
+
+line_added : (tidy : Bool) (openings serials : Option ℕ) (ids : Option IdBlock) (said : TermLine) (more : ScannerTerms) → with_line (record { tidy = tidy; openings = openings; serials = serials; ids = ids }) said ≡ Some more → OneMore (record { tidy = tidy; openings = openings; serials = serials; ids = ids }) more said
+line_added false None None None term.Tidy more is = line_is _ _ more _ refl refl refl is
+line_added true openings serials ids term.Tidy more is = absurd (cc)
+line_added false (Some other) serials ids term.Tidy more is = absurd (cc)
+line_added false None (Some other) ids term.Tidy more is = absurd (cc)
+line_added false None None (Some block) term.Tidy more is = absurd (cc)
+line_added true None None None (term.Openings most) more is = line_is _ _ more _ refl refl refl is
+line_added false None None None (term.Openings most) more is = line_is _ _ more _ refl refl refl is
+line_added tidy (Some other) serials ids (term.Openings most) more is = absurd (cc)
+line_added tidy None (Some other) ids (term.Openings most) more is = absurd (cc)
+line_added tidy None None (Some block) (term.Openings most) more is = absurd (cc)
+line_added true None None None (term.Serials first) more is = line_is _ _ more _ refl refl refl is
+line_added false None None None (term.Serials first) more is = line_is _ _ more _ refl refl refl is
+line_added true (Some most) None None (term.Serials first) more is = line_is _ _ more _ refl refl refl is
+line_added false (Some most) None None (term.Serials first) more is = line_is _ _ more _ refl refl refl is
+line_added tidy openings (Some other) ids (term.Serials first) more is = absurd (cc)
+line_added tidy openings None (Some block) (term.Serials first) more is = absurd (cc)
 
 -- the lines of openings, before all slots
 terms_last : (scanner : TraceLine) (limits terms : List TraceLine) (last : TraceLine) → scanner ∷ (limits ++ ((terms ++ last ∷ []) ++ [])) ≡ (scanner ∷ (limits ++ (terms ++ []))) ++ last ∷ []
@@ -245,12 +267,14 @@ terms_last scanner limits terms last =
     ap (λ t. scanner ∷ (limits ++ t)) (append-nil (terms ++ last ∷ []) ∙ ap (λ t. t ++ last ∷ []) (sym (append-nil terms)))
     ∙ ap (λ t. scanner ∷ t) (sym (append_assoc limits (terms ++ []) (last ∷ [])))
 
-term_here : (scanner : ScannerLine) (newer : Option ℕ) (terms more : ScannerTerms) (slots : List SlotConfig) (said : TermLine) → slots ≡ [] → term_lines more ≡ term_lines terms ++ said ∷ [] → so_far (Slots scanner newer more slots) ≡ so_far (Slots scanner newer terms slots) ++ line.Term said ∷ []
-term_here scanner newer terms more slots said none is =
+term_here : (scanner : ScannerLine) (newer : Option ℕ) (terms more : ScannerTerms) (slots : List SlotConfig) (said : TermLine) → slots ≡ [] → OneMore terms more said → so_far (Slots scanner newer more slots) ≡ so_far (Slots scanner newer terms slots) ++ line.Term said ∷ []
+term_here scanner newer terms more slots said none one =
     let limits = map line.Limit (option_to_list (option_map limit.Newer newer)) in
     ap (λ l. so_far (Slots scanner newer more l)) none
-    ∙ ap (λ t. line.Scanner scanner ∷ (limits ++ (t ++ []))) (ap (map line.Term) is ∙ map-append line.Term (term_lines terms) (said ∷ []))
+    ∙ ap (λ (ids : Option IdBlock). line.Scanner scanner ∷ (limits ++ (map line.Term (term_lines more) ++ (ids_lines ids ++ [])))) one.has
+    ∙ ap (λ t. line.Scanner scanner ∷ (limits ++ (t ++ []))) (ap (map line.Term) one.lines ∙ map-append line.Term (term_lines terms) (said ∷ []))
     ∙ terms_last (line.Scanner scanner) limits (map line.Term (term_lines terms)) (line.Term said)
+    ∙ ap (λ (ids : Option IdBlock). (line.Scanner scanner ∷ (limits ++ (map line.Term (term_lines terms) ++ (ids_lines ids ++ [])))) ++ line.Term said ∷ []) (sym one.had)
     ∙ ap (λ l. so_far (Slots scanner newer terms l) ++ line.Term said ∷ []) (sym none)
 
 term_added : (scanner : ScannerLine) (newer : Option ℕ) (terms : ScannerTerms) (slots : List SlotConfig) (said : TermLine) (next : TraceBuilder) → with_term scanner newer terms slots said ≡ Some next → so_far next ≡ so_far (Slots scanner newer terms slots) ++ line.Term said ∷ []
@@ -258,7 +282,47 @@ term_added scanner newer terms slots said next is =
     let pair = passed (eqb (length slots) 0) (option_map (λ more. Slots scanner newer more slots) (with_line terms said)) next is in
     let (more, (from, made)) = mapped_from (λ more. Slots scanner newer more slots) (with_line terms said) next pair.1 in
     ap so_far (sym made)
-    ∙ term_here scanner newer terms more slots said (no_elements slots (is_zero (length slots) pair.0)) (line_added terms.tidy terms.openings terms.serials said more from)
+    ∙ term_here scanner newer terms more slots said (no_elements slots (is_zero (length slots) pair.0)) (line_added terms.tidy terms.openings terms.serials terms.ids said more from)
+
+-- BLOCKS OF CONNECTION IDS
+
+-- an event that gives a block has the line of a block
+block_is : (happens : Event) (block : IdBlock) → given_block happens ≡ Some block → line.Event happens ≡ ids_line block
+block_is (event.Ids own) block is = ap ids_line (some_is own block is)
+block_is other block is = absurd (cc)
+
+none_there : (ids : Option IdBlock) → is_none ids ≡ true → ids ≡ None
+none_there None is = refl
+none_there (Some block) is = absurd (cc)
+
+-- a block that an adapter's profile states
+counted_added : (front : ProfileFront) (objects : List ℕ) (before : List TraceLine) (happens : Event) (next : TraceBuilder) → ((block : IdBlock) → so_far (Counted front objects block) ≡ before ++ ids_line block ∷ []) → with_ids front objects happens ≡ Some next → so_far next ≡ before ++ line.Event happens ∷ []
+counted_added front objects before happens next goes is =
+    let (block, (from, made)) = mapped_from (λ (block : IdBlock). Counted front objects block) (given_block happens) next is in
+    ap so_far (sym made) ∙ goes block ∙ ap (λ (l : TraceLine). before ++ l ∷ []) (sym (block_is happens block from))
+
+-- and one that a scanner's does, before all slots
+block_here : (scanner : TraceLine) (limits terms : List TraceLine) (last : TraceLine) → scanner ∷ (limits ++ (terms ++ last ∷ [])) ≡ (scanner ∷ (limits ++ (terms ++ []))) ++ last ∷ []
+block_here scanner limits terms last =
+    ap (λ t. scanner ∷ t) (sym (append_assoc limits terms (last ∷ [])))
+    ∙ ap (λ t. (scanner ∷ (limits ++ t)) ++ last ∷ []) (sym (append-nil terms))
+
+block_added : (scanner : ScannerLine) (newer : Option ℕ) (terms : ScannerTerms) (slots : List SlotConfig) (block : IdBlock) (next : TraceBuilder) → slots ≡ [] → with_block scanner newer terms slots block ≡ Some next → so_far next ≡ so_far (Slots scanner newer terms slots) ++ ids_line block ∷ []
+block_added scanner newer terms slots block next none is =
+    let pair = passed (is_none terms.ids) (Some (Slots scanner newer (record terms { ids = Some block }) slots)) next is in
+    let limits = map line.Limit (option_to_list (option_map limit.Newer newer)) in
+    so_far_is _ _ pair.1
+    ∙ ap (λ l. so_far (Slots scanner newer (record terms { ids = Some block }) l)) none
+    ∙ block_here (line.Scanner scanner) limits (map line.Term (term_lines terms)) (ids_line block)
+    ∙ ap (λ (ids : Option IdBlock). (line.Scanner scanner ∷ (limits ++ (map line.Term (term_lines terms) ++ (ids_lines ids ++ [])))) ++ ids_line block ∷ []) (sym (none_there terms.ids pair.0))
+    ∙ ap (λ l. so_far (Slots scanner newer terms l) ++ ids_line block ∷ []) (sym none)
+
+first_added : (scanner : ScannerLine) (newer : Option ℕ) (terms : ScannerTerms) (slots : List SlotConfig) (happens : Event) (next : TraceBuilder) (early : Option IdBlock) → early_block slots happens ≡ early → with_event scanner newer terms slots happens early ≡ Some next → so_far next ≡ so_far (Slots scanner newer terms slots) ++ line.Event happens ∷ []
+first_added scanner newer terms slots happens next (Some block) early is =
+    let pair = passed (eqb (length slots) 0) (given_block happens) block early in
+    block_added scanner newer terms slots block next (no_elements slots (is_zero (length slots) pair.0)) is
+    ∙ ap (λ (l : TraceLine). so_far (Slots scanner newer terms slots) ++ l ∷ []) (sym (block_is happens block pair.1))
+first_added scanner newer terms slots happens next None early is = so_far_is _ _ is
 
 limit_added_to : (front : ProfileFront) (limit : LimitLine) (next : TraceBuilder) → with_stated front limit ≡ Some next → so_far next ≡ so_far (Stated front) ++ line.Limit limit ∷ []
 limit_added_to front limit next is =
@@ -282,25 +346,33 @@ added (Points adapter outputs inputs) (line.Config value) next is = so_far_is _ 
 added (Points adapter outputs inputs) (line.Description value) next is = so_far_is _ _ is ∙ points_last adapter (map line.Output outputs) (map line.Input inputs) (line.Description value)
 added (Points adapter outputs inputs) (line.Limit value) next is = limit_added_to (front_of adapter outputs inputs None None) value next is ∙ ap (λ t. (line.Adapter adapter ∷ (map line.Output outputs ++ t)) ++ line.Limit value ∷ []) (append-nil (map line.Input inputs))
 added (Points adapter outputs inputs) (line.Object value) next is = so_far_is _ _ is ∙ points_last adapter (map line.Output outputs) (map line.Input inputs) (line.Object value)
+added (Points adapter outputs inputs) (line.Event value) next is =
+    counted_added (front_of adapter outputs inputs None None) [] (so_far (Points adapter outputs inputs)) value next (λ block. points_last adapter (map line.Output outputs) (map line.Input inputs) (ids_line block)) is
 added (Points adapter outputs inputs) (line.Heartbeat value) next is = so_far_is _ _ is ∙ append-nil _ ∙ points_last adapter (map line.Output outputs) (map line.Input inputs) (line.Heartbeat value)
 added (Configured adapter outputs inputs point) (line.Description value) next is = so_far_is _ _ is ∙ ends_last adapter (map line.Output outputs) (map line.Input inputs) (line.Config point ∷ []) (line.Description value)
 added (Configured adapter outputs inputs point) (line.Limit value) next is = limit_added_to (front_of adapter outputs inputs (Some point) None) value next is
 added (Configured adapter outputs inputs point) (line.Object value) next is = so_far_is _ _ is ∙ ends_last adapter (map line.Output outputs) (map line.Input inputs) (line.Config point ∷ []) (line.Object value)
+added (Configured adapter outputs inputs point) (line.Event value) next is =
+    counted_added (front_of adapter outputs inputs (Some point) None) [] (so_far (Configured adapter outputs inputs point)) value next (λ block. ends_last adapter (map line.Output outputs) (map line.Input inputs) (line.Config point ∷ []) (ids_line block)) is
 added (Configured adapter outputs inputs point) (line.Heartbeat value) next is = so_far_is _ _ is ∙ append-nil _ ∙ ends_last adapter (map line.Output outputs) (map line.Input inputs) (line.Config point ∷ []) (line.Heartbeat value)
 added (Stated front) (line.Limit value) next is = limit_added_to front value next is
 added (Stated front) (line.Object value) next is = so_far_is _ _ is ∙ behind_stated front (line.Object value)
+added (Stated front) (line.Event value) next is = counted_added front [] (so_far (Stated front)) value next (λ block. behind_stated front (ids_line block)) is
 added (Stated front) (line.Heartbeat value) next is = so_far_is _ _ is ∙ append-nil _ ∙ behind_stated front (line.Heartbeat value)
 added (Objects front objects) (line.Object value) next is = so_far_is _ _ is ∙ object_added_to front objects value
+added (Objects front objects) (line.Event value) next is = counted_added front objects (so_far (Objects front objects)) value next (λ block. behind_objects front objects (ids_line block)) is
 added (Objects front objects) (line.Heartbeat value) next is = so_far_is _ _ is ∙ append-nil _ ∙ behind_objects front objects (line.Heartbeat value)
+added (Counted front objects block) (line.Heartbeat value) next is = so_far_is _ _ is ∙ append-nil _ ∙ behind_ids front objects block (line.Heartbeat value)
 added (Slots scanner newer terms slots) (line.Limit value) next is = newer_added scanner newer terms slots value next is
 added (Slots scanner newer terms slots) (line.Term said) next is = term_added scanner newer terms slots said next is
 added (Slots scanner newer terms slots) (line.Slot value) next is =
     let limits = map line.Limit (option_to_list (option_map limit.Newer newer)) in
     so_far_is _ _ is
-    ∙ ap (λ t. line.Scanner scanner ∷ (limits ++ (map line.Term (term_lines terms) ++ t))) (map-append line.Slot slots (value ∷ []))
-    ∙ ap (λ t. line.Scanner scanner ∷ (limits ++ t)) (sym (append_assoc (map line.Term (term_lines terms)) (map line.Slot slots) (line.Slot value ∷ [])))
-    ∙ ap (λ t. line.Scanner scanner ∷ t) (sym (append_assoc limits (map line.Term (term_lines terms) ++ map line.Slot slots) (line.Slot value ∷ [])))
-added (Slots scanner newer terms slots) (line.Event value) next is = so_far_is _ _ is
+    ∙ ap (λ t. line.Scanner scanner ∷ (limits ++ (map line.Term (term_lines terms) ++ (ids_lines terms.ids ++ t)))) (map-append line.Slot slots (value ∷ []))
+    ∙ ap (λ t. line.Scanner scanner ∷ (limits ++ (map line.Term (term_lines terms) ++ t))) (sym (append_assoc (ids_lines terms.ids) (map line.Slot slots) (line.Slot value ∷ [])))
+    ∙ ap (λ t. line.Scanner scanner ∷ (limits ++ t)) (sym (append_assoc (map line.Term (term_lines terms)) (ids_lines terms.ids ++ map line.Slot slots) (line.Slot value ∷ [])))
+    ∙ ap (λ t. line.Scanner scanner ∷ t) (sym (append_assoc limits (map line.Term (term_lines terms) ++ (ids_lines terms.ids ++ map line.Slot slots)) (line.Slot value ∷ [])))
+added (Slots scanner newer terms slots) (line.Event value) next is = first_added scanner newer terms slots value next (early_block slots value) refl is
 added (Events made_of entries None) (line.Event value) next is = so_far_is _ _ is ∙ event_added made_of (entries ++ []) value
 added (Events made_of entries (Some (event, recorded))) (line.Event value) next is = so_far_is _ _ is ∙ event_added made_of (entries ++ (event, recorded) ∷ []) value
 added (Events made_of entries (Some (event, recorded))) (line.Recorded number value) next is = part_added made_of entries event recorded number value next is
@@ -336,25 +408,27 @@ run_adds builder (Some value ∷ lines) end is =
 -- WHAT IS READ CAN BE COMPLETED
 
 abbrev no_scanner : ScannerProfile
-no_scanner = record { incarnation = 0; node = record { 0 = 0 }; vendor = 0; serial = 0; open_timeout = 0; retry = 0; newer = None; tidy = false; openings = None; serials = None; slots = [] }
+no_scanner = record { incarnation = 0; node = record { 0 = 0 }; vendor = 0; serial = 0; open_timeout = 0; retry = 0; newer = None; tidy = false; openings = None; serials = None; ids = None; slots = [] }
 
 abbrev no_points : HeartbeatLine
 no_points = record { input_only = 0; listen_only = 0 }
 
 -- the profile of these lines
-abbrev whole_of : ProfileFront → List ℕ → HeartbeatLine → Profile
-whole_of front objects points = profile_with front.adapter front.outputs front.inputs front.config front.description front.limits objects points
+abbrev whole_of : ProfileFront → List ℕ → Option IdBlock → HeartbeatLine → Profile
+whole_of front objects ids points = profile_with front.adapter front.outputs front.inputs front.config front.description front.limits objects ids points
 
 pub completed : (builder : TraceBuilder) → (trace : Trace) × ((more : List TraceLine) × (so_far builder ++ more ≡ trace_values trace))
 completed Empty = (record { config = config.Scanner no_scanner; events = [] }, (config_values (config.Scanner no_scanner) ++ [], refl))
 completed (Points adapter outputs inputs) =
-    (record { config = config.Adapter (profile_with adapter outputs inputs None None no_limits [] no_points); events = [] }, (line.Heartbeat no_points ∷ [], sym (added (Points adapter outputs inputs) (line.Heartbeat no_points) _ refl)))
+    (record { config = config.Adapter (profile_with adapter outputs inputs None None no_limits [] None no_points); events = [] }, (line.Heartbeat no_points ∷ [], sym (added (Points adapter outputs inputs) (line.Heartbeat no_points) _ refl)))
 completed (Configured adapter outputs inputs point) =
-    (record { config = config.Adapter (profile_with adapter outputs inputs (Some point) None no_limits [] no_points); events = [] }, (line.Heartbeat no_points ∷ [], sym (added (Configured adapter outputs inputs point) (line.Heartbeat no_points) _ refl)))
+    (record { config = config.Adapter (profile_with adapter outputs inputs (Some point) None no_limits [] None no_points); events = [] }, (line.Heartbeat no_points ∷ [], sym (added (Configured adapter outputs inputs point) (line.Heartbeat no_points) _ refl)))
 completed (Stated front) =
-    (record { config = config.Adapter (whole_of front [] no_points); events = [] }, (line.Heartbeat no_points ∷ [], sym (added (Stated front) (line.Heartbeat no_points) _ refl)))
+    (record { config = config.Adapter (whole_of front [] None no_points); events = [] }, (line.Heartbeat no_points ∷ [], sym (added (Stated front) (line.Heartbeat no_points) _ refl)))
 completed (Objects front objects) =
-    (record { config = config.Adapter (whole_of front objects no_points); events = [] }, (line.Heartbeat no_points ∷ [], sym (added (Objects front objects) (line.Heartbeat no_points) _ refl)))
+    (record { config = config.Adapter (whole_of front objects None no_points); events = [] }, (line.Heartbeat no_points ∷ [], sym (added (Objects front objects) (line.Heartbeat no_points) _ refl)))
+completed (Counted front objects block) =
+    (record { config = config.Adapter (whole_of front objects (Some block) no_points); events = [] }, (line.Heartbeat no_points ∷ [], sym (added (Counted front objects block) (line.Heartbeat no_points) _ refl)))
 completed (Slots scanner newer terms slots) = (record { config = config.Scanner (scanner_with scanner newer terms slots); events = [] }, ([], refl))
 completed (Events made_of entries last) = (record { config = made_of; events = entries ++ option_to_list last }, ([], append-nil _))
 
@@ -377,64 +451,68 @@ inputs_run : (adapter : AdapterLine) (outputs : List OutputPoint) (before inputs
 inputs_run adapter outputs before [] = ap (λ t. Some (Points adapter outputs t)) (sym (append-nil before))
 inputs_run adapter outputs before (input ∷ inputs) = inputs_run adapter outputs (before ++ input ∷ []) inputs ∙ ap (λ t. Some (Points adapter outputs t)) (append_assoc before (input ∷ []) inputs)
 
--- the lines of own classes, and the one behind them
-abbrev objects_end : HeartbeatLine → List ℕ → List TraceLine
-objects_end points objects = map line.Object objects ++ line.Heartbeat points ∷ []
+-- the lines of own classes, and those behind them
+abbrev objects_end : HeartbeatLine → Option IdBlock → List ℕ → List TraceLine
+objects_end points ids objects = map line.Object objects ++ (ids_lines ids ++ line.Heartbeat points ∷ [])
 
 -- the lines of limits, and those behind them
 abbrev limits_end : List TraceLine → List LimitLine → List (Option TraceLine)
 limits_end behind limits = map Some (map line.Limit limits ++ behind)
 
-objects_run : (front : ProfileFront) (points : HeartbeatLine) (before more : List ℕ) → run (Objects front before) (map Some (objects_end points more)) ≡ Some (Events (config.Adapter (whole_of front (before ++ more) points)) [] None)
-objects_run front points before [] = ap (λ t. Some (Events (config.Adapter (whole_of front t points)) [] None)) (sym (append-nil before))
-objects_run front points before (class ∷ more) =
-    objects_run front points (before ++ class ∷ []) more
-    ∙ ap (λ t. Some (Events (config.Adapter (whole_of front t points)) [] None)) (append_assoc before (class ∷ []) more)
+objects_run : (front : ProfileFront) (points : HeartbeatLine) (ids : Option IdBlock) (before more : List ℕ) → run (Objects front before) (map Some (objects_end points ids more)) ≡ Some (Events (config.Adapter (whole_of front (before ++ more) ids points)) [] None)
+objects_run front points None before [] = ap (λ t. Some (Events (config.Adapter (whole_of front t None points)) [] None)) (sym (append-nil before))
+objects_run front points (Some block) before [] = ap (λ t. Some (Events (config.Adapter (whole_of front t (Some block) points)) [] None)) (sym (append-nil before))
+objects_run front points ids before (class ∷ more) =
+    objects_run front points ids (before ++ class ∷ []) more
+    ∙ ap (λ t. Some (Events (config.Adapter (whole_of front t ids points)) [] None)) (append_assoc before (class ∷ []) more)
 
-stated_run : (front : ProfileFront) (points : HeartbeatLine) (more : List ℕ) → run (Stated front) (map Some (objects_end points more)) ≡ Some (Events (config.Adapter (whole_of front more points)) [] None)
-stated_run front points [] = refl
-stated_run front points (class ∷ more) = objects_run front points (class ∷ []) more
+stated_run : (front : ProfileFront) (points : HeartbeatLine) (ids : Option IdBlock) (more : List ℕ) → run (Stated front) (map Some (objects_end points ids more)) ≡ Some (Events (config.Adapter (whole_of front more ids points)) [] None)
+stated_run front points None [] = refl
+stated_run front points (Some block) [] = refl
+stated_run front points ids (class ∷ more) = objects_run front points ids (class ∷ []) more
 
-module _ (adapter : AdapterLine) (outputs : List OutputPoint) (inputs : List InputPoint) (settings : Option InputPoint) (described : Option Description) (classes : List ℕ) (points : HeartbeatLine) where
+module _ (adapter : AdapterLine) (outputs : List OutputPoint) (inputs : List InputPoint) (settings : Option InputPoint) (described : Option Description) (classes : List ℕ) (ids : Option IdBlock) (points : HeartbeatLine) where
   abbrev stated : MakerLimits → ProfileFront
   stated limits = record (front_of adapter outputs inputs settings described) { limits = limits }
 
   abbrev whole : MakerLimits → Option TraceBuilder
-  whole limits = Some (Events (config.Adapter (profile_with adapter outputs inputs settings described limits classes points)) [] None)
+  whole limits = Some (Events (config.Adapter (profile_with adapter outputs inputs settings described limits classes ids points)) [] None)
 
   abbrev behind : List TraceLine
-  behind = objects_end points classes
+  behind = objects_end points ids classes
 
   steps_run : (limits end : MakerLimits) (lines : List LimitLine) → Steps limits lines end → run (Stated (stated limits)) (limits_end behind lines) ≡ whole end
-  steps_run limits end [] is = stated_run (stated limits) points classes ∙ ap whole is
+  steps_run limits end [] is = stated_run (stated limits) points ids classes ∙ ap whole is
   steps_run limits end (given ∷ lines) (next, (is, more)) =
       first_run (Stated (stated limits)) (Stated (stated next)) (line.Limit given) (limits_end behind lines) _ (ap (option_map (λ to. Stated (stated to))) is) (steps_run next end lines more)
 
   limits_run : (limits : MakerLimits) → run (Stated (stated no_limits)) (limits_end behind (limit_lines limits)) ≡ whole limits
   limits_run limits = steps_run no_limits limits (limit_lines limits) (limit_steps limits)
 
--- the limits, the own classes and the points without data, where no description is before them
-after_points : (adapter : AdapterLine) (outputs : List OutputPoint) (inputs : List InputPoint) (points : HeartbeatLine) (objects : List ℕ) (limits : List LimitLine) → run (Points adapter outputs inputs) (limits_end (objects_end points objects) limits) ≡ run (Stated (front_of adapter outputs inputs None None)) (limits_end (objects_end points objects) limits)
-after_points adapter outputs inputs points [] [] = refl
-after_points adapter outputs inputs points (class ∷ objects) [] = refl
-after_points adapter outputs inputs points objects (limit ∷ limits) = refl
+-- the limits, the own classes, the block of ids and the points without data, where no description is before them
+after_points : (adapter : AdapterLine) (outputs : List OutputPoint) (inputs : List InputPoint) (points : HeartbeatLine) (ids : Option IdBlock) (objects : List ℕ) (limits : List LimitLine) → run (Points adapter outputs inputs) (limits_end (objects_end points ids objects) limits) ≡ run (Stated (front_of adapter outputs inputs None None)) (limits_end (objects_end points ids objects) limits)
+after_points adapter outputs inputs points None [] [] = refl
+after_points adapter outputs inputs points (Some block) [] [] = refl
+after_points adapter outputs inputs points ids (class ∷ objects) [] = refl
+after_points adapter outputs inputs points ids objects (limit ∷ limits) = refl
 
-after_settings : (adapter : AdapterLine) (outputs : List OutputPoint) (inputs : List InputPoint) (point : InputPoint) (points : HeartbeatLine) (objects : List ℕ) (limits : List LimitLine) → run (Configured adapter outputs inputs point) (limits_end (objects_end points objects) limits) ≡ run (Stated (front_of adapter outputs inputs (Some point) None)) (limits_end (objects_end points objects) limits)
-after_settings adapter outputs inputs point points [] [] = refl
-after_settings adapter outputs inputs point points (class ∷ objects) [] = refl
-after_settings adapter outputs inputs point points objects (limit ∷ limits) = refl
+after_settings : (adapter : AdapterLine) (outputs : List OutputPoint) (inputs : List InputPoint) (point : InputPoint) (points : HeartbeatLine) (ids : Option IdBlock) (objects : List ℕ) (limits : List LimitLine) → run (Configured adapter outputs inputs point) (limits_end (objects_end points ids objects) limits) ≡ run (Stated (front_of adapter outputs inputs (Some point) None)) (limits_end (objects_end points ids objects) limits)
+after_settings adapter outputs inputs point points None [] [] = refl
+after_settings adapter outputs inputs point points (Some block) [] [] = refl
+after_settings adapter outputs inputs point points ids (class ∷ objects) [] = refl
+after_settings adapter outputs inputs point points ids objects (limit ∷ limits) = refl
 
-ends_run : (adapter : AdapterLine) (outputs : List OutputPoint) (inputs : List InputPoint) (settings : Option InputPoint) (described : Option Description) (limits : MakerLimits) (objects : List ℕ) (points : HeartbeatLine) → run (Points adapter outputs inputs) (map Some (map line.Config (option_to_list settings) ++ (map line.Description (option_to_list described) ++ (map line.Limit (limit_lines limits) ++ objects_end points objects)))) ≡ Some (Events (config.Adapter (profile_with adapter outputs inputs settings described limits objects points)) [] None)
-ends_run adapter outputs inputs None None limits objects points = after_points adapter outputs inputs points objects (limit_lines limits) ∙ limits_run adapter outputs inputs None None objects points limits
-ends_run adapter outputs inputs None (Some described) limits objects points = limits_run adapter outputs inputs None (Some described) objects points limits
-ends_run adapter outputs inputs (Some point) None limits objects points = after_settings adapter outputs inputs point points objects (limit_lines limits) ∙ limits_run adapter outputs inputs (Some point) None objects points limits
-ends_run adapter outputs inputs (Some point) (Some described) limits objects points = limits_run adapter outputs inputs (Some point) (Some described) objects points limits
+ends_run : (adapter : AdapterLine) (outputs : List OutputPoint) (inputs : List InputPoint) (settings : Option InputPoint) (described : Option Description) (limits : MakerLimits) (objects : List ℕ) (ids : Option IdBlock) (points : HeartbeatLine) → run (Points adapter outputs inputs) (map Some (map line.Config (option_to_list settings) ++ (map line.Description (option_to_list described) ++ (map line.Limit (limit_lines limits) ++ objects_end points ids objects)))) ≡ Some (Events (config.Adapter (profile_with adapter outputs inputs settings described limits objects ids points)) [] None)
+ends_run adapter outputs inputs None None limits objects ids points = after_points adapter outputs inputs points ids objects (limit_lines limits) ∙ limits_run adapter outputs inputs None None objects ids points limits
+ends_run adapter outputs inputs None (Some described) limits objects ids points = limits_run adapter outputs inputs None (Some described) objects ids points limits
+ends_run adapter outputs inputs (Some point) None limits objects ids points = after_settings adapter outputs inputs point points ids objects (limit_lines limits) ∙ limits_run adapter outputs inputs (Some point) None objects ids points limits
+ends_run adapter outputs inputs (Some point) (Some described) limits objects ids points = limits_run adapter outputs inputs (Some point) (Some described) objects ids points limits
 
 adapter_run : (profile : Profile) → run Empty (map Some (config_values (config.Adapter profile))) ≡ Some (Events (config.Adapter profile) [] None)
 adapter_run profile =
     both_run (Points (adapter_line_of profile) [] []) (Points (adapter_line_of profile) profile.outputs []) (map line.Output profile.outputs) _ _ (outputs_run (adapter_line_of profile) [] profile.outputs)
     (both_run (Points (adapter_line_of profile) profile.outputs []) (Points (adapter_line_of profile) profile.outputs profile.inputs) (map line.Input profile.inputs) _ _ (inputs_run (adapter_line_of profile) profile.outputs [] profile.inputs)
-    (ends_run (adapter_line_of profile) profile.outputs profile.inputs profile.config profile.description profile.limits profile.objects (heartbeat_line_of profile)))
+    (ends_run (adapter_line_of profile) profile.outputs profile.inputs profile.config profile.description profile.limits profile.objects profile.ids (heartbeat_line_of profile)))
 
 slots_run : (scanner : ScannerLine) (newer : Option ℕ) (terms : ScannerTerms) (before slots : List SlotConfig) → run (Slots scanner newer terms before) (map Some (map line.Slot slots)) ≡ Some (Slots scanner newer terms (before ++ slots))
 slots_run scanner newer terms before [] = ap (λ t. Some (Slots scanner newer terms t)) (sym (append-nil before))
@@ -454,12 +532,25 @@ terms_run scanner newer false None (Some first) = refl
 terms_run scanner newer false (Some most) None = refl
 terms_run scanner newer false (Some most) (Some first) = refl
 
+ids_run : (scanner : ScannerLine) (newer : Option ℕ) (tidy : Bool) (openings serials : Option ℕ) (ids : Option IdBlock) → run (Slots scanner newer (record { tidy = tidy; openings = openings; serials = serials; ids = None }) []) (map Some (ids_lines ids)) ≡ Some (Slots scanner newer (record { tidy = tidy; openings = openings; serials = serials; ids = ids }) [])
+ids_run scanner newer tidy openings serials None = refl
+ids_run scanner newer tidy openings serials (Some block) = refl
+
+abbrev uncounted : ScannerProfile → ScannerTerms
+uncounted profile = record { tidy = profile.tidy; openings = profile.openings; serials = profile.serials; ids = None }
+
 scanner_run : (profile : ScannerProfile) → run Empty (map Some (config_values (config.Scanner profile))) ≡ Some (Slots (scanner_line_of profile) profile.newer (terms_of profile) profile.slots)
 scanner_run profile =
-    both_run (Slots (scanner_line_of profile) None no_terms []) (Slots (scanner_line_of profile) profile.newer no_terms []) (map line.Limit (option_to_list (option_map limit.Newer profile.newer))) (map line.Term (term_lines (terms_of profile)) ++ map line.Slot profile.slots) _
+    both_run (Slots (scanner_line_of profile) None no_terms []) (Slots (scanner_line_of profile) profile.newer no_terms []) (map line.Limit (option_to_list (option_map limit.Newer profile.newer))) (map line.Term (term_lines (terms_of profile)) ++ (ids_lines profile.ids ++ map line.Slot profile.slots)) _
     (slot_limit_run (scanner_line_of profile) profile.newer)
-    (both_run (Slots (scanner_line_of profile) profile.newer no_terms []) (Slots (scanner_line_of profile) profile.newer (terms_of profile) []) (map line.Term (term_lines (terms_of profile))) (map line.Slot profile.slots) _
-    (terms_run (scanner_line_of profile) profile.newer profile.tidy profile.openings profile.serials) (slots_run (scanner_line_of profile) profile.newer (terms_of profile) [] profile.slots))
+    (both_run (Slots (scanner_line_of profile) profile.newer no_terms []) (Slots (scanner_line_of profile) profile.newer (uncounted profile) []) (map line.Term (term_lines (terms_of profile))) (ids_lines profile.ids ++ map line.Slot profile.slots) _
+    (terms_run (scanner_line_of profile) profile.newer profile.tidy profile.openings profile.serials)
+    (both_run (Slots (scanner_line_of profile) profile.newer (uncounted profile) []) (Slots (scanner_line_of profile) profile.newer (terms_of profile) []) (ids_lines profile.ids) (map line.Slot profile.slots) _
+    (ids_run (scanner_line_of profile) profile.newer profile.tidy profile.openings profile.serials profile.ids) (slots_run (scanner_line_of profile) profile.newer (terms_of profile) [] profile.slots)))
+
+-- an event that is none of the profile's own lines comes behind it
+first_taken : (scanner : ScannerLine) (newer : Option ℕ) (terms : ScannerTerms) (slots : List SlotConfig) (happens : Event) → is_none (early_block slots happens) ≡ true → builder_with (Slots scanner newer terms slots) (line.Event happens) ≡ Some (Events (config.Scanner (scanner_with scanner newer terms slots)) [] (Some (happens, None)))
+first_taken scanner newer terms slots happens late = ap (with_event scanner newer terms slots happens) (none_there (early_block slots happens) late)
 
 abbrev answer_of : Verdict → List Frame → List OutgoingDatagram → List Notice → Answer
 answer_of verdict frames datagrams notices = record { frames = frames; datagrams = datagrams; verdict = verdict; notices = notices }
@@ -537,13 +628,121 @@ of_entries made_of values entries last n events all begun number are =
     let (entries', (last', (runs, same))) = entries_run made_of entries last n events number in
     (Events made_of entries' last', (both_run Empty (Events made_of entries last) values (entries_values n events) _ begun runs, λ place. ap (judged_by made_of) (same ∙ are)))
 
-pub trace_run : (made_of : Config) (events : List Entry) → TraceRun made_of events
-trace_run (config.Adapter profile) events = of_entries (config.Adapter profile) (config_values (config.Adapter profile)) [] None 1 events events (adapter_run profile) refl refl
-trace_run (config.Scanner profile) [] =
+pub trace_run : (made_of : Config) (events : List Entry) → may_follow made_of events ≡ true → TraceRun made_of events
+trace_run (config.Adapter profile) events follow = of_entries (config.Adapter profile) (config_values (config.Adapter profile)) [] None 1 events events (adapter_run profile) refl refl
+trace_run (config.Scanner profile) [] follow =
     (Slots (scanner_line_of profile) profile.newer (terms_of profile) profile.slots, (ap (λ t. run Empty (map Some t)) (append-nil (config_values (config.Scanner profile))) ∙ scanner_run profile, λ place. refl))
-trace_run (config.Scanner profile) ((event, recorded) ∷ events) =
+trace_run (config.Scanner profile) ((event, recorded) ∷ events) follow =
     let slots : run Empty (map Some (config_values (config.Scanner profile))) ≡ Some (Slots (scanner_line_of profile) profile.newer (terms_of profile) profile.slots) = scanner_run profile in
-    let one : run (Slots (scanner_line_of profile) profile.newer (terms_of profile) profile.slots) (map Some (entry_values 1 (event, recorded))) ≡ Some (Events (config.Scanner profile) [] (Some (event, recorded))) = recorded_run (config.Scanner profile) [] event 1 refl recorded in
+    let taken : builder_with (Slots (scanner_line_of profile) profile.newer (terms_of profile) profile.slots) (line.Event event) ≡ Some (Events (config.Scanner profile) [] (Some (event, None))) = first_taken (scanner_line_of profile) profile.newer (terms_of profile) profile.slots event follow in
+    let one : run (Slots (scanner_line_of profile) profile.newer (terms_of profile) profile.slots) (map Some (entry_values 1 (event, recorded))) ≡ Some (Events (config.Scanner profile) [] (Some (event, recorded))) =
+    first_run (Slots (scanner_line_of profile) profile.newer (terms_of profile) profile.slots) (Events (config.Scanner profile) [] (Some (event, None))) (line.Event event) (map Some (map (line.Recorded 1) (recorded_parts recorded))) _ taken (recorded_run (config.Scanner profile) [] event 1 refl recorded) in
     let front : run Empty (map Some (config_values (config.Scanner profile) ++ entry_values 1 (event, recorded))) ≡ Some (Events (config.Scanner profile) [] (Some (event, recorded))) = both_run Empty (Slots (scanner_line_of profile) profile.newer (terms_of profile) profile.slots) (config_values (config.Scanner profile)) (entry_values 1 (event, recorded)) _ slots one in
     let (end, (runs, ends)) = of_entries (config.Scanner profile) (config_values (config.Scanner profile) ++ entry_values 1 (event, recorded)) [] (Some (event, recorded)) 2 events ((event, recorded) ∷ events) front refl refl in
     (end, (ap (λ t. run Empty (map Some t)) (sym (append_assoc (config_values (config.Scanner profile)) (entry_values 1 (event, recorded)) (entries_values 2 events))) ∙ runs, ends))
+
+-- WHAT IS READ CAN BE WRITTEN
+
+-- there are events, of which the first one is no line of the profile
+abbrev has_begun : List SlotConfig → List Entry → Bool
+has_begun slots [] = false
+has_begun slots (first ∷ entries) = is_none (early_block slots first.0)
+
+-- what was read so far has its events behind its profile
+abbrev pub is_told : TraceBuilder → Bool
+is_told (Events (config.Scanner profile) entries last) = has_begun profile.slots (entries ++ option_to_list last)
+is_told other = true
+
+begun_more : (slots : List SlotConfig) (entries more : List Entry) → has_begun slots entries ≡ true → has_begun slots (entries ++ more) ≡ true
+begun_more slots [] more begun = absurd (cc)
+begun_more slots (first ∷ entries) more begun = begun
+
+begun_same : (slots : List SlotConfig) (entries : List Entry) (one other : Entry) → one.0 ≡ other.0 → has_begun slots (entries ++ one ∷ []) ≡ true → has_begun slots (entries ++ other ∷ []) ≡ true
+begun_same slots [] one other same begun = ap (λ (happens : Event). is_none (early_block slots happens)) (sym same) ∙ begun
+begun_same slots (first ∷ entries) one other same begun = begun
+
+begun_begins : (slots : List SlotConfig) (entries : List Entry) → has_begun slots entries ≡ true → may_begin slots entries ≡ true
+begun_begins slots [] begun = refl
+begun_begins slots (first ∷ entries) begun = begun
+
+pub told_follows : (made_of : Config) (entries : List Entry) (last : Option Entry) → is_told (Events made_of entries last) ≡ true → may_follow made_of (entries ++ option_to_list last) ≡ true
+told_follows (config.Adapter profile) entries last told = refl
+told_follows (config.Scanner profile) entries last told = begun_begins profile.slots (entries ++ option_to_list last) told
+
+abbrev Told : Option TraceBuilder → Type 0
+Told said = IfSome said (λ next. is_told next ≡ true)
+
+told_if : (test : Bool) (next : TraceBuilder) → is_told next ≡ true → Told (cond test (Some next) None)
+told_if true next told = told
+told_if false next told = tt
+
+told_map : {A : Type 0} (f : A → TraceBuilder) (value : Option A) → ((a : A) → is_told (f a) ≡ true) → Told (option_map f value)
+told_map f None told = tt
+told_map f (Some a) told = told a
+
+told_if_map : {A : Type 0} (test : Bool) (f : A → TraceBuilder) (value : Option A) → ((a : A) → is_told (f a) ≡ true) → Told (cond test (option_map f value) None)
+told_if_map true f value told = told_map f value told
+told_if_map false f value told = tt
+
+told_first : (scanner : ScannerLine) (newer : Option ℕ) (terms : ScannerTerms) (slots : List SlotConfig) (happens : Event) (early : Option IdBlock) → early_block slots happens ≡ early → Told (with_event scanner newer terms slots happens early)
+told_first scanner newer terms slots happens (Some block) early = told_if (is_none terms.ids) (Slots scanner newer (record terms { ids = Some block }) slots) refl
+told_first scanner newer terms slots happens None early = ap is_none early
+
+told_event : (made_of : Config) (entries : List Entry) (last : Option Entry) (happens : Event) → is_told (Events made_of entries last) ≡ true → is_told (Events made_of (entries ++ option_to_list last) (Some (happens, None))) ≡ true
+told_event (config.Adapter profile) entries last happens told = refl
+told_event (config.Scanner profile) entries last happens told = begun_more profile.slots (entries ++ option_to_list last) ((happens, None) ∷ []) told
+
+told_recorded : (made_of : Config) (entries : List Entry) (last : Entry) (outcome : Outcome) → is_told (Events made_of entries (Some last)) ≡ true → is_told (Events made_of entries (Some (last.0, Some outcome))) ≡ true
+told_recorded (config.Adapter profile) entries last outcome told = refl
+told_recorded (config.Scanner profile) entries last outcome told = begun_same profile.slots entries last (last.0, Some outcome) refl told
+
+told_newer : (scanner : ScannerLine) (newer : Option ℕ) (terms : ScannerTerms) (slots : List SlotConfig) (value : LimitLine) → Told (with_newer scanner newer terms slots value)
+told_newer scanner newer terms slots (limit.Newer within) = told_if (is_none newer && (not terms.tidy && (none_stated terms && eqb (length slots) 0))) (Slots scanner (Some within) terms slots) refl
+told_newer scanner newer terms slots other = tt
+
+-- a line that is allowed keeps it so
+told_on : (builder : TraceBuilder) (value : TraceLine) → is_told builder ≡ true → Told (builder_with builder value)
+told_on Empty (line.Adapter value) told = refl
+told_on Empty (line.Scanner value) told = refl
+told_on (Points adapter outputs inputs) (line.Output value) told = told_if (eqb (length inputs) 0) (Points adapter (outputs ++ value ∷ []) inputs) refl
+told_on (Points adapter outputs inputs) (line.Input value) told = refl
+told_on (Points adapter outputs inputs) (line.Config value) told = refl
+told_on (Points adapter outputs inputs) (line.Description value) told = refl
+told_on (Points adapter outputs inputs) (line.Limit value) told = told_map _ _ (λ more. refl)
+told_on (Points adapter outputs inputs) (line.Object value) told = refl
+told_on (Points adapter outputs inputs) (line.Event value) told = told_map _ _ (λ block. refl)
+told_on (Points adapter outputs inputs) (line.Heartbeat value) told = refl
+told_on (Configured adapter outputs inputs point) (line.Description value) told = refl
+told_on (Configured adapter outputs inputs point) (line.Limit value) told = told_map _ _ (λ more. refl)
+told_on (Configured adapter outputs inputs point) (line.Object value) told = refl
+told_on (Configured adapter outputs inputs point) (line.Event value) told = told_map _ _ (λ block. refl)
+told_on (Configured adapter outputs inputs point) (line.Heartbeat value) told = refl
+told_on (Stated front) (line.Limit value) told = told_map _ _ (λ more. refl)
+told_on (Stated front) (line.Object value) told = refl
+told_on (Stated front) (line.Event value) told = told_map _ _ (λ block. refl)
+told_on (Stated front) (line.Heartbeat value) told = refl
+told_on (Objects front objects) (line.Object value) told = refl
+told_on (Objects front objects) (line.Event value) told = told_map _ _ (λ block. refl)
+told_on (Objects front objects) (line.Heartbeat value) told = refl
+told_on (Counted front objects block) (line.Heartbeat value) told = refl
+told_on (Slots scanner newer terms slots) (line.Limit value) told = told_newer scanner newer terms slots value
+told_on (Slots scanner newer terms slots) (line.Term said) told = told_if_map (eqb (length slots) 0) (λ more. Slots scanner newer more slots) (with_line terms said) (λ more. refl)
+told_on (Slots scanner newer terms slots) (line.Slot value) told = refl
+told_on (Slots scanner newer terms slots) (line.Event value) told = told_first scanner newer terms slots value (early_block slots value) refl
+told_on (Events made_of entries None) (line.Event value) told = told_event made_of entries None value told
+told_on (Events made_of entries (Some last)) (line.Event value) told = told_event made_of entries (Some last) value told
+told_on (Events made_of entries (Some last)) (line.Recorded number value) told =
+    told_if_map (eqb number (length entries + 1)) (λ outcome. Events made_of entries (Some (last.0, Some outcome))) (recorded_with last.1 value) (λ outcome. told_recorded made_of entries last outcome told)
+told_on builder value told = tt
+
+told_from : (said : Option TraceBuilder) (next : TraceBuilder) → Told said → said ≡ Some next → is_told next ≡ true
+told_from None next told is = absurd (cc)
+told_from (Some own) next told is = ap is_told (sym (some_is own next is)) ∙ told
+
+-- and so do lines
+pub run_told : (builder : TraceBuilder) (lines : List (Option TraceLine)) (end : TraceBuilder) → is_told builder ≡ true → run builder lines ≡ Some end → is_told end ≡ true
+run_told builder [] end told is = ap is_told (sym (some_is builder end is)) ∙ told
+run_told builder (None ∷ lines) end told is = absurd (cc)
+run_told builder (Some value ∷ lines) end told is =
+    let (next, (first, rest)) = found_in (λ next. run next lines) (builder_with builder value) end is in
+    run_told next lines end (told_from (builder_with builder value) next (told_on builder value told) first) rest

@@ -8,12 +8,12 @@ use Rattle.trace_text.specs.declared.forms.TraceLine.{TraceLine}
 use Rattle.trace_text.specs.declared.forms.TraceLine.TheVariants as line
 use Rattle.trace_words.specs.Words.{words_of, number_of}
 use Rattle.trace_words.specs.Reader.{Reader, next_word, ends, refuses, Meanings, meaning, mapped, ◌>>=◌}
-use Rattle.trace_lines.specs.Profiles.{adapter_reader, output_reader, point_reader, description_reader, object_reader, ids_reader, heartbeat_reader}
+use Rattle.trace_lines.specs.Profiles.{adapter_reader, output_reader, point_reader, description_reader, object_reader, heartbeat_reader}
 use Rattle.trace_lines.specs.declared.forms.TermLine.TheVariants as term
 use Rattle.trace_lines.specs.declared.limit_lines.LimitName.{LimitName}
 use Rattle.trace_lines.specs.Limits.{limit_named, limit_reader}
 use Rattle.trace_lines.specs.Slots.{scanner_reader, openings_reader, serials_reader, slot_reader}
-use Rattle.trace_lines.specs.declared.shapes.TheConstants.{FROM_NODE, EXPLICIT, ANSWER, COUNTERS, STREAM, FRAME, CUT, WRITE, NUMBER, MODE}
+use Rattle.trace_lines.specs.declared.shapes.TheConstants.{FROM_NODE, EXPLICIT, ANSWER, COUNTERS, STREAM, FRAME, CUT, WRITE, NUMBER, IDS, MODE}
 use Rattle.trace_outcomes.specs.Parts.{part_reader}
 use Rattle.trace_lines.specs.Shapes.{shaped}
 
@@ -35,6 +35,10 @@ answer_reader = shaped ANSWER (λ number status bytes. ends (event.Respond numbe
 abbrev pub counters_reader : Reader Event
 counters_reader = shaped COUNTERS (λ bytes. ends (event.Counters bytes))
 
+-- a block of connection ids: the first one, and how many they are
+abbrev pub block_reader : Reader Event
+block_reader = shaped IDS (λ first count. ends (event.Ids (record { first = first; count = count })))
+
 -- the lines of profiles that a word begins; those of limits have their rows
 abbrev pub profile_meanings : Meanings (Reader TraceLine)
 profile_meanings =
@@ -49,7 +53,7 @@ profile_meanings =
     ∷ (codes "tidy", ends (line.Term term.Tidy))
     ∷ (codes "openings", mapped line.Term openings_reader)
     ∷ (codes "serials", mapped line.Term serials_reader)
-    ∷ (codes "ids", mapped line.Ids ids_reader)
+    ∷ (codes "ids", mapped line.Event block_reader)
     ∷ (codes "slot", mapped line.Slot slot_reader)
     ∷ []
 
@@ -111,7 +115,6 @@ line_of line = if is_ascii line then option_map (λ got. got.0) (line_reader (wo
 -- the event of a line, if it is the line of one
 abbrev pub event_only : TraceLine → Option Event
 event_only (line.Event given) = Some given
-event_only (line.Ids block) = Some (event.Ids block)
 event_only other = None
 
 -- the event that a line writes

@@ -97,16 +97,32 @@ abbrev pub with_line : ScannerTerms → TermLine → Option ScannerTerms
 with_line terms term.Tidy = if not terms.tidy && none_stated terms then Some (record terms { tidy = true }) else None
 with_line terms (term.Openings most) = if none_stated terms then Some (record terms { openings = Some most }) else None
 with_line terms (term.Serials first) = if are_uncounted terms then Some (record terms { serials = Some first }) else None
-with_line terms (term.Ids block) = if is_none terms.ids then Some (record terms { ids = Some block }) else None
 
 -- these lines come before all slots
 abbrev pub with_term : ScannerLine → Option ℕ → ScannerTerms → List SlotConfig → TermLine → Option TraceBuilder
 with_term scanner newer terms slots said = if length slots == 0 then option_map (λ more. Slots scanner newer more slots) (with_line terms said) else None
 
--- a block of ids before all slots, or the first event behind them
-abbrev pub with_ids : ScannerLine → Option ℕ → ScannerTerms → List SlotConfig → IdBlock → Option TraceBuilder
-with_ids scanner newer terms slots block =
-    if length slots == 0 then with_term scanner newer terms slots (term.Ids block) else Some (Events (config.Scanner (scanner_with scanner newer terms slots)) [] (Some (event.Ids block, None)))
+-- the block of an event that gives one
+abbrev pub given_block : Event → Option IdBlock
+given_block (event.Ids block) = Some block
+given_block other = None
+
+-- the block of a scanner's profile, which comes before all slots
+abbrev pub early_block : List SlotConfig → Event → Option IdBlock
+early_block slots happens = if length slots == 0 then given_block happens else None
+
+-- the block of an adapter's profile, before the points without data
+abbrev pub with_ids : ProfileFront → List ℕ → Event → Option TraceBuilder
+with_ids front objects happens = option_map (λ block. Counted front objects block) (given_block happens)
+
+-- the block of a scanner's profile, which comes once
+abbrev pub with_block : ScannerLine → Option ℕ → ScannerTerms → List SlotConfig → IdBlock → Option TraceBuilder
+with_block scanner newer terms slots block = if is_none terms.ids then Some (Slots scanner newer (record terms { ids = Some block }) slots) else None
+
+-- that block, or the first event behind the profile
+abbrev pub with_event : ScannerLine → Option ℕ → ScannerTerms → List SlotConfig → Event → Option IdBlock → Option TraceBuilder
+with_event scanner newer terms slots happens (Some block) = with_block scanner newer terms slots block
+with_event scanner newer terms slots happens None = Some (Events (config.Scanner (scanner_with scanner newer terms slots)) [] (Some (happens, None)))
 
 -- a part of the outcome of the event that came last, whose number it has
 abbrev pub with_part : Config → List Entry → Entry → ℕ → Part → Option TraceBuilder
@@ -122,28 +138,26 @@ builder_with (Points adapter outputs inputs) (line.Config point) = Some (Configu
 builder_with (Points adapter outputs inputs) (line.Description described) = Some (Stated (front_of adapter outputs inputs None (Some described)))
 builder_with (Points adapter outputs inputs) (line.Limit limit) = with_stated (front_of adapter outputs inputs None None) limit
 builder_with (Points adapter outputs inputs) (line.Object class) = with_object (front_of adapter outputs inputs None None) [] class
-builder_with (Points adapter outputs inputs) (line.Ids block) = Some (Counted (front_of adapter outputs inputs None None) [] block)
+builder_with (Points adapter outputs inputs) (line.Event happens) = with_ids (front_of adapter outputs inputs None None) [] happens
 builder_with (Points adapter outputs inputs) (line.Heartbeat heartbeat) = with_profile (front_of adapter outputs inputs None None) [] None heartbeat
 builder_with (Configured adapter outputs inputs point) (line.Description described) = Some (Stated (front_of adapter outputs inputs (Some point) (Some described)))
 builder_with (Configured adapter outputs inputs point) (line.Limit limit) = with_stated (front_of adapter outputs inputs (Some point) None) limit
 builder_with (Configured adapter outputs inputs point) (line.Object class) = with_object (front_of adapter outputs inputs (Some point) None) [] class
-builder_with (Configured adapter outputs inputs point) (line.Ids block) = Some (Counted (front_of adapter outputs inputs (Some point) None) [] block)
+builder_with (Configured adapter outputs inputs point) (line.Event happens) = with_ids (front_of adapter outputs inputs (Some point) None) [] happens
 builder_with (Configured adapter outputs inputs point) (line.Heartbeat heartbeat) = with_profile (front_of adapter outputs inputs (Some point) None) [] None heartbeat
 builder_with (Stated front) (line.Limit limit) = with_stated front limit
 builder_with (Stated front) (line.Object class) = with_object front [] class
-builder_with (Stated front) (line.Ids block) = Some (Counted front [] block)
+builder_with (Stated front) (line.Event happens) = with_ids front [] happens
 builder_with (Stated front) (line.Heartbeat heartbeat) = with_profile front [] None heartbeat
 builder_with (Objects front objects) (line.Object class) = with_object front objects class
-builder_with (Objects front objects) (line.Ids block) = Some (Counted front objects block)
+builder_with (Objects front objects) (line.Event happens) = with_ids front objects happens
 builder_with (Objects front objects) (line.Heartbeat heartbeat) = with_profile front objects None heartbeat
 builder_with (Counted front objects block) (line.Heartbeat heartbeat) = with_profile front objects (Some block) heartbeat
 builder_with (Slots scanner newer terms slots) (line.Limit limit) = with_newer scanner newer terms slots limit
 builder_with (Slots scanner newer terms slots) (line.Term said) = with_term scanner newer terms slots said
-builder_with (Slots scanner newer terms slots) (line.Ids block) = with_ids scanner newer terms slots block
 builder_with (Slots scanner newer terms slots) (line.Slot slot) = Some (Slots scanner newer terms (slots ++ slot ∷ []))
-builder_with (Slots scanner newer terms slots) (line.Event event) = Some (Events (config.Scanner (scanner_with scanner newer terms slots)) [] (Some (event, None)))
+builder_with (Slots scanner newer terms slots) (line.Event happens) = with_event scanner newer terms slots happens (early_block slots happens)
 builder_with (Events made_of entries last) (line.Event event) = Some (Events made_of (entries ++ option_to_list last) (Some (event, None)))
-builder_with (Events made_of entries last) (line.Ids block) = Some (Events made_of (entries ++ option_to_list last) (Some (event.Ids block, None)))
 builder_with (Events made_of entries (Some last)) (line.Recorded number parsed) = with_part made_of entries last number parsed
 builder_with builder parsed = None
 

@@ -1,9 +1,12 @@
 -- Which texts write a trace: the lines of its profile, and then for each event its line and the lines of its recorded
 -- outcome. LF ends each line. Empty lines and lines that begin with `#` are skipped, and counted.
-use Rattle.std.specs.Prelude.{ℕ, ◌+◌, ◌≡◌, ◌≢◌, ◌⊎◌, if◌then◌else◌, Bool, true, false, List, [], ◌∷◌, ◌++◌, length, map, flat_map, option_map, option_to_list, Option, Some, None, Result, Ok, Err}
+use Rattle.std.specs.Prelude.{ℕ, ◌+◌, ◌≡◌, ◌≢◌, ◌⊎◌, if◌then◌else◌, Bool, true, false, List, [], ◌∷◌, ◌++◌, length, map, flat_map, is_none, option_map, option_to_list, Option, Some, None, Result, Ok, Err}
 use Rattle.std.specs.List.{All}
+use Rattle.cip_types.specs.declared.ids.IdBlock.{IdBlock}
 use Rattle.adapter_table.specs.declared.profile.Profile.{Profile}
 use Rattle.scanner_table.specs.declared.profile.ScannerProfile.{ScannerProfile}
+use Rattle.scanner_table.specs.declared.profile.SlotConfig.{SlotConfig}
+use Rattle.cip_events.specs.declared.event.Event.TheVariants as event
 use Rattle.cip_events.specs.declared.profile_fault.ProfileFault.{ProfileFault}
 use Rattle.cip_events.specs.Faults.{fault_number}
 use Rattle.cip_events.specs.Outcomes.{Outcome}
@@ -27,7 +30,7 @@ use Rattle.trace_text.specs.declared.trace.Trace.{Trace}
 use Rattle.trace_text.specs.declared.trace.TraceFault.{TraceFault}
 use Rattle.trace_text.specs.declared.trace.TraceFault.TheVariants as fault
 use Rattle.trace_text.specs.Forms.{line_of}
-use Rattle.trace_text.specs.Reading.{Entry, is_line_feed, is_skipped}
+use Rattle.trace_text.specs.Reading.{Entry, early_block, is_line_feed, is_skipped}
 
 -- THE LINES OF A TRACE, IN THEIR ORDER
 
@@ -51,8 +54,15 @@ tidy_lines false = []
 abbrev pub term_lines : ScannerTerms → List TermLine
 term_lines terms = tidy_lines terms.tidy ++ (map term.Openings (option_to_list terms.openings) ++ map term.Serials (option_to_list terms.serials))
 
--- a profile: an adapter's outputs, inputs, configuration, description, limits, own classes and heartbeats, or a scanner's
--- limit on numbers, what it says of openings, and its slots
+-- the line of a block of connection ids, which is that of an event
+abbrev pub ids_line : IdBlock → TraceLine
+ids_line block = line.Event (event.Ids block)
+
+abbrev pub ids_lines : Option IdBlock → List TraceLine
+ids_lines ids = map ids_line (option_to_list ids)
+
+-- a profile: an adapter's outputs, inputs, configuration, description, limits, own classes, connection ids and heartbeats, or a
+-- scanner's limit on numbers, what it says of openings, its connection ids, and its slots
 abbrev pub config_values : Config → List TraceLine
 config_values (config.Adapter profile) =
     line.Adapter (adapter_line_of profile)
@@ -62,10 +72,11 @@ config_values (config.Adapter profile) =
     ++ (map line.Description (option_to_list profile.description)
     ++ (map line.Limit (limit_lines profile.limits)
     ++ (map line.Object profile.objects
-    ++ line.Heartbeat (heartbeat_line_of profile) ∷ []))))))
+    ++ (ids_lines profile.ids
+    ++ line.Heartbeat (heartbeat_line_of profile) ∷ [])))))))
 config_values (config.Scanner profile) =
     line.Scanner (scanner_line_of profile)
-    ∷ (map line.Limit (option_to_list (option_map Newer profile.newer)) ++ (map line.Term (term_lines (terms_of profile)) ++ map line.Slot profile.slots))
+    ∷ (map line.Limit (option_to_list (option_map Newer profile.newer)) ++ (map line.Term (term_lines (terms_of profile)) ++ (ids_lines profile.ids ++ map line.Slot profile.slots)))
 
 -- an outcome: the verdict, the frames, the datagrams and the notices, or the fault
 abbrev pub outcome_parts : Outcome → List Part
@@ -92,6 +103,15 @@ entries_values number (entry ∷ entries) = entry_values number entry ++ entries
 abbrev pub trace_values : Trace → List TraceLine
 trace_values trace = config_values trace.config ++ entries_values 1 trace.events
 
+-- A line `ids` behind a scanner that has no slot yet is of its profile. So it writes no event there.
+abbrev pub may_begin : List SlotConfig → List Entry → Bool
+may_begin slots [] = true
+may_begin slots (first ∷ entries) = is_none (early_block slots first.0)
+
+abbrev pub may_follow : Config → List Entry → Bool
+may_follow (config.Adapter profile) entries = true
+may_follow (config.Scanner profile) entries = may_begin profile.slots entries
+
 -- THE LINES OF A TEXT
 
 -- a line, in which there is no LF
@@ -108,12 +128,14 @@ said_by [] = []
 said_by (text ∷ lines) = if is_skipped text then said_by lines else line_of text ∷ said_by lines
 
 -- these lines write the trace
-abbrev pub WriteTrace : List (List ℕ) → Trace → Type 0
-WriteTrace lines trace = said_by lines ≡ map Some (trace_values trace)
+pub record WriteTrace (lines : List (List ℕ)) (trace : Trace) : Type 0 where
+  pub follow : may_follow trace.config trace.events ≡ true
+  pub are : said_by lines ≡ map Some (trace_values trace)
 
 -- these lines begin the lines of some trace
 pub record BeginTrace (lines : List (List ℕ)) : Type 0 where
   pub trace : Trace
+  pub follow : may_follow trace.config trace.events ≡ true
   pub more : List TraceLine
   pub is : said_by lines ++ map Some more ≡ map Some (trace_values trace)
 

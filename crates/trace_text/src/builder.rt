@@ -3,7 +3,7 @@
 ghost use Rattle.std.specs.Prelude.{◌≡◌, ◌==◌, ◌+◌, [], length, ◌++◌, OnOk, option_to_list, Some};
 ghost use Rattle.trace_words.specs.Reader.{Finds};
 ghost use Rattle.cip_tables.specs.declared.table.Config.{Config};
-ghost use Rattle.trace_text.specs.Reading.{front_of, with_stated, with_object, with_profile, are_uncounted, none_stated, with_newer, with_line, with_term, builder_with, Leaves};
+ghost use Rattle.trace_text.specs.Reading.{front_of, with_stated, with_object, with_profile, are_uncounted, none_stated, given_block, early_block, with_ids, with_event, with_block, with_newer, with_line, with_term, builder_with, Leaves};
 
 use crate::forms::TraceLine;
 use crate::kept::Recorded;
@@ -196,9 +196,9 @@ fn after_points(
             let front = front_of(adapter, outputs, inputs, None, None);
             with_object(front, Items::new(alloc), class)
         }
-        TraceLine::Ids(block) => {
+        TraceLine::Event(event) => {
             let front = front_of(adapter, outputs, inputs, None, None);
-            Ok(TraceBuilder::Counted(front, Items::new(alloc), block))
+            with_ids(front, Items::new(alloc), &event)
         }
         TraceLine::Heartbeat(heartbeat) => {
             let front = front_of(adapter, outputs, inputs, None, None);
@@ -233,9 +233,9 @@ fn after_config(
             let front = front_of(adapter, outputs, inputs, Some(config), None);
             with_object(front, Items::new(alloc), class)
         }
-        TraceLine::Ids(block) => {
+        TraceLine::Event(event) => {
             let front = front_of(adapter, outputs, inputs, Some(config), None);
-            Ok(TraceBuilder::Counted(front, Items::new(alloc), block))
+            with_ids(front, Items::new(alloc), &event)
         }
         TraceLine::Heartbeat(heartbeat) => {
             let front = front_of(adapter, outputs, inputs, Some(config), None);
@@ -326,7 +326,7 @@ fn after_stated(
     match parsed {
         TraceLine::Limit(limit) => with_stated(front, limit),
         TraceLine::Object(class) => with_object(front, Items::new(alloc), class),
-        TraceLine::Ids(block) => Ok(TraceBuilder::Counted(front, Items::new(alloc), block)),
+        TraceLine::Event(event) => with_ids(front, Items::new(alloc), &event),
         TraceLine::Heartbeat(heartbeat) => {
             Ok(with_profile(alloc, front, Items::new(alloc), None, heartbeat))
         }
@@ -344,7 +344,7 @@ fn after_objects(
 {
     match parsed {
         TraceLine::Object(class) => with_object(front, objects, class),
-        TraceLine::Ids(block) => Ok(TraceBuilder::Counted(front, objects, block)),
+        TraceLine::Event(event) => with_ids(front, objects, &event),
         TraceLine::Heartbeat(heartbeat) => Ok(with_profile(alloc, front, objects, None, heartbeat)),
         _ => Err(TextFault::Bad),
     }
@@ -380,25 +380,94 @@ fn after_slots(
     match parsed {
         TraceLine::Limit(limit) => with_newer(scanner, newer, terms, slots, limit),
         TraceLine::Term(said) => with_term(scanner, newer, terms, slots, said),
-        TraceLine::Ids(block) if slots.as_slice().is_empty() => {
-            with_term(scanner, newer, terms, slots, TermLine::Ids(block))
-        }
-        TraceLine::Ids(block) => {
-            let config = Config::Scanner(scanner_with(scanner, newer, terms, slots));
-            Ok(after_profile(alloc, config, Some((Event::Ids { block }, None))))
-        }
         TraceLine::Slot(slot) => Ok(TraceBuilder::Slots {
             scanner,
             newer,
             terms,
             slots: with_item(slots, slot)?,
         }),
-        TraceLine::Event(event) => {
+        TraceLine::Event(event) => with_event(alloc, scanner, newer, terms, slots, event),
+        _ => Err(TextFault::Bad),
+    }
+}
+
+/// The block of an event that gives one.
+fn given_block(event: &Event) -> Option<IdBlock>
+    ensures { result ≡ given_block event.now }
+{
+    match event {
+        Event::Ids { block } => Some(*block),
+        _ => None,
+    }
+}
+
+/// The block of a scanner's profile, which comes before all slots.
+fn early_block(slots: &[SlotConfig], event: &Event) -> Option<IdBlock>
+    ensures { result ≡ early_block slots.now event.now }
+{
+    if slots.is_empty() {
+        given_block(event)
+    } else {
+        None
+    }
+}
+
+/// The block of an adapter's profile, before the points without data.
+fn with_ids(
+    front: ProfileFront,
+    objects: Items<u32>,
+    event: &Event,
+) -> Result<TraceBuilder, TextFault>
+    ensures { Finds (with_ids front objects event.now) result }
+{
+    match given_block(event) {
+        Some(block) => Ok(TraceBuilder::Counted(front, objects, block)),
+        None => Err(TextFault::Bad),
+    }
+}
+
+/// The block of a scanner's profile, which comes once, or the first event behind the profile.
+fn with_event(
+    alloc: Global,
+    scanner: ScannerLine,
+    newer: Option<u32>,
+    terms: ScannerTerms,
+    slots: Items<SlotConfig>,
+    event: Event,
+) -> Result<TraceBuilder, TextFault>
+    ensures { Finds (with_event scanner newer terms slots event (early_block slots event)) result }
+{
+    match early_block(slots.as_slice(), &event) {
+        Some(block) => with_block(scanner, newer, terms, slots, block),
+        None => {
             let config = Config::Scanner(scanner_with(scanner, newer, terms, slots));
             Ok(after_profile(alloc, config, Some((event, None))))
         }
-        _ => Err(TextFault::Bad),
     }
+}
+
+/// The block of a scanner's profile, which comes once.
+fn with_block(
+    scanner: ScannerLine,
+    newer: Option<u32>,
+    terms: ScannerTerms,
+    slots: Items<SlotConfig>,
+    block: IdBlock,
+) -> Result<TraceBuilder, TextFault>
+    ensures { Finds (with_block scanner newer terms slots block) result }
+{
+    if terms.ids.is_some() {
+        return Err(TextFault::Bad);
+    }
+    Ok(TraceBuilder::Slots {
+        scanner,
+        newer,
+        terms: ScannerTerms {
+            ids: Some(block),
+            ..terms
+        },
+        slots,
+    })
 }
 
 /// Whether neither the most openings, nor the first serial number, nor the ids are stated.
@@ -457,11 +526,7 @@ fn with_line(terms: ScannerTerms, said: TermLine) -> Option<ScannerTerms>
             serials: Some(first),
             ..terms
         }),
-        TermLine::Ids(block) if terms.ids.is_none() => Some(ScannerTerms {
-            ids: Some(block),
-            ..terms
-        }),
-        TermLine::Tidy | TermLine::Openings(_) | TermLine::Serials(_) | TermLine::Ids(_) => None,
+        TermLine::Tidy | TermLine::Openings(_) | TermLine::Serials(_) => None,
     }
 }
 
@@ -535,29 +600,16 @@ fn add_to_events(
         (TraceBuilder.Events made_of entries.new last.new) }
 {
     match parsed {
-        TraceLine::Event(event) => add_event(alloc, entries, last, event),
-        TraceLine::Ids(block) => add_event(alloc, entries, last, Event::Ids { block }),
+        TraceLine::Event(event) => {
+            let before = mem::replace(last, Some((event, None)));
+            add_last(alloc, entries, before)?;
+            Ok(())
+        }
         TraceLine::Recorded(number, part) => {
             add_part(alloc, entries.as_slice(), last, number, part)
         }
         _ => Err(TextFault::Bad),
     }
-}
-
-/// Adds an event behind those before it.
-fn add_event(
-    alloc: Global,
-    entries: &mut Items<(Event, Recorded)>,
-    last: &mut Option<(Event, Option<Outcome>)>,
-    event: Event,
-) -> Result<(), TextFault>
-    ensures { (made_of : Config)
-        → Leaves (builder_with (TraceBuilder.Events made_of entries.old last.old) (TraceLine.Event event)) result
-        (TraceBuilder.Events made_of entries.new last.new) }
-{
-    let before = mem::replace(last, Some((event, None)));
-    add_last(alloc, entries, before)?;
-    Ok(())
 }
 
 /// Adds a part to the outcome of the event that came last, whose number it has.

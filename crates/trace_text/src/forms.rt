@@ -2,7 +2,6 @@
 
 use adapter_table::Description;
 use cip_tables::{Event, InputPoint, OutputPoint};
-use cip_types::IdBlock;
 use scanner_table::SlotConfig;
 use trace_lines::{AdapterLine, HeartbeatLine, LimitLine, ScannerLine, TermLine};
 use trace_outcomes::Part;
@@ -22,9 +21,8 @@ pub enum TraceLine {
     Scanner(ScannerLine),
     /// What a scanner's profile says of its openings.
     Term(TermLine),
-    /// A block of connection ids: of a profile, or an event behind one.
-    Ids(IdBlock),
     Slot(SlotConfig),
+    /// An event. A block of connection ids may also be that of a profile, before the profile ends.
     Event(Event),
     /// A part of the outcome of the event of this number, from 1.
     Recorded(u64, Part),

@@ -3,14 +3,15 @@
 ghost use Rattle.std.specs.Prelude.{◌≡◌, ◌++◌, option_map, if◌then◌else◌, Some, None};
 ghost use Rattle.trace_words.specs.Reader.{unread_words, Takes, Finds, meaning};
 ghost use Rattle.trace_words.specs.Words.{number_of};
-ghost use Rattle.trace_text.specs.Forms.{event_of, answer_reader, counters_reader, explicit_reader, inquiry_reader, is_ascii, limit_or_part, line_of, line_reader, numbered, profile_meanings, stream_meanings};
+ghost use Rattle.trace_text.specs.Forms.{event_of, answer_reader, block_reader, counters_reader, explicit_reader, inquiry_reader, is_ascii, limit_or_part, line_of, line_reader, numbered, profile_meanings, stream_meanings};
 
 use crate::forms::TraceLine;
 use cip_tables::Event;
+use cip_types::IdBlock;
 use std::alloc::Global;
 use std::str;
 use trace_lines::{
-    TermLine, limit_named, read_adapter, read_description, read_heartbeat, read_ids, read_limit,
+    TermLine, limit_named, read_adapter, read_description, read_heartbeat, read_limit,
     read_mode, read_object, read_openings, read_output, read_point, read_scanner, read_serials,
     read_slot,
 };
@@ -47,7 +48,6 @@ pub fn read_event_line(alloc: Global, line: &[u8]) -> Result<Event, TextFault>
 {
     match read_line(alloc, line)? {
         TraceLine::Event(event) => Ok(event),
-        TraceLine::Ids(block) => Ok(Event::Ids { block }),
         _ => Err(TextFault::Bad),
     }
 }
@@ -177,6 +177,17 @@ fn read_explicit(alloc: Global, words: &mut Words<'_>) -> Result<Event, TextFaul
     words.last(explicit)
 }
 
+/// What follows `ids`: `FROM COUNT`.
+fn read_block(words: &mut Words<'_>) -> Result<Event, TextFault>
+    ensures { Takes (block_reader (unread_words words.old)) result (unread_words words.new) }
+{
+    let first = words.u32()?;
+    let count = words.u32()?;
+    words.last(Event::Ids {
+        block: IdBlock { first, count },
+    })
+}
+
 /// What follows `answer`: `NUMBER STATUS HEX`.
 fn read_answer(alloc: Global, words: &mut Words<'_>) -> Result<Event, TextFault>
     ensures { Takes (answer_reader (unread_words words.old)) result (unread_words words.new) }
@@ -210,7 +221,7 @@ fn read_profile_line(
         "tidy" => words.last(TraceLine::Term(TermLine::Tidy)),
         "openings" => read_openings(words).map(TraceLine::Term),
         "serials" => read_serials(words).map(TraceLine::Term),
-        "ids" => read_ids(words).map(TraceLine::Ids),
+        "ids" => read_block(words).map(TraceLine::Event),
         "slot" => read_slot(alloc, words).map(TraceLine::Slot),
         _ => read_limit_or_part(alloc, words, word),
     }
