@@ -2,7 +2,7 @@
 use Rattle.std.proofs.Common.{◌≡◌, refl, List, ◌∷◌, [], Option, Some, None, true, false, Bool, ℕ, ◌∙◌, subst}
 use Rattle.std.specs.Prelude.{is_some, if◌then◌else◌, option_map}
 use Rattle.trace_lines.specs.declared.shapes.WordKind.{WordKind}
-use Rattle.trace_lines.specs.declared.shapes.TheConstants.{ADAPTER, OUTPUT, POINT, DESCRIBE, HEARTBEAT, SCANNER, SLOT, RATE, FROM_NODE, EXPLICIT, ANSWER, COUNTERS, STREAM, FRAME, CUT, WRITE, NUMBER, OPENINGS, SERIALS, MODE}
+use Rattle.trace_lines.specs.declared.shapes.TheConstants.{ADAPTER, OUTPUT, POINT, DESCRIBE, HEARTBEAT, SCANNER, SLOT, RATE, FROM_NODE, EXPLICIT, ANSWER, COUNTERS, STREAM, FRAME, CUT, WRITE, NUMBER, OPENINGS, SERIALS, IDS, MODE}
 use Rattle.cip_events.specs.declared.event.Event.{Event}
 use Rattle.adapter_table.specs.declared.profile.Description.{Description}
 use Rattle.adapter_table.specs.declared.profile.OutputPoint.{OutputPoint}
@@ -107,7 +107,7 @@ slot_shape : IsOfShape SlotConfig slot_reader (Some (SLOT, RATE))
 slot_shape = of_shape SlotConfig RATE SLOT _ (λ _ _ _ _ _ _ _ _ _ _ _ _ _. λ words. some_mapped Rate SlotConfig _ (rate_reader words) ∙ rate_goes_on words)
 
 lines_are_tied : AreTied TraceLine line_meanings line_shapes
-lines_are_tied = ((refl, mapped_shape _ _ line.Adapter adapter_reader (ADAPTER, []) adapter_shape), ((refl, mapped_shape _ _ line.Output output_reader (OUTPUT, []) output_shape), ((refl, mapped_shape _ _ line.Input point_reader (POINT, []) point_shape), ((refl, mapped_shape _ _ line.Config point_reader (POINT, []) point_shape), ((refl, mapped_shape _ _ line.Description description_reader (DESCRIBE, []) description_shape), ((refl, mapped_shape _ _ line.Object object_reader (NUMBER, []) object_shape), ((refl, mapped_shape _ _ line.Heartbeat heartbeat_reader (HEARTBEAT, []) heartbeat_shape), ((refl, mapped_shape _ _ line.Scanner scanner_reader (SCANNER, []) scanner_shape), ((refl, tidy_shape), ((refl, mapped_shape _ _ line.Term openings_reader (OPENINGS, []) openings_shape), ((refl, mapped_shape _ _ line.Term serials_reader (SERIALS, []) serials_shape), ((refl, mapped_shape _ _ line.Slot slot_reader (SLOT, RATE) slot_shape), ((refl, event_shape FROM_NODE _ (λ _ _. ends_at Event _)), ((refl, event_shape FROM_NODE _ (λ _ _. ends_at Event _)), ((refl, event_shape EXPLICIT _ (λ _ _ _. ends_at Event _)), ((refl, event_shape ANSWER _ (λ _ _ _. ends_at Event _)), ((refl, event_shape COUNTERS _ (λ _. ends_at Event _)), ((refl, event_shape STREAM _ (λ _ _. ends_at Event _)), ((refl, event_shape FRAME _ (λ _ _. ends_at Event _)), ((refl, event_shape CUT _ (λ _. ends_at Event _)), ((refl, event_shape FROM_NODE _ (λ _ _. ends_at Event _)), ((refl, event_shape WRITE _ (λ _ _. ends_at Event _)), ((refl, event_shape NUMBER _ (λ _. ends_at Event _)), ((refl, event_shape NUMBER _ (λ _. ends_at Event _)), ((refl, event_shape MODE _ (λ _. ends_at Event _)), ((refl, event_shape NUMBER _ (λ _. ends_at Event _)), ((refl, event_shape NUMBER _ (λ _. ends_at Event _)), tt)))))))))))))))))))))))))))
+lines_are_tied = ((refl, mapped_shape _ _ line.Adapter adapter_reader (ADAPTER, []) adapter_shape), ((refl, mapped_shape _ _ line.Output output_reader (OUTPUT, []) output_shape), ((refl, mapped_shape _ _ line.Input point_reader (POINT, []) point_shape), ((refl, mapped_shape _ _ line.Config point_reader (POINT, []) point_shape), ((refl, mapped_shape _ _ line.Description description_reader (DESCRIBE, []) description_shape), ((refl, mapped_shape _ _ line.Object object_reader (NUMBER, []) object_shape), ((refl, mapped_shape _ _ line.Heartbeat heartbeat_reader (HEARTBEAT, []) heartbeat_shape), ((refl, mapped_shape _ _ line.Scanner scanner_reader (SCANNER, []) scanner_shape), ((refl, tidy_shape), ((refl, mapped_shape _ _ line.Term openings_reader (OPENINGS, []) openings_shape), ((refl, mapped_shape _ _ line.Term serials_reader (SERIALS, []) serials_shape), ((refl, event_shape IDS _ (λ _ _. ends_at Event _)), ((refl, mapped_shape _ _ line.Slot slot_reader (SLOT, RATE) slot_shape), ((refl, event_shape FROM_NODE _ (λ _ _. ends_at Event _)), ((refl, event_shape FROM_NODE _ (λ _ _. ends_at Event _)), ((refl, event_shape EXPLICIT _ (λ _ _ _. ends_at Event _)), ((refl, event_shape ANSWER _ (λ _ _ _. ends_at Event _)), ((refl, event_shape COUNTERS _ (λ _. ends_at Event _)), ((refl, event_shape STREAM _ (λ _ _. ends_at Event _)), ((refl, event_shape FRAME _ (λ _ _. ends_at Event _)), ((refl, event_shape CUT _ (λ _. ends_at Event _)), ((refl, event_shape FROM_NODE _ (λ _ _. ends_at Event _)), ((refl, event_shape WRITE _ (λ _ _. ends_at Event _)), ((refl, event_shape NUMBER _ (λ _. ends_at Event _)), ((refl, event_shape NUMBER _ (λ _. ends_at Event _)), ((refl, event_shape MODE _ (λ _. ends_at Event _)), ((refl, event_shape NUMBER _ (λ _. ends_at Event _)), ((refl, event_shape NUMBER _ (λ _. ends_at Event _)), tt))))))))))))))))))))))))))))
 
 -- the words behind a first word are read as those of a line exactly if they have its shape
 pub line_tied : (word : List ℕ) (words : List (List ℕ)) (shape : Shape) → shape_of word ≡ Some shape → is_some (line_reader (word ∷ words)) ≡ is_shaped shape words

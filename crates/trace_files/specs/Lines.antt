@@ -1,11 +1,11 @@
 -- What a line of a trace does: before the first event it is gathered, and behind it it belongs to an entry.
-use Rattle.std.specs.Prelude.{ℕ, ◌≡◌, if◌then◌else◌, List, [], ◌∷◌, ◌++◌, Option, Some, None, Result, Ok, Err}
+use Rattle.std.specs.Prelude.{ℕ, ◌≡◌, ◌||◌, is_none, if◌then◌else◌, Bool, List, [], ◌∷◌, ◌++◌, Option, Some, None, Result, Ok, Err}
 use Rattle.cip_events.specs.declared.event.Event.{Event}
 use Rattle.cip_tables.specs.declared.table.Config.{Config}
 use Rattle.trace_text.specs.declared.trace.TraceFault.{TraceFault}
 use Rattle.trace_text.specs.declared.trace.TraceFault.TheVariants as fault
 use Rattle.trace_text.specs.Forms.{event_of}
-use Rattle.trace_text.specs.Reading.{is_skipped, trace_reading}
+use Rattle.trace_text.specs.Reading.{given_block, is_skipped, trace_reading}
 use Rattle.trace_files.specs.declared.entry_reader.EntryReader.{EntryReader}
 use Rattle.trace_files.specs.declared.entry_reader.TraceEntry.{TraceEntry}
 use Rattle.trace_files.specs.declared.profile_lines.ProfileLines.{ProfileLines}
@@ -14,18 +14,29 @@ use Rattle.trace_files.specs.declared.trace_reader.TracePart.TheVariants as part
 use Rattle.trace_files.specs.declared.trace_reader.TracePiece.{TracePiece}
 use Rattle.trace_files.specs.declared.trace_reader.TracePiece.TheVariants as piece
 use Rattle.trace_files.specs.Entries.{Taken, entry_of, taken_line}
-use Rattle.trace_files.specs.Profile.{AnswersConfig, IsBadSoFar, config_of, kept_line, one_more}
+use Rattle.trace_files.specs.Profile.{AnswersConfig, IsBadSoFar, config_of, kept_line, may_end, one_more}
 
 -- BEFORE THE FIRST EVENT
 
+-- a block of connection ids is an event once the profile may have ended, and before that its own
+abbrev pub event_behind : Bool → Option Event → Option Event
+event_behind whole None = None
+event_behind whole (Some event) = if whole || is_none (given_block event) then Some event else None
+
 -- the first event, if the line is one
-abbrev pub first_event : List ℕ → Option Event
-first_event line = if is_skipped line then None else event_of line
+abbrev pub first_event : (whole : Bool) → List ℕ → Option Event
+first_event whole line = if is_skipped line then None else event_behind whole (event_of line)
+
+-- the lines with one more
+pub record IsGathered (old : ProfileLines) (line : List ℕ) (new : ProfileLines) : Type 0 where
+  pub text : new.text.items ≡ old.text.items ++ kept_line line
+  pub lines : new.lines ≡ one_more old.lines
+  pub whole : new.whole ≡ (old.whole || may_end line)
 
 -- The line is the first event, and the lines before it stay; or it is gathered behind them; or one of the lines is bad.
 abbrev pub Gathers : ProfileLines → List ℕ → Result (Option Event) TraceFault → ProfileLines → Type 0
-Gathers old line (Ok (Some event)) new = (first_event line ≡ Some event) × (new ≡ old)
-Gathers old line (Ok None) new = (first_event line ≡ None) × ((new.text.items ≡ old.text.items ++ kept_line line) × (new.lines ≡ one_more old.lines))
+Gathers old line (Ok (Some event)) new = (first_event old.whole line ≡ Some event) × (new ≡ old)
+Gathers old line (Ok None) new = (first_event old.whole line ≡ None) × IsGathered old line new
 Gathers old line (Err why) new = IsBadSoFar (old.text.items ++ kept_line line) (one_more old.lines) why
 
 -- A configuration is handed out. A fault of the profile is kept for the end of the trace.
@@ -77,7 +88,7 @@ pub record HandsOutLines (lines : List ℕ) (result : Result (Option TracePiece)
 -- the line is the first event, and is the one that came last
 pub record IsFirst (old : ProfileLines) (line : List ℕ) (result : Result (Option TracePiece) TraceFault) (new : EntryReader) (wrong : Option ℕ) : Type 0 where
   pub event : Event
-  pub is : first_event line ≡ Some event
+  pub is : first_event old.whole line ≡ Some event
   pub last : new ≡ record { number = 1; event = event; recorded = None; sum = None }
   pub config : HandsOutLines old.text.items result wrong
 

@@ -1,8 +1,8 @@
 //! The lines of a trace before its first event.
 
-ghost use Rattle.std.specs.Prelude.{◌≡◌, ◌++◌, [], OnOk, IfErr};
+ghost use Rattle.std.specs.Prelude.{◌≡◌, ◌++◌, ◌||◌, [], OnOk, IfErr};
 ghost use Rattle.trace_text.specs.Reading.{trace_reading};
-ghost use Rattle.trace_files.specs.Profile.{config_of, kept_line, one_more, AnswersConfig, IsBadSoFar};
+ghost use Rattle.trace_files.specs.Profile.{config_of, kept_line, may_end, one_more, AnswersConfig, IsBadSoFar};
 
 use cip_tables::Config;
 use cip_types::OutOfMemory;
@@ -20,6 +20,7 @@ pub struct ProfileLines {
     text: Vec<u8>,
     lines: u64,
     next_check: usize,
+    whole: bool,
 }
 
 impl ProfileLines {
@@ -32,6 +33,7 @@ impl ProfileLines {
             text: Vec::new(alloc),
             lines: 0,
             next_check: FIRST_CHECK,
+            whole: false,
         }
     }
 
@@ -41,16 +43,25 @@ impl ProfileLines {
     pub fn add(&mut self, alloc: Global, line: &[u8]) -> Result<(), TraceFault>
         ensures text { OnOk result (self.new.text.items ≡ self.old.text.items ++ kept_line line.now) }
         ensures lines { OnOk result (self.new.lines ≡ one_more self.old.lines) }
+        ensures whole { OnOk result (self.new.whole ≡ (self.old.whole || may_end line.now)) }
         ensures fault { IfErr result
             (IsBadSoFar (self.old.text.items ++ kept_line line.now) (one_more self.old.lines)) }
     {
         add_line(&mut self.text, line)?;
         self.lines = self.lines.saturating_add(1);
+        self.whole = self.whole || may_end(line);
         if self.text.len() >= self.next_check {
             self.next_check = self.text.len().saturating_mul(2);
             check_lines(alloc, self.text.as_slice(), self.lines)?;
         }
         Ok(())
+    }
+
+    /// Whether the profile may have ended: its points without data, or a slot, have come. Takes no memory.
+    pub fn is_whole(&self) -> bool
+        ensures { result ≡ self.now.whole }
+    {
+        self.whole
     }
 
     /// The configuration of the lines, with bytes behind them that no LF ends. The lines are gone.
@@ -90,6 +101,13 @@ fn check_lines(alloc: Global, text: &[u8], lines: u64) -> Result<(), TraceFault>
         Err(TraceFault::OutOfMemory) => Err(TraceFault::OutOfMemory),
         _ => Ok(()),
     }
+}
+
+/// Whether the line ends an adapter's profile, or is that of a slot, behind which a scanner's profile may end.
+fn may_end(line: &[u8]) -> bool
+    ensures { result ≡ may_end line.now }
+{
+    line.starts_with(b"heartbeat ") || line.starts_with(b"slot ")
 }
 
 /// Appends a line and its LF; of a line that is skipped, the LF alone.

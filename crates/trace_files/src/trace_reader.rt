@@ -1,8 +1,9 @@
 //! A trace, line by line.
 
-ghost use Rattle.std.specs.Prelude.{◌≡◌, ◌++◌, Option};
+ghost use Rattle.std.specs.Prelude.{◌≡◌, ◌++◌, IfOk, Option, Some};
 ghost use Rattle.trace_text.specs.declared.trace.TraceFault.{TraceFault};
-ghost use Rattle.trace_files.specs.Lines.{end_fault, piece_of, Ends, EndsBefore, EndsBehind, FindsFault, Gathers, GoesOn, HandsOut, Reads};
+ghost use Rattle.trace_files.specs.Lines.{end_fault, event_behind, piece_of, Ends, EndsBefore, EndsBehind, FindsFault, Gathers, GoesOn, HandsOut, Reads};
+ghost use Rattle.trace_text.specs.Forms.{event_of};
 ghost use Rattle.trace_text.specs.Reading.{trace_reading};
 ghost use Rattle.trace_files.specs.Profile.{config_of, one_more};
 
@@ -11,7 +12,7 @@ use crate::profile_lines::ProfileLines;
 use cip_tables::{Config, Event};
 use cip_types::OutOfMemory;
 use std::alloc::Global;
-use trace_text::{TraceFault, is_skipped, read_event_line};
+use trace_text::{TraceFault, given_block, is_skipped, read_event_line};
 use trace_words::TextFault;
 
 /// What the lines of a trace give, in this order: once the configuration, and then each entry.
@@ -146,13 +147,35 @@ fn gather(
         profile.add(alloc, line)?;
         return Ok(None);
     }
-    match read_event_line(alloc, line) {
-        Ok(event) => Ok(Some(event)),
-        Err(TextFault::Bad) => {
+    match read_first(alloc, profile.is_whole(), line) {
+        Ok(Some(event)) => Ok(Some(event)),
+        Ok(None) => {
             profile.add(alloc, line)?;
             Ok(None)
         }
-        Err(TextFault::OutOfMemory) => Err(TraceFault::OutOfMemory),
+        Err(OutOfMemory) => Err(TraceFault::OutOfMemory),
+    }
+}
+
+/// The event of a line, unless it is a block of connection ids of a profile that has not ended. `OutOfMemory` is the only error.
+fn read_first(alloc: Global, whole: bool, line: &[u8]) -> Result<Option<Event>, OutOfMemory>
+    ensures { IfOk result (λ event. event ≡ event_behind whole (event_of line.now)) }
+{
+    match read_event_line(alloc, line) {
+        Ok(event) => Ok(behind(whole, event)),
+        Err(TextFault::Bad) => Ok(None),
+        Err(TextFault::OutOfMemory) => Err(OutOfMemory),
+    }
+}
+
+/// The event, unless it is a block of connection ids of a profile that has not ended.
+fn behind(whole: bool, event: Event) -> Option<Event>
+    ensures { result ≡ event_behind whole (Some event) }
+{
+    if whole || given_block(&event).is_none() {
+        Some(event)
+    } else {
+        None
     }
 }
 

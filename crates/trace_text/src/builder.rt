@@ -391,8 +391,8 @@ fn after_slots(
     }
 }
 
-/// The block of an event that gives one.
-fn given_block(event: &Event) -> Option<IdBlock>
+/// Returns the block of connection ids of an event that gives one. Takes no memory.
+pub fn given_block(event: &Event) -> Option<IdBlock>
     ensures { result ≡ given_block event.now }
 {
     match event {

@@ -10,7 +10,7 @@ mod recorded;
 mod trace;
 mod written;
 
-pub use builder::TraceBuilder;
+pub use builder::{TraceBuilder, given_block};
 pub use clock::time_after;
 pub use kept::Recorded;
 pub use lines::{ascii_text, read_event_line};

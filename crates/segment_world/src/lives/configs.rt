@@ -1,6 +1,7 @@
 //! The configurations of lives.
 
-ghost use Rattle.std.specs.Prelude.{◌≡◌, IfOk};
+ghost use Rattle.std.specs.Prelude.{◌≡◌, ◌&&◌, IfOk, is_none};
+ghost use Rattle.cip_tables.specs.Ids.{stated_ids};
 ghost use Rattle.segment_world.specs.Lives.Plants.{first_lives};
 ghost use Rattle.segment_world.specs.Lives.Restarts.{is_used, with_incarnation};
 
@@ -9,8 +10,16 @@ use cip_tables::Config;
 use cip_types::OutOfMemory;
 use std::alloc::Global;
 
+/// Returns whether a life has the incarnation of the next life of this configuration, which states no connection ids. Takes no
+/// memory.
+pub fn is_taken(incarnation: u8, config: &Config, configs: &[Config]) -> bool
+    ensures { result ≡ (is_none (stated_ids config.now) && is_used incarnation configs.now) }
+{
+    config.stated_ids().is_none() && is_used(incarnation, configs)
+}
+
 /// Returns whether a life has an incarnation. Takes no memory.
-pub fn is_used(incarnation: u8, configs: &[Config]) -> bool
+fn is_used(incarnation: u8, configs: &[Config]) -> bool
     ensures { result ≡ is_used incarnation configs.now }
 {
     has_key(DeviceKey::Incarnation, configs, u32::from(incarnation))

@@ -10,7 +10,7 @@ ghost use Rattle.segment_world.specs.declared.act.Act.TheVariants as Act;
 ghost use Rattle.segment_world.specs.Lives.Plants.{opening_plant, life_of, is_living, happens_at_lives, happens_if, at_life, between_lives, frame_at};
 ghost use Rattle.segment_world.specs.Lives.Restarts.{RestartFollows, ids_of_next, restarts, restarted};
 
-use crate::lives::configs::{copies, first_lives, is_used, number_of, with_incarnation};
+use crate::lives::configs::{copies, first_lives, is_taken, number_of, with_incarnation};
 use crate::lives::fault::RestartFault;
 use crate::lives::severing::sever;
 use crate::{
@@ -92,7 +92,7 @@ impl<D: Device + Drop> Plant<D> {
         let Some(config) = self.configs.get(life as usize) else {
             return Err(RestartFault::NoSuchDevice);
         };
-        if config.stated_ids().is_none() && is_used(incarnation, &self.configs) {
+        if is_taken(incarnation, config, &self.configs) {
             return Err(RestartFault::UsedIncarnation);
         }
         if incarnation == 0 {
