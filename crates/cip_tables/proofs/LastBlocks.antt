@@ -1,5 +1,5 @@
 -- The last block of connection ids that a device has.
-use Rattle.std.proofs.Common.{◌≡◌, ℕ, zero, suc, ◌+◌, ◌-◌, true, not, List, [], ◌∷◌, length, slice_get, Some, refl, sym, subst, arith}
+use Rattle.std.proofs.Common.{◌≡◌, ℕ, zero, suc, ◌+◌, ◌-◌, true, not, List, [], ◌∷◌, length, slice_get, Some, refl, sym, ap, ◌∙◌, subst, arith}
 use Rattle.std.specs.List.{list_any}
 use Rattle.std.proofs.lemmas.Bool.{and_parts}
 use Rattle.std.proofs.lemmas.Bool.Decides.{nat_tests}
@@ -46,10 +46,17 @@ last_block_fits (one ∷ (two ∷ rest)) are = last_block_fits (two ∷ rest) (a
 behind_fits : (block : IdBlock) (left : ℕ) → is_block block ≡ true → is_block (ids_behind block left) ≡ true
 behind_fits block left is = grind (arith, nat_tests)
 
-blocks_are : (t : DeviceTable) → IsWholeDevice t → are_blocks (ids_of t) ≡ true
+pub blocks_are : (t : DeviceTable) → IsWholeDevice t → are_blocks (ids_of t) ≡ true
 blocks_are (Adapter t) whole = whole.sound.blocks
 blocks_are (Scanner t) whole = whole.table.blocks
 
 -- what the next life begins with is a block
 pub next_fits : (t : DeviceTable) → IsWholeDevice t → is_block (next_ids t) ≡ true
 next_fits t whole = behind_fits (last_block (ids_of t)) (ids_left (ids_of t) (next_id_of t)) (last_block_fits (ids_of t) (blocks_are t whole))
+
+-- and what the code makes of the last block and of what is left is that
+pub next_is : (t : DeviceTable) (blocks again : List IdBlock) (next left : ℕ) (block made : IdBlock) → blocks ≡ ids_of t → again ≡ ids_of t → next ≡ next_id_of t → left ≡ ids_left blocks next → slice_get again (length again - 1) ≡ Some block → made ≡ ids_behind block left → made ≡ next_ids t
+next_is t blocks again next left block made ids_are again_are number_is left_is at made_is =
+    made_is
+    ∙ ap (λ (b : IdBlock). ids_behind b left) (last_is again block at ∙ ap last_block again_are)
+    ∙ ap (λ (n : ℕ). ids_behind (last_block (ids_of t)) n) (left_is ∙ ap (λ (l : List IdBlock). ids_left l next) ids_are ∙ ap (λ (n : ℕ). ids_left (ids_of t) n) number_is)

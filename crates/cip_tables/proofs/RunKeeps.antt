@@ -36,7 +36,7 @@ use Rattle.cip_tables.specs.Messages.{OverEveryWholeRun, AnswersAreOnce}
 use Rattle.cip_tables.specs.Run.{Runs}
 use Rattle.cip_tables.specs.Sound.{IsSoundDevice, OverEveryRun, StepsCountOn, StepsGrow, RunsCountOn}
 use Rattle.cip_tables.specs.StatedLimits.{FreshDevicesOpenWithin, RunsStayWithin, FreshDevicesStayWithin, TypesHavePlaces}
-use Rattle.cip_tables.specs.Whole.{IsWholeDevice, next_id_of, RunsKeepWhole, FreshDevicesAreWhole, TablesAreWhole}
+use Rattle.cip_tables.specs.Whole.{IsWholeDevice, ids_of, next_id_of, RunsKeepWhole, FreshDevicesAreWhole, TablesAreWhole}
 
 -- one thing holds of an adapter, another of a scanner
 abbrev pub InDevice : (AdapterTable → Type 0) → (ScannerTable → Type 0) → DeviceTable → Type 0

@@ -21,7 +21,7 @@ use Rattle.trace_text.specs.Forms.{line_of}
 use Rattle.trace_text.specs.Reading.{is_line_feed, is_skipped, parts_of, builder_with, builder_after, parsed_from, parsed, judged, judged_by, ended, trace_reading}
 use Rattle.trace_text.specs.Texts.{trace_values, may_follow, IsOneLine, ended_lines, said_by, WriteTrace, BeginTrace, IsTraceText, IsBadNext, IsBadEnd, IsBadLine, IsTraceReading}
 use Rattle.trace_text.proofs.TextLines.{good_line, bad_line, open_line, text_ends}
-use Rattle.trace_text.proofs.TraceValues.{some_is, found_in, so_far, run, run_both, run_adds, completed, trace_run, is_told, run_told, told_follows}
+use Rattle.trace_text.proofs.TraceValues.{some_is, found_in, so_far, run, run_both, run_adds, Completed, completed, trace_run, is_told, run_told, told_follows}
 
 abbrev Lines : Type 0
 Lines = List (List ℕ)
@@ -97,25 +97,15 @@ text_parsed text end lines rest is are runs = read_as text ∙ ap (λ t. parsed_
 
 -- BEGINNINGS
 
-completed_follows : (end : TraceBuilder) → is_told end ≡ true → may_follow (completed end).0.config (completed end).0.events ≡ true
-completed_follows Empty told = refl
-completed_follows (Points adapter outputs inputs) told = refl
-completed_follows (Configured adapter outputs inputs point) told = refl
-completed_follows (Stated front) told = refl
-completed_follows (Objects front objects) told = refl
-completed_follows (Counted front objects block) told = refl
-completed_follows (Slots scanner newer terms slots) told = refl
-completed_follows (Events made_of entries last) told = told_follows made_of entries last told
-
 -- lines that are read begin a trace
 begins : (lines : Lines) (end : TraceBuilder) → run Empty (said_by lines) ≡ Some end → BeginTrace lines
 begins lines end runs =
-    let (trace, (more, is)) = completed end in
+    let whole : Completed end = completed end (run_told Empty (said_by lines) end refl runs) in
     record {
-      trace = trace;
-      follow = completed_follows end (run_told Empty (said_by lines) end refl runs);
-      more = more;
-      is = ap (λ t. t ++ map Some more) (run_adds Empty (said_by lines) end runs) ∙ maps (so_far end) more ∙ ap (map Some) is;
+      trace = whole.trace;
+      follow = whole.follow;
+      more = whole.more;
+      is = ap (λ t. t ++ map Some whole.more) (run_adds Empty (said_by lines) end runs) ∙ maps (so_far end) whole.more ∙ ap (map Some) whole.is;
     }
   where
     maps : (xs ys : List TraceLine) → map Some xs ++ map Some ys ≡ map Some (xs ++ ys)

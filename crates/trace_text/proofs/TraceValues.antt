@@ -15,7 +15,7 @@ use Rattle.scanner_table.specs.declared.profile.ScannerProfile.{ScannerProfile}
 use Rattle.scanner_table.specs.declared.profile.SlotConfig.{SlotConfig}
 use Rattle.cip_events.specs.declared.event.Answer.{Answer}
 use Rattle.cip_events.specs.declared.event.Event.{Event}
-use Rattle.cip_events.specs.declared.event.Event.TheVariants as event
+use Rattle.cip_events.specs.declared.event.Event.TheVariants as happening
 use Rattle.cip_events.specs.declared.event.Frame.{Frame}
 use Rattle.cip_events.specs.declared.event.Notice.{Notice}
 use Rattle.cip_events.specs.declared.event.OutgoingDatagram.{OutgoingDatagram}
@@ -44,7 +44,7 @@ use Rattle.trace_text.specs.declared.builder.TraceBuilder.TheVariants.{Empty, Po
 use Rattle.trace_text.specs.declared.forms.TraceLine.{TraceLine}
 use Rattle.trace_text.specs.declared.forms.TraceLine.TheVariants as line
 use Rattle.trace_text.specs.declared.trace.Trace.{Trace}
-use Rattle.trace_text.specs.Reading.{Entry, front_of, with_stated, no_terms, none_stated, given_block, early_block, with_ids, with_block, with_event, with_newer, with_line, with_term, with_part, builder_with, parsed, judged_by}
+use Rattle.trace_text.specs.Reading.{Entry, front_of, with_stated, no_terms, none_stated, given_block, early_block, with_ids, with_block, with_event, with_newer, with_line, with_term, builder_with, parsed, judged_by}
 use Rattle.trace_text.specs.Texts.{adapter_line_of, heartbeat_line_of, scanner_line_of, term_lines, ids_line, ids_lines, may_begin, may_follow, config_values, outcome_parts, recorded_parts, entry_values, entries_values, trace_values}
 
 -- LISTS AND OPTIONS
@@ -236,28 +236,28 @@ record OneMore (terms more : ScannerTerms) (said : TermLine) : Type 0 where
   had : terms.ids ≡ None
   has : more.ids ≡ None
 
-line_is : (terms one other : ScannerTerms) (said : TermLine) → term_lines one ≡ term_lines terms ++ said ∷ [] → terms.ids ≡ None → one.ids ≡ None → Some one ≡ Some other → OneMore terms other said
-line_is terms one other said lines had has is = record {
+line_is : (terms one other : ScannerTerms) (said : TermLine) → Some one ≡ Some other → term_lines one ≡ term_lines terms ++ said ∷ [] → terms.ids ≡ None → one.ids ≡ None → OneMore terms other said
+line_is terms one other said is lines had has = record {
   lines = ap term_lines (sym (some_is one other is)) ∙ lines;
   had = had;
   has = ap (λ (t : ScannerTerms). t.ids) (sym (some_is one other is)) ∙ has;
 }
 
 line_added : (tidy : Bool) (openings serials : Option ℕ) (ids : Option IdBlock) (said : TermLine) (more : ScannerTerms) → with_line (record { tidy = tidy; openings = openings; serials = serials; ids = ids }) said ≡ Some more → OneMore (record { tidy = tidy; openings = openings; serials = serials; ids = ids }) more said
-line_added false None None None term.Tidy more is = line_is _ _ more _ refl refl refl is
+line_added false None None None term.Tidy more is = line_is _ _ more _ is refl refl refl
 line_added true openings serials ids term.Tidy more is = absurd (cc)
 line_added false (Some other) serials ids term.Tidy more is = absurd (cc)
 line_added false None (Some other) ids term.Tidy more is = absurd (cc)
 line_added false None None (Some block) term.Tidy more is = absurd (cc)
-line_added true None None None (term.Openings most) more is = line_is _ _ more _ refl refl refl is
-line_added false None None None (term.Openings most) more is = line_is _ _ more _ refl refl refl is
+line_added true None None None (term.Openings most) more is = line_is _ _ more _ is refl refl refl
+line_added false None None None (term.Openings most) more is = line_is _ _ more _ is refl refl refl
 line_added tidy (Some other) serials ids (term.Openings most) more is = absurd (cc)
 line_added tidy None (Some other) ids (term.Openings most) more is = absurd (cc)
 line_added tidy None None (Some block) (term.Openings most) more is = absurd (cc)
-line_added true None None None (term.Serials first) more is = line_is _ _ more _ refl refl refl is
-line_added false None None None (term.Serials first) more is = line_is _ _ more _ refl refl refl is
-line_added true (Some most) None None (term.Serials first) more is = line_is _ _ more _ refl refl refl is
-line_added false (Some most) None None (term.Serials first) more is = line_is _ _ more _ refl refl refl is
+line_added true None None None (term.Serials first) more is = line_is _ _ more _ is refl refl refl
+line_added false None None None (term.Serials first) more is = line_is _ _ more _ is refl refl refl
+line_added true (Some most) None None (term.Serials first) more is = line_is _ _ more _ is refl refl refl
+line_added false (Some most) None None (term.Serials first) more is = line_is _ _ more _ is refl refl refl
 line_added tidy openings (Some other) ids (term.Serials first) more is = absurd (cc)
 line_added tidy openings None (Some block) (term.Serials first) more is = absurd (cc)
 
@@ -288,7 +288,7 @@ term_added scanner newer terms slots said next is =
 
 -- an event that gives a block has the line of a block
 block_is : (happens : Event) (block : IdBlock) → given_block happens ≡ Some block → line.Event happens ≡ ids_line block
-block_is (event.Ids own) block is = ap ids_line (some_is own block is)
+block_is (happening.Ids own) block is = ap ids_line (some_is own block is)
 block_is other block is = absurd (cc)
 
 none_there : (ids : Option IdBlock) → is_none ids ≡ true → ids ≡ None
@@ -405,6 +405,34 @@ run_adds builder (Some value ∷ lines) end is =
     ∙ ap (λ t. t ++ lines) (sym (map-append Some (so_far builder) (value ∷ [])) ∙ ap (map Some) (sym (added builder value next first)))
     ∙ run_adds next lines end rest
 
+-- EVENTS BEHIND A PROFILE
+
+-- there are events, of which the first one is no line of the profile
+abbrev has_begun : List SlotConfig → List Entry → Bool
+has_begun slots [] = false
+has_begun slots (first ∷ entries) = is_none (early_block slots first.0)
+
+-- what was read so far has its events behind its profile
+abbrev pub is_told : TraceBuilder → Bool
+is_told (Events (config.Scanner profile) entries last) = has_begun profile.slots (entries ++ option_to_list last)
+is_told other = true
+
+begun_more : (slots : List SlotConfig) (entries more : List Entry) → has_begun slots entries ≡ true → has_begun slots (entries ++ more) ≡ true
+begun_more slots [] more begun = absurd (cc)
+begun_more slots (first ∷ entries) more begun = begun
+
+begun_same : (slots : List SlotConfig) (entries : List Entry) (one other : Entry) → one.0 ≡ other.0 → has_begun slots (entries ++ one ∷ []) ≡ true → has_begun slots (entries ++ other ∷ []) ≡ true
+begun_same slots [] one other same begun = ap (λ (happens : Event). is_none (early_block slots happens)) (sym same) ∙ begun
+begun_same slots (first ∷ entries) one other same begun = begun
+
+begun_begins : (slots : List SlotConfig) (entries : List Entry) → has_begun slots entries ≡ true → may_begin slots entries ≡ true
+begun_begins slots [] begun = refl
+begun_begins slots (first ∷ entries) begun = begun
+
+pub told_follows : (made_of : Config) (entries : List Entry) (last : Option Entry) → is_told (Events made_of entries last) ≡ true → may_follow made_of (entries ++ option_to_list last) ≡ true
+told_follows (config.Adapter profile) entries last told = refl
+told_follows (config.Scanner profile) entries last told = begun_begins profile.slots (entries ++ option_to_list last) told
+
 -- WHAT IS READ CAN BE COMPLETED
 
 abbrev no_scanner : ScannerProfile
@@ -417,20 +445,31 @@ no_points = record { input_only = 0; listen_only = 0 }
 abbrev whole_of : ProfileFront → List ℕ → Option IdBlock → HeartbeatLine → Profile
 whole_of front objects ids points = profile_with front.adapter front.outputs front.inputs front.config front.description front.limits objects ids points
 
-pub completed : (builder : TraceBuilder) → (trace : Trace) × ((more : List TraceLine) × (so_far builder ++ more ≡ trace_values trace))
-completed Empty = (record { config = config.Scanner no_scanner; events = [] }, (config_values (config.Scanner no_scanner) ++ [], refl))
-completed (Points adapter outputs inputs) =
-    (record { config = config.Adapter (profile_with adapter outputs inputs None None no_limits [] None no_points); events = [] }, (line.Heartbeat no_points ∷ [], sym (added (Points adapter outputs inputs) (line.Heartbeat no_points) _ refl)))
-completed (Configured adapter outputs inputs point) =
-    (record { config = config.Adapter (profile_with adapter outputs inputs (Some point) None no_limits [] None no_points); events = [] }, (line.Heartbeat no_points ∷ [], sym (added (Configured adapter outputs inputs point) (line.Heartbeat no_points) _ refl)))
-completed (Stated front) =
-    (record { config = config.Adapter (whole_of front [] None no_points); events = [] }, (line.Heartbeat no_points ∷ [], sym (added (Stated front) (line.Heartbeat no_points) _ refl)))
-completed (Objects front objects) =
-    (record { config = config.Adapter (whole_of front objects None no_points); events = [] }, (line.Heartbeat no_points ∷ [], sym (added (Objects front objects) (line.Heartbeat no_points) _ refl)))
-completed (Counted front objects block) =
-    (record { config = config.Adapter (whole_of front objects (Some block) no_points); events = [] }, (line.Heartbeat no_points ∷ [], sym (added (Counted front objects block) (line.Heartbeat no_points) _ refl)))
-completed (Slots scanner newer terms slots) = (record { config = config.Scanner (scanner_with scanner newer terms slots); events = [] }, ([], refl))
-completed (Events made_of entries last) = (record { config = made_of; events = entries ++ option_to_list last }, ([], append-nil _))
+-- what was read, and more lines, are those of a trace
+pub record Completed (builder : TraceBuilder) : Type 0 where
+  pub trace : Trace
+  pub follow : may_follow trace.config trace.events ≡ true
+  pub more : List TraceLine
+  pub is : so_far builder ++ more ≡ trace_values trace
+
+-- by the points without data
+by_points : (builder : TraceBuilder) (profile : Profile) → builder_with builder (line.Heartbeat no_points) ≡ Some (Events (config.Adapter profile) [] None) → Completed builder
+by_points builder profile is = record {
+  trace = record { config = config.Adapter profile; events = [] };
+  follow = refl;
+  more = line.Heartbeat no_points ∷ [];
+  is = sym (added builder (line.Heartbeat no_points) (Events (config.Adapter profile) [] None) is);
+}
+
+pub completed : (builder : TraceBuilder) → is_told builder ≡ true → Completed builder
+completed Empty told = record { trace = record { config = config.Scanner no_scanner; events = [] }; follow = refl; more = config_values (config.Scanner no_scanner) ++ []; is = refl }
+completed (Points adapter outputs inputs) told = by_points (Points adapter outputs inputs) (profile_with adapter outputs inputs None None no_limits [] None no_points) refl
+completed (Configured adapter outputs inputs point) told = by_points (Configured adapter outputs inputs point) (profile_with adapter outputs inputs (Some point) None no_limits [] None no_points) refl
+completed (Stated front) told = by_points (Stated front) (whole_of front [] None no_points) refl
+completed (Objects front objects) told = by_points (Objects front objects) (whole_of front objects None no_points) refl
+completed (Counted front objects block) told = by_points (Counted front objects block) (whole_of front objects (Some block) no_points) refl
+completed (Slots scanner newer terms slots) told = record { trace = record { config = config.Scanner (scanner_with scanner newer terms slots); events = [] }; follow = refl; more = []; is = refl }
+completed (Events made_of entries last) told = record { trace = record { config = made_of; events = entries ++ option_to_list last }; follow = told_follows made_of entries last told; more = []; is = append-nil _ }
 
 -- THE LINES OF A TRACE LEAD TO IT
 
@@ -643,32 +682,6 @@ trace_run (config.Scanner profile) ((event, recorded) ∷ events) follow =
 
 -- WHAT IS READ CAN BE WRITTEN
 
--- there are events, of which the first one is no line of the profile
-abbrev has_begun : List SlotConfig → List Entry → Bool
-has_begun slots [] = false
-has_begun slots (first ∷ entries) = is_none (early_block slots first.0)
-
--- what was read so far has its events behind its profile
-abbrev pub is_told : TraceBuilder → Bool
-is_told (Events (config.Scanner profile) entries last) = has_begun profile.slots (entries ++ option_to_list last)
-is_told other = true
-
-begun_more : (slots : List SlotConfig) (entries more : List Entry) → has_begun slots entries ≡ true → has_begun slots (entries ++ more) ≡ true
-begun_more slots [] more begun = absurd (cc)
-begun_more slots (first ∷ entries) more begun = begun
-
-begun_same : (slots : List SlotConfig) (entries : List Entry) (one other : Entry) → one.0 ≡ other.0 → has_begun slots (entries ++ one ∷ []) ≡ true → has_begun slots (entries ++ other ∷ []) ≡ true
-begun_same slots [] one other same begun = ap (λ (happens : Event). is_none (early_block slots happens)) (sym same) ∙ begun
-begun_same slots (first ∷ entries) one other same begun = begun
-
-begun_begins : (slots : List SlotConfig) (entries : List Entry) → has_begun slots entries ≡ true → may_begin slots entries ≡ true
-begun_begins slots [] begun = refl
-begun_begins slots (first ∷ entries) begun = begun
-
-pub told_follows : (made_of : Config) (entries : List Entry) (last : Option Entry) → is_told (Events made_of entries last) ≡ true → may_follow made_of (entries ++ option_to_list last) ≡ true
-told_follows (config.Adapter profile) entries last told = refl
-told_follows (config.Scanner profile) entries last told = begun_begins profile.slots (entries ++ option_to_list last) told
-
 abbrev Told : Option TraceBuilder → Type 0
 Told said = IfSome said (λ next. is_told next ≡ true)
 
@@ -683,6 +696,12 @@ told_map f (Some a) told = told a
 told_if_map : {A : Type 0} (test : Bool) (f : A → TraceBuilder) (value : Option A) → ((a : A) → is_told (f a) ≡ true) → Told (cond test (option_map f value) None)
 told_if_map true f value told = told_map f value told
 told_if_map false f value told = tt
+
+told_stated : (front : ProfileFront) (given : LimitLine) → Told (with_stated front given)
+told_stated front given = told_map (λ (more : MakerLimits). Stated (record front { limits = more })) (with_limit front.limits given) (λ more. refl)
+
+told_ids : (front : ProfileFront) (objects : List ℕ) (happens : Event) → Told (with_ids front objects happens)
+told_ids front objects happens = told_map (λ (block : IdBlock). Counted front objects block) (given_block happens) (λ block. refl)
 
 told_first : (scanner : ScannerLine) (newer : Option ℕ) (terms : ScannerTerms) (slots : List SlotConfig) (happens : Event) (early : Option IdBlock) → early_block slots happens ≡ early → Told (with_event scanner newer terms slots happens early)
 told_first scanner newer terms slots happens (Some block) early = told_if (is_none terms.ids) (Slots scanner newer (record terms { ids = Some block }) slots) refl
@@ -708,31 +727,31 @@ told_on (Points adapter outputs inputs) (line.Output value) told = told_if (eqb 
 told_on (Points adapter outputs inputs) (line.Input value) told = refl
 told_on (Points adapter outputs inputs) (line.Config value) told = refl
 told_on (Points adapter outputs inputs) (line.Description value) told = refl
-told_on (Points adapter outputs inputs) (line.Limit value) told = told_map _ _ (λ more. refl)
+told_on (Points adapter outputs inputs) (line.Limit value) told = told_stated (front_of adapter outputs inputs None None) value
 told_on (Points adapter outputs inputs) (line.Object value) told = refl
-told_on (Points adapter outputs inputs) (line.Event value) told = told_map _ _ (λ block. refl)
+told_on (Points adapter outputs inputs) (line.Event value) told = told_ids (front_of adapter outputs inputs None None) [] value
 told_on (Points adapter outputs inputs) (line.Heartbeat value) told = refl
 told_on (Configured adapter outputs inputs point) (line.Description value) told = refl
-told_on (Configured adapter outputs inputs point) (line.Limit value) told = told_map _ _ (λ more. refl)
+told_on (Configured adapter outputs inputs point) (line.Limit value) told = told_stated (front_of adapter outputs inputs (Some point) None) value
 told_on (Configured adapter outputs inputs point) (line.Object value) told = refl
-told_on (Configured adapter outputs inputs point) (line.Event value) told = told_map _ _ (λ block. refl)
+told_on (Configured adapter outputs inputs point) (line.Event value) told = told_ids (front_of adapter outputs inputs (Some point) None) [] value
 told_on (Configured adapter outputs inputs point) (line.Heartbeat value) told = refl
-told_on (Stated front) (line.Limit value) told = told_map _ _ (λ more. refl)
+told_on (Stated front) (line.Limit value) told = told_stated front value
 told_on (Stated front) (line.Object value) told = refl
-told_on (Stated front) (line.Event value) told = told_map _ _ (λ block. refl)
+told_on (Stated front) (line.Event value) told = told_ids front [] value
 told_on (Stated front) (line.Heartbeat value) told = refl
 told_on (Objects front objects) (line.Object value) told = refl
-told_on (Objects front objects) (line.Event value) told = told_map _ _ (λ block. refl)
+told_on (Objects front objects) (line.Event value) told = told_ids front objects value
 told_on (Objects front objects) (line.Heartbeat value) told = refl
 told_on (Counted front objects block) (line.Heartbeat value) told = refl
 told_on (Slots scanner newer terms slots) (line.Limit value) told = told_newer scanner newer terms slots value
-told_on (Slots scanner newer terms slots) (line.Term said) told = told_if_map (eqb (length slots) 0) (λ more. Slots scanner newer more slots) (with_line terms said) (λ more. refl)
+told_on (Slots scanner newer terms slots) (line.Term said) told = told_if_map (eqb (length slots) 0) (λ (more : ScannerTerms). Slots scanner newer more slots) (with_line terms said) (λ more. refl)
 told_on (Slots scanner newer terms slots) (line.Slot value) told = refl
 told_on (Slots scanner newer terms slots) (line.Event value) told = told_first scanner newer terms slots value (early_block slots value) refl
 told_on (Events made_of entries None) (line.Event value) told = told_event made_of entries None value told
 told_on (Events made_of entries (Some last)) (line.Event value) told = told_event made_of entries (Some last) value told
 told_on (Events made_of entries (Some last)) (line.Recorded number value) told =
-    told_if_map (eqb number (length entries + 1)) (λ outcome. Events made_of entries (Some (last.0, Some outcome))) (recorded_with last.1 value) (λ outcome. told_recorded made_of entries last outcome told)
+    told_if_map (eqb number (length entries + 1)) (λ (outcome : Outcome). Events made_of entries (Some (last.0, Some outcome))) (recorded_with last.1 value) (λ outcome. told_recorded made_of entries last outcome told)
 told_on builder value told = tt
 
 told_from : (said : Option TraceBuilder) (next : TraceBuilder) → Told said → said ≡ Some next → is_told next ≡ true

@@ -157,7 +157,7 @@ builder_with (Slots scanner newer terms slots) (line.Limit limit) = with_newer s
 builder_with (Slots scanner newer terms slots) (line.Term said) = with_term scanner newer terms slots said
 builder_with (Slots scanner newer terms slots) (line.Slot slot) = Some (Slots scanner newer terms (slots ++ slot ∷ []))
 builder_with (Slots scanner newer terms slots) (line.Event happens) = with_event scanner newer terms slots happens (early_block slots happens)
-builder_with (Events made_of entries last) (line.Event event) = Some (Events made_of (entries ++ option_to_list last) (Some (event, None)))
+builder_with (Events made_of entries last) (line.Event happens) = Some (Events made_of (entries ++ option_to_list last) (Some (happens, None)))
 builder_with (Events made_of entries (Some last)) (line.Recorded number parsed) = with_part made_of entries last number parsed
 builder_with builder parsed = None
 

@@ -104,7 +104,8 @@ impl<D: Device + Drop> Plant<D> {
         let Ok(ids) = self.ids_behind(life, config.stated_ids()) else {
             return Err(RestartFault::OutOfMemory);
         };
-        let config = with_incarnation(incarnation, config).with_ids(ids);
+        let named = with_incarnation(incarnation, config);
+        let config = named.with_ids(ids);
         match self.replace(device, life, config) {
             Ok(()) => Ok(()),
             Err(_) => Err(RestartFault::OutOfMemory),
@@ -120,13 +121,15 @@ impl<D: Device> Plant<D> {
         ensures value { IfOk result (λ ids. ids ≡ ids_of_next self.now life stated) }
         ensures block { IfOk result (λ ids. IfSome ids (λ block. is_block block ≡ true)) }
     {
-        if stated.is_none() {
+        let Some(block) = stated else {
             return Ok(None);
-        }
-        match self.world.table(life) {
-            Some(table) => Ok(Some(table?.table().next_ids())),
-            None => Ok(stated),
-        }
+        };
+        let Some(copied) = self.world.table(life) else {
+            return Ok(Some(block));
+        };
+        let copy = copied?;
+        let table = copy.table();
+        Ok(Some(table.next_ids()))
     }
 }
 
