@@ -1,5 +1,5 @@
 -- Each step of a device carries ids, and only its own reply establishes a slot of a scanner.
-use Rattle.std.proofs.Common.{◌^◌, ◌≡◌, ◌≤◌, ◌<◌, ◌⊎◌, inl, inr, ℕ, ◌==◌, nat_lt, Bool, true, false, cond, List, [], ◌∷◌, ◌++◌, Option, Some, None, Result, Ok, Err, refl, sym, ◌∙◌, ap, subst, append_assoc, arith}
+use Rattle.std.proofs.Common.{◌^◌, ◌≡◌, ◌≤◌, ◌<◌, ◌⊎◌, inl, inr, ℕ, ◌==◌, ◌||◌, nat_lt, Bool, true, false, cond, List, [], ◌∷◌, ◌++◌, Option, Some, None, Result, Ok, Err, refl, sym, ◌∙◌, ap, subst, append_assoc, arith}
 use Rattle.std.specs.List.{AllByRecursion, Contains}
 use Rattle.std.proofs.lemmas.Bool.Decides.{nat_tests}
 use Rattle.std.proofs.lemmas.List.Elements.{Contains-append_left, Contains-append_right, Contains-push}
@@ -95,15 +95,15 @@ replied_ids P t happens config request success replied ids =
     let packet : PacketIds P (any_packet_reading replied.message.payload) = subst (MessageIds P) replied.reads frame in
     subst (ReplyIds P) replied.success_is (reported_ids P replied.large replied.message (packet_covered (PacketIds P) (λ fault. tt) replied.message.payload packet))
 
-or_right : (a b : Bool) → a ≡ false → cond a true b ≡ true → b ≡ true
-or_right true b none is = absurd cc
-or_right false b none is = is
+or_other : (a b : Bool) → a ≡ false → (a || b) ≡ true → b ≡ true
+or_other true b none is = absurd cc
+or_other false b none is = is
 
 -- a slot that opens asks for an id that the blocks have
 asks_within : (t now : ScannerTable) (config : SlotConfig) (to : ℕ) → config.multicast ≡ false → CanDraw t to now config → now.next_id < end_number t.ids
 asks_within t now config to single can =
     let counts = can.counts in
-    let left : nat_lt now.next_id (end_number now.ids) ≡ true = or_right config.multicast (nat_lt now.next_id (end_number now.ids)) single can.has in
+    let left : nat_lt now.next_id (end_number now.ids) ≡ true = or_other config.multicast (nat_lt now.next_id (end_number now.ids)) single can.has in
     subst (λ (ids : List IdBlock). now.next_id < end_number ids) counts.blocks (grind (arith, nat_tests, left))
 
 -- and that is one of those which the scanner draws at the event

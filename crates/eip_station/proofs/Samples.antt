@@ -39,7 +39,7 @@ ends_so = (refl, refl)
 -- THREADS
 
 threads_of_two : (o : Options) → needs_of (Ok (Plant (record o { no_input = true; page = Some 8080 }))) 2
-    ≡ record { outputs = true; alarm = false; input = false; «record» = false; page = true; plant = 4; devices = 2 }
+    ≡ record { outputs = true; alarm = false; input = false; «record» = false; state = false; page = true; plant = 4; devices = 2 }
 threads_of_two o = refl
 
 no_threads : (needs_of (Ok Version) 0 ≡ no_needs) × (needs_of (Err misuse.NoCommand) 0 ≡ no_needs)

@@ -47,14 +47,11 @@ fn main(rt: HostRuntime) -> ExitCode {
     };
     let has_outputs = !needs.outputs
         || (begin_output(rt, &rim.out, rt.stdout()) && begin_output(rt, &rim.err, rt.stderr()));
-    let is_begun = has_outputs && (!needs.alarm || begin_alarm(rt, &alarm));
+    let is_begun = has_outputs && begin_kept(rt, needs, &rim, &alarm);
     if !is_begun || (needs.page && !begin_page(rt, &page, &rim.input)) {
         return no_thread(rt.stderr());
     }
     if needs.record && thread::spawn(&rt, move || record.write_files(&rt)).is_err() {
-        return no_thread(rt.stderr());
-    }
-    if needs.state && !begin_state(rt, &rim) {
         return no_thread(rt.stderr());
     }
     if needs.input && thread::spawn(&rt, move || input.fill(&rt, rt.reader())).is_err() {
@@ -83,6 +80,14 @@ fn main(rt: HostRuntime) -> ExitCode {
         plant,
     };
     program::run(rt, shared, rt.stdout(), rt.stderr())
+}
+
+/// Begins the threads of an alarm and of a state's file, as far as they are needed. Whether they could begin.
+fn begin_kept<R>(rt: R, needs: Needs, rim: &Rim, alarm: &Alarm) -> bool
+where
+    R: AllocGlobal + Threads + Files<File = File> + Wait + Clock + Copy + Send + Drop + 'static,
+{
+    (!needs.alarm || begin_alarm(rt, alarm)) && (!needs.state || begin_state(rt, rim))
 }
 
 /// Begins the thread that reserves connection ids in a station's state. Whether it could begin.

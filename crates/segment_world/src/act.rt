@@ -84,6 +84,16 @@ fn counters_call(alloc: Global, bytes: &[u8]) -> Result<Call, OutOfMemory>
     })
 }
 
+/// The call that brings an inquiry, with a copy of the bytes.
+fn inquiry_call(alloc: Global, peer: Node, bytes: &[u8]) -> Result<Call, OutOfMemory>
+    ensures { IfOk result (λ call. event_of_call call ≡ event.Inquiry peer bytes.now) }
+{
+    Ok(Call::Inquiry {
+        peer,
+        bytes: Items::copy_of(alloc, bytes)?,
+    })
+}
+
 impl Call {
     /// Makes the call ready, with a copy of the bytes of an explicit request, of an answer to one, of counters, or of an inquiry.
     /// `OutOfMemory` is the only error.
@@ -166,10 +176,7 @@ impl Call {
                 bytes: Items::copy_of(alloc, bytes.as_slice())?,
             },
             Event::Ids { block } => Call::Ids { block: *block },
-            Event::Inquiry { peer, bytes } => Call::Inquiry {
-                peer: *peer,
-                bytes: Items::copy_of(alloc, bytes.as_slice())?,
-            },
+            Event::Inquiry { peer, bytes } => inquiry_call(alloc, *peer, bytes.as_slice())?,
             Event::Counters { bytes } => counters_call(alloc, bytes.as_slice())?,
         }))
     }

@@ -77,6 +77,15 @@ fn push_stream(
     push_node(out, peer)
 }
 
+/// What a further block of connection ids is.
+fn push_ids(out: &mut String, block: IdBlock) -> Result<(), OutOfMemory> {
+    let IdBlock { first, count } = block;
+    Ok(write!(
+        out,
+        "the device gets {count} further connection ids, from {first:08x} on"
+    )?)
+}
+
 /// A call of the application, or time that passes.
 fn push_call(
     alloc: Global,
@@ -110,13 +119,7 @@ fn push_call(
             push_text(out, "the host has counted of its interface ")?;
             push_data(alloc, out, bytes.as_slice())
         }
-        Event::Ids { block } => {
-            let IdBlock { first, count } = *block;
-            Ok(write!(
-                out,
-                "the device gets {count} further connection ids, from {first:08x} on"
-            )?)
-        }
+        Event::Ids { block } => push_ids(out, *block),
         Event::Tick { ms } => Ok(write!(out, "{ms} ms pass")?),
         Event::Mode { run: true } => push_text(out, "the application runs"),
         Event::Mode { run: false } => push_text(out, "the application is idle"),

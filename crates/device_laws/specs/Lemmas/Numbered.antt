@@ -1,5 +1,5 @@
 -- The numbers of connection ids: where an id is that of a number within a range, and that no two ranges share one.
-use Rattle.std.proofs.Common.{zero, suc, ◌≡◌, ◌≤◌, ◌<◌, ℕ, ◌+◌, ◌-◌, ◌==◌, Bool, true, false, cond, inl, inr, List, refl, sym, ◌∙◌, ap, arith, eqb-true}
+use Rattle.std.proofs.Common.{zero, suc, ◌≡◌, ◌≤◌, ◌<◌, ℕ, ◌+◌, ◌-◌, ◌==◌, ◌||◌, Bool, true, false, cond, inl, inr, List, refl, sym, ◌∙◌, ap, arith, eqb-true}
 use Rattle.std.proofs.lemmas.Bool.{cases_lt}
 use Rattle.std.proofs.lemmas.Bool.Decides.{nat_tests}
 use Rattle.cip_types.specs.IdLaws.{ids_differ}
@@ -16,18 +16,18 @@ pub record IsNumbered (ids : List IdBlock) (from to id : ℕ) : Type 0 where
 
 -- ---- the test
 
-pub or_here : (a b : Bool) → a ≡ true → cond a true b ≡ true
+pub or_here : (a b : Bool) → a ≡ true → (a || b) ≡ true
 or_here true b is = refl
 or_here false b is = absurd cc
 
-pub or_later : (a b : Bool) → b ≡ true → cond a true b ≡ true
+pub or_later : (a b : Bool) → b ≡ true → (a || b) ≡ true
 or_later true b is = refl
 or_later false b is = is
 
 pub same_passes : (m n : ℕ) → m ≡ n → (m == n) ≡ true
 same_passes m n same = grind (arith, nat_tests)
 
-first_numbered : (b : Bool) (ids : List IdBlock) (from count id : ℕ) (rest : Bool) → ((id_at ids from).0 == id) ≡ b → (rest ≡ true → IsNumbered ids (from + 1) (from + 1 + count) id) → cond b true rest ≡ true → IsNumbered ids from (from + suc count) id
+first_numbered : (b : Bool) (ids : List IdBlock) (from count id : ℕ) (rest : Bool) → ((id_at ids from).0 == id) ≡ b → (rest ≡ true → IsNumbered ids (from + 1) (from + 1 + count) id) → (b || rest) ≡ true → IsNumbered ids from (from + suc count) id
 first_numbered true ids from count id rest is later has = record { number = from; begins = omega arith; ends = omega arith; is = eqb-true (id_at ids from).0 id is }
 first_numbered false ids from count id rest is later has =
     let behind = later has in

@@ -3,8 +3,9 @@ use Rattle.std.proofs.Common.{◌≡◌, ◌≢◌, ◌≤◌, ℕ, ◌+◌, Boo
 use Rattle.std.specs.List.{filter_map}
 use Rattle.cip_types.specs.declared.names.Ms.{Ms}
 use Rattle.cip_events.specs.Clock.{longest_tick, clock_end}
+use Rattle.cip_types.specs.declared.ids.IdBlock.{IdBlock}
 use Rattle.cip_events.specs.declared.event.Event.{Event}
-use Rattle.cip_events.specs.declared.event.Event.TheVariants.{StreamOpened, Frame, StreamCut, Datagram, Write, Tick, Mode, Start, Stop, Explicit}
+use Rattle.cip_events.specs.declared.event.Event.TheVariants.{StreamOpened, Frame, StreamCut, Datagram, Write, Tick, Mode, Start, Stop, Explicit, Ids}
 use Rattle.cip_events.specs.declared.event.StepFault.{StepFault}
 use Rattle.cip_events.specs.declared.event.StepFault.TheVariants as fault
 use Rattle.cip_productions.specs.declared.production.Production as cip
@@ -23,7 +24,8 @@ use Rattle.scanner_table.specs.Points.{moded_slot, moded_table, same_mode, mode}
 use Rattle.scanner_table.specs.Productions.{written_state, state_is_due, is_due, by_due, due_slots, produced_state, produced_slot, produced_table}
 use Rattle.scanner_table.specs.Ticks.{clocked_table, advanced, moved_on, ticked, tick}
 use Rattle.scanner_table.specs.Explicit.{explicit_timed_out}
-use Rattle.scanner_table.specs.Step.{scanner_step}
+use Rattle.scanner_table.specs.Lemmas.SlotEventLemmas.{ids_hold}
+use Rattle.scanner_table.specs.Step.{scanner_step, taken_table}
 use Rattle.scanner_table.specs.Lemmas.SlotLookups.{Stands, indexed_at, same_slot, Each, EachTwo, Apart, each_stands, each_filter, two_filter, each_passes, each_in_order, two_in_order, slots_apart, slot_stands}
 use Rattle.scanner_table.specs.Lemmas.Moves.{Leads, received_leads, write_leads, start_leads, stop_leads}
 use Rattle.scanner_table.specs.Lemmas.Slotwise.{Relation, moded_goes, produced_goes, was_of, Was}
@@ -353,6 +355,14 @@ tick_agrees : (sent : List Production) (device : ℕ) (t : ScannerTable) (ms : �
 unfolding tick
 tick_agrees sent device t ms ok = tick_step (nat_lt longest_tick ms) (nat_lt clock_end (t.clock.0 + ms)) sent device t ms ok
 
+-- a further block of ids changes no slot
+ids_books : (sent : List Production) (device : ℕ) (t : ScannerTable) (block : IdBlock) → ScannerBooks sent device t → ScannerBooks sent device (taken_table t block)
+ids_books sent device t block ok = record {
+  unproduced = ok.unproduced;
+  slots = λ place stands. ok.slots place (record { config = stands.config; slot = stands.slot });
+  distinct = λ a b r one two. ok.distinct a b r (record { config = one.config; slot = one.slot }) (record { config = two.config; slot = two.slot });
+}
+
 pub scanner_agrees : (sent : List Production) (device : ℕ) (t : ScannerTable) (event : Event) → Agrees sent device t → IfOk (scanner_step t event) (NextAgrees (produced_more device sent (scanner_makes t event)) device)
 scanner_agrees sent device t (StreamOpened stream peer) ok = same_sent sent device t (scanner_step t (StreamOpened stream peer)) ok (streamed_leads (Keeps sent device) (books_quietly sent device) t stream peer)
 scanner_agrees sent device t (Frame stream bytes) ok = same_sent sent device t (scanner_step t (Frame stream bytes)) ok (frame_leads (Keeps sent device) t (books_quietly sent device) stream bytes)
@@ -364,4 +374,5 @@ scanner_agrees sent device t (Mode run) ok = same_sent sent device t (scanner_st
 scanner_agrees sent device t (Start slot) ok = same_sent sent device t (scanner_step t (Start slot)) ok (start_leads (Keeps sent device) (books_quietly sent device).slots t slot)
 scanner_agrees sent device t (Stop slot) ok = same_sent sent device t (scanner_step t (Stop slot)) ok (stop_leads (Keeps sent device) (books_quietly sent device).slots t slot)
 scanner_agrees sent device t (Explicit target number bytes) ok = same_sent sent device t (scanner_step t (Explicit target number bytes)) ok (explicit_leads (Keeps sent device) (books_quietly sent device) t target number bytes)
+scanner_agrees sent device t (Ids block) ok = ids_hold (λ said. IfOk said (NextAgrees sent device)) t block (λ why. tt) (λ may. record { books = ids_books sent device t block ok.books; well = ok.well })
 scanner_agrees sent device t other ok = same_sent sent device t (scanner_step t other) ok (passive_leads (Keeps sent device) (books_quietly sent device).slots t other refl)

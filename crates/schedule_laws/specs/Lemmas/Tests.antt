@@ -1,5 +1,5 @@
 -- The tests of ids: which ids the devices have allocated.
-use Rattle.std.proofs.Common.{◌≡◌, ◌≢◌, ◌≤◌, ◌<◌, ◌⊎◌, inl, inr, ℕ, zero, suc, ◌==◌, Bool, true, false, cond, List, [], ◌∷◌, set, slice_get, Some, refl, sym, ◌∙◌, ap, subst, arith, eqb-true}
+use Rattle.std.proofs.Common.{◌≡◌, ◌≢◌, ◌≤◌, ◌<◌, ◌⊎◌, inl, inr, ℕ, zero, suc, ◌==◌, ◌||◌, Bool, true, false, List, [], ◌∷◌, set, slice_get, Some, refl, sym, ◌∙◌, ap, subst, arith, eqb-true}
 use Rattle.std.specs.List.{list_any}
 use Rattle.std.proofs.lemmas.Bool.{eqb-false}
 use Rattle.std.proofs.lemmas.Option.{same_Some}
@@ -42,7 +42,7 @@ pub record DrawnBy (tables : List DeviceTable) (id : ℕ) : Type 0 where
   pub there : slice_get tables device ≡ Some table
   pub numbered : IsNumbered (ids_of table) 1 (next_id_of table) id
 
-mutual_step : (b : Bool) (id : ℕ) (x : DeviceTable) (tables : List DeviceTable) → has_drawn id x ≡ b → (list_any (has_drawn id) tables ≡ true → DrawnBy tables id) → cond b true (list_any (has_drawn id) tables) ≡ true → DrawnBy (x ∷ tables) id
+mutual_step : (b : Bool) (id : ℕ) (x : DeviceTable) (tables : List DeviceTable) → has_drawn id x ≡ b → (list_any (has_drawn id) tables ≡ true → DrawnBy tables id) → (b || list_any (has_drawn id) tables) ≡ true → DrawnBy (x ∷ tables) id
 mutual_step true id x tables is more any = record { device = 0; table = x; there = refl; numbered = between_numbered (ids_of x) 1 (next_id_of x) id is }
 mutual_step false id x tables is more any = let later = more any in record { device = suc later.device; table = later.table; there = later.there; numbered = later.numbered }
 
@@ -56,7 +56,7 @@ by_drawn id (x ∷ tables) zero t at is =
     or_here (has_drawn id x) (list_any (has_drawn id) tables) (subst (λ (y : DeviceTable). has_drawn id y ≡ true) (sym (same_Some x t at)) (numbered_between (ids_of t) 1 (next_id_of t) id is))
 by_drawn id (x ∷ tables) (suc device) t at is = or_later (has_drawn id x) (list_any (has_drawn id) tables) (by_drawn id tables device t at is)
 
-drawn_step : (b : Bool) (tables : List DeviceTable) (id : ℕ) → (id == 0) ≡ b → cond b true (list_any (has_drawn id) tables) ≡ true → (id ≡ 0) ⊎ DrawnBy tables id
+drawn_step : (b : Bool) (tables : List DeviceTable) (id : ℕ) → (id == 0) ≡ b → (b || list_any (has_drawn id) tables) ≡ true → (id ≡ 0) ⊎ DrawnBy tables id
 drawn_step true tables id is passes = inl (eqb-true id 0 is)
 drawn_step false tables id is passes = inr (drawn_by id tables passes)
 
