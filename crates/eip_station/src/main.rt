@@ -19,16 +19,16 @@ use plant_rim::SharedPlant;
 use program::Surroundings;
 use station_port::Alarm;
 use station_rim::{Rim, begin_output};
-use std::fs::File;
 use std::io::Write;
 use std::process::ExitCode;
-use std::rt::{Clock, Files};
+use std::rt::Clock;
 use std::sync::Wait;
 use std::thread::{self, Threads};
 
 /// Performs what the command line requests, and ends with its status. A station has threads of their own for its input, its
-/// outputs, its record, its page and its alarm; they are not joined, and end with the program. Those of the record, the input,
-/// the page and a plant begin here: of a generic function that begins them the prover has no account.
+/// outputs, its record, its state's file, its page and its alarm; they are not joined, and end with the program. Those of the
+/// record, the state's file, the input, the page and a plant begin here: of a generic function that begins them the prover has no
+/// account.
 fn main(rt: HostRuntime) -> ExitCode {
     let (Ok(rim), Ok(alarm)) = (Rim::new(rt.alloc()), Alarm::new(rt.alloc(), &rt)) else {
         return no_memory(rt.stderr());
@@ -36,25 +36,25 @@ fn main(rt: HostRuntime) -> ExitCode {
     let (Some(needs), Ok(input)) = (program::needs_of(&rt), rim.input.share()) else {
         return no_memory(rt.stderr());
     };
-    let Ok(plant) = SharedPlant::new(rt.alloc(), &rim.out, &rim.err) else {
-        return no_memory(rt.stderr());
-    };
-    let (Ok(page), Ok(record)) = (
+    let (Ok(plant), Ok(page), Ok(record), Ok(ids), Ok(err)) = (
+        SharedPlant::new(rt.alloc(), &rim.out, &rim.err),
         SharedPage::new(rt.alloc(), needs.devices),
         rim.record.share(),
+        rim.ids.share(),
+        rim.err.share(),
     ) else {
         return no_memory(rt.stderr());
     };
     let has_outputs = !needs.outputs
         || (begin_output(rt, &rim.out, rt.stdout()) && begin_output(rt, &rim.err, rt.stderr()));
-    let is_begun = has_outputs && begin_kept(rt, needs, &rim, &alarm);
+    let is_begun = has_outputs && (!needs.alarm || begin_alarm(rt, &alarm));
     if !is_begun || (needs.page && !begin_page(rt, &page, &rim.input)) {
         return no_thread(rt.stderr());
     }
-    if needs.record && thread::spawn(&rt, move || record.write_files(&rt)).is_err() {
-        return no_thread(rt.stderr());
-    }
-    if needs.input && thread::spawn(&rt, move || input.fill(&rt, rt.reader())).is_err() {
+    if (needs.record && thread::spawn(&rt, move || record.write_files(&rt)).is_err())
+        || (needs.state && thread::spawn(&rt, move || ids.keep(&rt, &err)).is_err())
+        || (needs.input && thread::spawn(&rt, move || input.fill(&rt, rt.reader())).is_err())
+    {
         return no_thread(rt.stderr());
     }
     for _ in 0..page_threads(needs.page) {
@@ -80,25 +80,6 @@ fn main(rt: HostRuntime) -> ExitCode {
         plant,
     };
     program::run(rt, shared, rt.stdout(), rt.stderr())
-}
-
-/// Begins the threads of an alarm and of a state's file, as far as they are needed. Whether they could begin.
-fn begin_kept<R>(rt: R, needs: Needs, rim: &Rim, alarm: &Alarm) -> bool
-where
-    R: AllocGlobal + Threads + Files<File = File> + Wait + Clock + Copy + Send + Drop + 'static,
-{
-    (!needs.alarm || begin_alarm(rt, alarm)) && (!needs.state || begin_state(rt, rim))
-}
-
-/// Begins the thread that reserves connection ids in a station's state. Whether it could begin.
-fn begin_state<R>(rt: R, rim: &Rim) -> bool
-where
-    R: AllocGlobal + Threads + Files<File = File> + Wait + Clock + Copy + Send + Drop + 'static,
-{
-    match (rim.ids.share(), rim.err.share()) {
-        (Ok(ids), Ok(err)) => thread::spawn(&rt, move || ids.keep(&rt, &err)).is_ok(),
-        _ => false,
-    }
 }
 
 /// Begins the thread that rings the alarm of a station. Whether it could begin.
