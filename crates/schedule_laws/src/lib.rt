@@ -77,7 +77,7 @@ pub fn ids_are_drawn()
     tables::tables_are_whole();
     tables::next_id_never_falls();
     adapters::profiles_stay();
-    blocks_grow();
+    tables::blocks_grow();
     counters_never_fall();
 }
 
@@ -109,7 +109,7 @@ pub fn later_connections_accept_nothing_sent_before()
     tables::tables_are_whole();
     tables::next_id_never_falls();
     adapters::profiles_stay();
-    blocks_grow();
+    tables::blocks_grow();
     counters_never_fall();
 }
 

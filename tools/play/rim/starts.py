@@ -122,7 +122,7 @@ def run_circle(bench):
     state = bench.write("circle.state", f"incarnation 7\nserial 9\nserials 1\nids {2**32 - 10} 5\n")
     adapter = bench.adapter("--state", state, log="circle")
     until(lambda: any("they begin again" in line for line in adapter.said()), "a line tells that the ids begin again")
-    need(kept(state)[3:] == [1, ALL - 10], f"the last ten ids are reserved, and 1 follows them: {kept(state)}")
+    wait(lambda: kept(state)[3:] == [1 + BLOCK, ALL - 10 - BLOCK], "the last ten ids are reserved, and then the block that begins with 1")
     need(adapter.end() == 0, "the adapter ends with status 0")
     sure(True, "behind the last id of all comes 1, and a line tells that ids come again")
 
