@@ -243,7 +243,7 @@ BAD_PROFILE_LINES = [
     (scanner("ids 1 1\n", "serials 1\n", slot()), f"bad line 3: {NOT_HERE}"),
     (adapter(points=POINTS + "ids 1 1\nobject 100\n"), f"bad line 5: {NOT_HERE}"),
     (adapter(points=POINTS + "ids 1 1\nids 2 1\n"), f"bad line 5: {NOT_HERE}"),
-    (adapter(points="ids 1 1\n" + POINTS), f"bad line 2: {NOT_HERE}"),
+    (adapter(points="ids 1 1\n" + POINTS), f"bad line 3: {NOT_HERE}"),
     (scanner("openings 256\n", slot()), "bad line 2: word 2 is a number that is too large: 256 is above 255"),
     (scanner("serials 65536\n", slot()), "bad line 2: word 2 is a number that is too large: 65536 is above 65535"),
     (adapter(points=POINTS + "openings 1\n"), f"bad line 4: {NOT_HERE}"),

@@ -237,7 +237,8 @@ def run_plant_answers(bench):
     """The own object of a plant's device is answered by its script, and by a line of the input."""
     node = bench.network.extra[0]
     bench.write_exactly("plant_own.profile", OWN.format(adapter=node))
-    text = "device pump plant_own.profile\n  at 2000 answer 1 00 0102\n"
+    number = 2**32 + 1  # the only device has all ids, from 1 on: its requests are numbered from 1 * 2^32 + 1 on
+    text = f"device pump plant_own.profile\n  at 2000 answer {number} 00 0102\n"
     plant = Plant(bench, text, "--record", bench.file("answers"), log="answers")
     until(lambda: any("adapter at" in line for line in plant.said()), "a plant has a device with an own object")
     with bench.network.inside("peer"), served("an own object of a plant's device"):
@@ -245,8 +246,8 @@ def run_plant_answers(bench):
         sure(session.request(COUNT_UP)[:3] == (0, (), bytes([1, 2])), "a line of its script answers a request")
 
         def type_it():
-            wait(lambda: any(line.split()[3:5] == ["asked", "2"] for line in plant.of("pump")), "the request is printed")
-            plant.call("pump answer 2 14 0304")
+            wait(lambda: any(line.split()[3:5] == ["asked", str(number + 1)] for line in plant.of("pump")), "the request is printed")
+            plant.call(f"pump answer {number + 1} 14 0304")
 
         typed = threading.Thread(target=type_it)
         typed.start()

@@ -175,7 +175,7 @@ def run_state(bench):
     sure("incarnation 17," in begun(), "five starts that are refused use no incarnation up, one of them since its state would not be on the medium")
     faults.set()
     status, before = asked.ends(*words, env=env)[0], faults.synced()
-    sure((status, before) == (0, 2), f"a state is on the medium, and so is its folder, which has its new name: {before} of 2")
+    sure((status, before) == (0, 4), f"a state is on the medium, and so is its folder, which has its new name, at the start and at the end: {before} of 4")
     folder = bench.file("closed")
     os.mkdir(folder)
     os.rename(profile, os.path.join(folder, "counted.profile"))
