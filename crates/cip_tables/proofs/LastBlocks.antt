@@ -3,6 +3,7 @@ use Rattle.std.proofs.Common.{◌≡◌, ℕ, zero, suc, ◌+◌, ◌-◌, true,
 use Rattle.std.specs.List.{list_any}
 use Rattle.std.proofs.lemmas.Bool.{and_parts}
 use Rattle.std.proofs.lemmas.Bool.Decides.{nat_tests}
+use Rattle.std.proofs.lemmas.Option.{same_Some}
 use Rattle.cip_types.specs.declared.ids.IdBlock.{IdBlock}
 use Rattle.cip_types.specs.Ids.{are_blocks, ids_behind, ids_left, is_apart, is_block, shares_ids}
 use Rattle.cip_tables.specs.declared.table.DeviceTable.{DeviceTable}
@@ -10,12 +11,9 @@ use Rattle.cip_tables.specs.declared.table.DeviceTable.TheVariants.{Adapter, Sca
 use Rattle.cip_tables.specs.Ids.{last_block, next_ids}
 use Rattle.cip_tables.specs.Whole.{IsWholeDevice, ids_of, next_id_of}
 
-same_block : (one last : IdBlock) → Some one ≡ Some last → one ≡ last
-same_block one last is = cc
-
 last_at : (blocks : List IdBlock) (last : IdBlock) (index : ℕ) → index + 1 ≡ length blocks → slice_get blocks index ≡ Some last → last ≡ last_block blocks
 last_at [] last index e is = absurd (omega (arith, e))
-last_at (one ∷ []) last zero e is = sym (same_block one last is)
+last_at (one ∷ []) last zero e is = sym (same_Some one last is)
 last_at (one ∷ []) last (suc n) e is = absurd (omega (arith, e))
 last_at (one ∷ (two ∷ rest)) last zero e is = absurd (omega (arith, e))
 last_at (one ∷ (two ∷ rest)) last (suc n) e is = last_at (two ∷ rest) last n (omega (arith, e)) is
@@ -25,12 +23,15 @@ pub last_is : (blocks : List IdBlock) (last : IdBlock) → slice_get blocks (len
 last_is [] last is = absurd cc
 last_is (one ∷ rest) last is = last_at (one ∷ rest) last (length (one ∷ rest) - 1) (omega arith) is
 
-block_of : (one : IdBlock) (blocks : List IdBlock) → are_blocks (one ∷ blocks) ≡ true → is_block one ≡ true
-block_of one blocks are = (and_parts (is_block one) (not (list_any (shares_ids one) blocks)) (and_parts (is_apart blocks one) (are_blocks blocks) are).0).0
+-- the first of blocks is one
+first_fits : (first : IdBlock) (rest : List IdBlock) → are_blocks (first ∷ rest) ≡ true → is_block first ≡ true
+first_fits first rest are =
+    let apart = (and_parts (is_apart rest first) (are_blocks rest) are).0 in
+    (and_parts (is_block first) (not (list_any (shares_ids first) rest)) apart).0
 
 fits_at : (blocks : List IdBlock) (last : IdBlock) (index : ℕ) → index + 1 ≡ length blocks → slice_get blocks index ≡ Some last → are_blocks blocks ≡ true → is_block last ≡ true
 fits_at [] last index e is are = absurd (omega (arith, e))
-fits_at (one ∷ rest) last zero e is are = subst (λ (b : IdBlock). is_block b ≡ true) (same_block one last is) (block_of one rest are)
+fits_at (one ∷ rest) last zero e is are = subst (λ (b : IdBlock). is_block b ≡ true) (same_Some one last is) (first_fits one rest are)
 fits_at (one ∷ rest) last (suc n) e is are = fits_at rest last n (omega (arith, e)) is (and_parts (is_apart rest one) (are_blocks rest) are).1
 
 -- and it is a block
@@ -40,7 +41,7 @@ last_fits (one ∷ rest) last is are = fits_at (one ∷ rest) last (length (one 
 
 last_block_fits : (blocks : List IdBlock) → are_blocks blocks ≡ true → is_block (last_block blocks) ≡ true
 last_block_fits [] are = refl
-last_block_fits (one ∷ []) are = block_of one [] are
+last_block_fits (one ∷ []) are = first_fits one [] are
 last_block_fits (one ∷ (two ∷ rest)) are = last_block_fits (two ∷ rest) (and_parts (is_apart (two ∷ rest) one) (are_blocks (two ∷ rest)) are).1
 
 behind_fits : (block : IdBlock) (left : ℕ) → is_block block ≡ true → is_block (ids_behind block left) ≡ true

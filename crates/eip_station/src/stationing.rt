@@ -21,8 +21,7 @@ use station_rim::{
 use station_setup::{
     HostCounters, MOST_LIVES, OpenStation, OpenedPort, StationOutputs, described, host_of,
     incarnation_of, is_scanner, names_in, open_life_port, passed_ms, recorder_in, rest_before_life,
-    socket_place, start_in, station_of, with_block,
-    with_incarnation, with_serials,
+    socket_place, start_in, station_of, with_block, with_incarnation, with_serials,
 };
 use std::fs::File;
 use std::random::RandomSource;

@@ -37,9 +37,9 @@ next_of p read again byte life found copied named made stated ids used read_is a
   new = ap (λ (l : List Config). is_none (stated_ids found) && is_used byte l) (sym again_is) ∙ sym used_is ∙ free;
   fits = subst (λ (i : Option IdBlock). IfSome i (λ block. is_block block ≡ true)) (ids_are ∙ ap (λ (i : Option IdBlock). ids_of_next p life i) (stated_is ∙ ap stated_ids copied_is)) fits;
   is = made_is
-  ∙ ap (λ (c : Config). with_ids ids c) named_is
-  ∙ ap (λ (i : Option IdBlock). with_ids i (with_incarnation byte copied)) (ids_are ∙ ap (λ (i : Option IdBlock). ids_of_next p life i) stated_is)
-  ∙ ap (λ (c : Config). next_config p byte life c) copied_is;
+      ∙ ap (λ (c : Config). with_ids ids c) named_is
+      ∙ ap (λ (i : Option IdBlock). with_ids i (with_incarnation byte copied)) (ids_are ∙ ap (λ (i : Option IdBlock). ids_of_next p life i) stated_is)
+      ∙ ap (λ (c : Config). next_config p byte life c) copied_is;
 }
 
 -- the ids that a faultless configuration states are a block

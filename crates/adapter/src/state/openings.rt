@@ -104,7 +104,8 @@ impl<T: ConnectionTable> AdapterState<T> {
     #[tactic(auto, unfolding(adapter_table::specs::Opening::opened_row))]
     fn opened_row(&self, peer: Node, request: &OpenRequest<&[u8]>, admission: &Admission<'_>) -> Row
         requires waits { admission.now.watchdog.0 ≤ 5120000 }
-        requires left { self.now.next_id + drawn_ids admission.now.multicast admission.now.group ≤ end_number self.now.ids }
+        requires left { self.now.next_id + drawn_ids admission.now.multicast admission.now.group
+            ≤ end_number self.now.ids }
         requires draws { 1 ≤ drawn_ids admission.now.multicast admission.now.group }
         ensures { result ≡ opened_row self.now peer (view_open request.now) (view_admission admission.now) }
     {
