@@ -144,8 +144,8 @@ undrawn_before laws w new device t u happens answer id s none = by_test (is_draw
 -- ---- an event of a scanner
 
 -- the id for which a frame of the answer asks is one that the scanner has drawn at the event
-asked_number : (t u : ScannerTable) (id : ℕ) → Extends t.ids u.ids → 1 ≤ t.next_id → is_between t.ids t.next_id (min u.next_id (end_number t.ids)) id ≡ true → IsNumbered u.ids t.next_id u.next_id id
-asked_number t u id blocks one asks =
+requested_number : (t u : ScannerTable) (id : ℕ) → Extends t.ids u.ids → 1 ≤ t.next_id → is_between t.ids t.next_id (min u.next_id (end_number t.ids)) id ≡ true → IsNumbered u.ids t.next_id u.next_id id
+requested_number t u id blocks one asks =
     let which = between_numbered t.ids t.next_id (min u.next_id (end_number t.ids)) id asks in
     let begins = which.begins in
     let ends = which.ends in
@@ -169,7 +169,7 @@ no_frames laws w new device t u happens answer s id some never =
     let drawn = s.drawn in
     let frames = scanner_frames laws w new device t u happens answer s id some in
     let none = no_one (is_between t.ids t.next_id (min u.next_id (end_number t.ids)) id) (λ asks.
-    never (asked_number t u id (steps.blocks (Scanner t) happens (answer, Scanner u) s.stepped) (whole_begins (Scanner t) (drawn.whole device (Scanner t) s.at)) asks)) in
+    never (requested_number t u id (steps.blocks (Scanner t) happens (answer, Scanner u) s.stepped) (whole_begins (Scanner t) (drawn.whole device (Scanner t) s.at)) asks)) in
     omega (arith, frames, none)
 
 -- an id that was drawn before the event
@@ -286,8 +286,8 @@ scanner_used laws w new device t u happens answer opened s after used = record {
         let from = which.begins in
         let drawn = s.drawn in
         let one = whole_begins (Scanner t) (drawn.whole device (Scanner t) s.at) in
-        let asked = drawn_number new device (Scanner u) which.number s.next_drawn after (omega (arith, one, from)) which.ends in
-        absurd (other.0 (sym (apart.differ device e (Scanner u) (Scanner x) which.number k after there asked has which.is)))))
+        let requested = drawn_number new device (Scanner u) which.number s.next_drawn after (omega (arith, one, from)) which.ends in
+        absurd (other.0 (sym (apart.differ device e (Scanner u) (Scanner x) which.number k after there requested has which.is)))))
         (used.once e x k other.1 begins below)
 
 -- ---- an event of an adapter

@@ -9,7 +9,7 @@ use Rattle.station_rim.specs.declared.id_way.IdWay.{IdWay}
 
 -- a life begins with a block, which the state has reserved
 abbrev pub begun_way : StationState → KeptIds → IdBlock → IdWay
-begun_way state ids block = record { state = state; taken = ids; all = block.count; is_wanted = false; is_busy = false; ready = None }
+begun_way state ids block = record { state = state; taken = ids; all = block.count; is_desired = false; is_busy = false; ready = None }
 
 -- from where on no id was given, as the state on the medium says
 abbrev pub kept_in : StationState → KeptIds → KeptIds
@@ -24,7 +24,7 @@ supplied way = way.ready
 -- it takes what is ready, or a block is wanted where it has few ids left
 abbrev pub asks_with : IdWay → ℕ → Option IdBlock → IdWay
 asks_with way left (Some block) = record way { taken = kept_in way.state way.taken; all = min (way.all + block.count) (2 ^ 32 - 1); ready = None }
-asks_with way left None = record way { is_wanted = way.is_wanted || wants_block left }
+asks_with way left None = record way { is_desired = way.is_desired || wants_block left }
 
 abbrev pub asks : IdWay → ℕ → IdWay
 asks way left = asks_with way left way.ready
@@ -33,7 +33,7 @@ asks way left = asks_with way left way.ready
 
 -- nothing is to be reserved
 abbrev pub is_resting : IdWay → Bool
-is_resting way = not way.is_wanted || is_some way.ready
+is_resting way = not way.is_desired || is_some way.ready
 
 -- the state that reserves the next block, and that block
 abbrev pub next_reserved : IdWay → StationState × IdBlock
@@ -48,7 +48,7 @@ reserving way = record way { is_busy = true }
 
 -- a block is ready only once the state that reserves it is on the medium
 abbrev pub noted : IdWay → Bool → IdWay
-noted way true = record way { state = (next_reserved way).0; is_wanted = false; is_busy = false; ready = Some (next_reserved way).1 }
+noted way true = record way { state = (next_reserved way).0; is_desired = false; is_busy = false; ready = Some (next_reserved way).1 }
 noted way false = record way { is_busy = false }
 
 -- THE END

@@ -28,7 +28,7 @@ struct Way {
     life: Option<IdWay>,
     file: Option<StateFile>,
     /// A line has told that no further block can be reserved.
-    is_told: bool,
+    is_reported: bool,
 }
 
 /// The way from the state's file to a station. Its lock is never held while the file is written.
@@ -51,7 +51,7 @@ impl SharedIds {
             way: Mutex::new(Way {
                 life: None,
                 file: None,
-                is_told: false,
+                is_reported: false,
             }),
             more: Condvar::new(),
         };
@@ -98,12 +98,12 @@ impl SharedIds {
             };
             let (state, _) = life.next_reserved();
             let is_written = file.put(rt, state).is_ok();
-            let is_news = self.note(rt, file, is_written);
+            let is_first = self.note(rt, file, is_written);
             if is_written && life.ends_circle() {
-                tell(*rt, err, CIRCLE_ENDS);
+                report(*rt, err, CIRCLE_ENDS);
             }
             if !is_written {
-                self.tell_failure(rt, err, is_news);
+                self.report_failure(rt, err, is_first);
                 thread::sleep(rt, Duration::from_millis(RETRY_MS));
             }
         }
@@ -129,17 +129,17 @@ impl SharedIds {
         if let Some(life) = way.life {
             way.life = Some(life.noted(is_written));
         }
-        let is_news = !is_written && !way.is_told;
-        way.is_told = !is_written;
-        is_news
+        let is_first = !is_written && !way.is_reported;
+        way.is_reported = !is_written;
+        is_first
     }
 
     /// Tells once that no further block can be reserved.
-    fn tell_failure<R>(&self, rt: &R, err: &SharedLines, is_news: bool)
+    fn report_failure<R>(&self, rt: &R, err: &SharedLines, is_first: bool)
     where
         R: AllocGlobal + Wait + Copy + Drop,
     {
-        if !is_news {
+        if !is_first {
             return;
         }
         let way = self.channel.way.lock(rt);
@@ -151,7 +151,7 @@ impl SharedIds {
             "eip_station: {path} cannot be written, so no further connection ids are reserved until it can\n"
         );
         if let Ok(line) = line {
-            tell(*rt, err, line.as_bytes());
+            report(*rt, err, line.as_bytes());
         }
     }
 
@@ -211,7 +211,7 @@ impl Way {
 }
 
 /// Reports a line on the standard error, without waiting.
-fn tell<R: Wait + Copy + Drop>(rt: R, err: &SharedLines, line: &[u8]) {
+fn report<R: Wait + Copy + Drop>(rt: R, err: &SharedLines, line: &[u8]) {
     if let Ok(mut err) = err.sink(rt) {
         err.line(line);
     }
@@ -230,7 +230,7 @@ impl<R: Wait + Drop> IdSupply for IdBlocks<R> {
     fn next_block(&mut self, left: u32) -> Option<IdBlock> {
         let mut way = self.ids.channel.way.lock(&self.rt);
         let life = way.life?;
-        way.life = Some(life.asked(left));
+        way.life = Some(life.requested(left));
         if !way.is_resting() {
             self.ids.channel.more.notify_one();
         }

@@ -16,7 +16,7 @@ pub(crate) struct IdWay {
     /// How many ids the device has had.
     pub all: u32,
     /// A further block is wanted.
-    pub is_wanted: bool,
+    pub is_desired: bool,
     /// The state of a further block is being written.
     pub is_busy: bool,
     /// A further block that is reserved, and that the device has not taken.
@@ -32,7 +32,7 @@ impl IdWay {
             state,
             taken: ids,
             all: block.count,
-            is_wanted: false,
+            is_desired: false,
             is_busy: false,
             ready: None,
         }
@@ -46,7 +46,7 @@ impl IdWay {
     }
 
     /// The way once a device with so many ids left has asked: it takes what is ready, or a block is wanted where it has few left.
-    pub(crate) fn asked(&self, left: u32) -> IdWay
+    pub(crate) fn requested(&self, left: u32) -> IdWay
         ensures { result ≡ asks self.now left }
     {
         match self.ready {
@@ -57,7 +57,7 @@ impl IdWay {
                 ..*self
             },
             None => IdWay {
-                is_wanted: self.is_wanted || wants_block(left),
+                is_desired: self.is_desired || wants_block(left),
                 ..*self
             },
         }
@@ -67,7 +67,7 @@ impl IdWay {
     pub(crate) fn is_resting(&self) -> bool
         ensures { result ≡ is_resting self.now }
     {
-        !self.is_wanted || self.ready.is_some()
+        !self.is_desired || self.ready.is_some()
     }
 
     /// The state that reserves the next block, and that block.
@@ -108,7 +108,7 @@ impl IdWay {
         }
         IdWay {
             state,
-            is_wanted: false,
+            is_desired: false,
             is_busy: false,
             ready: Some(block),
             ..*self
